@@ -1,0 +1,35 @@
+-- Header lists: lists of names with their values, in order (Fetch, section 2.2.2).
+use Rattle.std.specs.Prelude.{ℕ, List, [], ◌∷◌, ◌++◌, Bool, map, filter, codes, Option, Some, None, if◌then◌else◌}
+use Rattle.std.specs.Str.{str_eq_ignore_ascii_case}
+use Rattle.wf_headers.specs.declared.headers.Header.{Header}
+
+-- the header has this name: names are byte-case-insensitive
+abbrev pub is_named : List ℕ → Header → Bool
+is_named name header = str_eq_ignore_ascii_case header.name name
+
+-- the spelling of the name in the first header that has it, or else this one
+abbrev pub spelling : List ℕ → List Header → List ℕ
+spelling name [] = name
+spelling name (header ∷ headers) = if is_named name header then header.name else spelling name headers
+
+-- "append": one more header, in the spelling that is there
+abbrev pub appended : List ℕ → List ℕ → List Header → List Header
+appended name value headers = headers ++ record { name = spelling name headers; value = value } ∷ []
+
+-- the values of the headers of that name, in order
+abbrev pub values_of : List ℕ → List Header → List (List ℕ)
+values_of name headers = map (λ header. header.value) (filter (is_named name) headers)
+
+-- texts, each with a comma and a space before it
+abbrev pub after_comma : List (List ℕ) → List ℕ
+after_comma [] = []
+after_comma (text ∷ texts) = codes ", " ++ (text ++ after_comma texts)
+
+-- the texts with a comma and a space between, where there is one
+abbrev pub joined : List (List ℕ) → Option (List ℕ)
+joined [] = None
+joined (text ∷ texts) = Some (text ++ after_comma texts)
+
+-- "get": all values of the name, joined; nothing where the list does not contain it
+abbrev pub combined : List ℕ → List Header → Option (List ℕ)
+combined name headers = joined (values_of name headers)

@@ -1,0 +1,17 @@
+-- What a sink has taken, where it tells.
+use Rattle.std.specs.Prelude.{◌≡◌, ℕ, ◌≤◌, ◌<◌, List, ◌++◌, take, length, Option, Some, None, Result, Ok}
+use Rattle.wf_link.specs.Counts.{Rose}
+
+-- what was taken grew by the text
+abbrev pub Took : Option (List ℕ) → Option (List ℕ) → List ℕ → Type 0
+Took None new text = Unit {0}
+Took (Some old) new text = new ≡ Some (old ++ text)
+
+-- it grew by a prefix of the text
+abbrev pub TookPart : Option (List ℕ) → Option (List ℕ) → List ℕ → Type 0
+TookPart old new text = (n : ℕ) × Took old new (take n text)
+
+-- the count of answers 0 to a piece that is not empty
+pub record CountsZero {E : Type 0} (before now : ℕ) (result : Result ℕ E) (piece : List ℕ) : Type 0 where
+  pub later : before ≤ now
+  pub zero : result ≡ Ok 0 → 0 < length piece → Rose before now

@@ -1,0 +1,57 @@
+ghost use Rattle.std.specs.Prelude.{◌≡◌, ◌≤◌, ℕ, List, [], take, Option, Err, IfOk, OnOk, OnErr};
+ghost use Rattle.std.specs.Io.{WritesAtMost};
+ghost use Rattle.wf_link.specs.Counts.{HasCause, Rose};
+ghost use Rattle.wf_link.specs.Sinks.{CountsZero, Took, TookPart};
+
+use crate::source::Failed;
+
+/// Where bytes go. It counts its faults and its answers 0 to a piece that is not empty, and may
+/// tell which bytes it has taken.
+pub trait Sink {
+    /// The bytes taken, where told.
+    ghost taken: { Self → Option (List ℕ) };
+
+    /// How often it failed.
+    ghost faults: { Self → ℕ };
+
+    /// How often it took nothing of a piece that is not empty.
+    ghost zeros: { Self → ℕ };
+
+    /// Takes a first part of the piece, and answers how many bytes. `Failed` only where the count
+    /// of faults rose.
+    fn write(&mut self, piece: &[u8]) -> Result<usize, Failed>
+        ensures count { WritesAtMost result piece.now }
+        ensures took { IfOk result (λ n. Took (taken self.old) (taken self.new) (take n piece.now)) }
+        ensures failed { OnErr result (Took (taken self.old) (taken self.new) []) }
+        ensures cause { HasCause (faults self.old) (faults self.new) result }
+        ensures zero { CountsZero (zeros self.old) (zeros self.new) result piece.now };
+}
+
+/// Why a text was not written whole.
+#[derive(Clone, Copy, Debug, PartialEq, Eq)]
+pub enum WriteFault {
+    /// The sink failed.
+    Fault,
+    /// The sink took nothing of a piece that was not empty.
+    TookNothing,
+}
+
+/// Writes the whole text. After a fault the sink has taken a prefix of it.
+pub fn write_whole<K: Sink>(sink: &mut K, text: &[u8]) -> Result<(), WriteFault>
+    ensures ok { OnOk result (Took (K.taken sink.old) (K.taken sink.new) text.now) }
+    ensures err { OnErr result (TookPart (K.taken sink.old) (K.taken sink.new) text.now) }
+    ensures faults { K.faults sink.old ≤ K.faults sink.new }
+    ensures zeros { K.zeros sink.old ≤ K.zeros sink.new }
+    ensures fault { result ≡ Err WriteFault.Fault → Rose (K.faults sink.old) (K.faults sink.new) }
+    ensures nothing { result ≡ Err WriteFault.TookNothing → Rose (K.zeros sink.old) (K.zeros sink.new) }
+{
+    let mut rest = text;
+    while !rest.is_empty() {
+        match sink.write(rest) {
+            Err(Failed) => return Err(WriteFault::Fault),
+            Ok(0) => return Err(WriteFault::TookNothing),
+            Ok(count) => rest = rest.split_at(count).1,
+        }
+    }
+    Ok(())
+}

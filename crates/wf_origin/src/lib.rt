@@ -1,0 +1,6 @@
+// Origins, after the HTML Standard, section 7.1.1.
+#![tactic(auto)]
+
+mod origin;
+
+pub use origin::{HostKind, Origin, origin_of};

@@ -1,0 +1,54 @@
+use wf_text::{Bytes, Items};
+use wf_types::{Destination, Hop, NetError, Outcome, TypeFault, Violation};
+
+/// One thing that a document's run shows.
+#[derive(Drop)]
+pub enum Event {
+    /// The fetch of that number starts.
+    Fetch(u32),
+    /// The load of that number starts.
+    Load(u32, Destination),
+    /// A request was sent.
+    Sent(Hop),
+    /// A policy was violated.
+    Told(Violation),
+    /// What a fetch came to, or a load that succeeded.
+    Result(Outcome),
+    /// The network error of a load.
+    LoadFailed(NetError),
+    /// A fetch of which no request was made.
+    TypeError(TypeFault),
+    /// A load of which no request was made.
+    LoadError(TypeFault),
+}
+
+/// The events of a document's run, in order.
+pub type Events = Items<Event>;
+
+/// How a document's run ended.
+#[derive(Clone, Copy, Debug, PartialEq, Eq)]
+pub enum Ending {
+    /// After its last command.
+    Finished,
+    /// Before a fetch or load, since 1,024 of them had started.
+    Fetches,
+    /// Before a command, since 16,384 of them had started.
+    Commands,
+    /// Before a fetch or load, since its lines were longer than 8,388,608 bytes.
+    Text,
+    /// Memory was refused.
+    Memory,
+}
+
+/// The run of one document: its number and key, its events, how it ended, and its clock then.
+#[derive(Drop)]
+pub struct Transcript {
+    pub document: u32,
+    pub key: Bytes,
+    pub events: Events,
+    pub ending: Ending,
+    pub clock: u64,
+}
+
+/// The runs of the documents, in order.
+pub type Transcripts = Items<Transcript>;
