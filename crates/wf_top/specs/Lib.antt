@@ -1,0 +1,6 @@
+pub mod Words
+pub mod Statuses
+pub mod Streams
+pub mod Servers
+pub mod Plays
+pub mod Program
