@@ -3,4 +3,4 @@
 
 mod origin;
 
-pub use origin::{HostKind, Origin, origin_of};
+pub use origin::{HostKind, Origin, origin_of, same_origin, serialize};
