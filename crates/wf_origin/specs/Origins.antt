@@ -1,7 +1,9 @@
 -- Origins of http and https URLs (HTML, section 7.1.1; URL, section 4.7).
-use Rattle.std.specs.Prelude.{ℕ, Bool, ◌||◌, List, [], codes, bytes_eq, Option, Some, None, unwrap_or, if◌then◌else◌}
+use Rattle.std.specs.Prelude.{ℕ, Bool, false, ◌||◌, ◌&&◌, ◌==◌, List, [], ◌++◌, codes, decimal, bytes_eq, Option, Some, None, unwrap_or, if◌then◌else◌}
 use Rattle.std.specs.Option.{option_or}
-use Rattle.std.specs.Net.Addr.{ipv4_bits, ipv6_bits}
+use Rattle.std.specs.Int.{w32, w128, to_be_bytes}
+use Rattle.std.specs.Net.Addr.{ipv4_bits, ipv6_bits, segments_of}
+use Rattle.std.specs.Net.Text.{ipv4_text, hex_groups_text}
 use Rattle.url.specs.declared.host.Host.{Host}
 use Rattle.url.specs.declared.host.Host.TheVariants.{Domain, Ipv4, Ipv6}
 use Rattle.url.specs.Scheme.{default_port}
@@ -30,3 +32,34 @@ origin_of url =
       port = unwrap_or (option_or url.port (default_port url.scheme)) 0;
     })
     else None
+
+-- the hosts are of one kind and identical
+abbrev pub same_host : HostKind → HostKind → Bool
+same_host (kind.Domain a) (kind.Domain b) = bytes_eq a b
+same_host (kind.V4 a) (kind.V4 b) = a == b
+same_host (kind.V6 a) (kind.V6 b) = a == b
+same_host _ _ = false
+
+-- "same origin": the schemes, the hosts and the ports are identical
+abbrev pub same_origin : Origin → Origin → Bool
+same_origin a b = bytes_eq a.scheme b.scheme && same_host a.host b.host && a.port == b.port
+
+-- the host as a URL writes it: an IPv6 address in brackets, compressed (URL, section 3.5)
+abbrev pub host_text : HostKind → List ℕ
+host_text (kind.Domain name) = name
+host_text (kind.V4 bits) = ipv4_text (to_be_bytes w32 bits)
+host_text (kind.V6 bits) = codes "[" ++ hex_groups_text (segments_of (to_be_bytes w128 bits)) ++ codes "]"
+
+-- the port is the default one of http or of https
+abbrev pub is_default_port : List ℕ → ℕ → Bool
+is_default_port scheme port =
+    (bytes_eq scheme (codes "http") && port == 80) || (bytes_eq scheme (codes "https") && port == 443)
+
+-- a colon and the port, where it is not the default port of the scheme
+abbrev pub port_text : List ℕ → ℕ → List ℕ
+port_text scheme port = if is_default_port scheme port then [] else codes ":" ++ decimal port
+
+-- "serialization of an origin": the scheme, the host and the port
+abbrev pub serialized : Origin → List ℕ
+serialized origin =
+    origin.scheme ++ codes "://" ++ host_text origin.host ++ port_text origin.scheme origin.port

@@ -2,5 +2,7 @@
 #![tactic(auto)]
 
 mod origin;
+#[cfg(test)]
+mod tests;
 
-pub use origin::{HostKind, Origin, origin_of};
+pub use origin::{HostKind, Origin, origin_of, same_origin, serialize};

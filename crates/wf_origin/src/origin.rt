@@ -1,8 +1,9 @@
-ghost use Rattle.std.specs.Prelude.{◌≡◌, IfOk, ◌||◌, codes, bytes_eq};
+ghost use Rattle.std.specs.Prelude.{◌≡◌, ◌↔◌, ◌++◌, IsTrue, IfOk, OnOk, ◌||◌, codes, bytes_eq};
 ghost use Rattle.wf_origin.specs.Origins as spec;
 ghost use Rattle.url.specs.Parts.{nonempty_host};
 
 use std::alloc::Global;
+use std::net::{Ipv4Addr, Ipv6Addr};
 use url::{Host, Url};
 use wf_text::{Bytes, OutOfMemory};
 
@@ -51,4 +52,73 @@ pub fn origin_of(alloc: Global, url: &Url) -> Result<Option<Origin>, OutOfMemory
     let host = kind_of(alloc, url)?;
     let port = url.port_or_known_default().unwrap_or(0);
     Ok(Some(Origin { scheme, host, port }))
+}
+
+fn same_host(a: &HostKind, b: &HostKind) -> bool
+    ensures { result ≡ spec.same_host a.now b.now }
+{
+    match (a, b) {
+        (HostKind::Domain(a), HostKind::Domain(b)) => a.as_slice() == b.as_slice(),
+        (HostKind::V4(a), HostKind::V4(b)) => a == b,
+        (HostKind::V6(a), HostKind::V6(b)) => a == b,
+        _ => false,
+    }
+}
+
+/// Whether two origins are the same: their schemes, hosts and ports are identical
+/// (HTML, section 7.1.1). It takes no memory.
+pub fn same_origin(a: &Origin, b: &Origin) -> bool
+    ensures value { result ≡ spec.same_origin a.now b.now }
+    ensures equal { IsTrue result ↔ (a.now ≡ b.now) }
+{
+    a.scheme.as_slice() == b.scheme.as_slice() && same_host(&a.host, &b.host) && a.port == b.port
+}
+
+fn is_default_port(scheme: &[u8], port: u16) -> bool
+    ensures { result ≡ spec.is_default_port scheme.now port }
+{
+    (scheme == b"http".as_slice() && port == 80) || (scheme == b"https".as_slice() && port == 443)
+}
+
+// Adds the host as a URL writes it.
+#[tactic(auto, unfolding(std::specs::Net::Addr::IsIpv4OfBits, std::specs::Net::Addr::IsIpv6OfBits))]
+fn add_host(alloc: Global, text: &mut Bytes, host: &HostKind) -> Result<(), OutOfMemory>
+    ensures { OnOk result (text.new ≡ text.old ++ spec.host_text host.now) }
+{
+    match host {
+        HostKind::Domain(name) => text.append(name.as_slice()),
+        HostKind::V4(bits) => {
+            let address = Ipv4Addr::from_bits(*bits).to_string(alloc)?;
+            text.append(address.as_bytes())
+        }
+        HostKind::V6(bits) => {
+            let address = Ipv6Addr::from_bits(*bits).hex_groups().to_string(alloc)?;
+            text.append(b"[")?;
+            text.append(address.as_bytes())?;
+            text.append(b"]")
+        }
+    }
+}
+
+// Adds a colon and the port, where it is not the default port of the scheme.
+fn add_port(alloc: Global, text: &mut Bytes, scheme: &[u8], port: u16) -> Result<(), OutOfMemory>
+    ensures { OnOk result (text.new ≡ text.old ++ spec.port_text scheme.now port) }
+{
+    if is_default_port(scheme, port) {
+        return Ok(());
+    }
+    text.append(b":")?;
+    text.append(port.to_string(alloc)?.as_bytes())
+}
+
+/// The serialization of an origin: scheme, `://`, host, and `:` and the port where it is not the
+/// default port of http or https (HTML, section 7.1.1).
+pub fn serialize(alloc: Global, origin: &Origin) -> Result<Bytes, OutOfMemory>
+    ensures { IfOk result (λ text. text ≡ spec.serialized origin.now) }
+{
+    let mut text = Bytes::of(alloc, origin.scheme.as_slice())?;
+    text.append(b"://")?;
+    add_host(alloc, &mut text, &origin.host)?;
+    add_port(alloc, &mut text, origin.scheme.as_slice(), origin.port)?;
+    Ok(text)
 }
