@@ -2,5 +2,5 @@ pub mod Words
 pub mod Statuses
 pub mod Streams
 pub mod Servers
+pub mod Runs
 pub mod Plays
-pub mod Program

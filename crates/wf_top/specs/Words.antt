@@ -1,5 +1,6 @@
 -- The words of the program.
-use Rattle.std.specs.Prelude.{ℕ, Bool, false, List, [], ◌∷◌, codes, bytes_eq, String, Global, map, string_bytes}
+use Rattle.std.specs.Prelude.{ℕ, Bool, false, List, [], ◌∷◌, codes, bytes_eq, String, map, string_bytes}
+use Rattle.std.specs.Global.{Global}
 
 -- the texts of the words
 abbrev pub texts : List (String Global) → List (List ℕ)

@@ -1,11 +1,10 @@
 // The program's top call: words and streams in, a status out.
 #![tactic(auto)]
 
-mod play;
-mod program;
 mod servers;
 mod status;
 mod words;
 
-pub use program::fetchplay;
+pub use servers::answer_to;
 pub use status::Status;
+pub use words::is_play;
