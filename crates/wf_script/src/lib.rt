@@ -2,7 +2,9 @@
 #![tactic(auto)]
 
 mod types;
+mod urls;
 
 pub use types::{
     Command, Document, Documents, Place, Rule, Rules, Scenario, Script, Server, Servers,
 };
+pub use urls::url_against;
