@@ -1,0 +1,10 @@
+// A fetch, as a machine that is resumed, against the main fetch of the Fetch Standard.
+#![tactic(auto)]
+
+mod act;
+mod hop;
+mod machine;
+mod place;
+
+pub use act::{Act, Input, fits};
+pub use place::{Fetching, Place, Step};
