@@ -1,10 +1,12 @@
 // The program's top call: words and streams in, a status out.
 #![tactic(auto)]
 
+mod play;
 mod servers;
 mod status;
 mod words;
 
+pub use play::run_document;
 pub use servers::answer_to;
 pub use status::Status;
 pub use words::is_play;
