@@ -1,6 +1,8 @@
 // Scenarios: documents with their scripts, and the servers that answer them.
 #![tactic(auto)]
 
+mod fields;
+mod refused;
 mod types;
 mod urls;
 
