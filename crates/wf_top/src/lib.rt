@@ -6,7 +6,7 @@ mod servers;
 mod status;
 mod words;
 
-pub use play::run_document;
+pub use play::play_all;
 pub use servers::answer_to;
 pub use status::Status;
 pub use words::is_play;

@@ -1,4 +1,6 @@
 ghost use Rattle.std.specs.Prelude.{◌≡◌, ◌++◌, ◌+◌, ◌<◌, ◌^◌, IfOk, OnOk, IsTrue, length, List};
+ghost use Rattle.std.specs.List.{AllByRecursion};
+ghost use Rattle.wf_script.specs.Valid.{IsValid};
 ghost use Rattle.wf_fetch.specs.Fetch.{main_fetch};
 ghost use Rattle.wf_fetch.specs.Play.{events_of};
 ghost use Rattle.wf_fetch.specs.Process.{fits};
@@ -148,14 +150,15 @@ fn key_of(alloc: Global, url: &Url) -> Result<Bytes, OutOfMemory>
 }
 
 // A document's run.
-pub fn run_document(
+fn run_document(
     alloc: Global,
     servers: &Servers,
     number: u32,
     document: &Document,
 ) -> Result<Transcript, OutOfMemory>
     requires { length document.now.script < 2 ^ 32 }
-    ensures { IfOk result (λ transcript. IsTranscript servers.now number document.now transcript) }
+    ensures run { IfOk result (λ transcript. IsTranscript servers.now number document.now transcript) }
+    ensures finished { IfOk result (λ transcript. transcript.ending ≡ Ending.Finished) }
 {
     let key = key_of(alloc, &document.url)?;
     let mut events = Events::new(alloc);
@@ -173,3 +176,18 @@ pub fn run_document(
     })
 }
 
+
+/// Plays a scenario: the run of each document, in order.
+pub fn play_all(alloc: Global, scenario: &Scenario) -> Result<Transcripts, OutOfMemory>
+    requires { IsValid scenario.now }
+    ensures played { IfOk result (λ transcripts. IsPlay scenario.now transcripts) }
+    ensures finished { IfOk result (λ transcripts. AllByRecursion (λ transcript. transcript.ending ≡ Ending.Finished) transcripts) }
+{
+    let mut transcripts = Transcripts::new(alloc);
+    for (index, document) in scenario.documents.as_slice().iter().enumerate() {
+        let number = index as u32;
+        let transcript = run_document(alloc, &scenario.servers, number, document)?;
+        transcripts.push(transcript)?;
+    }
+    Ok(transcripts)
+}
