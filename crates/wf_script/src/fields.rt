@@ -24,7 +24,7 @@ pub(crate) trait Form {
 }
 
 // A refusal of the value at which the reading stands.
-fn refused_here<T>(alloc: Global) -> Result<T, Refused>
+pub(crate) fn refused_here<T>(alloc: Global) -> Result<T, Refused>
     ensures { Gives result (Err []) }
 {
     Err(Refused::At(Bytes::new(alloc)))
@@ -42,7 +42,7 @@ fn put_under(alloc: Global, segment: &str, place: Bytes) -> Result<Bytes, Refuse
 }
 
 // What was read under a segment.
-fn at_segment<T: Drop>(alloc: Global, segment: &str, read: Result<T, Refused>) -> Result<T, Refused>
+pub(crate) fn at_segment<T: Drop>(alloc: Global, segment: &str, read: Result<T, Refused>) -> Result<T, Refused>
     ensures { (expected : Read T) → Gives read expected → Gives result (under segment.now expected) }
 {
     match read {
@@ -53,6 +53,7 @@ fn at_segment<T: Drop>(alloc: Global, segment: &str, read: Result<T, Refused>) -
 }
 
 /// A whole number from `least` to `most`.
+#[derive(Drop)]
 pub(crate) struct Number {
     pub(crate) least: u64,
     pub(crate) most: u64,
@@ -72,6 +73,7 @@ impl Form for Number {
 }
 
 /// A text of at most `most` bytes.
+#[derive(Drop)]
 pub(crate) struct Text {
     pub(crate) most: usize,
 }
@@ -116,6 +118,7 @@ pub(crate) fn optional<F: Form>(
 }
 
 /// A list of at most `most` items of one form.
+#[derive(Drop)]
 pub(crate) struct ListOf<F> {
     pub(crate) most: usize,
     pub(crate) item: F,
@@ -196,6 +199,7 @@ fn is_one_of(text: &str, words: &[&str]) -> bool
 }
 
 /// One of these words.
+#[derive(Drop)]
 pub(crate) struct Word<'a> {
     pub(crate) words: &'a [&'a str],
 }

@@ -2,6 +2,7 @@
 #![tactic(auto)]
 
 mod fields;
+mod read;
 mod refused;
 mod types;
 mod urls;
