@@ -4,3 +4,4 @@ pub mod Streams
 pub mod Servers
 pub mod Runs
 pub mod Plays
+pub mod Program

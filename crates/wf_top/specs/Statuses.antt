@@ -14,11 +14,15 @@ number status.WriteFault = 4
 number status.OutOfMemory = 5
 number status.InputTooLong = 6
 
+-- the line of a scenario that is refused at a place
+abbrev pub refusal : List ℕ → List ℕ
+refusal place = codes "fetchplay: scenario refused at " ++ (place ++ codes "\n")
+
 -- the line on the complaints; none for Ok
 abbrev pub complaint : Status → List ℕ
 complaint status.Ok = []
 complaint status.Usage = codes "fetchplay: usage: fetchplay play | net | gen N\n"
-complaint (status.Scenario place) = codes "fetchplay: scenario refused at " ++ (place.text ++ codes "\n")
+complaint (status.Scenario place) = refusal place.text
 complaint status.ReadFault = codes "fetchplay: reading failed\n"
 complaint status.WriteFault = codes "fetchplay: writing failed\n"
 complaint status.OutOfMemory = codes "fetchplay: out of memory\n"
