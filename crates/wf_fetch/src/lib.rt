@@ -5,6 +5,8 @@ mod act;
 mod hop;
 mod machine;
 mod place;
+#[cfg(test)]
+mod tests;
 
 pub use act::{Act, Input, fits};
 pub use place::{Fetching, Place, Step};
