@@ -1,3 +1,4 @@
 pub mod TextLemmas
 pub mod ReadingLemmas
+pub mod KeepsLemmas
 pub mod ValidLemmas

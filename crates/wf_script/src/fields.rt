@@ -154,8 +154,13 @@ fn each<F: Form>(alloc: Global, items: &[Value], form: &F) -> Result<Items<F::Ou
 fn item_at<F: Form>(alloc: Global, index: usize, item: &Value, form: &F) -> Result<F::Out, Refused>
     ensures { Gives result (under (decimal index) (F.reads form.now (view item.now))) }
 {
-    let segment = index.to_string(alloc)?;
-    at_segment(alloc, segment.as_str(), form.read(alloc, item))
+    match form.read(alloc, item) {
+        Ok(x) => Ok(x),
+        Err(refused) => {
+            let segment = index.to_string(alloc)?;
+            at_segment(alloc, segment.as_str(), Err(refused))
+        }
+    }
 }
 
 /// Refuses a tree that is no object, or has a key that is not named.

@@ -2,6 +2,7 @@
 ghost use Rattle.std.specs.Prelude.{◌≡◌, IfOk, option_map};
 ghost use Rattle.serde_json.specs.View.{view};
 ghost use Rattle.wf_script.specs.Scenarios as spec;
+ghost use Rattle.wf_script.specs.Valid.{IsValid};
 
 use crate::fields::{
     Form, ListOf, Number, Text, Word, at_segment, only_keys, optional, refused_here, required,
@@ -257,7 +258,8 @@ impl Scenario {
         alloc: Global,
         text: &[u8],
     ) -> Result<Result<Scenario, Place>, OutOfMemory>
-        ensures { IfOk result (λ read. read ≡ spec.scenario_of text.now) }
+        ensures value { IfOk result (λ read. read ≡ spec.scenario_of text.now) }
+        ensures valid { IfOk result (λ read. IfOk read IsValid) }
     {
         let Some(tree) = tree_of(alloc, text)? else {
             return Ok(Err(refused_at(alloc, b"json")?));
