@@ -1,7 +1,9 @@
 -- The transcripts of the documents, one after another.
-use Rattle.std.proofs.Common.{◌≡◌, ℕ, ◌+◌, ◌≤◌, ◌<◌, List, [], ◌∷◌, ◌++◌, take, length, get_or, subst, sym, ap, arith, refl, ◌∙◌}
+use Rattle.std.proofs.Common.{◌≡◌, ℕ, ◌+◌, ◌≤◌, ◌<◌, List, [], ◌∷◌, ◌++◌, take, length, get_or, subst, sym, ap, arith, refl, ◌∙◌, ◌≢◌}
 use Rattle.std.proofs.lemmas.List.{take_more, length-take}
-use Rattle.std.specs.List.{AllByRecursion}
+use Rattle.std.proofs.lemmas.List.Elements.{All-push}
+use Rattle.wf_print.specs.Text.{HasText}
+use Rattle.wf_print.specs.declared.events.Ending.TheVariants.{Finished, Memory}
 use Rattle.wf_print.specs.declared.events.Transcript.{Transcript}
 use Rattle.wf_script.specs.declared.types.Document.{Document}
 use Rattle.wf_script.specs.declared.types.Server.{Server}
@@ -23,7 +25,10 @@ transcripts-next servers items index transcripts later document transcript withi
     rw noted (rw (take_more items index document within) (rw (← is) (transcripts-snoc servers 0 (take index items) transcripts document transcript are
       (subst (λ n. IsTranscript servers n document transcript) (let e : index ≡ 0 + length (take index items) = omega (arith, length-take index items) in e) next))))
 
--- what holds of each item so far and of one more
-pub all-snoc : {A : Type 0} (P : A → Type 0) (xs : List A) (x : A) → AllByRecursion P xs → P x → AllByRecursion P (xs ++ x ∷ [])
-all-snoc P [] x all here = (here, tt)
-all-snoc P (y ∷ xs) x all here = (all.0, all-snoc P xs x all.1 here)
+-- a finished transcript more has a text
+pub has_text-next : (transcripts later : List Transcript) (transcript : Transcript) → later ≡ transcripts ++ transcript ∷ [] → HasText transcripts → transcript.ending ≡ Finished → HasText later
+has_text-next transcripts later transcript noted so_far finished =
+    rw noted (All-push (λ (t : Transcript). t.ending ≢ Memory) transcripts transcript so_far (λ h. absurd (other (sym finished ∙ h))))
+  where
+    other : Finished ≡ Memory → ⊥
+    other h = cc

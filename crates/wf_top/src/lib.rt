@@ -3,12 +3,11 @@
 
 mod complaint;
 mod play;
+mod program;
 mod servers;
 mod status;
+mod stub;
 mod words;
 
-pub use complaint::tell;
-pub use play::play_all;
-pub use servers::answer_to;
+pub use program::fetchplay;
 pub use status::Status;
-pub use words::is_play;

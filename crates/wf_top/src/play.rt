@@ -1,5 +1,5 @@
 ghost use Rattle.std.specs.Prelude.{◌≡◌, ◌++◌, ◌+◌, ◌<◌, ◌^◌, IfOk, OnOk, IsTrue, length, List};
-ghost use Rattle.std.specs.List.{AllByRecursion};
+ghost use Rattle.wf_print.specs.Text.{HasText};
 ghost use Rattle.wf_script.specs.Valid.{IsValid};
 ghost use Rattle.wf_fetch.specs.Fetch.{main_fetch};
 ghost use Rattle.wf_fetch.specs.Play.{events_of};
@@ -181,7 +181,7 @@ fn run_document(
 pub fn play_all(alloc: Global, scenario: &Scenario) -> Result<Transcripts, OutOfMemory>
     requires { IsValid scenario.now }
     ensures played { IfOk result (λ transcripts. IsPlay scenario.now transcripts) }
-    ensures finished { IfOk result (λ transcripts. AllByRecursion (λ transcript. transcript.ending ≡ Ending.Finished) transcripts) }
+    ensures has_text { IfOk result (λ transcripts. HasText transcripts) }
 {
     let mut transcripts = Transcripts::new(alloc);
     for (index, document) in scenario.documents.as_slice().iter().enumerate() {

@@ -1,7 +1,5 @@
-use Rattle.std.proofs.Common.{◌≡◌, take}
-use Rattle.std.specs.List.{AllByRecursion}
-use Rattle.wf_print.specs.declared.events.Ending.TheVariants.{Finished}
-use Rattle.wf_print.specs.declared.events.Transcript.{Transcript}
+use Rattle.std.proofs.Common.{take}
+use Rattle.wf_print.specs.Text.{HasText}
 use Rattle.wf_top.specs.Plays.{AreTranscripts}
 use Rattle.wf_top.proofs.play.play_all.Given as goal
 
@@ -9,5 +7,5 @@ use Rattle.wf_top.proofs.play.play_all.Given as goal
 abbrev pub invariant-loop-index : goal.invariant-loop-index
 invariant-loop-index l = record {
   played : AreTranscripts l.scenario.servers 0 (take l.index l.document-items) l.transcripts;
-  finished : AllByRecursion (λ (transcript : Transcript). transcript.ending ≡ Finished) l.transcripts;
+  has_text : HasText l.transcripts;
 }
