@@ -1,22 +1,16 @@
 -- Every scenario that is read is valid.
-use Rattle.std.proofs.Common.{◌≡◌, ℕ, ◌≤◌, Bool, true, false, List, [], ◌∷◌, length, Option, Some, None, Ok, Err, Result, refl, subst, arith}
-use Rattle.std.specs.Prelude.{not, nat_le, ◌&&◌, codes, IsTrue, option_and_then, IfOk}
-use Rattle.std.specs.List.{All}
+use Rattle.std.proofs.Common.{◌≡◌, ℕ, ◌≤◌, Bool, true, false, List, [], ◌∷◌, length, Some, None, Ok, refl, subst, arith}
+use Rattle.std.specs.Prelude.{not, nat_le, ◌&&◌, codes, IsTrue, option_and_then}
 use Rattle.std.proofs.lemmas.Bool.{leb-true}
 use Rattle.std.proofs.lemmas.List.Elements.{All-nil}
-use Rattle.serde_json.specs.Data.{Data, Num}
+use Rattle.serde_json.specs.Data.{Data}
 use Rattle.serde_json.specs.Find.{get, as_number, as_u64, as_str}
 use Rattle.url.specs.Parts.{Parts}
-use Rattle.wf_script.specs.declared.types.Rule.{Rule}
-use Rattle.wf_script.specs.declared.types.Server.{Server}
-use Rattle.wf_script.specs.declared.types.Command.{Command}
 use Rattle.wf_script.specs.declared.types.Command.TheVariants.{Fetch}
-use Rattle.wf_script.specs.declared.types.Document.{Document}
 use Rattle.wf_script.specs.declared.types.Scenario.{Scenario}
-use Rattle.wf_script.specs.declared.types.Place.{Place}
-use Rattle.wf_script.specs.Reading.{Read, ◌>>=◌, present, given, only_keys, number_of, text_of, word_of, required, optional, under, list_of}
+use Rattle.wf_script.specs.Reading.{Read, present, given, only_keys, number_of, text_of, word_of, required, list_of}
 use Rattle.wf_script.specs.Urls.{url_of_text, url_against, is_plain_https, is_origin_text, has_template}
-use Rattle.wf_script.specs.Scenarios.{rule_of, origin_text_of, server_of, fetch_url_of, fetch_of, command_of, document_url_of, document_of, scenario_in, told, scenario_of_tree, tree_of, scenario_of}
+use Rattle.wf_script.specs.Scenarios.{rule_of, origin_text_of, server_of, fetch_url_of, fetch_of, command_of, document_url_of, document_of, scenario_in}
 use Rattle.wf_script.specs.Valid.{IsValidRule, IsValidServer, IsValidCommand, IsValidDocument, IsValid}
 use Rattle.wf_script.proofs.KeepsLemmas.{Keeps, keeps-then, keeps-after, keeps-under, keeps-given, keeps-present, keeps-required, keeps-optional, IsListOf, keeps-list}
 

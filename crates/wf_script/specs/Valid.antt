@@ -1,5 +1,5 @@
 -- What every scenario that is read keeps: the bounds and the forms of its values.
-use Rattle.std.specs.Prelude.{◌≡◌, ℕ, ◌≤◌, List, length, Option, Some, IsTrue}
+use Rattle.std.specs.Prelude.{◌≡◌, ◌≤◌, length, Some, IsTrue}
 use Rattle.std.specs.List.{All}
 use Rattle.url.specs.Parts.{Parts}
 use Rattle.wf_script.specs.declared.types.Rule.{Rule}
