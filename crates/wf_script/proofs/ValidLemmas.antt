@@ -1,22 +1,16 @@
 -- Every scenario that is read is valid.
-use Rattle.std.proofs.Common.{◌≡◌, ℕ, ◌≤◌, Bool, true, false, List, [], ◌∷◌, length, Option, Some, None, Ok, Err, Result, refl, subst, arith}
-use Rattle.std.specs.Prelude.{not, nat_le, ◌&&◌, codes, IsTrue, option_and_then, IfOk}
-use Rattle.std.specs.List.{All}
+use Rattle.std.proofs.Common.{◌≡◌, ℕ, ◌≤◌, Bool, true, false, List, [], ◌∷◌, length, Some, None, Ok, refl, subst, arith}
+use Rattle.std.specs.Prelude.{not, nat_le, ◌&&◌, codes, IsTrue, option_and_then}
 use Rattle.std.proofs.lemmas.Bool.{leb-true}
 use Rattle.std.proofs.lemmas.List.Elements.{All-nil}
-use Rattle.serde_json.specs.Data.{Data, Num}
+use Rattle.serde_json.specs.Data.{Data}
 use Rattle.serde_json.specs.Find.{get, as_number, as_u64, as_str}
 use Rattle.url.specs.Parts.{Parts}
-use Rattle.wf_script.specs.declared.types.Rule.{Rule}
-use Rattle.wf_script.specs.declared.types.Server.{Server}
-use Rattle.wf_script.specs.declared.types.Command.{Command}
 use Rattle.wf_script.specs.declared.types.Command.TheVariants.{Fetch}
-use Rattle.wf_script.specs.declared.types.Document.{Document}
 use Rattle.wf_script.specs.declared.types.Scenario.{Scenario}
-use Rattle.wf_script.specs.declared.types.Place.{Place}
-use Rattle.wf_script.specs.Reading.{Read, ◌>>=◌, present, given, only_keys, number_of, text_of, word_of, required, optional, under, list_of}
-use Rattle.wf_script.specs.Urls.{url_of_text, url_against, is_page_url, is_origin_text, has_template}
-use Rattle.wf_script.specs.Scenarios.{rule_of, origin_text_of, server_of, fetch_url_of, fetch_of, command_of, page_url_of, document_of, scenario_in, told, scenario_of_tree, tree_of, scenario_of}
+use Rattle.wf_script.specs.Reading.{Read, present, given, only_keys, number_of, text_of, word_of, required, list_of}
+use Rattle.wf_script.specs.Urls.{url_of_text, url_against, is_plain_https, is_origin_text, has_template}
+use Rattle.wf_script.specs.Scenarios.{rule_of, origin_text_of, server_of, fetch_url_of, fetch_of, command_of, document_url_of, document_of, scenario_in}
 use Rattle.wf_script.specs.Valid.{IsValidRule, IsValidServer, IsValidCommand, IsValidDocument, IsValid}
 use Rattle.wf_script.proofs.KeepsLemmas.{Keeps, keeps-then, keeps-after, keeps-under, keeps-given, keeps-present, keeps-required, keeps-optional, IsListOf, keeps-list}
 
@@ -54,7 +48,7 @@ keeps-server tree =
     keeps-required (IsListOf IsValidRule 1) IsValidServer (codes "rules") (list_of 1 rule_of) tree _ (keeps-list IsValidRule 1 rule_of keeps-rule) (λ rules each.
     record { origin = is; few = each.few; rules = each.all })))
 
--- the text gives a page's URL
+-- the text gives a plain https URL against the document's
 abbrev IsFetchUrl : Parts → List ℕ → Type 0
 IsFetchUrl document text = IsValidCommand document (Fetch text)
 
@@ -63,7 +57,7 @@ keeps-fetch_url document tree =
     keeps-after (IsFetchUrl document) (present (as_str tree)) _ (λ text.
     keeps-after (IsFetchUrl document) (given (not (has_template text)) text) _ (λ plain.
     keeps-then (λ url. url_against document plain ≡ Some url) (IsFetchUrl document) (present (url_against document plain)) _ (keeps-present (url_against document plain)) (λ url gives.
-    keeps-given (IsFetchUrl document) (is_page_url url) plain (λ holds. (url, gives, holds)))))
+    keeps-given (IsFetchUrl document) (is_plain_https url) plain (λ holds. (url, gives, holds)))))
 
 keeps-fetch : (document : Parts) (tree : Data) → Keeps (IsValidCommand document) (fetch_of document tree)
 keeps-fetch document tree =
@@ -78,16 +72,16 @@ keeps-command document tree =
     keeps-after (IsValidCommand document) (present (get (codes "fetch") tree)) _ (λ fetch.
     keeps-under (IsValidCommand document) (codes "fetch") (fetch_of document fetch) (keeps-fetch document fetch)))
 
-keeps-page_url : (tree : Data) → Keeps (λ url. IsTrue (is_page_url url)) (page_url_of tree)
-keeps-page_url tree =
-    keeps-after (λ url. IsTrue (is_page_url url)) (present (as_str tree)) _ (λ text.
-    keeps-after (λ url. IsTrue (is_page_url url)) (present (url_of_text None (Some text))) _ (λ url.
-    keeps-given (λ (u : Parts). IsTrue (is_page_url u)) (is_page_url url) url (λ holds. holds)))
+keeps-document_url : (tree : Data) → Keeps (λ url. IsTrue (is_plain_https url)) (document_url_of tree)
+keeps-document_url tree =
+    keeps-after (λ url. IsTrue (is_plain_https url)) (present (as_str tree)) _ (λ text.
+    keeps-after (λ url. IsTrue (is_plain_https url)) (present (url_of_text None (Some text))) _ (λ url.
+    keeps-given (λ (u : Parts). IsTrue (is_plain_https u)) (is_plain_https url) url (λ holds. holds)))
 
 keeps-document : (tree : Data) → Keeps IsValidDocument (document_of tree)
 keeps-document tree =
     keeps-after IsValidDocument (only_keys (codes "url" ∷ codes "script" ∷ []) tree) _ (λ _.
-    keeps-required (λ url. IsTrue (is_page_url url)) IsValidDocument (codes "url") page_url_of tree _ keeps-page_url (λ url is.
+    keeps-required (λ url. IsTrue (is_plain_https url)) IsValidDocument (codes "url") document_url_of tree _ keeps-document_url (λ url is.
     keeps-required (IsListOf (IsValidCommand url) 1) IsValidDocument (codes "script") (list_of 1 (command_of url)) tree _ (keeps-list (IsValidCommand url) 1 (command_of url) (keeps-command url)) (λ script each.
     record { url = is; few = each.few; script = each.all })))
 
@@ -97,8 +91,8 @@ keeps-scenario tree =
     keeps-after IsValid (required (codes "format") (number_of 1 1) tree) _ (λ _.
     keeps-optional (IsListOf IsValidServer 1) IsValid (codes "servers") [] (list_of 1 server_of) tree _ (record { few = omega arith; all = All-nil IsValidServer })
     (keeps-list IsValidServer 1 server_of keeps-server) (λ servers each.
-    keeps-required (IsListOf IsValidDocument 1) IsValid (codes "documents") (list_of 1 document_of) tree _ (keeps-list IsValidDocument 1 document_of keeps-document) (λ documents pages.
-    record { few_servers = each.few; servers = each.all; few_documents = pages.few; documents = pages.all }))))
+    keeps-required (IsListOf IsValidDocument 1) IsValid (codes "documents") (list_of 1 document_of) tree _ (keeps-list IsValidDocument 1 document_of keeps-document) (λ documents all.
+    record { few_servers = each.few; servers = each.all; few_documents = all.few; documents = all.all }))))
 
 -- what is read of a tree is valid
 pub scenario_in-IsValid : (tree : Data) (scenario : Scenario) → scenario_in tree ≡ Ok scenario → IsValid scenario

@@ -12,7 +12,7 @@ use Rattle.wf_script.specs.declared.types.Document.{Document}
 use Rattle.wf_script.specs.declared.types.Scenario.{Scenario}
 use Rattle.wf_script.specs.declared.types.Place.{Place}
 use Rattle.wf_script.specs.Reading.{Read, ◌>>=◌, present, given, number_of, text_of, word_of, only_keys, required, optional, under, list_of}
-use Rattle.wf_script.specs.Urls.{utf8_text, url_of_text, url_against, is_page_url, is_origin_text, has_template}
+use Rattle.wf_script.specs.Urls.{utf8_text, url_of_text, url_against, is_plain_https, is_origin_text, has_template}
 
 -- ---- servers
 
@@ -40,13 +40,13 @@ server_of tree = do
 
 -- ---- documents
 
--- the URL of a fetch, as it is written: without templates, and of a page against the document's URL
+-- the URL of a fetch, as it is written: without templates, and plain https against the document's URL
 abbrev pub fetch_url_of : Parts → Data → Read (List ℕ)
 fetch_url_of document tree = do
   text ← present (as_str tree)
   plain ← given (not (has_template text)) text
   url ← present (url_against document plain)
-  given (is_page_url url) plain
+  given (is_plain_https url) plain
 
 -- what a fetch asks for
 abbrev pub fetch_of : Parts → Data → Read Command
@@ -65,17 +65,17 @@ command_of document tree = do
   under (codes "fetch") (fetch_of document fetch)
 
 -- the URL of a document
-abbrev pub page_url_of : Data → Read Parts
-page_url_of tree = do
+abbrev pub document_url_of : Data → Read Parts
+document_url_of tree = do
   text ← present (as_str tree)
   url ← present (url_of_text None (Some text))
-  given (is_page_url url) url
+  given (is_plain_https url) url
 
 -- a document: its URL and at most one command
 abbrev pub document_of : Data → Read Document
 document_of tree = do
   known ← only_keys (codes "url" ∷ codes "script" ∷ []) tree
-  url ← required (codes "url") page_url_of tree
+  url ← required (codes "url") document_url_of tree
   script ← required (codes "script") (list_of 1 (command_of url)) tree
   Ok (record { url = url; script = script })
 

@@ -1,5 +1,5 @@
 -- URLs read from texts (URL Standard, section 4.4), and those that documents and fetches may have.
-use Rattle.std.specs.Prelude.{ℕ, ◌&&◌, ◌||◌, Bool, true, false, not, nat_le, nat_eq, List, [], ◌∷◌, length, codes, bytes_eq, Option, Some, None, is_some, if◌then◌else◌}
+use Rattle.std.specs.Prelude.{ℕ, ◌&&◌, ◌||◌, Bool, false, not, nat_le, nat_eq, List, [], ◌∷◌, length, codes, bytes_eq, Option, Some, None, is_some, if◌then◌else◌}
 use Rattle.std.specs.List.{starts_with}
 use Rattle.std.specs.Result.{result_ok}
 use Rattle.std.specs.Str.{is_utf8}
@@ -22,8 +22,8 @@ abbrev pub url_against : Parts → List ℕ → Option Parts
 url_against base text = url_of_text (Some base) (utf8_text text)
 
 -- an https URL without credentials and without a port, of at most 8,192 bytes as printed
-abbrev pub is_page_url : Parts → Bool
-is_page_url url =
+abbrev pub is_plain_https : Parts → Bool
+is_plain_https url =
     bytes_eq url.scheme (codes "https") && not (has_credentials url) && not (is_some url.port)
     && nat_le (length (serialize url)) 8192
 

@@ -1,5 +1,5 @@
 -- What every scenario that is read keeps: the bounds and the forms of its values.
-use Rattle.std.specs.Prelude.{◌≡◌, ℕ, ◌≤◌, List, length, Option, Some, IsTrue}
+use Rattle.std.specs.Prelude.{◌≡◌, ◌≤◌, length, Some, IsTrue}
 use Rattle.std.specs.List.{All}
 use Rattle.url.specs.Parts.{Parts}
 use Rattle.wf_script.specs.declared.types.Rule.{Rule}
@@ -8,7 +8,7 @@ use Rattle.wf_script.specs.declared.types.Command.{Command}
 use Rattle.wf_script.specs.declared.types.Command.TheVariants.{Fetch}
 use Rattle.wf_script.specs.declared.types.Document.{Document}
 use Rattle.wf_script.specs.declared.types.Scenario.{Scenario}
-use Rattle.wf_script.specs.Urls.{url_against, is_page_url, is_origin_text}
+use Rattle.wf_script.specs.Urls.{url_against, is_plain_https, is_origin_text}
 
 -- status 200 and a body of at most 4,096 bytes
 pub record IsValidRule (rule : Rule) : Type 0 where
@@ -21,14 +21,14 @@ pub record IsValidServer (server : Server) : Type 0 where
   pub few : length server.rules ≤ 1
   pub rules : All IsValidRule server.rules
 
--- the text of a fetch gives a page's URL against the document's
+-- the text of a fetch gives a plain https URL against the document's
 abbrev pub IsValidCommand : Parts → Command → Type 0
 IsValidCommand document (Fetch text) =
-    (url : Parts) × (url_against document text ≡ Some url) × IsTrue (is_page_url url)
+    (url : Parts) × (url_against document text ≡ Some url) × IsTrue (is_plain_https url)
 
--- a page's URL and at most one command
+-- a plain https URL and at most one command
 pub record IsValidDocument (document : Document) : Type 0 where
-  pub url : IsTrue (is_page_url document.url)
+  pub url : IsTrue (is_plain_https document.url)
   pub few : length document.script ≤ 1
   pub script : All (IsValidCommand document.url) document.script
 

@@ -9,7 +9,7 @@ use url::{ParseError, Url};
 use wf_origin::{origin_of, serialize};
 use wf_text::OutOfMemory;
 
-// The text that bytes are, where they are UTF-8.
+/// The text that bytes are, where they are UTF-8.
 pub(crate) fn utf8_text(bytes: &[u8]) -> Option<&str>
     ensures { option_map (λ text. text.now) result ≡ spec.utf8_text bytes.now }
 {
@@ -49,8 +49,8 @@ pub(crate) fn url_alone(alloc: Global, text: &str) -> Result<Option<Url>, OutOfM
 }
 
 /// Whether it is an https URL without credentials and without a port, of at most 8,192 bytes.
-pub(crate) fn is_page_url(url: &Url) -> bool
-    ensures { result ≡ spec.is_page_url url.now }
+pub(crate) fn is_plain_https(url: &Url) -> bool
+    ensures { result ≡ spec.is_plain_https url.now }
 {
     url.scheme() == "https"
         && url.username().is_empty()
