@@ -1,9 +1,8 @@
 -- What escaping does to runs of plain bytes, and to texts one after the other.
-use Rattle.std.proofs.Common.{◌≡◌, ◌<◌, ◌≤◌, ◌+◌, ℕ, Bool, true, false, List, [], ◌∷◌, ◌++◌, take, drop, length, suc, refl, ap, sym, ◌∙◌, append_assoc, arith, cond, subst}
+use Rattle.std.proofs.Common.{◌≡◌, ◌+◌, ℕ, Bool, true, false, List, [], ◌∷◌, ◌++◌, take, drop, length, suc, refl, ap, sym, ◌∙◌, append_assoc, arith, cond, subst}
 use Rattle.std.specs.List.{flat_map, prefix_len}
-use Rattle.std.proofs.lemmas.Grind.{common_steps}
 use Rattle.std.proofs.lemmas.List.{append-nil, nil_from_length}
-use Rattle.wf_print.specs.Escapes.{escaped, escaped_byte, hex_escape, is_plain}
+use Rattle.wf_print.specs.Escapes.{escaped, hex_escape, is_plain}
 
 -- a byte by itself where the test holds
 abbrev pub kept_or : (ℕ → Bool) → (ℕ → List ℕ) → ℕ → List ℕ
@@ -16,6 +15,7 @@ flat_map-kept test other (byte ∷ text) = split (test byte) refl (flat_map-kept
   where
     f : ℕ → List ℕ
     f = kept_or test other
+
     split : (v : Bool) → test byte ≡ v → flat_map f text ≡ take (prefix_len test text) text ++ flat_map f (drop (prefix_len test text) text) → cond v (byte ∷ []) (other byte) ++ flat_map f text ≡ take (cond v (1 + prefix_len test text) 0) (byte ∷ text) ++ flat_map f (drop (cond v (1 + prefix_len test text) 0) (byte ∷ text))
     split true is more =
         let n : suc (prefix_len test text) ≡ 1 + prefix_len test text = omega arith in
