@@ -6,7 +6,6 @@ mod play;
 mod program;
 mod servers;
 mod status;
-mod stub;
 mod words;
 
 pub use program::fetchplay;

@@ -9,12 +9,13 @@ ghost use Rattle.wf_top.specs.Words.{texts};
 use crate::complaint::tell;
 use crate::play::play_all;
 use crate::status::Status;
-use crate::stub::{Failure, write_play};
+
 use crate::words::is_play;
 use std::alloc::Global;
 use std::sync::Wait;
 use std::thread::Threads;
 use wf_link::{ReadStop, Sink, Source, read_whole};
+use wf_print::{Failure, write_play};
 use wf_script::Scenario;
 use wf_text::OutOfMemory;
 
