@@ -21,7 +21,7 @@ use Rattle.wf_fetch.specs.Play.{run_play}
 use Rattle.wf_fetch.specs.Runs.{document_run}
 
 -- https://a.test/
-abbrev root : Parts
+abbrev pub root : Parts
 root = record {
   scheme = codes "https";
   username = [];
@@ -34,15 +34,15 @@ root = record {
 }
 
 -- its document, with a script that fetches `/`
-abbrev document : Document
+abbrev pub document : Document
 document = record { url = root; script = command.Fetch (codes "/") ∷ [] }
 
 -- the answer: status 200 without headers, and the body `hi`
-abbrev tape : List Input
+abbrev pub tape : List Input
 tape = Sent ∷ HeadIs (record { status = 200; headers = [] }) ∷ BodyIs (Whole (codes "hi")) ∷ []
 
 -- what is sent
-abbrev hop : Hop
+abbrev pub hop : Hop
 hop = record {
   preflight = false;
   origin = codes "https://a.test";
@@ -59,7 +59,7 @@ hop = record {
 }
 
 -- what the script sees
-abbrev answer : Outcome
+abbrev pub answer : Outcome
 answer = Answer (record {
   kind = Basic;
   status = 200;

@@ -8,5 +8,8 @@ mod servers;
 mod status;
 mod words;
 
+#[cfg(test)]
+mod tests;
+
 pub use program::fetchplay;
 pub use status::Status;
