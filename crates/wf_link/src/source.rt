@@ -1,4 +1,4 @@
-ghost use Rattle.std.specs.Prelude.{◌≡◌, ◌+◌, ◌<◌, ◌≤◌, ◌^◌, ℕ, List, [], take, length, Option, Ok, Err, IfOk, OnErr};
+ghost use Rattle.std.specs.Prelude.{◌≡◌, ◌+◌, ◌<◌, ◌≤◌, ◌^◌, ℕ, List, [], take, length, Option, Ok, Err, IfOk, OnErr, vec_len};
 ghost use Rattle.std.specs.Io.{ReadsAtMost};
 ghost use Rattle.wf_link.specs.Counts.{HasCause, Rose};
 ghost use Rattle.wf_link.specs.Sources.{Gave, GaveAtMost, GaveJust, GaveWhole, IsAtEnd};
@@ -42,6 +42,13 @@ pub enum ReadStop {
 /// How many bytes are asked for at once.
 const PIECE: usize = 65_536;
 
+/// Room for one piece.
+fn piece_buffer(alloc: Global) -> Result<Vec<u8>, OutOfMemory>
+    ensures { IfOk result (λ buffer. vec_len buffer ≡ PIECE) }
+{
+    Ok(vec![in alloc; 0u8; PIECE]?)
+}
+
 /// Reads the source to its end, which is to come within `most` bytes.
 ///
 /// One byte more is `TooLong`, and no byte after it is read. After another stop the source has
@@ -55,9 +62,9 @@ pub fn read_whole<S: Source>(alloc: Global, source: &mut S, most: usize) -> Resu
     ensures faults { S.faults source.old ≤ S.faults source.new }
     ensures fault { result ≡ Err ReadStop.Fault → Rose (S.faults source.old) (S.faults source.new) }
 {
-    let mut buffer = match vec![in alloc; 0u8; PIECE] {
+    let mut buffer = match piece_buffer(alloc) {
         Ok(buffer) => buffer,
-        Err(_) => return Err(ReadStop::OutOfMemory),
+        Err(OutOfMemory) => return Err(ReadStop::OutOfMemory),
     };
     let mut text = Bytes::new(alloc);
     loop {
