@@ -67,10 +67,11 @@ fn refused_at(alloc: Global, place: &[u8]) -> Result<Place, OutOfMemory>
 }
 
 impl Scenario {
-    /// Reads a scenario from the tree that `serde_json` reads from the text (format 1). It answers
-    /// the place `json` exactly where the text is no tree, since it is not UTF-8 or not JSON, and
-    /// the place `/` where the tree holds a key or a value that is not taken, or lacks one that is
-    /// required.
+    /// Reads a scenario of format 1 from the JSON tree (RFC 8259) of a text. It answers the place
+    /// `json` exactly where the text is no tree, since it is not UTF-8 or not JSON, and the place
+    /// `/` exactly where the tree has a key or a value that is not taken, or lacks a required key.
+    /// What is read is valid: its counts and values keep the format's bounds. `OutOfMemory` tells
+    /// want of memory alone.
     pub fn read(alloc: Global, text: &[u8]) -> Result<Result<Scenario, Place>, OutOfMemory>
         ensures value { IfOk result (λ read. read ≡ spec.scenario_of text.now) }
         ensures valid { IfOk result (λ read. IfOk read IsValid) }
