@@ -1,3 +1,4 @@
 pub mod EscapeLemmas
 pub mod LineLemmas
+pub mod OutputLemmas
 pub mod WriteLemmas
