@@ -1,0 +1,4 @@
+pub mod BoundLemmas
+pub mod TraceLemmas
+pub mod DriveLemmas
+pub mod Computed

@@ -1,0 +1,8 @@
+pub mod Process
+pub mod Hops
+pub mod Fetch
+pub mod Machine
+pub mod Play
+pub mod Runs
+pub mod Traces
+pub mod Bound

@@ -1,0 +1,63 @@
+-- A document's run as a tree: what it shows, the acts of its fetches, and its ending.
+use Rattle.std.specs.Prelude.{ℕ, List, [], ◌∷◌, ◌++◌, Option, Some, None, IsTrue, if◌then◌else◌}
+use Rattle.wf_types.specs.declared.response.Outcome.{Outcome}
+use Rattle.wf_print.specs.declared.events.Ending.{Ending}
+use Rattle.wf_print.specs.declared.events.Event.{Event}
+use Rattle.wf_print.specs.declared.events.Event.TheVariants.{Sent}
+use Rattle.wf_fetch.specs.declared.act.Act.{Act}
+use Rattle.wf_fetch.specs.declared.act.Act.TheVariants.{Send, ReadHead, ReadBody}
+use Rattle.wf_fetch.specs.declared.act.Input.{Input}
+use Rattle.wf_fetch.specs.Process.{Process, ended, act, fits}
+
+-- It is over, with an ending and the clock then; or it shows an event and goes on; or it acts and
+-- goes on from the input that comes.
+pub data Play : Type 0 where
+  over : Ending → ℕ → Play
+  emit : Event → Play → Play
+  step : Act → (Input → Play) → Play
+
+-- a fetch inside a run, and what follows its outcome
+abbrev pub embed : Process → (Outcome → Play) → Play
+embed (ended outcome) next = next outcome
+embed (act first after) next = step first (λ input. embed (after input) next)
+
+-- what an act shows when its input has come
+abbrev pub events_of : Act → Input → List Event
+events_of (Send hop) input = Sent hop ∷ []
+events_of ReadHead input = []
+events_of ReadBody input = []
+
+-- What a run has shown, and its ending with the clock where it came to one.
+pub record PlayRun : Type 0 where
+  pub events : List Event
+  pub ending : Option (Ending × ℕ)
+
+-- the events, and then what the rest showed
+abbrev pub shows : List Event → PlayRun → PlayRun
+shows events rest = record { events = events ++ rest.events; ending = rest.ending }
+
+-- nothing was shown
+abbrev pub unseen : PlayRun
+unseen = record { events = []; ending = None }
+
+-- what follows an act over a tape: nothing where the tape ends or its first item does not fit
+abbrev pub play_on : Act → (Input → List Input → PlayRun) → List Input → PlayRun
+play_on first after [] = unseen
+play_on first after (input ∷ tape) =
+    if fits first input then shows (events_of first input) (after input tape) else unseen
+
+-- the run over a tape, as far as the tape goes and its items fit
+abbrev pub run_play : Play → List Input → PlayRun
+run_play (over ending clock) tape = record { events = []; ending = Some (ending, clock) }
+run_play (emit event rest) tape = shows (event ∷ []) (run_play rest tape)
+run_play (step first after) tape = play_on first (λ input. run_play (after input)) tape
+
+-- With exactly these items of a tape the first play shows these events and goes on as the second.
+pub data Trace : Play → List Input → List Event → Play → Type 0 where
+  stop : {p : Play} → Trace p [] [] p
+  shown : {p q : Play} {tape : List Input} {events : List Event} → (event : Event)
+      → Trace p tape events q → Trace (emit event p) tape (event ∷ events) q
+  stepped : {q : Play} {tape : List Input} {events : List Event} → (first : Act)
+      (after : Input → Play) (input : Input) → IsTrue (fits first input)
+      → Trace (after input) tape events q
+      → Trace (step first after) (input ∷ tape) (events_of first input ++ events) q

@@ -1,0 +1,44 @@
+-- A fetch as a tree of acts: what is done next, and how it goes on from each input that comes
+-- (Fetch, section 4, where the algorithm waits for the network).
+use Rattle.std.specs.Prelude.{Bool, true, false, List, [], ◌∷◌, Option, Some, None, if◌then◌else◌}
+use Rattle.wf_types.specs.declared.response.Outcome.{Outcome}
+use Rattle.wf_fetch.specs.declared.act.Act.{Act}
+use Rattle.wf_fetch.specs.declared.act.Act.TheVariants.{Send, ReadHead, ReadBody}
+use Rattle.wf_fetch.specs.declared.act.Input.{Input}
+use Rattle.wf_fetch.specs.declared.act.Input.TheVariants.{Sent, HeadIs, HeadBad, BodyIs}
+
+-- It has ended with an outcome, or it acts and goes on from the input that comes.
+pub data Process : Type 0 where
+  ended : Outcome → Process
+  act : Act → (Input → Process) → Process
+
+-- the input may follow the act
+abbrev pub fits : Act → Input → Bool
+fits (Send hop) Sent = true
+fits ReadHead (HeadIs head) = true
+fits ReadHead HeadBad = true
+fits ReadBody (BodyIs end) = true
+fits _ _ = false
+
+-- What a run has done, and its outcome where it came to one.
+pub record Run : Type 0 where
+  pub acts : List Act
+  pub outcome : Option Outcome
+
+-- the act, and then what the rest did
+abbrev pub began : Act → Run → Run
+began first rest = record { acts = first ∷ rest.acts; outcome = rest.outcome }
+
+-- nothing was done
+abbrev pub nothing : Run
+nothing = record { acts = []; outcome = None }
+
+-- what follows an act over a tape: nothing where the tape ends or its first item does not fit
+abbrev pub followed : Act → (Input → List Input → Run) → List Input → Run
+followed first after [] = nothing
+followed first after (input ∷ tape) = if fits first input then after input tape else nothing
+
+-- the process over a tape, as far as the tape goes and its items fit
+abbrev pub run : Process → List Input → Run
+run (ended outcome) tape = record { acts = []; outcome = Some outcome }
+run (act first after) tape = began first (followed first (λ input. run (after input)) tape)

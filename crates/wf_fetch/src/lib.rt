@@ -1,0 +1,12 @@
+// A fetch, as a machine that is resumed, against the main fetch of the Fetch Standard.
+#![tactic(auto)]
+
+mod act;
+mod hop;
+mod machine;
+mod place;
+#[cfg(test)]
+mod tests;
+
+pub use act::{Act, Input, fits};
+pub use place::{Fetching, Place, Step};
