@@ -1,3 +1,4 @@
+pub mod Computed
 pub mod EscapeLemmas
 pub mod LineLemmas
 pub mod OutputLemmas

@@ -22,6 +22,7 @@ fn add_ending(text: &mut Bytes, ending: Ending) -> Result<(), OutOfMemory>
         Ending::Fetches => text.append(b"end limit fetches\n"),
         Ending::Commands => text.append(b"end limit commands\n"),
         Ending::Text => text.append(b"end limit text\n"),
+        // A play of such a document has no text.
         Ending::Memory => Ok(()),
     }
 }
