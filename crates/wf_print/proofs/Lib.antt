@@ -1,3 +1,5 @@
+pub mod Computed
 pub mod EscapeLemmas
 pub mod LineLemmas
+pub mod OutputLemmas
 pub mod WriteLemmas

@@ -1,5 +1,5 @@
 -- What loops over headers, events and transcripts come to.
-use Rattle.std.proofs.Common.{◌<◌, ◌+◌, add-one, get_or, length, take, ◌≡◌, ℕ, List, [], ◌∷◌, ◌++◌, drop, zero, suc, ap, sym, ◌∙◌, append_assoc, codes, option_map, Some}
+use Rattle.std.proofs.Common.{◌<◌, ◌+◌, add-one, get_or, length, take, ◌≡◌, ℕ, List, [], ◌∷◌, ◌++◌, drop, zero, suc, ap, sym, ◌∙◌, codes, option_map, Some}
 use Rattle.std.specs.List.{flat_map, slice_get}
 use Rattle.std.proofs.Math.Seq.{take-suc}
 use Rattle.std.proofs.lemmas.List.{append-nil, take-append-drop}
@@ -15,11 +15,6 @@ header_lines-drop (header ∷ headers) zero name value n v =
     let b : header.value ≡ value = cc in
     ap (λ (l : List ℕ). escaped_line (l ++ codes ": " ++ header.value) ++ header_lines headers) a ∙ ap (λ (l : List ℕ). escaped_line (name ++ codes ": " ++ l) ++ header_lines headers) b
 header_lines-drop (header ∷ headers) (suc i) name value n v = header_lines-drop headers i name value n v
-
--- of what is left, one piece more is added
-pub one_added : (all sofar added rest piece left : List ℕ) → sofar ++ rest ≡ all → rest ≡ piece ++ left → added ≡ sofar ++ piece → added ++ left ≡ all
-one_added all sofar added rest piece left so split e =
-    ap (λ (l : List ℕ). l ++ left) e ∙ append_assoc sofar piece left ∙ ap (λ (l : List ℕ). sofar ++ l) (sym split) ∙ so
 
 -- the texts of the first items, and those of the rest
 pub flat_map-split : {X : Type 0} (f : X → List ℕ) (xs : List X) (i : ℕ) → flat_map f xs ≡ flat_map f (take i xs) ++ flat_map f (drop i xs)

@@ -3,7 +3,7 @@ ghost use Rattle.std.specs.List.{prefix_len};
 ghost use Rattle.std.specs.Char.{digit_char};
 ghost use Rattle.wf_print.specs.Escapes as spec;
 
-use wf_text::{Bytes, OutOfMemory};
+use crate::output::Output;
 
 // Whether the byte stands for itself in an escaped text.
 fn is_plain(byte: u8) -> bool
@@ -44,17 +44,17 @@ fn hex_escape(byte: u8) -> [u8; 4]
 }
 
 // Adds a piece, escaped. Bytes that stand for themselves are added a run at a time.
-pub fn add_escaped(text: &mut Bytes, piece: &[u8]) -> Result<(), OutOfMemory>
-    ensures { OnOk result (text.new ≡ text.old ++ spec.escaped piece.now) }
+pub fn add_escaped<W: Output>(text: &mut W, piece: &[u8]) -> Result<(), W::Error>
+    ensures { OnOk result (text.new ≡ W.after text.old (spec.escaped piece.now)) }
 {
     let mut rest = piece;
     loop {
         let (plain, others) = rest.split_at(plain_len(rest));
-        text.append(plain)?;
+        text.add(plain)?;
         let Some((byte, after)) = others.split_first() else {
             return Ok(());
         };
-        text.append(&hex_escape(*byte))?;
+        text.add(&hex_escape(*byte))?;
         rest = after;
     }
 }

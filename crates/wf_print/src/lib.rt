@@ -4,10 +4,14 @@
 mod escape;
 mod events;
 mod failure;
+mod length;
 mod lines;
+mod output;
 mod play;
+#[cfg(test)]
+mod tests;
 
-pub use escape::add_escaped;
 pub use events::{Ending, Event, Events, Transcript, Transcripts};
 pub use failure::Failure;
+pub use length::event_len;
 pub use play::{has_text, write_play};

@@ -8,6 +8,7 @@ ghost use Rattle.wf_print.specs.Writes.{Writes};
 use crate::events::{Ending, Event, Transcript, Transcripts};
 use crate::failure::Failure;
 use crate::lines::{add_event, add_number};
+use crate::output::Output;
 use std::alloc::Global;
 use wf_link::{Sink, write_whole};
 use wf_text::{Bytes, OutOfMemory};
@@ -21,13 +22,14 @@ fn add_ending(text: &mut Bytes, ending: Ending) -> Result<(), OutOfMemory>
         Ending::Fetches => text.append(b"end limit fetches\n"),
         Ending::Commands => text.append(b"end limit commands\n"),
         Ending::Text => text.append(b"end limit text\n"),
+        // A play of such a document has no text.
         Ending::Memory => Ok(()),
     }
 }
 
 // Adds the lines of the events.
-fn add_events(text: &mut Bytes, events: &[Event]) -> Result<(), OutOfMemory>
-    ensures { OnOk result (text.new ≡ text.old ++ flat_map spec.event_text events.now) }
+fn add_events<W: Output>(text: &mut W, events: &[Event]) -> Result<(), W::Error>
+    ensures { OnOk result (text.new ≡ W.after text.old (flat_map spec.event_text events.now)) }
 {
     for event in events {
         add_event(text, event)?;
