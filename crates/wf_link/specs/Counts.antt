@@ -1,5 +1,6 @@
--- Counts of faults: each is a u64 that never falls and stops at its greatest value.
-use Rattle.std.specs.Prelude.{ℕ, ◌+◌, ◌-◌, ◌^◌, ◌≤◌, min, Result, OnErr}
+-- Counts of calls and of faults: each is a u64 that never falls and stops at its greatest value.
+use Rattle.std.specs.Prelude.{ℕ, Bool, ◌+◌, ◌-◌, ◌^◌, ◌≤◌, ◌==◌, min, List, Result, OnErr}
+use Rattle.std.specs.List.{list_any}
 
 -- one more, or the greatest value
 abbrev pub one_more : ℕ → ℕ
@@ -13,3 +14,7 @@ Rose before now = one_more before ≤ now
 pub record HasCause {T E : Type 0} (before now : ℕ) (result : Result T E) : Type 0 where
   pub later : before ≤ now
   pub failed : OnErr result (Rose before now)
+
+-- after so many calls, the next one's number is in the list
+abbrev pub is_next_in : List ℕ → ℕ → Bool
+is_next_in numbers calls = list_any (λ number. number == one_more calls) numbers

@@ -1,3 +1,5 @@
 pub mod Counts
+pub mod MemorySink
+pub mod MemorySource
 pub mod Sinks
 pub mod Sources

@@ -15,3 +15,8 @@ TookPart old new text = (n : ℕ) × Took old new (take n text)
 pub record CountsZero {E : Type 0} (before now : ℕ) (result : Result ℕ E) (piece : List ℕ) : Type 0 where
   pub later : before ≤ now
   pub zero : result ≡ Ok 0 → 0 < length piece → Rose before now
+
+-- how often a sink failed, and how often it took nothing of a piece that is not empty
+pub record SinkCounts : Type 0 where
+  pub faults : ℕ
+  pub zeros : ℕ

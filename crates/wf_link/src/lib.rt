@@ -1,8 +1,16 @@
 // The outside: where bytes come from and where they go, with counts of its faults.
 #![tactic(auto)]
 
+mod memory_sink;
+mod memory_source;
 mod sink;
 mod source;
+mod standard;
+#[cfg(test)]
+mod tests;
 
+pub use memory_sink::MemorySink;
+pub use memory_source::MemorySource;
 pub use sink::{Sink, WriteFault, write_whole};
-pub use source::{Failed, Source};
+pub use source::{Failed, ReadStop, Source, read_whole};
+pub use standard::{ReaderSource, StandardError, StandardInput, StandardOutput, WriterSink};

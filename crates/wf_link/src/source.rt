@@ -1,7 +1,10 @@
-ghost use Rattle.std.specs.Prelude.{◌≡◌, ◌<◌, ℕ, List, [], take, length, Option, Ok, IfOk, OnErr};
+ghost use Rattle.std.specs.Prelude.{◌≡◌, ◌+◌, ◌<◌, ◌≤◌, ◌^◌, ℕ, List, [], take, length, Option, Ok, Err, IfOk, OnErr};
 ghost use Rattle.std.specs.Io.{ReadsAtMost};
-ghost use Rattle.wf_link.specs.Counts.{HasCause};
-ghost use Rattle.wf_link.specs.Sources.{Gave, IsAtEnd};
+ghost use Rattle.wf_link.specs.Counts.{HasCause, Rose};
+ghost use Rattle.wf_link.specs.Sources.{Gave, GaveAtMost, GaveJust, GaveWhole, IsAtEnd};
+
+use std::alloc::Global;
+use wf_text::{Bytes, OutOfMemory};
 
 /// A device failed.
 #[derive(Clone, Copy, Debug, PartialEq, Eq)]
@@ -23,4 +26,52 @@ pub trait Source {
         ensures end { result ≡ Ok 0 → 0 < length buf.new → IsAtEnd (left self.new) }
         ensures failed { OnErr result (left self.new ≡ left self.old) }
         ensures cause { HasCause (faults self.old) (faults self.new) result };
+}
+
+/// Why a source was not read to its end.
+#[derive(Clone, Copy, Debug, PartialEq, Eq)]
+pub enum ReadStop {
+    /// The source failed.
+    Fault,
+    /// It gave more bytes than the limit allows.
+    TooLong,
+    /// Memory was refused.
+    OutOfMemory,
+}
+
+/// How many bytes are asked for at once.
+const PIECE: usize = 65_536;
+
+/// Reads the source to its end, which is to come within `most` bytes.
+///
+/// One byte more is `TooLong`, and no byte after it is read. After another stop the source has
+/// given at most `most` bytes.
+pub fn read_whole<S: Source>(alloc: Global, source: &mut S, most: usize) -> Result<Bytes, ReadStop>
+    requires { most < 2 ^ 32 }
+    ensures ok { IfOk result (λ text. GaveWhole (S.left source.old) (S.left source.new) text most) }
+    ensures too_long { result ≡ Err ReadStop.TooLong → GaveJust (S.left source.old) (S.left source.new) (most + 1) }
+    ensures stopped { result ≡ Err ReadStop.Fault → GaveAtMost (S.left source.old) (S.left source.new) most }
+    ensures refused { result ≡ Err ReadStop.OutOfMemory → GaveAtMost (S.left source.old) (S.left source.new) most }
+    ensures faults { S.faults source.old ≤ S.faults source.new }
+    ensures fault { result ≡ Err ReadStop.Fault → Rose (S.faults source.old) (S.faults source.new) }
+{
+    let mut buffer = match vec![in alloc; 0u8; PIECE] {
+        Ok(buffer) => buffer,
+        Err(_) => return Err(ReadStop::OutOfMemory),
+    };
+    let mut text = Bytes::new(alloc);
+    loop {
+        let room = most + 1 - text.len();
+        let piece = &mut buffer.as_mut_slice()[..room.min(PIECE)];
+        match source.read(piece) {
+            Err(Failed) => return Err(ReadStop::Fault),
+            Ok(0) => return Ok(text),
+            Ok(count) if count == room => return Err(ReadStop::TooLong),
+            Ok(count) => {
+                if let Err(OutOfMemory) = text.append(&piece[..count]) {
+                    return Err(ReadStop::OutOfMemory);
+                }
+            }
+        }
+    }
 }

@@ -1,0 +1,4 @@
+pub mod Escapes
+pub mod Text
+pub mod Writes
+pub mod Failures

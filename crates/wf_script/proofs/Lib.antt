@@ -1,1 +1,5 @@
 pub mod TextLemmas
+pub mod ReadingLemmas
+pub mod KeepsLemmas
+pub mod ValidLemmas
+pub mod Computed

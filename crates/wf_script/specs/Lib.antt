@@ -1,1 +1,4 @@
+pub mod Reading
 pub mod Urls
+pub mod Scenarios
+pub mod Valid

@@ -1,15 +1,18 @@
--- URLs read from bytes (URL Standard, section 4.4).
-use Rattle.std.specs.Prelude.{ℕ, List, Option, Some, None, if◌then◌else◌}
+-- URLs read from texts (URL Standard, section 4.4), and those that documents and fetches may have.
+use Rattle.std.specs.Prelude.{ℕ, ◌&&◌, ◌||◌, Bool, false, not, nat_le, nat_eq, List, [], ◌∷◌, length, codes, bytes_eq, Option, Some, None, is_some, if◌then◌else◌}
+use Rattle.std.specs.List.{starts_with}
 use Rattle.std.specs.Result.{result_ok}
 use Rattle.std.specs.Str.{is_utf8}
 use Rattle.url.specs.Parser.{parse_url}
-use Rattle.url.specs.Parts.{Parts}
+use Rattle.url.specs.Parts.{Parts, has_credentials, serialize}
+use Rattle.wf_origin.specs.Origins.{origin_of, serialized}
+use Rattle.wf_origin.specs.declared.origin.Origin.{Origin}
 
 -- the text that bytes are, where they are UTF-8
 abbrev pub utf8_text : List ℕ → Option (List ℕ)
 utf8_text bytes = if is_utf8 bytes then Some bytes else None
 
--- the URL that a text gives against the base, where it gives one
+-- the URL that a text gives, with or without a base, where it gives one
 abbrev pub url_of_text : Option Parts → Option (List ℕ) → Option Parts
 url_of_text base None = None
 url_of_text base (Some text) = result_ok (parse_url base text)
@@ -17,3 +20,28 @@ url_of_text base (Some text) = result_ok (parse_url base text)
 -- the URL that bytes give against a base, unless they are not UTF-8 or no URL
 abbrev pub url_against : Parts → List ℕ → Option Parts
 url_against base text = url_of_text (Some base) (utf8_text text)
+
+-- an https URL without credentials and without a port, of at most 8,192 bytes as printed
+abbrev pub is_plain_https : Parts → Bool
+is_plain_https url =
+    bytes_eq url.scheme (codes "https") && not (has_credentials url) && not (is_some url.port)
+    && nat_le (length (serialize url)) 8192
+
+-- the text is the serialized origin of a URL that has one
+abbrev pub is_serialized : Option Origin → List ℕ → Bool
+is_serialized None text = false
+is_serialized (Some origin) text = bytes_eq (serialized origin) text
+
+-- the origin of a URL, where there is a URL
+abbrev pub origin_in : Option Parts → Option Origin
+origin_in None = None
+origin_in (Some url) = origin_of url
+
+-- a text that is the serialized origin of an http or https URL (HTML, section 7.1.1)
+abbrev pub is_origin_text : List ℕ → Bool
+is_origin_text text = is_serialized (origin_in (url_of_text None (Some text))) text
+
+-- `${`, which begins a template, stands somewhere in the text
+abbrev pub has_template : List ℕ → Bool
+has_template [] = false
+has_template (byte ∷ text) = starts_with nat_eq (byte ∷ text) (codes "${") || has_template text

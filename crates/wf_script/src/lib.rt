@@ -1,6 +1,15 @@
 // Scenarios: documents with their scripts, and the servers that answer them.
 #![tactic(auto)]
 
+mod documents;
+mod fields;
+mod form;
+mod lists;
+mod read;
+mod refused;
+mod servers;
+#[cfg(test)]
+mod tests;
 mod types;
 mod urls;
 

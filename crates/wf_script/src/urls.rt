@@ -6,10 +6,11 @@ ghost use Rattle.wf_script.specs.Urls as spec;
 
 use std::alloc::Global;
 use url::{ParseError, Url};
+use wf_origin::{origin_of, serialize};
 use wf_text::OutOfMemory;
 
-// The text that bytes are, where they are UTF-8.
-fn utf8_text(bytes: &[u8]) -> Option<&str>
+/// The text that bytes are, where they are UTF-8.
+pub(crate) fn utf8_text(bytes: &[u8]) -> Option<&str>
     ensures { option_map (λ text. text.now) result ≡ spec.utf8_text bytes.now }
 {
     match str::from_utf8(bytes) {
@@ -38,4 +39,51 @@ pub fn url_against(alloc: Global, base: &Url, text: &[u8]) -> Result<Option<Url>
         None => Ok(None),
         Some(text) => parsed(base.join(text)),
     }
+}
+
+/// The URL that a text gives by itself, or nothing where it is none.
+pub(crate) fn url_alone(alloc: Global, text: &str) -> Result<Option<Url>, OutOfMemory>
+    ensures { IfOk result (λ url. url ≡ spec.url_of_text None (Some text.now)) }
+{
+    parsed(Url::parse(alloc, text))
+}
+
+/// Whether it is an https URL without credentials and without a port, of at most 8,192 bytes.
+pub(crate) fn is_plain_https(url: &Url) -> bool
+    ensures { result ≡ spec.is_plain_https url.now }
+{
+    url.scheme() == "https"
+        && url.username().is_empty()
+        && url.password().is_none()
+        && url.port().is_none()
+        && url.as_str().len() <= 8192
+}
+
+/// Whether a text is the serialized origin of an http or https URL (HTML, section 7.1.1).
+pub(crate) fn is_origin_text(alloc: Global, text: &str) -> Result<bool, OutOfMemory>
+    ensures { IfOk result (λ is. is ≡ spec.is_origin_text text.now) }
+{
+    let Some(url) = url_alone(alloc, text)? else {
+        return Ok(false);
+    };
+    let Some(origin) = origin_of(alloc, &url)? else {
+        return Ok(false);
+    };
+    let serialized = serialize(alloc, &origin)?;
+    Ok(serialized.as_slice() == text.as_bytes())
+}
+
+/// Whether `${` stands somewhere in the text.
+#[tactic(auto, using(crate::proofs::TextLemmas::templates))]
+pub(crate) fn has_template(text: &[u8]) -> bool
+    ensures { result ≡ spec.has_template text.now }
+{
+    let mut dollar = false;
+    for byte in text {
+        if dollar && *byte == b'{' {
+            return true;
+        }
+        dollar = *byte == b'$';
+    }
+    false
 }

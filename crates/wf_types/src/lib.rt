@@ -6,6 +6,8 @@ mod fault;
 mod hop;
 mod policy;
 mod response;
+#[cfg(test)]
+mod tests;
 
 pub use error::NetError;
 pub use fault::TypeFault;

@@ -1,3 +1,6 @@
+ghost use Rattle.std.specs.Prelude.{◌≡◌};
+ghost use Rattle.wf_types.specs.Names.{kind_name};
+
 use crate::error::NetError;
 use wf_headers::HeaderList;
 use wf_text::Bytes;
@@ -24,6 +27,20 @@ pub enum ResponseKind {
     Cors,
     Opaque,
     OpaqueRedirect,
+}
+
+impl ResponseKind {
+    /// The name of the type.
+    pub fn name(self) -> &'static str
+        ensures { result.now ≡ kind_name self }
+    {
+        match self {
+            ResponseKind::Basic => "basic",
+            ResponseKind::Cors => "cors",
+            ResponseKind::Opaque => "opaque",
+            ResponseKind::OpaqueRedirect => "opaqueredirect",
+        }
+    }
 }
 
 /// A filtered response, as a script sees it. The URL has no fragment.

@@ -1,0 +1,58 @@
+-- What several reads come to.
+use Rattle.std.proofs.Common.{◌≡◌, ◌≤◌, ◌+◌, ◌-◌, ℕ, List, [], ◌++◌, length, take, drop, Option, Some, None, refl, ap, sym, ◌∙◌, append_assoc, arith, length-append}
+use Rattle.std.proofs.lemmas.List.{append-nil, drop-drop, length-take-le, take-append-drop, take_at}
+use Rattle.wf_link.specs.Sources.{Gave, GaveAtMost, GaveJust, GaveWhole, IsAtEnd}
+
+-- what a reading loop keeps: the buffer's size, and the text that was given so far, within the limit
+pub record Reading (buffer : ℕ) (old new : Option (List ℕ)) (text : List ℕ) (most before now : ℕ) : Type 0 where
+  pub size : buffer ≡ 65536
+  pub gave : Gave old new text
+  pub within : length text ≤ most
+  pub faults : before ≤ now
+
+-- nothing was given yet
+pub gave-none : (a : Option (List ℕ)) (x : List ℕ) → x ≡ [] → Gave a a x
+gave-none None x e = tt
+gave-none (Some o) x e = (o, refl, ap (λ (l : List ℕ). l ++ o) (sym e))
+
+-- two texts, one after the other
+pub gave-again : (a b c : Option (List ℕ)) (x y z : List ℕ) → Gave a b x → Gave b c y → z ≡ x ++ y → Gave a c z
+gave-again None b c x y z p q e = tt
+gave-again (Some o) None c x y z p q e = absurd (no p.1)
+  where
+    no : None ≡ Some p.0 → ⊥
+    no h = cc
+gave-again (Some o) (Some m) c x y z p q e = (q.0, q.1, p.2 ∙ ap (λ (l : List ℕ). x ++ l) (sym (same p.1) ∙ q.2) ∙ sym (append_assoc x y q.0) ∙ ap (λ (l : List ℕ). l ++ q.0) (sym e))
+  where
+    same : {m n : List ℕ} → Some m ≡ Some n → m ≡ n
+    same h = cc
+
+-- a read of nothing
+pub gave-whole : (a b c : Option (List ℕ)) (x y : List ℕ) (most n : ℕ) → Gave a b x → length x ≤ most → n ≡ 0 → Gave b c (take n y) → IsAtEnd c → GaveWhole a c x most
+gave-whole a b c x y most n before within e more end = record {
+  gave = gave-again a b c x (take n y) x before more (sym (append-nil x) ∙ ap (λ (k : ℕ). x ++ take k y) (sym e));
+  within = within;
+  end = end;
+}
+
+-- a read of all the bytes that the limit lacks, and one more
+pub gave-just : (a b c : Option (List ℕ)) (x y : List ℕ) (most : ℕ) → Gave a b x → length x ≤ most → Gave b c y → length y ≡ most + 1 - length x → GaveJust a c (most + 1)
+gave-just a b c x y most before within more count = record {
+  given = x ++ y;
+  gave = gave-again a b c x y (x ++ y) before more refl;
+  just = omega (arith, length-append x y);
+}
+
+-- a read of fewer
+pub gave-at_most : (a b c : Option (List ℕ)) (x y : List ℕ) (most : ℕ) → Gave a b x → Gave b c y → length x + length y ≤ most → GaveAtMost a c most
+gave-at_most a b c x y most before more within = record {
+  given = x ++ y;
+  gave = gave-again a b c x y (x ++ y) before more refl;
+  within = omega (arith, length-append x y);
+}
+
+-- the bytes at the front of a buffer, and those after them, are what was left
+pub gave-front : (at n : ℕ) (text left rest front more : List ℕ) → drop at text ≡ left → rest ≡ drop at text → n ≤ length rest → front ≡ take n rest → left ≡ take n (front ++ more) ++ drop (at + n) text
+gave-front at n text left rest front more e whole within same =
+    let long : length front ≡ n = ap length same ∙ length-take-le n rest within in
+    sym e ∙ sym whole ∙ rw (take_at front more n long, same, ← drop-drop n at text, ← whole) (sym (take-append-drop n rest))

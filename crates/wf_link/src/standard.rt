@@ -1,0 +1,107 @@
+ghost use Rattle.std.specs.Prelude.{◌≡◌, None};
+
+use crate::sink::Sink;
+use crate::source::{Failed, Source};
+use std::io::{Read, Stderr, Stdin, Stdout, Write};
+use std::marker::Model;
+
+/// A source over a reader, seen as the count of its faults. It tells no content.
+#[derive(Drop)]
+pub struct ReaderSource<R: Read> {
+    reader: R,
+    faults: u64,
+}
+
+/// Standard input as a source. A read is one call of the system.
+pub type StandardInput = ReaderSource<Stdin>;
+
+impl<R: Read> Model for ReaderSource<R> {
+    ghost use Rattle.std.specs.Prelude.{ℕ};
+
+    ghost Value = { ℕ };
+
+    ghost view = { λ source. source.faults };
+}
+
+impl<R: Read> ReaderSource<R> {
+    /// A source over the reader, with its count at 0.
+    pub fn new(reader: R) -> ReaderSource<R>
+        ensures { result ≡ 0 }
+    {
+        ReaderSource { reader, faults: 0 }
+    }
+}
+
+impl<R: Read> Source for ReaderSource<R> {
+    ghost left = { λ _. None };
+
+    ghost faults = { λ source. source };
+
+    fn read(&mut self, buf: &mut [u8]) -> Result<usize, Failed> {
+        match self.reader.read(buf) {
+            Ok(count) => Ok(count),
+            Err(_) => {
+                self.faults = self.faults.saturating_add(1);
+                Err(Failed)
+            }
+        }
+    }
+}
+
+/// A sink over a writer that keeps no buffer, seen as its two counts. It tells no content.
+#[derive(Drop)]
+pub struct WriterSink<W: Write> {
+    writer: W,
+    faults: u64,
+    zeros: u64,
+}
+
+/// Standard output as a sink. A write is one call of the system.
+pub type StandardOutput = WriterSink<Stdout>;
+
+/// Standard error as a sink. A write is one call of the system.
+pub type StandardError = WriterSink<Stderr>;
+
+impl<W: Write> Model for WriterSink<W> {
+    ghost use Rattle.wf_link.specs.Sinks.{SinkCounts};
+
+    ghost Value = { SinkCounts };
+
+    ghost view = { λ sink. record { faults = sink.faults; zeros = sink.zeros } };
+}
+
+impl<W: Write> WriterSink<W> {
+    /// A sink over the writer, with its counts at 0.
+    pub fn new(writer: W) -> WriterSink<W>
+        ensures { result ≡ record { faults = 0; zeros = 0 } }
+    {
+        WriterSink {
+            writer,
+            faults: 0,
+            zeros: 0,
+        }
+    }
+}
+
+impl<W: Write> Sink for WriterSink<W> {
+    ghost taken = { λ _. None };
+
+    ghost faults = { λ sink. sink.faults };
+
+    ghost zeros = { λ sink. sink.zeros };
+
+    fn write(&mut self, piece: &[u8]) -> Result<usize, Failed> {
+        match self.writer.write(piece) {
+            Ok(count) => {
+                if count == 0 && !piece.is_empty() {
+                    self.zeros = self.zeros.saturating_add(1);
+                }
+                Ok(count)
+            }
+            Err(_) => {
+                self.faults = self.faults.saturating_add(1);
+                Err(Failed)
+            }
+        }
+    }
+}

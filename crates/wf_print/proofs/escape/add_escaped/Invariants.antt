@@ -1,0 +1,9 @@
+use Rattle.std.proofs.Common.{◌≡◌, ◌++◌, length}
+use Rattle.wf_print.specs.Escapes as spec
+use Rattle.wf_print.proofs.escape.add_escaped.Given as goal
+
+abbrev pub invariant-loop-byte : goal.invariant-loop-byte
+invariant-loop-byte l = l.text ++ spec.escaped l.rest ≡ l.fn.text ++ spec.escaped l.piece
+
+abbrev pub decreases-loop-byte : goal.decreases-loop-byte
+decreases-loop-byte l = length l.rest

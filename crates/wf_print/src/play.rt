@@ -1,0 +1,114 @@
+ghost use Rattle.std.specs.Prelude.{◌≡◌, ◌≤◌, ◌++◌, ◌↔◌, IsTrue, Err, IfOk, OnOk, OnErr};
+ghost use Rattle.std.specs.List.{flat_map};
+ghost use Rattle.wf_link.specs.Counts.{Rose};
+ghost use Rattle.wf_link.specs.Sinks.{Took, TookPart};
+ghost use Rattle.wf_print.specs.Text as spec;
+ghost use Rattle.wf_print.specs.Writes.{Writes};
+
+use crate::events::{Ending, Event, Transcript, Transcripts};
+use crate::failure::Failure;
+use crate::lines::{add_event, add_number};
+use std::alloc::Global;
+use wf_link::{Sink, write_whole};
+use wf_text::{Bytes, OutOfMemory};
+
+// Adds how a document ended.
+fn add_ending(text: &mut Bytes, ending: Ending) -> Result<(), OutOfMemory>
+    ensures { OnOk result (text.new ≡ text.old ++ spec.ending_line ending) }
+{
+    match ending {
+        Ending::Finished => text.append(b"end finished\n"),
+        Ending::Fetches => text.append(b"end limit fetches\n"),
+        Ending::Commands => text.append(b"end limit commands\n"),
+        Ending::Text => text.append(b"end limit text\n"),
+        Ending::Memory => Ok(()),
+    }
+}
+
+// Adds the lines of the events.
+fn add_events(text: &mut Bytes, events: &[Event]) -> Result<(), OutOfMemory>
+    ensures { OnOk result (text.new ≡ text.old ++ flat_map spec.event_text events.now) }
+{
+    for event in events {
+        add_event(text, event)?;
+    }
+    Ok(())
+}
+
+// The text of a document.
+fn text_of(alloc: Global, transcript: &Transcript) -> Result<Bytes, OutOfMemory>
+    ensures { IfOk result (λ text. text ≡ spec.transcript_text transcript.now) }
+{
+    let mut text = Bytes::of(alloc, b"document ")?;
+    add_number(&mut text, transcript.document)?;
+    text.append(b" ")?;
+    text.append(transcript.key.as_slice())?;
+    text.append(b"\n")?;
+    add_events(&mut text, transcript.events.as_slice())?;
+    add_ending(&mut text, transcript.ending)?;
+    Ok(text)
+}
+
+// Writes a text whole.
+fn put<K: Sink>(sink: &mut K, text: &[u8]) -> Result<(), Failure>
+    ensures { Writes K.taken K.faults K.zeros sink.old sink.new text.now result }
+{
+    write_whole(sink, text)?;
+    Ok(())
+}
+
+// Writes the text of each document, a document at a time.
+fn put_transcripts<K: Sink>(
+    alloc: Global,
+    transcripts: &[Transcript],
+    sink: &mut K,
+) -> Result<(), Failure>
+    ensures { Writes K.taken K.faults K.zeros sink.old sink.new (flat_map spec.transcript_text transcripts.now) result }
+{
+    for transcript in transcripts {
+        let text = text_of(alloc, transcript)?;
+        put(sink, text.as_slice())?;
+    }
+    Ok(())
+}
+
+// Writes the text of the play.
+fn put_play<K: Sink>(alloc: Global, transcripts: &[Transcript], sink: &mut K) -> Result<(), Failure>
+    ensures { Writes K.taken K.faults K.zeros sink.old sink.new (spec.play_text transcripts.now) result }
+{
+    put(sink, b"fetchplay 1\n")?;
+    put_transcripts(alloc, transcripts, sink)?;
+    put(sink, b"history\ndone\n")
+}
+
+/// Whether the play has a text: no document ended for want of memory.
+pub fn has_text(transcripts: &Transcripts) -> bool
+    ensures { IsTrue result ↔ spec.HasText transcripts.now }
+{
+    transcripts
+        .as_slice()
+        .iter()
+        .all(|transcript| transcript.ending != Ending::Memory)
+}
+
+/// Writes the text of a play, a document at a time. After a failure the sink has taken a first
+/// part of the text: `Fault` where the sink failed, `TookNothing` where it took nothing of a piece
+/// that was not empty, and `OutOfMemory` where memory was refused.
+pub fn write_play<K: Sink>(
+    alloc: Global,
+    transcripts: &Transcripts,
+    sink: &mut K,
+) -> Result<(), Failure>
+    requires { spec.HasText transcripts.now }
+
+    ensures ok { OnOk result (Took (K.taken sink.old) (K.taken sink.new) (spec.play_text transcripts.now)) }
+    ensures err { OnErr result (TookPart (K.taken sink.old) (K.taken sink.new) (spec.play_text transcripts.now)) }
+
+    // The counts of the sink never fall, and tell the cause of a failure.
+    ensures faults { K.faults sink.old ≤ K.faults sink.new }
+    ensures zeros { K.zeros sink.old ≤ K.zeros sink.new }
+    ensures fault { result ≡ Err Failure.Fault → Rose (K.faults sink.old) (K.faults sink.new) }
+    ensures nothing { result ≡ Err Failure.TookNothing → Rose (K.zeros sink.old) (K.zeros sink.new) }
+{
+    put_play(alloc, transcripts.as_slice(), sink)
+}

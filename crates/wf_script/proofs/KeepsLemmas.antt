@@ -1,0 +1,88 @@
+-- What is read keeps: a fact goes through each step of a reading.
+use Rattle.std.proofs.Common.{◌≡◌, ℕ, ◌+◌, ◌≤◌, Bool, true, false, List, [], ◌∷◌, length, Option, Some, None, Ok, Err, refl, arith}
+use Rattle.std.specs.Prelude.{nat_le, decimal, IsTrue}
+use Rattle.std.specs.List.{All}
+use Rattle.std.proofs.lemmas.Bool.{leb-true}
+use Rattle.std.proofs.lemmas.List.Elements.{All-nil, All-cons}
+use Rattle.serde_json.specs.Data.{Data, Items, no_items, item}
+use Rattle.serde_json.specs.Find.{get, as_array}
+use Rattle.wf_script.specs.Reading.{Read, ◌>>=◌, under, present, given, found_or, required, optional, count, each_from, list_of}
+
+-- the value has the property, where one is read
+abbrev pub Keeps : {A : Type 0} → (A → Type 0) → Read A → Type 0
+Keeps P (Ok x) = P x
+Keeps P (Err place) = Unit {0}
+
+-- any value
+abbrev pub Anything : {A : Type 0} → A → Type 0
+Anything x = Unit {0}
+
+pub keeps-anything : {A : Type 0} (read : Read A) → Keeps Anything read
+keeps-anything (Ok x) = tt
+keeps-anything (Err place) = tt
+
+pub keeps-then : {A B : Type 0} (P : A → Type 0) (Q : B → Type 0) (read : Read A) (next : A → Read B)
+    → Keeps P read → ((x : A) → P x → Keeps Q (next x)) → Keeps Q (read >>= next)
+keeps-then P Q (Ok x) next kept goes = goes x kept
+keeps-then P Q (Err place) next kept goes = tt
+
+pub keeps-under : {A : Type 0} (P : A → Type 0) (segment : List ℕ) (read : Read A) → Keeps P read → Keeps P (under segment read)
+keeps-under P segment (Ok x) kept = kept
+keeps-under P segment (Err place) kept = tt
+
+pub keeps-given : {A : Type 0} (P : A → Type 0) (passes : Bool) (x : A) → (IsTrue passes → P x) → Keeps P (given passes x)
+keeps-given P true x kept = kept refl
+keeps-given P false x kept = tt
+
+pub keeps-present : {A : Type 0} (found : Option A) → Keeps (λ x. found ≡ Some x) (present found)
+keeps-present None = tt
+keeps-present (Some x) = refl
+
+keeps-found_or : {A : Type 0} (P : A → Type 0) (default : Read A) (read : Data → Read A) (found : Option Data)
+    → Keeps P default → ((tree : Data) → Keeps P (read tree)) → Keeps P (found_or default read found)
+keeps-found_or P default read None kept each = kept
+keeps-found_or P default read (Some tree) kept each = each tree
+
+-- a step whose value has no property that is used
+pub keeps-after : {A B : Type 0} (Q : B → Type 0) (read : Read A) (next : A → Read B) → ((x : A) → Keeps Q (next x)) → Keeps Q (read >>= next)
+keeps-after Q read next goes = keeps-then Anything Q read next (keeps-anything read) (λ x _. goes x)
+
+-- a key's value, and what is read after it
+pub keeps-required : {A B : Type 0} (P : A → Type 0) (Q : B → Type 0) (name : List ℕ) (read : Data → Read A) (tree : Data) (next : A → Read B)
+    → ((inside : Data) → Keeps P (read inside)) → ((x : A) → P x → Keeps Q (next x)) → Keeps Q (required name read tree >>= next)
+keeps-required P Q name read tree next each goes =
+    keeps-then P Q (required name read tree) next
+    (keeps-under P name (found_or (Err []) read (get name tree)) (keeps-found_or P (Err []) read (get name tree) tt each)) goes
+
+pub keeps-optional : {A B : Type 0} (P : A → Type 0) (Q : B → Type 0) (name : List ℕ) (default : A) (read : Data → Read A) (tree : Data) (next : A → Read B)
+    → P default → ((inside : Data) → Keeps P (read inside)) → ((x : A) → P x → Keeps Q (next x)) → Keeps Q (optional name default read tree >>= next)
+keeps-optional P Q name default read tree next kept each goes =
+    keeps-then P Q (optional name default read tree) next
+    (keeps-under P name (found_or (Ok default) read (get name tree)) (keeps-found_or P (Ok default) read (get name tree) kept each)) goes
+
+-- each of so many has the property
+pub record IsListOf {A : Type 0} (P : A → Type 0) (most : ℕ) (xs : List A) : Type 0 where
+  pub few : length xs ≤ most
+  pub all : All P xs
+
+keeps-each : {A : Type 0} (P : A → Type 0) (read : Data → Read A) → ((tree : Data) → Keeps P (read tree))
+    → (i : ℕ) (items : Items) → Keeps (IsListOf P (count items)) (each_from read i items)
+keeps-each P read each i no_items = record { few = omega arith; all = All-nil P }
+keeps-each P read each i (item tree items) =
+    keeps-then P (IsListOf P (count (item tree items))) (under (decimal i) (read tree)) (λ x. each_from read (i + 1) items >>= (λ xs. Ok (x ∷ xs)))
+    (keeps-under P (decimal i) (read tree) (each tree))
+    (λ x kept. keeps-then (IsListOf P (count items)) (IsListOf P (count (item tree items))) (each_from read (i + 1) items) (λ xs. Ok (x ∷ xs))
+    (keeps-each P read each (i + 1) items)
+    (λ xs rest. record { few = omega (arith, rest.few); all = All-cons P x xs kept rest.all }))
+
+shorter : {A : Type 0} (P : A → Type 0) (few most : ℕ) (read : Read (List A)) → few ≤ most → Keeps (IsListOf P few) read → Keeps (IsListOf P most) read
+shorter P few most (Ok xs) le kept = record { few = omega (arith, kept.few); all = kept.all }
+shorter P few most (Err place) le kept = tt
+
+pub keeps-list : {A : Type 0} (P : A → Type 0) (most : ℕ) (read : Data → Read A)
+    → ((inside : Data) → Keeps P (read inside)) → (tree : Data) → Keeps (IsListOf P most) (list_of most read tree)
+keeps-list P most read each tree =
+    keeps-after (IsListOf P most) (present (as_array tree)) (λ items. given (nat_le (count items) most) items >>= (λ few. each_from read 0 few))
+    (λ items. keeps-then (λ few. IsTrue (nat_le (count few) most)) (IsListOf P most) (given (nat_le (count items) most) items) (λ few. each_from read 0 few)
+    (keeps-given (λ few. IsTrue (nat_le (count few) most)) (nat_le (count items) most) items (λ holds. holds))
+    (λ few holds. shorter P (count few) most (each_from read 0 few) (leb-true (count few) most holds) (keeps-each P read each 0 few)))

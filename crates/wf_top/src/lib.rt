@@ -1,0 +1,12 @@
+// The program's top call: words and streams in, a status out.
+#![tactic(auto)]
+
+mod complaint;
+mod play;
+mod program;
+mod servers;
+mod status;
+mod words;
+
+pub use program::fetchplay;
+pub use status::Status;
