@@ -1,5 +1,5 @@
 -- A fetch makes a bounded number of acts.
-use Rattle.std.proofs.Common.{◌≡◌, ◌≤◌, ◌-◌, ◌+◌, ℕ, zero, suc, Bool, true, false, cond, Result, Ok, Err, arith, subst}
+use Rattle.std.proofs.Common.{◌≤◌, ◌-◌, ℕ, zero, suc, Bool, true, false, cond, Result, Ok, Err, arith, subst}
 use Rattle.url.specs.Parts.{Parts}
 use Rattle.wf_origin.specs.Origins.{origin_of}
 use Rattle.wf_types.specs.declared.error.NetError.{NetError}

@@ -1,13 +1,14 @@
--- The definitions computed on a worked example: a document that fetches its own root and is answered.
-use Rattle.std.proofs.Common.{◌≡◌, refl, ℕ, true, false, List, [], ◌∷◌, codes, Option, Some, None}
+-- The definitions computed on worked examples: a document that fetches its own root and is answered,
+-- and URLs that it may not fetch or that have more parts.
+use Rattle.std.proofs.Common.{◌≡◌, refl, false, List, [], ◌∷◌, codes, Some, None}
 use Rattle.url.proofs.OnLiterals.{url_on_literals}
 use Rattle.url.specs.declared.host.Host.TheVariants.{Domain}
 use Rattle.url.specs.Parts.{Parts}
-use Rattle.wf_types.specs.declared.hop.Head.{Head}
 use Rattle.wf_types.specs.declared.hop.Hop.{Hop}
 use Rattle.wf_types.specs.declared.response.BodyEnd.TheVariants.{Whole}
 use Rattle.wf_types.specs.declared.response.Outcome.{Outcome}
-use Rattle.wf_types.specs.declared.response.Outcome.TheVariants.{Answer}
+use Rattle.wf_types.specs.declared.error.NetError.TheVariants.{SameOriginMode}
+use Rattle.wf_types.specs.declared.response.Outcome.TheVariants.{Answer, Error}
 use Rattle.wf_types.specs.declared.response.ResponseKind.TheVariants.{Basic}
 use Rattle.wf_script.specs.declared.types.Command.TheVariants as command
 use Rattle.wf_script.specs.declared.types.Document.{Document}
@@ -16,8 +17,10 @@ use Rattle.wf_print.specs.declared.events.Ending.TheVariants.{Finished}
 use Rattle.wf_print.specs.declared.events.Event.TheVariants as event
 use Rattle.wf_fetch.specs.declared.act.Input.{Input}
 use Rattle.wf_fetch.specs.declared.act.Input.TheVariants.{Sent, HeadIs, BodyIs}
-use Rattle.wf_fetch.specs.Hops.{header}
+use Rattle.wf_fetch.specs.Fetch.{without_fragment, main_fetch}
+use Rattle.wf_fetch.specs.Hops.{target_of, host_value, header, hop_of}
 use Rattle.wf_fetch.specs.Play.{run_play}
+use Rattle.wf_fetch.specs.Process.{ended}
 use Rattle.wf_fetch.specs.Runs.{document_run}
 
 -- https://a.test/
@@ -78,3 +81,28 @@ pub run_of_example : run_play (document_run document) tape
     ≡ record { events = event.Fetch 0 ∷ event.Sent hop ∷ event.Result answer ∷ []; ending = Some (Finished, 0) }
 unfolding url_on_literals
 run_of_example = refl
+
+-- http://u:p@a.test:8080/y?q#f
+abbrev parted : Parts
+parted = record root {
+  scheme = codes "http";
+  username = codes "u";
+  password = codes "p";
+  port = Some 8080;
+  path = codes "/y";
+  query = Some (codes "q");
+  fragment = Some (codes "f");
+}
+
+-- another scheme, host or port is another origin: nothing is sent
+pub refused : (main_fetch root parted ≡ ended (Error SameOriginMode))
+    × (main_fetch root (record root { host = Some (Domain (codes "b.test")) }) ≡ ended (Error SameOriginMode))
+    × (main_fetch root (record root { port = Some 444 }) ≡ ended (Error SameOriginMode))
+unfolding url_on_literals
+refused = (refl, refl, refl)
+
+-- the port is sent, the credentials and the fragment are not
+pub parts_sent : ((hop_of parted).origin ≡ codes "http://a.test:8080") × (target_of parted ≡ codes "/y?q")
+    × (host_value parted ≡ codes "a.test:8080") × (without_fragment parted ≡ codes "http://u:p@a.test:8080/y?q")
+unfolding url_on_literals
+parts_sent = (refl, refl, refl, refl)

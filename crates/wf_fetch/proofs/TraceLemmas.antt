@@ -1,5 +1,5 @@
 -- Parts of a document's run, one after another.
-use Rattle.std.proofs.Common.{◌≡◌, ◌∙◌, refl, sym, ap, subst, ℕ, zero, suc, ◌+◌, ◌≤◌, List, [], ◌∷◌, ◌++◌, length, drop, slice_get, Option, Some, None, arith, add-one, append_assoc}
+use Rattle.std.proofs.Common.{◌≡◌, ◌∙◌, refl, sym, ap, subst, ℕ, zero, suc, ◌+◌, ◌≤◌, List, [], ◌∷◌, ◌++◌, length, drop, slice_get, Option, Some, None, arith, append_assoc}
 use Rattle.std.proofs.lemmas.Grind.{common_steps}
 use Rattle.std.proofs.lemmas.List.{append-nil}
 use Rattle.url.specs.Parts.{Parts}
@@ -16,7 +16,6 @@ use Rattle.wf_print.specs.declared.events.Event.TheVariants.{Fetch, Result, Type
 use Rattle.wf_fetch.specs.declared.act.Input.{Input}
 use Rattle.wf_fetch.specs.Fetch.{main_fetch}
 use Rattle.wf_fetch.specs.Play.{Play, over, emit, step, embed, events_of, PlayRun, shows, run_play, Trace, stop, shown, stepped}
-use Rattle.wf_fetch.specs.Process.{fits}
 use Rattle.wf_fetch.specs.Runs.{Next, fetched, command_run, script_run, finished, document_run}
 use Rattle.wf_fetch.specs.Traces.{Fetched, PlayedTo}
 

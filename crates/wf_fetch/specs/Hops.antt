@@ -1,4 +1,4 @@
--- A request as it is sent (Fetch, section 4.6; RFC 9112, sections 3.2.1 and 3.2).
+-- A request as it is sent (Fetch, section 4.6; RFC 9112, section 3.2).
 use Rattle.std.specs.Prelude.{ℕ, List, [], ◌∷◌, ◌++◌, false, codes, decimal, Option, Some, None}
 use Rattle.url.specs.Host.{host_text}
 use Rattle.url.specs.Parts.{Parts, host_or_empty}

@@ -1,6 +1,6 @@
 -- What a fetch that waits will do, as a process: the meaning of the places of the machine. Only the
 -- contracts of its calls cite it.
-use Rattle.std.specs.Prelude.{◌≡◌, List, [], Option, Some, Result, Ok, Err}
+use Rattle.std.specs.Prelude.{◌≡◌, List, [], Some, Result, Ok, Err}
 use Rattle.url.specs.Parts.{Parts}
 use Rattle.wf_text.specs.declared.memory.OutOfMemory.{OutOfMemory}
 use Rattle.wf_fetch.specs.declared.act.Act.{Act}

@@ -119,9 +119,10 @@ fn main_level(alloc: Global, document: &Url, url: Url) -> Result<Step, OutOfMemo
 }
 
 impl Fetching {
-    /// Main fetch of a URL for the document with this URL: a GET in mode same-origin without a
-    /// referrer (Fetch, section 4.1). It is over at once with the network error `SameOriginMode`
-    /// where not both URLs have an origin, and the same one.
+    /// Begins main fetch of a URL for the document with this URL: a GET in mode same-origin without
+    /// a referrer (Fetch, section 4.1). It is over at once with the network error `SameOriginMode`
+    /// exactly where the two URLs don't both have an origin, the same one; otherwise the request is
+    /// to be sent.
     pub fn start(alloc: Global, document: &Url, url: &Url) -> Result<Step, OutOfMemory>
         ensures process { Leads result (spec.main_fetch document.now url.now) }
         ensures runs { IfOk result (λ step. RunsAs step (run (spec.main_fetch document.now url.now))) }
@@ -129,7 +130,10 @@ impl Fetching {
         main_level(alloc, document, url.clone()?)
     }
 
-    /// Goes on from the input that followed the last act. After `OutOfMemory` the fetch is gone.
+    /// Goes on from the input that followed the last act: the head of the answer is read, then its
+    /// body, and then the fetch is over with a response of type basic (Fetch, sections 4.1, 4.3 and
+    /// 4.6). It is over with the network error `BadHead` exactly where the input is `HeadBad`. After
+    /// `OutOfMemory` the fetch is gone.
     pub fn resume(self, alloc: Global, input: Input) -> Result<Step, OutOfMemory>
         requires { IsTrue (fits (last_act self) input) }
         ensures process { Leads result (rest self input) }
