@@ -1,11 +1,10 @@
 -- The definitions computed on a worked example: a document that fetches its own root from a scripted
 -- server.
-use Rattle.std.proofs.Common.{◌≡◌, refl, true, false, List, [], ◌∷◌, codes, Option, Some, None}
+use Rattle.std.proofs.Common.{◌≡◌, refl, true, false, List, [], ◌∷◌, codes, Some, None}
 use Rattle.url.proofs.OnLiterals.{url_on_literals}
 use Rattle.wf_types.specs.declared.response.Outcome.TheVariants.{Error}
 use Rattle.wf_types.specs.declared.error.NetError.TheVariants.{BadHead}
 use Rattle.wf_script.specs.declared.types.Server.{Server}
-use Rattle.wf_script.specs.Urls.{url_against}
 use Rattle.wf_print.specs.declared.events.Ending.TheVariants.{Finished}
 use Rattle.wf_print.specs.declared.events.Event.TheVariants as event
 use Rattle.wf_print.specs.declared.events.Transcript.{Transcript}

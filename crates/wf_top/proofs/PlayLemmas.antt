@@ -1,5 +1,5 @@
 -- The transcripts of the documents, one after another.
-use Rattle.std.proofs.Common.{◌≡◌, ℕ, ◌+◌, ◌≤◌, ◌<◌, List, [], ◌∷◌, ◌++◌, take, length, get_or, subst, sym, ap, arith, refl, ◌∙◌, ◌≢◌}
+use Rattle.std.proofs.Common.{◌≡◌, ℕ, ◌+◌, ◌<◌, List, [], ◌∷◌, ◌++◌, take, length, get_or, subst, sym, arith, ◌∙◌, ◌≢◌}
 use Rattle.std.proofs.lemmas.List.{take_more, length-take}
 use Rattle.std.proofs.lemmas.List.Elements.{All-push}
 use Rattle.wf_print.specs.Text.{HasText}
@@ -15,15 +15,17 @@ transcripts-snoc servers number [] [] document transcript are is =
     (subst (λ n. IsTranscript servers n document transcript) (let e : number + 0 ≡ number = omega arith in e) is, tt)
 transcripts-snoc servers number [] (t ∷ transcripts) document transcript are is = absurd are
 transcripts-snoc servers number (d ∷ documents) [] document transcript are is = absurd are
-transcripts-snoc servers number (d ∷ documents) (t ∷ transcripts) document transcript are is =
-    (are.0, transcripts-snoc servers (number + 1) documents transcripts document transcript are.1
-      (subst (λ n. IsTranscript servers n document transcript) (omega arith) is))
+transcripts-snoc servers number (d ∷ documents) (t ∷ transcripts) document transcript are is = (
+  are.0,
+  transcripts-snoc servers (number + 1) documents transcripts document transcript are.1
+      (subst (λ n. IsTranscript servers n document transcript) (omega arith) is),
+)
 
 -- the same of the documents up to an index
 pub transcripts-next : (servers : List Server) (items : List Document) (index : ℕ) (transcripts later : List Transcript) (document : Document) (transcript : Transcript) → index < length items → document ≡ get_or items index document → later ≡ transcripts ++ transcript ∷ [] → AreTranscripts servers 0 (take index items) transcripts → IsTranscript servers index document transcript → AreTranscripts servers 0 (take (index + 1) items) later
 transcripts-next servers items index transcripts later document transcript within is noted are next =
     rw noted (rw (take_more items index document within) (rw (← is) (transcripts-snoc servers 0 (take index items) transcripts document transcript are
-      (subst (λ n. IsTranscript servers n document transcript) (let e : index ≡ 0 + length (take index items) = omega (arith, length-take index items) in e) next))))
+    (subst (λ n. IsTranscript servers n document transcript) (let e : index ≡ 0 + length (take index items) = omega (arith, length-take index items) in e) next))))
 
 -- a finished transcript more has a text
 pub has_text-next : (transcripts later : List Transcript) (transcript : Transcript) → later ≡ transcripts ++ transcript ∷ [] → HasText transcripts → transcript.ending ≡ Finished → HasText later

@@ -1,5 +1,5 @@
 -- Parts of a run over the servers' tape, one after another.
-use Rattle.std.proofs.Common.{◌≡◌, ℕ, zero, suc, ◌+◌, ◌-◌, ◌≤◌, ◌<◌, List, [], ◌∷◌, ◌++◌, drop, length, Option, Some, None, IsTrue, refl, ap, sym, subst, ◌∙◌, arith, append_assoc, add-one, drop-cons, get_or, Result, Ok, Err}
+use Rattle.std.proofs.Common.{◌≡◌, ℕ, suc, ◌+◌, ◌≤◌, ◌<◌, List, [], ◌∷◌, ◌++◌, drop, length, Option, Some, None, IsTrue, refl, ap, sym, subst, ◌∙◌, arith, append_assoc, add-one, drop-cons, get_or, Result, Ok, Err}
 use Rattle.std.proofs.lemmas.List.{append-nil, drop_all}
 use Rattle.wf_types.specs.declared.response.Outcome.{Outcome}
 use Rattle.wf_print.specs.declared.events.Event.{Event}

@@ -1,5 +1,5 @@
 -- A play of a scenario: the run of each document over the tape that the scenario's servers give.
-use Rattle.std.specs.Prelude.{◌≡◌, ℕ, ◌+◌, List, [], ◌∷◌, Option, Some, None}
+use Rattle.std.specs.Prelude.{◌≡◌, ℕ, ◌+◌, List, [], ◌∷◌, Some, None}
 use Rattle.wf_origin.specs.Origins.{origin_of}
 use Rattle.wf_fetch.specs.Hops.{origin_text}
 use Rattle.wf_print.specs.declared.events.Transcript.{Transcript}

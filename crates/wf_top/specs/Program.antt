@@ -1,11 +1,12 @@
 -- What the program answers to `play`: its verdict by the words and the bytes of the input, what it has
 -- written then, and what it tells the complaints.
-use Rattle.std.specs.Prelude.{◌≡◌, ◌≢◌, ℕ, ◌+◌, ◌≤◌, ◌⊎◌, Bool, true, false, List, [], ◌++◌, length, Option, Result, Ok, Err}
+use Rattle.std.specs.Prelude.{◌≡◌, ◌≢◌, ℕ, ◌+◌, ◌≤◌, ◌<◌, ◌⊎◌, Bool, true, false, List, length, Some, Ok, Err}
 use Rattle.wf_link.specs.Counts.{Rose}
 use Rattle.wf_link.specs.Sinks.{Took, TookPart}
 use Rattle.wf_link.specs.Sources.{Gave, IsAtEnd}
 use Rattle.wf_print.specs.declared.events.Transcript.{Transcript}
 use Rattle.wf_print.specs.Text.{play_text}
+use Rattle.wf_script.specs.declared.types.Place.{Place}
 use Rattle.wf_script.specs.declared.types.Scenario.{Scenario}
 use Rattle.wf_script.specs.Scenarios.{scenario_of}
 use Rattle.wf_top.specs.Plays.{IsPlay}
@@ -86,8 +87,46 @@ abbrev pub IsTold : Sink → Sink → Status → Status → Type 0
 IsTold old new status.Ok answer = (answer ≡ status.Ok) × (new ≡ old)
 IsTold old new verdict answer = IsComplained old new verdict answer
 
--- the program's answer
-pub record Answers (words : List (List ℕ)) (input input' : Source) (output output' complaints complaints' : Sink) (answer : Status) : Type 0 where
+-- how the program came to its answer: it came to a verdict first, and told it then
+pub record IsAnswer (words : List (List ℕ)) (input input' : Source) (output output' complaints complaints' : Sink) (answer : Status) : Type 0 where
   pub verdict : Status
   pub is_verdict : IsVerdict (is_play words) input input' output output' verdict
   pub is_told : IsTold complaints complaints' verdict answer
+
+-- the other answers that an input without a fault of the scenario can have: memory was refused, the
+-- input failed, or the complaints or the output failed
+abbrev pub IsExcused : Source → Source → Sink → Sink → Sink → Sink → Status → Type 0
+IsExcused input input' output output' complaints complaints' answer =
+    (answer ≡ status.OutOfMemory) ⊎ (((answer ≡ status.ReadFault) × Rose input.faults input'.faults)
+    ⊎ ((answer ≡ status.WriteFault) × (Failed output output' ⊎ Failed complaints complaints')))
+
+-- the bytes that the input gave, and why they have this answer
+pub record GaveFor (input input' : Source) (reason : List ℕ → Type 0) : Type 0 where
+  pub bytes : List ℕ
+  pub gave : Gave input.left input'.left bytes
+  pub reason_is : reason bytes
+
+-- What the program promises of its answer. The first field says all; the others are what it says of each
+-- status.
+pub record Answers (words : List (List ℕ)) (input input' : Source) (output output' complaints complaints' : Sink) (answer : Status) : Type 0 where
+  pub is_answer : IsAnswer words input input' output output' complaints complaints' answer
+  -- Ok only where the whole input is a scenario, whose play the output has taken, and the complaints nothing
+  pub ok : answer ≡ status.Ok → GaveFor input input' (λ bytes. IsWhole bytes input' × WritesPlay bytes output output' × (complaints' ≡ complaints))
+  -- Usage only where the words are not accepted, and there always, unless the complaints failed
+  pub usage : answer ≡ status.Usage → is_play words ≡ false
+  pub not_accepted : is_play words ≡ false → (answer ≡ status.Usage) ⊎ ((answer ≡ status.WriteFault) × Failed complaints complaints')
+  -- Scenario only where the whole input is refused at that place, and there always, but for the excuses
+  pub refused : (place : Place) → answer ≡ status.Scenario place → GaveFor input input' (λ bytes. IsWhole bytes input' × ((scenario_of bytes ≡ Err place) × (output' ≡ output)))
+  pub no_scenario : (bytes : List ℕ) (place : Place) → is_play words ≡ true → input.left ≡ Some bytes → length bytes ≤ most_input → scenario_of bytes ≡ Err place → (answer ≡ status.Scenario place) ⊎ IsExcused input input' output output' complaints complaints' answer
+  -- InputTooLong only where one byte more than the longest input was read, and there always, but for the excuses
+  pub too_long : answer ≡ status.InputTooLong → GaveFor input input' (λ bytes. (length bytes ≡ most_input + 1) × (output' ≡ output))
+  pub longer : (bytes : List ℕ) → is_play words ≡ true → input.left ≡ Some bytes → most_input < length bytes → (answer ≡ status.InputTooLong) ⊎ IsExcused input input' output output' complaints complaints' answer
+  -- ReadFault only where the input failed; WriteFault only where a sink failed or took nothing
+  pub read_fault : answer ≡ status.ReadFault → Rose input.faults input'.faults
+  pub write_fault : answer ≡ status.WriteFault → Failed output output' ⊎ Failed complaints complaints'
+  -- accepted words and an input that is a scenario have the answer Ok, but for the excuses
+  pub complete : (bytes : List ℕ) (scenario : Scenario) → is_play words ≡ true → input.left ≡ Some bytes → length bytes ≤ most_input → scenario_of bytes ≡ Ok scenario → (answer ≡ status.Ok) ⊎ IsExcused input input' output output' complaints complaints' answer
+  -- at most one byte more than the longest input is read
+  pub bound : GaveFor input input' (λ bytes. length bytes ≤ most_input + 1)
+  -- another answer than Ok and WriteFault is told by its whole line
+  pub told : answer ≢ status.Ok → answer ≢ status.WriteFault → Took complaints.taken complaints'.taken (complaint answer)

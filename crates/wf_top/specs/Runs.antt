@@ -1,5 +1,5 @@
 -- What parts of a document's run come to over the tape that the servers give.
-use Rattle.std.specs.Prelude.{◌≡◌, ℕ, ◌+◌, List, ◌++◌, Option}
+use Rattle.std.specs.Prelude.{◌≡◌, ℕ, List, ◌++◌, Option}
 use Rattle.wf_types.specs.declared.response.Outcome.{Outcome}
 use Rattle.wf_print.specs.declared.events.Event.{Event}
 use Rattle.wf_script.specs.declared.types.Rule.{Rule}

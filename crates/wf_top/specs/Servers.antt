@@ -1,7 +1,6 @@
 -- What the scripted servers of a scenario answer, and the tape that a document's run has of them.
-use Rattle.std.specs.Prelude.{ℕ, Bool, List, [], ◌∷◌, Option, Some, None, option_map, find, bytes_eq}
+use Rattle.std.specs.Prelude.{List, [], ◌∷◌, Option, Some, None, option_map, find, bytes_eq}
 use Rattle.wf_types.specs.declared.hop.Hop.{Hop}
-use Rattle.wf_types.specs.declared.hop.Head.{Head}
 use Rattle.wf_types.specs.declared.response.BodyEnd.TheVariants.{Null, Whole}
 use Rattle.wf_script.specs.declared.types.Rule.{Rule}
 use Rattle.wf_script.specs.declared.types.Server.{Server}

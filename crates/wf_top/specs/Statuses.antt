@@ -1,6 +1,5 @@
 -- The statuses: their numbers, and the line that each writes to the complaints.
 use Rattle.std.specs.Prelude.{ℕ, List, [], ◌++◌, codes}
-use Rattle.wf_script.specs.declared.types.Place.{Place}
 use Rattle.wf_top.specs.declared.status.Status.{Status}
 use Rattle.wf_top.specs.declared.status.Status.TheVariants as status
 

@@ -1,5 +1,5 @@
 -- What contracts see of the program's streams at one moment.
-use Rattle.std.specs.Prelude.{◌≡◌, ℕ, List, Option, ◌⊎◌}
+use Rattle.std.specs.Prelude.{ℕ, List, Option, ◌⊎◌}
 use Rattle.wf_link.specs.Counts.{Rose}
 
 -- a source: the bytes left, where it tells, and its count of faults

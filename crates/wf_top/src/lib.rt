@@ -6,10 +6,9 @@ mod play;
 mod program;
 mod servers;
 mod status;
-mod words;
-
 #[cfg(test)]
 mod tests;
+mod words;
 
 pub use program::fetchplay;
 pub use status::Status;

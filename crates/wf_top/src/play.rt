@@ -165,7 +165,15 @@ fn run_document(
     let mut last = None;
     for (index, command) in document.script.as_slice().iter().enumerate() {
         let started = index as u32;
-        run_command(alloc, servers, &mut last, &document.url, command, started, &mut events)?;
+        run_command(
+            alloc,
+            servers,
+            &mut last,
+            &document.url,
+            command,
+            started,
+            &mut events,
+        )?;
     }
     Ok(Transcript {
         document: number,
@@ -175,7 +183,6 @@ fn run_document(
         clock: 0,
     })
 }
-
 
 /// Plays a scenario: the run of each document, in order.
 pub fn play_all(alloc: Global, scenario: &Scenario) -> Result<Transcripts, OutOfMemory>

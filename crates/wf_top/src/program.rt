@@ -9,7 +9,6 @@ ghost use Rattle.wf_top.specs.Words.{texts};
 use crate::complaint::tell;
 use crate::play::play_all;
 use crate::status::Status;
-
 use crate::words::is_play;
 use std::alloc::Global;
 use std::sync::Wait;
@@ -100,7 +99,7 @@ fn play<K: Sink>(alloc: Global, scenario: &Scenario, output: &mut K) -> Status
     requires { IsValid scenario.now }
     ensures { (bytes : List ℕ) → scenario_of bytes ≡ Ok scenario.now
         → IsOutcome bytes (sink_of K.taken K.faults K.zeros output.old)
-            (sink_of K.taken K.faults K.zeros output.new) result }
+        (sink_of K.taken K.faults K.zeros output.new) result }
 {
     let transcripts = match play_all(alloc, scenario) {
         Err(OutOfMemory) => return Status::OutOfMemory,
@@ -113,4 +112,3 @@ fn play<K: Sink>(alloc: Global, scenario: &Scenario, output: &mut K) -> Status
         Err(Failure::TookNothing) => Status::WriteFault,
     }
 }
-

@@ -80,7 +80,8 @@ fn check(rt: &impl Abort, ran: &Ran, status: u8, output: &[u8], complaints: &[u8
     assert_eq!(rt; ran.complaints.taken(), complaints);
 }
 
-const SAME_ORIGIN: &[u8] = br#"{"format":1,"servers":[{"origin":"https://a.test","rules":[{"status":200,"body":"hi"}]}],"documents":[{"url":"https://a.test/","script":[{"fetch":{"url":"/","mode":"same-origin","referrer":"none"}}]}]}"#;
+const SAME_ORIGIN: &[u8] =
+    br#"{"format":1,"servers":[{"origin":"https://a.test","rules":[{"status":200,"body":"hi"}]}],"documents":[{"url":"https://a.test/","script":[{"fetch":{"url":"/","mode":"same-origin","referrer":"none"}}]}]}"#;
 
 const SAME_ORIGIN_TEXT: &[u8] = b"fetchplay 1
 document 0 https://a.test
@@ -115,7 +116,8 @@ fn a_scenario_without_documents_has_three_lines(rt: HostRuntime) -> Result<(), F
 
 #[test]
 fn another_origin_is_refused_and_nothing_is_sent(rt: HostRuntime) -> Result<(), Fail> {
-    let text = br#"{"format":1,"documents":[{"url":"https://a.test/","script":[{"fetch":{"url":"https://b.test/","mode":"same-origin","referrer":"none"}}]}]}"#;
+    let text =
+        br#"{"format":1,"documents":[{"url":"https://a.test/","script":[{"fetch":{"url":"https://b.test/","mode":"same-origin","referrer":"none"}}]}]}"#;
     let ran = play(&rt, text, NONE)?;
     check(
         &rt,
@@ -140,7 +142,8 @@ fn sent_and(alloc: Global, lines: &[u8]) -> Result<Bytes, OutOfMemory> {
 
 #[test]
 fn without_a_server_no_head_comes(rt: HostRuntime) -> Result<(), Fail> {
-    let text = br#"{"format":1,"documents":[{"url":"https://a.test/","script":[{"fetch":{"url":"/","mode":"same-origin","referrer":"none"}}]}]}"#;
+    let text =
+        br#"{"format":1,"documents":[{"url":"https://a.test/","script":[{"fetch":{"url":"/","mode":"same-origin","referrer":"none"}}]}]}"#;
     let ran = play(&rt, text, NONE)?;
     let wanted = sent_and(rt.alloc(), b"result error 25 BadHead\n")?;
     check(&rt, &ran, 0, wanted.as_slice(), b"");
@@ -149,14 +152,16 @@ fn without_a_server_no_head_comes(rt: HostRuntime) -> Result<(), Fail> {
 
 #[test]
 fn without_a_rule_the_status_is_404_and_a_body_is_escaped(rt: HostRuntime) -> Result<(), Fail> {
-    let text = br#"{"format":1,"servers":[{"origin":"https://a.test","rules":[]}],"documents":[{"url":"https://a.test/","script":[{"fetch":{"url":"/","mode":"same-origin","referrer":"none"}}]}]}"#;
+    let text =
+        br#"{"format":1,"servers":[{"origin":"https://a.test","rules":[]}],"documents":[{"url":"https://a.test/","script":[{"fetch":{"url":"/","mode":"same-origin","referrer":"none"}}]}]}"#;
     let ran = play(&rt, text, NONE)?;
     let wanted = sent_and(
         rt.alloc(),
         b"result basic 404 https://a.test/\n  body whole 0: \n",
     )?;
     check(&rt, &ran, 0, wanted.as_slice(), b"");
-    let text = br#"{"format":1,"servers":[{"origin":"https://a.test","rules":[{"status":200,"body":"a\\\n~\u007f"}]}],"documents":[{"url":"https://a.test/","script":[{"fetch":{"url":"/","mode":"same-origin","referrer":"none"}}]}]}"#;
+    let text =
+        br#"{"format":1,"servers":[{"origin":"https://a.test","rules":[{"status":200,"body":"a\\\n~\u007f"}]}],"documents":[{"url":"https://a.test/","script":[{"fetch":{"url":"/","mode":"same-origin","referrer":"none"}}]}]}"#;
     let ran = play(&rt, text, NONE)?;
     let wanted = sent_and(
         rt.alloc(),
@@ -216,17 +221,59 @@ fn other_words_are_the_usage_error(rt: HostRuntime) -> Result<(), Fail> {
 #[test]
 fn a_stream_that_fails_is_told(rt: HostRuntime) -> Result<(), Fail> {
     let failed = b"fetchplay: writing failed\n";
-    let ran = play(&rt, SAME_ORIGIN, Faults { writes: &[1], ..NONE })?;
+    let ran = play(
+        &rt,
+        SAME_ORIGIN,
+        Faults {
+            writes: &[1],
+            ..NONE
+        },
+    )?;
     check(&rt, &ran, 4, b"", failed);
-    let ran = play(&rt, SAME_ORIGIN, Faults { zeros: &[1], ..NONE })?;
+    let ran = play(
+        &rt,
+        SAME_ORIGIN,
+        Faults {
+            zeros: &[1],
+            ..NONE
+        },
+    )?;
     check(&rt, &ran, 4, b"", failed);
-    let ran = play(&rt, SAME_ORIGIN, Faults { reads: &[1], ..NONE })?;
+    let ran = play(
+        &rt,
+        SAME_ORIGIN,
+        Faults {
+            reads: &[1],
+            ..NONE
+        },
+    )?;
     check(&rt, &ran, 3, b"", b"fetchplay: reading failed\n");
-    let ran = play(&rt, SAME_ORIGIN, Faults { reads: &[2], ..NONE })?;
+    let ran = play(
+        &rt,
+        SAME_ORIGIN,
+        Faults {
+            reads: &[2],
+            ..NONE
+        },
+    )?;
     check(&rt, &ran, 3, b"", b"fetchplay: reading failed\n");
-    let ran = play(&rt, b"{", Faults { complaints: &[1], ..NONE })?;
+    let ran = play(
+        &rt,
+        b"{",
+        Faults {
+            complaints: &[1],
+            ..NONE
+        },
+    )?;
     check(&rt, &ran, 4, b"", b"");
-    let ran = play(&rt, b"{", Faults { complaints: &[2], ..NONE })?;
+    let ran = play(
+        &rt,
+        b"{",
+        Faults {
+            complaints: &[2],
+            ..NONE
+        },
+    )?;
     check(&rt, &ran, 4, b"", b"fetchplay: scenario refused at ");
     Ok(())
 }

@@ -14,13 +14,19 @@ returns-in-Err-OutOfMemory g c = λ bytes read. inr (record {
 })
 
 pub returns-in-Err-Fault : goal.returns-in-Err-Fault
-returns-in-Err-Fault g c = λ bytes read. (record {
-  of = record { scenario = c.args.scenario.now; read = read; transcripts = c.in-Ok.transcripts; play = c.in-Ok.ensures.played };
-  took = c.in-Err-Fault.ensures.err;
-}, inl (c.in-Err-Fault.ensures.fault (cc (c.in-Err-Fault.field-0-is))))
+returns-in-Err-Fault g c = λ bytes read. (
+  record {
+    of = record { scenario = c.args.scenario.now; read = read; transcripts = c.in-Ok.transcripts; play = c.in-Ok.ensures.played };
+    took = c.in-Err-Fault.ensures.err;
+  },
+  inl (c.in-Err-Fault.ensures.fault (cc (c.in-Err-Fault.field-0-is))),
+)
 
 pub returns : goal.returns
-returns g c = λ bytes read. (record {
-  of = record { scenario = c.args.scenario.now; read = read; transcripts = c.in-Ok.transcripts; play = c.in-Ok.ensures.played };
-  took = c.in-Err-TookNothing.ensures.err;
-}, inr (c.in-Err-TookNothing.ensures.nothing (cc (c.in-Err-TookNothing.field-0-is))))
+returns g c = λ bytes read. (
+  record {
+    of = record { scenario = c.args.scenario.now; read = read; transcripts = c.in-Ok.transcripts; play = c.in-Ok.ensures.played };
+    took = c.in-Err-TookNothing.ensures.err;
+  },
+  inr (c.in-Err-TookNothing.ensures.nothing (cc (c.in-Err-TookNothing.field-0-is))),
+)
