@@ -1,0 +1,4 @@
+pub mod DigitLemmas
+pub mod LowerLemmas
+pub mod MimeLemmas
+pub mod TrimLemmas

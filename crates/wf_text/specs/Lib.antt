@@ -1,0 +1,5 @@
+pub mod Digits
+pub mod Mime
+pub mod Tokens
+pub mod Trims
+pub mod Values

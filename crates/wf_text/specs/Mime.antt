@@ -1,0 +1,36 @@
+-- MIME types and their essences (MIME Sniffing, sections 4.1 and 4.4).
+use Rattle.std.specs.Prelude.{ℕ, Bool, false, ◌==◌, ◌&&◌, List, ◌∷◌, ◌++◌, Option, Some, None, option_map, if◌then◌else◌}
+use Rattle.std.specs.List.{after_first, before_first}
+use Rattle.std.specs.Str.{bytes_eq, str_to_ascii_lowercase}
+use Rattle.wf_text.specs.Tokens.{is_token}
+use Rattle.wf_text.specs.Trims.{http_whitespace, trimmed, trimmed_end}
+
+-- the type: what stands before the slash
+abbrev pub type_of : List ℕ → List ℕ
+type_of text = before_first (λ byte. byte == 47) text
+
+-- the subtype: what stands after the slash, up to a semicolon or the end, without whitespace at its end
+abbrev pub subtype_of : List ℕ → List ℕ
+subtype_of text = trimmed_end http_whitespace (before_first (λ byte. byte == 59) (after_first (λ byte. byte == 47) text))
+
+-- the type, a slash and the subtype as they are written, where both are tokens
+abbrev pub type_and_subtype : List ℕ → Option (List ℕ)
+type_and_subtype text =
+    if is_token (type_of text) && is_token (subtype_of text) then Some (type_of text ++ 47 ∷ subtype_of text) else None
+
+-- the same of a value with whitespace around it; none where it is no MIME type
+abbrev pub written_essence : List ℕ → Option (List ℕ)
+written_essence value = type_and_subtype (trimmed http_whitespace value)
+
+-- the essence of a MIME type: both in lower case
+abbrev pub essence_of_value : List ℕ → Option (List ℕ)
+essence_of_value value = option_map str_to_ascii_lowercase (written_essence value)
+
+-- there is a text, and it is this one
+abbrev pub is_text : List ℕ → Option (List ℕ) → Bool
+is_text text None = false
+is_text text (Some found) = bytes_eq found text
+
+-- the value is a MIME type with this essence
+abbrev pub has_essence : List ℕ → List ℕ → Bool
+has_essence value essence = is_text essence (essence_of_value value)

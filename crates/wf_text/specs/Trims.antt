@@ -1,0 +1,25 @@
+-- Trimming of bytes at the ends of a text (Fetch, section 2.2: HTTP tab or space, HTTP whitespace).
+use Rattle.std.specs.Prelude.{ℕ, ◌==◌, List, [], ◌∷◌, reverse, if◌then◌else◌}
+use Rattle.std.specs.List.{list_any}
+
+-- an HTTP tab or space byte is one of these
+abbrev pub tab_or_space : List ℕ
+tab_or_space = 9 ∷ 32 ∷ []
+
+-- an HTTP whitespace byte is one of these: tab, LF, CR and space
+abbrev pub http_whitespace : List ℕ
+http_whitespace = 9 ∷ 10 ∷ 13 ∷ 32 ∷ []
+
+-- the text without the first bytes that are among the blanks
+abbrev pub trimmed_start : List ℕ → List ℕ → List ℕ
+trimmed_start blanks [] = []
+trimmed_start blanks (byte ∷ text) =
+    if list_any (λ blank. blank == byte) blanks then trimmed_start blanks text else byte ∷ text
+
+-- the text without the last bytes that are among the blanks
+abbrev pub trimmed_end : List ℕ → List ℕ → List ℕ
+trimmed_end blanks text = reverse (trimmed_start blanks (reverse text))
+
+-- the text without the blanks at both ends
+abbrev pub trimmed : List ℕ → List ℕ → List ℕ
+trimmed blanks text = trimmed_end blanks (trimmed_start blanks text)

@@ -1,0 +1,13 @@
+-- Header values (Fetch, section 2.2.2).
+use Rattle.std.specs.Prelude.{ℕ, Bool, ◌==◌, ◌||◌, ◌&&◌, not, List}
+use Rattle.std.specs.List.{list_all}
+use Rattle.std.specs.Str.{bytes_eq}
+use Rattle.wf_text.specs.Trims.{tab_or_space, trimmed}
+
+-- NUL or an HTTP newline byte
+abbrev pub is_nul_or_newline : ℕ → Bool
+is_nul_or_newline byte = byte == 0 || byte == 10 || byte == 13
+
+-- a header value: no tab or space at its ends, and neither NUL nor newline in it
+abbrev pub is_header_value : List ℕ → Bool
+is_header_value text = bytes_eq (trimmed tab_or_space text) text && list_all (λ byte. not (is_nul_or_newline byte)) text
