@@ -1,4 +1,1 @@
-pub mod BoundLemmas
-pub mod TraceLemmas
-pub mod DriveLemmas
 pub mod Computed

@@ -4,5 +4,3 @@ pub mod Fetch
 pub mod Machine
 pub mod Play
 pub mod Runs
-pub mod Traces
-pub mod Bound

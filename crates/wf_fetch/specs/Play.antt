@@ -1,5 +1,5 @@
 -- A document's run as a tree: what it shows, the acts of its fetches, and its ending.
-use Rattle.std.specs.Prelude.{ℕ, List, [], ◌∷◌, ◌++◌, Option, Some, None, IsTrue, if◌then◌else◌}
+use Rattle.std.specs.Prelude.{ℕ, List, [], ◌∷◌, ◌++◌, Option, Some, None, if◌then◌else◌}
 use Rattle.wf_types.specs.declared.response.Outcome.{Outcome}
 use Rattle.wf_print.specs.declared.events.Ending.{Ending}
 use Rattle.wf_print.specs.declared.events.Event.{Event}
@@ -51,13 +51,3 @@ abbrev pub run_play : Play → List Input → PlayRun
 run_play (over ending clock) tape = record { events = []; ending = Some (ending, clock) }
 run_play (emit event rest) tape = shows (event ∷ []) (run_play rest tape)
 run_play (step first after) tape = play_on first (λ input. run_play (after input)) tape
-
--- With exactly these items of a tape the first play shows these events and goes on as the second.
-pub data Trace : Play → List Input → List Event → Play → Type 0 where
-  stop : {p : Play} → Trace p [] [] p
-  shown : {p q : Play} {tape : List Input} {events : List Event} → (event : Event)
-      → Trace p tape events q → Trace (emit event p) tape (event ∷ events) q
-  stepped : {q : Play} {tape : List Input} {events : List Event} → (first : Act)
-      (after : Input → Play) (input : Input) → IsTrue (fits first input)
-      → Trace (after input) tape events q
-      → Trace (step first after) (input ∷ tape) (events_of first input ++ events) q
