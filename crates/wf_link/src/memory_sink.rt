@@ -35,8 +35,9 @@ impl Model for MemorySink {
 }
 
 impl MemorySink {
-    /// A sink with room for so many bytes, which are reserved here. It fails at the calls whose
-    /// numbers, counted from 1, are in `fails`, and takes nothing at those in `zeros`.
+    /// A sink with room for so many bytes, which are reserved here, or `OutOfMemory`. It fails at
+    /// the calls whose numbers, counted from 1, are in `fails`, and takes nothing of a piece that is
+    /// not empty at those in `zeros`.
     pub fn new(
         alloc: Global,
         room: usize,

@@ -51,8 +51,8 @@ fn piece_buffer(alloc: Global) -> Result<Vec<u8>, OutOfMemory>
 
 /// Reads the source to its end, which is to come within `most` bytes.
 ///
-/// One byte more is `TooLong`, and no byte after it is read. After another stop the source has
-/// given at most `most` bytes.
+/// One byte more is `TooLong`, and no byte after it is read. A read that failed is `Fault`, and
+/// refused memory `OutOfMemory`: then the source has given at most `most` bytes.
 pub fn read_whole<S: Source>(alloc: Global, source: &mut S, most: usize) -> Result<Bytes, ReadStop>
     requires { most < 2 ^ 32 }
     ensures ok { IfOk result (λ text. GaveWhole (S.left source.old) (S.left source.new) text most) }
