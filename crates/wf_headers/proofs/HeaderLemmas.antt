@@ -1,5 +1,5 @@
 -- What the loops over header lists come to.
-use Rattle.std.proofs.Common.{arith, ◌≡◌, ◌<◌, ◌≤◌, ◌++◌, ◌∷◌, [], ℕ, zero, suc, Bool, true, false, List, length, take, slice_index_or, ap, cond, refl, Option, Some, codes, append_assoc}
+use Rattle.std.proofs.Common.{arith, ◌≡◌, ◌<◌, ◌≤◌, ◌++◌, ◌∷◌, [], ℕ, zero, suc, Bool, true, false, List, length, slice_index_or, ap, cond, refl, Option, Some, codes, append_assoc}
 use Rattle.std.specs.List.{insert, remove}
 use Rattle.std.proofs.lemmas.Grind.{common_steps}
 use Rattle.wf_headers.specs.Headers.{joined, after_comma, first_of, without, with_only}
@@ -15,11 +15,11 @@ pub onto-added : (found : Bool) (text value : List ℕ) (values : List (List ℕ
 onto-added true text value values nothing = ap (λ (l : List ℕ). let o : Option (List ℕ) = Some l in o) (append_assoc text (codes ", " ++ value) (after_comma values))
 onto-added false text value values nothing = ap (λ (l : List ℕ). let o : Option (List ℕ) = Some ((l ++ value) ++ after_comma values) in o) (nothing refl)
 
--- deleting a name keeps what stands before its first header
-pub without-first : (name : List ℕ) (headers : List Header) (at : ℕ) → at ≡ first_of name headers → at < length headers → take at (without name (remove headers at)) ≡ take at headers
-without-first name [] at e lt = refl
-without-first name (header ∷ headers) zero e lt = refl
-without-first name (header ∷ headers) (suc at) e lt = grind (arith, common_steps, without-first name headers at)
+-- deleting a name keeps as many headers as stand before its first
+pub without-room : (name : List ℕ) (headers : List Header) (at : ℕ) → at ≡ first_of name headers → at < length headers → at ≤ length (without name (remove headers at))
+without-room name [] at e lt = omega (arith, lt)
+without-room name (header ∷ headers) zero e lt = grind (arith, common_steps)
+without-room name (header ∷ headers) (suc at) e lt = grind (arith, common_steps, without-room name headers at)
 
 -- the first header with its new value, among what deleting the name leaves of the others
 pub with_only-found : (name value : List ℕ) (headers : List Header) (at : ℕ) (first : Header) → at ≡ first_of name headers → at < length headers → first ≡ slice_index_or headers at first → insert (without name (remove headers at)) at (record { name = first.name; value = value }) ≡ with_only name value headers

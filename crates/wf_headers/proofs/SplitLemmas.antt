@@ -1,9 +1,9 @@
 -- What each byte of a text does to its pieces.
-use Rattle.std.proofs.Common.{arith, ◌≡◌, ◌++◌, ◌∷◌, [], ℕ, List, ap, refl, sym, ◌∙◌, append_assoc, map, Bool, true, false, cond, Option, Some, None, codes, nat_eq}
+use Rattle.std.proofs.Common.{arith, ◌≡◌, ◌++◌, ◌∷◌, [], ℕ, List, ap, refl, sym, ◌∙◌, append_assoc, map, Bool, true, false, cond, Option, Some, None, nat_eq}
 use Rattle.std.proofs.lemmas.Grind.{common_steps}
 use Rattle.wf_text.specs.Trims.{tab_or_space, trimmed}
-use Rattle.wf_headers.specs.Headers.{joined, after_comma}
-use Rattle.wf_headers.specs.Split.{with_front, pieces, in_quoted_string, behind_backslash, split}
+use Rattle.wf_headers.specs.Headers.{after_comma}
+use Rattle.wf_headers.specs.Split.{with_front, pieces, in_quoted_string}
 use Rattle.wf_headers.specs.Splitting.{onto, split_with}
 use Rattle.wf_headers.specs.declared.split.Splitter.{Splitter}
 
@@ -40,4 +40,3 @@ abbrev pub goes_on : Bool → Splitter → List (List ℕ) → Option (List (Lis
 goes_on false splitter [] = None
 goes_on false splitter (value ∷ values) = Some (split_with splitter (value ++ after_comma values))
 goes_on true splitter values = Some (split_with splitter (after_comma values))
-

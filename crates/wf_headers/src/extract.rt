@@ -1,4 +1,4 @@
-ghost use Rattle.std.specs.Prelude.{◌≡◌, ◌==◌, ◌++◌, ◌∷◌, [], IfOk, OnOk, if◌then◌else◌};
+ghost use Rattle.std.specs.Prelude.{◌≡◌, ◌==◌, ◌++◌, ◌∷◌, [], filter, IfOk, OnOk};
 ghost use Rattle.std.specs.List.{list_all, position};
 ghost use Rattle.wf_text.specs.Digits.{is_digits};
 ghost use Rattle.wf_text.specs.Tokens.{is_token};
@@ -43,13 +43,13 @@ enum Found<'a> {
 }
 
 // Adds an item, trimmed, unless it is empty.
-fn add_item(alloc: Global, items: &mut BytesList, text: &[u8]) -> Result<(), OutOfMemory>
-    ensures { OnOk result (let item = trimmed tab_or_space text.now in
-        items.new ≡ (if is_filled item then items.old ++ item ∷ [] else items.old)) }
+fn add_item(alloc: Global, list: &mut BytesList, text: &[u8]) -> Result<(), OutOfMemory>
+    ensures { OnOk result (list.new
+        ≡ list.old ++ filter is_filled (trimmed tab_or_space text.now ∷ [])) }
 {
     let item = trim_tab_or_space(text);
     if !item.is_empty() {
-        items.push(Bytes::of(alloc, item)?)?;
+        list.push(Bytes::of(alloc, item)?)?;
     }
     Ok(())
 }
@@ -62,16 +62,16 @@ fn comma_in(text: &[u8]) -> Option<usize>
 }
 
 // Adds the items of a value.
-fn add_items(alloc: Global, items: &mut BytesList, value: &[u8]) -> Result<(), OutOfMemory>
-    ensures { OnOk result (items.new ≡ items.old ++ items value.now) }
+fn add_items(alloc: Global, list: &mut BytesList, value: &[u8]) -> Result<(), OutOfMemory>
+    ensures { OnOk result (list.new ≡ list.old ++ items value.now) }
 {
     let mut rest = value;
     while let Some(comma) = comma_in(rest) {
         let (item, behind) = rest.split_at(comma);
-        add_item(alloc, items, item)?;
+        add_item(alloc, list, item)?;
         rest = behind.split_at(1).1;
     }
-    add_item(alloc, items, rest)
+    add_item(alloc, list, rest)
 }
 
 // Whether each text is a token.
@@ -90,18 +90,18 @@ fn are_tokens(texts: &BytesList) -> bool
 fn tokens_in(alloc: Global, headers: &[Header], name: &[u8]) -> Result<Extracted, OutOfMemory>
     ensures { IfOk result (λ found. found ≡ extracted Tokens name.now headers.now) }
 {
-    let mut items = BytesList::new(alloc);
+    let mut tokens = BytesList::new(alloc);
     let mut found = false;
     for header in headers {
         if eq_fold(header.name.as_slice(), name) {
-            add_items(alloc, &mut items, header.value.as_slice())?;
+            add_items(alloc, &mut tokens, header.value.as_slice())?;
             found = true;
         }
     }
     if !found {
         Ok(Extracted::Absent)
-    } else if are_tokens(&items) {
-        Ok(Extracted::Items(items))
+    } else if are_tokens(&tokens) {
+        Ok(Extracted::Items(tokens))
     } else {
         Ok(Extracted::Failure)
     }
@@ -114,10 +114,10 @@ fn find<'a>(headers: &'a [Header], name: &[u8]) -> Found<'a>
     let mut found = Found::Nothing;
     for header in headers {
         if eq_fold(header.name.as_slice(), name) {
-            if let Found::Once(_) = found {
-                return Found::Repeated;
+            match found {
+                Found::Nothing => found = Found::Once(header.value.as_slice()),
+                Found::Once(_) | Found::Repeated => return Found::Repeated,
             }
-            found = Found::Once(header.value.as_slice());
         }
     }
     found
@@ -147,12 +147,7 @@ impl HeaderList {
     /// stands between the commas of each value, trimmed, the empty ones skipped, and it is a failure
     /// where one is no token. By `Digits` and `Single` the item is the value, and it is a failure where
     /// the name stands twice, and by `Digits` where the value is not one digit or more.
-    pub fn extract(
-        &self,
-        alloc: Global,
-        name: &[u8],
-        rule: Rule,
-    ) -> Result<Extracted, OutOfMemory>
+    pub fn extract(&self, alloc: Global, name: &[u8], rule: Rule) -> Result<Extracted, OutOfMemory>
         ensures { IfOk result (λ found. found ≡ extracted rule name.now self.now) }
     {
         match rule {

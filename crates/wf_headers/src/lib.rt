@@ -4,6 +4,8 @@
 mod extract;
 mod headers;
 mod split;
+#[cfg(test)]
+mod tests;
 
 pub use extract::{Extracted, Rule};
 pub use headers::{Header, HeaderList};

@@ -75,12 +75,13 @@ impl Splitter {
     {
         match self.place.behind(byte) {
             None => {
+                self.end_piece()?;
                 self.place = Place::Outside;
-                self.end_piece()
+                Ok(())
             }
             Some(place) => {
-                self.place = place;
                 self.piece.push(byte)?;
+                self.place = place;
                 Ok(())
             }
         }

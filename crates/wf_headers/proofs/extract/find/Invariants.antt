@@ -1,4 +1,4 @@
-use Rattle.std.proofs.Common.{◌≡◌, ◌++◌, drop}
+use Rattle.std.proofs.Common.{drop}
 use Rattle.wf_headers.specs.Headers.{values_of}
 use Rattle.wf_headers.specs.Finding.{FoundBefore}
 use Rattle.wf_headers.proofs.extract.find.Given as goal

@@ -1,7 +1,6 @@
-use Rattle.std.proofs.Common.{◌≡◌, ◌++◌, ℕ, List, drop, false}
+use Rattle.std.proofs.Common.{◌≡◌, drop}
 use Rattle.wf_headers.specs.Headers.{values_of}
-use Rattle.wf_headers.specs.Split.{split, split_values}
-use Rattle.wf_headers.specs.Splitting.{split_with}
+use Rattle.wf_headers.specs.Split.{split_values}
 use Rattle.wf_headers.proofs.SplitLemmas.{goes_on}
 use Rattle.wf_headers.proofs.split.split_in.Given as goal
 
