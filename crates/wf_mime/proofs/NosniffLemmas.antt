@@ -92,7 +92,7 @@ IsFirst-quote : (byte : ℕ) (text : List ℕ) → (byte == 44) ≡ false → (b
 IsFirst-quote byte text other quote =
     inr (
       ap (λ l. has_quote l) (first_piece-quote byte text other quote) ∙ has_quote-quote byte (first_piece (in_quoted_string text)) quote,
-      ap (λ l. has_quote l) (until_comma-other byte text other) ∙ has_quote-quote byte (until_comma text) quote
+      ap (λ l. has_quote l) (until_comma-other byte text other) ∙ has_quote-quote byte (until_comma text) quote,
     )
 
 IsFirst-other : (byte : ℕ) (text : List ℕ) → (byte == 44) ≡ false → (byte == 34) ≡ false → IsFirst text → IsFirst (byte ∷ text)
@@ -101,19 +101,19 @@ IsFirst-other byte text other plain (inl same) =
 IsFirst-other byte text other plain (inr quotes) =
     inr (
       ap (λ l. has_quote l) (first_piece-other byte text other plain) ∙ has_quote-other byte (first_piece (pieces text)) plain ∙ quotes.0,
-      ap (λ l. has_quote l) (until_comma-other byte text other) ∙ has_quote-other byte (until_comma text) plain ∙ quotes.1
+      ap (λ l. has_quote l) (until_comma-other byte text other) ∙ has_quote-other byte (until_comma text) plain ∙ quotes.1,
     )
 
 first_piece-is : (text : List ℕ) → IsFirst text
 first_piece-is [] = inl refl
 first_piece-is (byte ∷ text) =
     elim (eqb_tells byte 44) [
-      inl comma ↦ inl (first_piece-comma byte text comma.0 ∙ sym (until_comma-comma byte text comma.0))
-    | inr other ↦
-      elim (eqb_tells byte 34) [
-        inl quote ↦ IsFirst-quote byte text other.0 quote.0
-      | inr plain ↦ IsFirst-other byte text other.0 plain.0 (first_piece-is text)
-      ]
+      | inl comma ↦ inl (first_piece-comma byte text comma.0 ∙ sym (until_comma-comma byte text comma.0))
+      | inr other ↦
+          elim (eqb_tells byte 34) [
+            | inl quote ↦ IsFirst-quote byte text other.0 quote.0
+            | inr plain ↦ IsFirst-other byte text other.0 plain.0 (first_piece-is text)
+          ]
     ]
 
 same-is_nosniff : (text : List ℕ) → IsFirst text → is_nosniff (first_piece (pieces text)) ≡ is_nosniff (until_comma text)
@@ -131,8 +131,8 @@ until_comma-append [] [] = refl
 until_comma-append [] (next ∷ values) = refl
 until_comma-append (byte ∷ value) values =
     elim (eqb_tells byte 44) [
-      inl comma ↦ until_comma-comma byte (value ++ after_comma values) comma.0 ∙ sym (until_comma-comma byte value comma.0)
-    | inr other ↦ until_comma-other byte (value ++ after_comma values) other.0 ∙ ap (λ l. byte ∷ l) (until_comma-append value values) ∙ sym (until_comma-other byte value other.0)
+      | inl comma ↦ until_comma-comma byte (value ++ after_comma values) comma.0 ∙ sym (until_comma-comma byte value comma.0)
+      | inr other ↦ until_comma-other byte (value ++ after_comma values) other.0 ∙ ap (λ l. byte ∷ l) (until_comma-append value values) ∙ sym (until_comma-other byte value other.0)
     ]
 
 -- the first of the split values is looked at in the first value alone

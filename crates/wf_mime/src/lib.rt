@@ -3,9 +3,13 @@
 #![tactic(auto)]
 
 mod blocking;
+mod essence;
 mod javascript;
 mod sniffing;
+#[cfg(test)]
+mod tests;
 
 pub use blocking::{mime_blocked, nosniff_blocked};
+pub use essence::essence_of;
 pub use javascript::is_javascript;
 pub use sniffing::nosniff;
