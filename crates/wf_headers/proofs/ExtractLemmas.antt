@@ -61,14 +61,3 @@ tokens-some (value ∷ values) h = refl
 -- a test of the texts from an index on
 pub all-from : (test : List ℕ → Bool) (texts : List (List ℕ)) (at : ℕ) (text : List ℕ) → slice_get texts at ≡ Some text → list_all test (drop at texts) ≡ (test text && list_all test (drop (at + 1) texts))
 all-from test texts at text e = ap (λ l. list_all test l) (drop-cons texts at text (slice_get_within texts at text e) ∙ ap (λ (l : List ℕ). l ∷ drop (suc at) texts) (get_or_from_slice_get texts at text text e)) ∙ rw (add-one at) refl
-
--- values that stand twice are a failure where one is wanted
-pub repeated-digits : (values : List (List ℕ)) → 2 ≤ length values → extracted_of Digits values ≡ Failure
-repeated-digits [] h = absurd (omega (arith, h))
-repeated-digits (value ∷ []) h = absurd (omega (arith, h))
-repeated-digits (value ∷ other ∷ values) h = refl
-
-pub repeated-single : (values : List (List ℕ)) → 2 ≤ length values → extracted_of Single values ≡ Failure
-repeated-single [] h = absurd (omega (arith, h))
-repeated-single (value ∷ []) h = absurd (omega (arith, h))
-repeated-single (value ∷ other ∷ values) h = refl

@@ -7,11 +7,6 @@ use Rattle.wf_headers.specs.Split.{with_front, pieces, in_quoted_string}
 use Rattle.wf_headers.specs.Splitting.{onto, split_with}
 use Rattle.wf_headers.specs.declared.split.Splitter.{Splitter}
 
--- a byte goes from the front of the pieces to the end of the text before them
-pub onto-front : (text : List ℕ) (byte : ℕ) (pieces : List (List ℕ)) → onto text (with_front byte pieces) ≡ onto (text ++ byte ∷ []) pieces
-onto-front text byte [] = refl
-onto-front text byte (piece ∷ pieces) = ap (λ (l : List ℕ). l ∷ pieces) (sym (append_assoc text (byte ∷ []) piece))
-
 -- nothing put before pieces with a byte at their front leaves them
 onto-nothing-front : (byte : ℕ) (pieces : List (List ℕ)) → onto [] (with_front byte pieces) ≡ with_front byte pieces
 onto-nothing-front byte [] = refl
@@ -26,10 +21,6 @@ onto-nothing-choice false ps qs p q = q
 pub onto-nothing : (text : List ℕ) → onto [] (pieces text) ≡ pieces text
 onto-nothing [] = refl
 onto-nothing (byte ∷ text) = onto-nothing-choice (nat_eq byte 44) _ _ refl (onto-nothing-choice (nat_eq byte 34) _ _ (onto-nothing-front byte (in_quoted_string text)) (onto-nothing-front byte (pieces text)))
-
--- a byte that does not end the piece
-pub kept-on : (ended : List (List ℕ)) (piece : List ℕ) (byte : ℕ) (ps qs : List (List ℕ)) → qs ≡ with_front byte ps → ended ++ map (trimmed tab_or_space) (onto (piece ++ byte ∷ []) ps) ≡ ended ++ map (trimmed tab_or_space) (onto piece qs)
-kept-on ended piece byte ps qs e = ap (λ (l : List (List ℕ)). ended ++ map (trimmed tab_or_space) l) (sym (onto-front piece byte ps) ∙ ap (onto piece) (sym e))
 
 -- a comma that ends it
 pub ended-there : (ended : List (List ℕ)) (piece rest : List ℕ) (qs : List (List ℕ)) → qs ≡ [] ∷ pieces rest → (ended ++ trimmed tab_or_space piece ∷ []) ++ map (trimmed tab_or_space) (onto [] (pieces rest)) ≡ ended ++ map (trimmed tab_or_space) (onto piece qs)
