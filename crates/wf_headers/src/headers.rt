@@ -163,8 +163,8 @@ impl HeaderList {
         }
     }
 
-    // The headers.
-    pub(crate) fn as_slice(&self) -> &[Header]
+    /// The headers, in order.
+    pub fn as_slice(&self) -> &[Header]
         ensures { result.now ≡ self.now }
     {
         self.headers.as_slice()

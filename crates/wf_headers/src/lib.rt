@@ -9,3 +9,4 @@ mod tests;
 
 pub use extract::{Extracted, Rule};
 pub use headers::{Header, HeaderList};
+pub use split::split_value;

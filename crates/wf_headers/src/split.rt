@@ -117,6 +117,16 @@ impl Splitter {
     }
 }
 
+/// A value split at the commas outside its quoted strings, each piece without tabs and spaces around
+/// it (Fetch, section 2.2.2, "get, decode, and split a header value").
+pub fn split_value(alloc: Global, value: &[u8]) -> Result<BytesList, OutOfMemory>
+    ensures { IfOk result (λ pieces. pieces ≡ split value.now) }
+{
+    let mut splitter = Splitter::new(alloc);
+    splitter.take_all(value)?;
+    splitter.finish()
+}
+
 // The values of a name, split as one text that is not built.
 fn split_in(
     alloc: Global,

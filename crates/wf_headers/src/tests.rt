@@ -1,4 +1,4 @@
-use crate::{Extracted, HeaderList, Rule};
+use crate::{Extracted, HeaderList, Rule, split_value};
 use std::alloc::Global;
 use std::test::Fail;
 use wf_text::BytesList;
@@ -75,6 +75,8 @@ fn splits_are_those_of_fetch(rt: HostRuntime) -> Result<(), Fail> {
         let found = split_of(alloc, &[("X", first), ("Y", ","), ("x", second)])?;
         assert_eq!(rt; found.as_slice(), pieces.as_bytes());
     }
+    let one = split_value(alloc, b"a ,\"b,c\"")?;
+    assert_eq!(rt; shown(alloc, &one)?.as_slice(), b"a|\"b,c\"|".as_slice());
     let absent = split_of(alloc, &[("Y", "a")])?;
     assert_eq!(rt; absent.as_slice(), b"none".as_slice());
     Ok(())
