@@ -23,16 +23,16 @@ fn the_last_type_that_is_not_any_type_is_extracted(rt: HostRuntime) -> Result<()
     Ok(())
 }
 
+fn says_nosniff(alloc: Global, values: &[&str]) -> Result<bool, Fail> {
+    let headers = headers_of(alloc, "X-Content-Type-Options", values)?;
+    Ok(nosniff(&headers))
+}
+
 #[test]
 fn nosniff_is_the_first_value(rt: HostRuntime) -> Result<(), Fail> {
-    for (values, expected) in [
-        (["NoSniff\t, x", "x"], true),
-        (["x", "nosniff"], false),
-        (["\"nosniff\"", ""], false),
-    ] {
-        let headers = headers_of(rt.alloc(), "X-Content-Type-Options", &values)?;
-        assert_eq!(rt; nosniff(&headers), expected);
-    }
+    assert!(rt; says_nosniff(rt.alloc(), &["NoSniff\t, x", "x"])?);
+    assert!(rt; !says_nosniff(rt.alloc(), &["x", "nosniff"])?);
+    assert!(rt; !says_nosniff(rt.alloc(), &["\"nosniff\""])?);
     Ok(())
 }
 
