@@ -1,5 +1,5 @@
 -- Header lists: lists of names with their values, in order (Fetch, section 2.2.2).
-use Rattle.std.specs.Prelude.{ℕ, List, [], ◌∷◌, ◌++◌, Bool, map, filter, codes, Option, Some, None, if◌then◌else◌}
+use Rattle.std.specs.Prelude.{ℕ, List, [], ◌∷◌, ◌++◌, ◌+◌, Bool, not, map, filter, codes, Option, Some, None, if◌then◌else◌}
 use Rattle.std.specs.Str.{str_eq_ignore_ascii_case}
 use Rattle.wf_headers.specs.declared.headers.Header.{Header}
 
@@ -15,6 +15,23 @@ spelling name (header ∷ headers) = if is_named name header then header.name el
 -- "append": one more header, in the spelling that is there
 abbrev pub appended : List ℕ → List ℕ → List Header → List Header
 appended name value headers = headers ++ record { name = spelling name headers; value = value } ∷ []
+
+-- "delete": the list without the headers of that name
+abbrev pub without : List ℕ → List Header → List Header
+without name headers = filter (λ header. not (is_named name header)) headers
+
+-- where the first header of that name is, or the length where there is none
+abbrev pub first_of : List ℕ → List Header → ℕ
+first_of name [] = 0
+first_of name (header ∷ headers) = if is_named name header then 0 else first_of name headers + 1
+
+-- "set": the first header of that name has the value and the others are gone; where there is none,
+-- one header more
+abbrev pub with_only : List ℕ → List ℕ → List Header → List Header
+with_only name value [] = record { name = name; value = value } ∷ []
+with_only name value (header ∷ headers) =
+    if is_named name header then record { name = header.name; value = value } ∷ without name headers
+    else header ∷ with_only name value headers
 
 -- the values of the headers of that name, in order
 abbrev pub values_of : List ℕ → List Header → List (List ℕ)

@@ -1,17 +1,27 @@
-ghost use Rattle.std.specs.Prelude.{◌≡◌, ◌<◌, ◌++◌, [], length, IfOk, OnOk, OnErr, Some, slice_get, option_map, codes, if◌then◌else◌};
-ghost use Rattle.std.specs.Str.{str_eq_ignore_ascii_case};
-ghost use Rattle.wf_headers.specs.Headers.{appended, combined, spelling};
+ghost use Rattle.std.specs.Prelude.{◌≤◌, vec_len, vec_capacity, ◌≡◌, ◌<◌, ◌++◌, [], length, IfOk, OnOk, OnErr, Some, slice_get, option_map, codes, if◌then◌else◌};
+ghost use Rattle.wf_headers.specs.Headers.{appended, combined, first_of, spelling, with_only, without};
 ghost use Rattle.wf_headers.specs.declared.headers.Header.{Header};
 
 use std::alloc::Global;
 use std::marker::Model;
-use wf_text::{Bytes, OutOfMemory};
+use wf_text::{Bytes, OutOfMemory, eq_fold};
 
 /// A header: a name and a value.
 #[derive(Drop)]
 pub struct Header {
     pub name: Bytes,
     pub value: Bytes,
+}
+
+impl Header {
+    /// An equal header.
+    pub fn copy(&self, alloc: Global) -> Result<Header, OutOfMemory>
+        ensures { IfOk result (λ header. header ≡ self.now) }
+    {
+        let name = self.name.copy(alloc)?;
+        let value = self.value.copy(alloc)?;
+        Ok(Header { name, value })
+    }
 }
 
 /// A header list, seen as the list of its headers (Fetch, section 2.2.2).
@@ -29,13 +39,6 @@ impl Model for HeaderList {
     ghost view = { λ list. list.headers.items };
 }
 
-// Whether two names are equal, ASCII case aside.
-fn eq_fold(a: &[u8], b: &[u8]) -> bool
-    ensures { result ≡ str_eq_ignore_ascii_case a.now b.now }
-{
-    a.eq_ignore_ascii_case(b)
-}
-
 // The spelling of a name that the headers have already.
 fn spelling_in<'a>(headers: &'a [Header], name: &'a [u8]) -> &'a [u8]
     ensures { result.now ≡ spelling name.now headers.now }
@@ -46,6 +49,77 @@ fn spelling_in<'a>(headers: &'a [Header], name: &'a [u8]) -> &'a [u8]
         }
     }
     name
+}
+
+// Where the first header of that name is, or the number of headers where there is none.
+fn first_named(headers: &[Header], name: &[u8]) -> usize
+    ensures { result ≡ first_of name.now headers.now }
+{
+    for (index, header) in headers.iter().enumerate() {
+        if eq_fold(header.name.as_slice(), name) {
+            return index;
+        }
+    }
+    headers.len()
+}
+
+// Takes out the headers of that name.
+fn take_out(headers: &mut Vec<Header>, name: &[u8])
+    ensures items { headers.new.items ≡ without name.now headers.old.items }
+    ensures len { vec_len headers.new ≤ vec_len headers.old }
+    ensures capacity { vec_capacity headers.new ≡ vec_capacity headers.old }
+{
+    headers.retain(|header| !eq_fold(header.name.as_slice(), name));
+}
+
+// Gives the first header of the name this value and takes out the others of that name.
+fn replace(headers: &mut Vec<Header>, at: usize, name: &[u8], value: Bytes)
+    requires first { at ≡ first_of name.now headers.old.items }
+    requires within { at < vec_len headers.old }
+    ensures { headers.new.items ≡ with_only name.now value headers.old.items }
+{
+    let first = headers.remove(at);
+    take_out(headers, name);
+    // One header left at least, so there is room.
+    let _ = headers.insert(
+        at,
+        Header {
+            name: first.name,
+            value,
+        },
+    );
+}
+
+// Gives a name this one value, where its first header is or at the end.
+fn set_in(
+    alloc: Global,
+    headers: &mut Vec<Header>,
+    name: &[u8],
+    value: Bytes,
+) -> Result<(), OutOfMemory>
+    ensures ok { OnOk result (headers.new.items ≡ with_only name.now value headers.old.items) }
+    ensures err { OnErr result (headers.new.items ≡ headers.old.items) }
+{
+    let at = first_named(headers.as_slice(), name);
+    if at < headers.len() {
+        replace(headers, at, name, value);
+        Ok(())
+    } else {
+        let name = Bytes::of(alloc, name)?;
+        headers.push(Header { name, value })?;
+        Ok(())
+    }
+}
+
+// A copy of each header.
+fn copy_of(alloc: Global, headers: &[Header]) -> Result<Vec<Header>, OutOfMemory>
+    ensures { IfOk result (λ copy. copy.items ≡ headers.now) }
+{
+    let mut copy = Vec::with_capacity(alloc, headers.len())?;
+    for header in headers {
+        copy.push(header.copy(alloc)?)?;
+    }
+    Ok(copy)
 }
 
 // Adds a value, behind a comma where one was there.
@@ -89,6 +163,13 @@ impl HeaderList {
         }
     }
 
+    /// The headers, in order.
+    pub fn as_slice(&self) -> &[Header]
+        ensures { result.now ≡ self.now }
+    {
+        self.headers.as_slice()
+    }
+
     /// How many headers there are.
     pub fn len(&self) -> usize
         ensures { result ≡ length self.now }
@@ -123,6 +204,32 @@ impl HeaderList {
         let value = Bytes::of(alloc, value)?;
         self.headers.push(Header { name, value })?;
         Ok(())
+    }
+
+    /// "set": gives the first header of the name this value and takes out the others of that name;
+    /// where there is none, adds the header at the end (Fetch, section 2.2.2).
+    pub fn set(&mut self, name: &[u8], value: &[u8]) -> Result<(), OutOfMemory>
+        ensures ok { OnOk result (self.new ≡ with_only name.now value.now self.old) }
+        ensures err { OnErr result (self.new ≡ self.old) }
+    {
+        let alloc = *self.headers.allocator();
+        let value = Bytes::of(alloc, value)?;
+        set_in(alloc, &mut self.headers, name, value)
+    }
+
+    /// "delete": takes out the headers of that name (Fetch, section 2.2.2). It takes no memory.
+    pub fn delete(&mut self, name: &[u8])
+        ensures { self.new ≡ without name.now self.old }
+    {
+        take_out(&mut self.headers, name);
+    }
+
+    /// An equal list.
+    pub fn copy(&self, alloc: Global) -> Result<HeaderList, OutOfMemory>
+        ensures { IfOk result (λ list. list ≡ self.now) }
+    {
+        let headers = copy_of(alloc, self.headers.as_slice())?;
+        Ok(HeaderList { headers })
     }
 
     /// "get": all values of that name joined by a comma and a space, or nothing where the list

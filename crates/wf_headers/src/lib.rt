@@ -1,6 +1,12 @@
 // Header lists, after the Fetch Standard, section 2.2.2.
 #![tactic(auto)]
 
+mod extract;
 mod headers;
+mod split;
+#[cfg(test)]
+mod tests;
 
+pub use extract::{Extracted, Rule};
 pub use headers::{Header, HeaderList};
+pub use split::split_value;

@@ -1,1 +1,4 @@
+pub mod Names
 pub mod Origins
+pub mod Sites
+pub mod Trust

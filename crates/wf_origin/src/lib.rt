@@ -1,8 +1,14 @@
-// Origins, after the HTML Standard, section 7.1.1.
+// Origins, after the HTML Standard, section 7.1.1: which are the same, of one site, or trustworthy.
 #![tactic(auto)]
 
+mod names;
 mod origin;
+mod site;
 #[cfg(test)]
 mod tests;
+mod trust;
 
+pub use names::is_local_name;
 pub use origin::{HostKind, Origin, origin_of, same_origin, serialize};
+pub use site::same_site;
+pub use trust::is_trustworthy;

@@ -1,0 +1,18 @@
+use Rattle.std.proofs.Common.{arith, ◌<◌, length, vec_len, vec_capacity}
+use Rattle.std.proofs.lemmas.Grind.{common_steps}
+use Rattle.wf_headers.proofs.HeaderLemmas.{without-room, with_only-found}
+use Rattle.wf_headers.proofs.headers.replace.Goals as goal
+
+pub insert-requires : goal.insert-requires
+insert-requires c =
+    let within : c.args.at < length c.args.headers.now.items = grind (arith, c.requires.within) in
+    let room = without-room c.args.name.now c.args.headers.now.items c.args.at c.requires.first within in
+    grind (arith, room)
+
+pub returns : goal.returns
+returns c =
+    let within : c.args.at < length c.args.headers.now.items = grind (arith, c.requires.within) in
+    let found = with_only-found c.args.name.now c.args.value c.args.headers.now.items c.args.at c.remove-first.result c.requires.first within c.remove-first.ensures.value in
+    let room : vec_len c.take_out.new.headers < vec_capacity c.take_out.new.headers = grind (arith, c.take_out.ensures.len, c.take_out.ensures.capacity, c.remove-first.ensures.len, c.remove-first.ensures.capacity) in
+    let inserted = c.insert.ensures.succeeds room in
+    grind (arith, common_steps, inserted, found)

@@ -1,0 +1,43 @@
+-- "extract header list values" by the rule of the header's grammar (Fetch, section 2.2.2).
+use Rattle.std.specs.Prelude.{ℕ, Bool, List, [], ◌∷◌, ◌==◌, not, length, map, filter, if◌then◌else◌}
+use Rattle.std.specs.List.{flat_map, list_all}
+use Rattle.wf_text.specs.Digits.{is_digits}
+use Rattle.wf_text.specs.Tokens.{is_token}
+use Rattle.wf_text.specs.Trims.{tab_or_space, trimmed}
+use Rattle.wf_headers.specs.Headers.{values_of}
+use Rattle.wf_headers.specs.Split.{with_front}
+use Rattle.wf_headers.specs.declared.headers.Header.{Header}
+use Rattle.wf_headers.specs.declared.extract.Rule.{Rule}
+use Rattle.wf_headers.specs.declared.extract.Rule.TheVariants.{Tokens, Digits, Single}
+use Rattle.wf_headers.specs.declared.extract.Extracted.{Extracted}
+use Rattle.wf_headers.specs.declared.extract.Extracted.TheVariants.{Absent, Failure, Items}
+
+-- what stands between the commas of a text
+abbrev pub between_commas : List ℕ → List (List ℕ)
+between_commas [] = [] ∷ []
+between_commas (byte ∷ text) = if byte == 44 then [] ∷ between_commas text else with_front byte (between_commas text)
+
+-- the text has a byte
+abbrev pub is_filled : List ℕ → Bool
+is_filled text = not (length text == 0)
+
+-- the items of a value: what stands between its commas, trimmed, the empty ones skipped
+abbrev pub items : List ℕ → List (List ℕ)
+items value = filter is_filled (map (trimmed tab_or_space) (between_commas value))
+
+-- a list of tokens, a failure where one of the items is none
+abbrev pub token_list : List (List ℕ) → Extracted
+token_list texts = if list_all is_token texts then Items texts else Failure
+
+-- the values of a name, by a rule: those of Tokens are lists of tokens, those of Digits and Single
+-- stand once, and one of Digits is one digit or more
+abbrev pub extracted_of : Rule → List (List ℕ) → Extracted
+extracted_of rule [] = Absent
+extracted_of Tokens values = token_list (flat_map items values)
+extracted_of Digits (value ∷ []) = if is_digits value then Items (value ∷ []) else Failure
+extracted_of Single (value ∷ []) = Items (value ∷ [])
+extracted_of rule values = Failure
+
+-- "extract header list values" of a name
+abbrev pub extracted : Rule → List ℕ → List Header → Extracted
+extracted rule name headers = extracted_of rule (values_of name headers)

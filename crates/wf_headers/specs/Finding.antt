@@ -1,0 +1,16 @@
+-- What a search for a value that stands once comes to.
+use Rattle.std.specs.Prelude.{ℕ, List, [], ◌∷◌, ◌≡◌, ◌≤◌, length}
+use Rattle.wf_headers.specs.declared.extract.Found.{Found}
+use Rattle.wf_headers.specs.declared.extract.Found.TheVariants.{Nothing, Once, Repeated}
+
+-- there is no value, this one alone, or more than one
+abbrev pub WasFound : Found → List (List ℕ) → Type 0
+WasFound Nothing values = values ≡ []
+WasFound (Once value) values = values ≡ value.now ∷ []
+WasFound Repeated values = 2 ≤ length values
+
+-- these values are what was found, and the values that are left
+abbrev pub FoundBefore : Found → List (List ℕ) → List (List ℕ) → Type 0
+FoundBefore Nothing left values = values ≡ left
+FoundBefore (Once value) left values = values ≡ value.now ∷ left
+FoundBefore Repeated left values = 2 ≤ length values

@@ -1,0 +1,42 @@
+-- "get, decode, and split": the pieces of the values of a name (Fetch, section 2.2.2).
+use Rattle.std.specs.Prelude.{ℕ, List, [], ◌∷◌, ◌==◌, map, Option, option_map, if◌then◌else◌}
+use Rattle.wf_text.specs.Trims.{tab_or_space, trimmed}
+use Rattle.wf_headers.specs.Headers.{combined}
+use Rattle.wf_headers.specs.declared.headers.Header.{Header}
+
+-- the pieces, the first of them with one byte more at its front
+abbrev pub with_front : ℕ → List (List ℕ) → List (List ℕ)
+with_front byte [] = (byte ∷ []) ∷ []
+with_front byte (piece ∷ pieces) = (byte ∷ piece) ∷ pieces
+
+abbrev mutual
+  -- the pieces of a text: what stands between its commas, where a comma in an HTTP quoted string
+  -- does not count; the quoted strings are kept as they are written
+  pub pieces : List ℕ → List (List ℕ)
+  pieces [] = [] ∷ []
+  pieces (byte ∷ text) =
+      if byte == 44 then [] ∷ pieces text
+      else if byte == 34 then with_front byte (in_quoted_string text)
+      else with_front byte (pieces text)
+
+  -- the same from within an HTTP quoted string, which goes to its closing quote, or else to the end
+  pub in_quoted_string : List ℕ → List (List ℕ)
+  in_quoted_string [] = [] ∷ []
+  in_quoted_string (byte ∷ text) =
+      if byte == 34 then with_front byte (pieces text)
+      else if byte == 92 then with_front byte (behind_backslash text)
+      else with_front byte (in_quoted_string text)
+
+  -- the same from behind a backslash, which takes the next byte with it
+  pub behind_backslash : List ℕ → List (List ℕ)
+  behind_backslash [] = [] ∷ []
+  behind_backslash (byte ∷ text) = with_front byte (in_quoted_string text)
+
+-- a value split: its pieces without tabs and spaces around them
+abbrev pub split : List ℕ → List (List ℕ)
+split value = map (trimmed tab_or_space) (pieces value)
+
+-- "get, decode, and split" of a name: all its values, joined and split; nothing where the list does
+-- not contain it
+abbrev pub split_values : List ℕ → List Header → Option (List (List ℕ))
+split_values name headers = option_map split (combined name headers)

@@ -1,0 +1,28 @@
+-- What stands in a splitter of header values: the pieces of all that it was fed and of what follows.
+use Rattle.std.specs.Prelude.{ℕ, List, [], ◌∷◌, ◌++◌, map, Option, Some, None}
+use Rattle.wf_text.specs.Trims.{tab_or_space, trimmed}
+use Rattle.wf_headers.specs.Split.{with_front, pieces, in_quoted_string, behind_backslash}
+use Rattle.wf_headers.specs.declared.split.Place.{Place}
+use Rattle.wf_headers.specs.declared.split.Place.TheVariants.{Outside, Quoted, Escaped}
+use Rattle.wf_headers.specs.declared.split.Splitter.{Splitter}
+
+-- the pieces of the text that follows at a place
+abbrev pub pieces_at : Place → List ℕ → List (List ℕ)
+pieces_at Outside rest = pieces rest
+pieces_at Quoted rest = in_quoted_string rest
+pieces_at Escaped rest = behind_backslash rest
+
+-- the same behind a byte, which ends a piece or leads to a place
+abbrev pub pieces_behind : ℕ → Option Place → List ℕ → List (List ℕ)
+pieces_behind byte None rest = [] ∷ pieces rest
+pieces_behind byte (Some place) rest = with_front byte (pieces_at place rest)
+
+-- the pieces, the first of them with this text at its front
+abbrev pub onto : List ℕ → List (List ℕ) → List (List ℕ)
+onto text [] = text ∷ []
+onto text (piece ∷ pieces) = (text ++ piece) ∷ pieces
+
+-- what the splitter comes to with the rest of the text
+abbrev pub split_with : Splitter → List ℕ → List (List ℕ)
+split_with splitter rest =
+    splitter.pieces ++ map (trimmed tab_or_space) (onto splitter.piece.items (pieces_at splitter.place rest))

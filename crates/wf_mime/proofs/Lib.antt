@@ -1,0 +1,2 @@
+pub mod EssenceLemmas
+pub mod NosniffLemmas

@@ -1,0 +1,28 @@
+-- Responses that are blocked for the essence of their MIME type (Fetch, sections 2.9 and 3.6); no
+-- essence stands for a failure to extract a MIME type.
+use Rattle.std.specs.Prelude.{ℕ, Bool, false, not, ◌||◌, ◌&&◌, List, Option, Some, None, codes, nat_eq, bytes_eq}
+use Rattle.std.specs.List.{starts_with}
+use Rattle.wf_text.specs.Mime.{is_text}
+use Rattle.wf_mime.specs.JavaScript.{is_javascript}
+
+-- an audio, image or video MIME type, or `text/csv`
+abbrev pub is_never_script : List ℕ → Bool
+is_never_script essence =
+    starts_with nat_eq essence (codes "audio/") || starts_with nat_eq essence (codes "image/")
+    || starts_with nat_eq essence (codes "video/") || bytes_eq essence (codes "text/csv")
+
+-- "should response to request be blocked due to its MIME type", for a script or for another request
+abbrev pub mime_blocked : Option (List ℕ) → Bool → Bool
+mime_blocked None script = false
+mime_blocked (Some essence) script = script && is_never_script essence
+
+-- there is an essence, and it is that of a JavaScript MIME type
+abbrev pub is_javascript_essence : Option (List ℕ) → Bool
+is_javascript_essence None = false
+is_javascript_essence (Some essence) = is_javascript essence
+
+-- "should response to request be blocked due to nosniff", where the headers say nosniff: a script
+-- needs a JavaScript MIME type, a style `text/css`
+abbrev pub nosniff_blocked : Option (List ℕ) → Bool → Bool → Bool
+nosniff_blocked essence script style =
+    (script && not (is_javascript_essence essence)) || (style && not (is_text (codes "text/css") essence))

@@ -1,0 +1,22 @@
+-- The essence of the MIME type that headers give ("extract a MIME type", Fetch, section 3.5).
+use Rattle.std.specs.Prelude.{ℕ, ◌-◌, List, [], length, slice_get, codes, Option, Some, None, unwrap_or, if◌then◌else◌}
+use Rattle.std.specs.List.{filter_map}
+use Rattle.wf_text.specs.Mime.{essence_of_value, has_essence}
+use Rattle.wf_headers.specs.Split.{split_values}
+use Rattle.wf_headers.specs.declared.headers.Header.{Header}
+
+-- the essence of a value that is a MIME type other than `*/*`
+abbrev pub specific_essence : List ℕ → Option (List ℕ)
+specific_essence value = if has_essence value (codes "*/*") then None else essence_of_value value
+
+-- the last of a list
+abbrev pub last_of : List (List ℕ) → Option (List ℕ)
+last_of items = slice_get items (length items - 1)
+
+-- the last of the values' essences
+abbrev pub last_essence : List (List ℕ) → Option (List ℕ)
+last_essence values = last_of (filter_map specific_essence values)
+
+-- the essence of the last split value of Content-Type that is a MIME type other than `*/*`
+abbrev pub essence_of : List Header → Option (List ℕ)
+essence_of headers = last_essence (unwrap_or (split_values (codes "Content-Type") headers) [])

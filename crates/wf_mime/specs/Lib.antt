@@ -1,0 +1,4 @@
+pub mod Blocking
+pub mod Essence
+pub mod JavaScript
+pub mod Nosniff

@@ -1,0 +1,38 @@
+ghost use Rattle.std.specs.Prelude.{◌≡◌, bytes_eq};
+ghost use Rattle.std.specs.List.{list_any};
+ghost use Rattle.wf_mime.specs.JavaScript as spec;
+
+/// The essences of the JavaScript MIME types.
+const JAVASCRIPT_TYPES: [&[u8]; 16] = [
+    b"application/ecmascript",
+    b"application/javascript",
+    b"application/x-ecmascript",
+    b"application/x-javascript",
+    b"text/ecmascript",
+    b"text/javascript",
+    b"text/javascript1.0",
+    b"text/javascript1.1",
+    b"text/javascript1.2",
+    b"text/javascript1.3",
+    b"text/javascript1.4",
+    b"text/javascript1.5",
+    b"text/jscript",
+    b"text/livescript",
+    b"text/x-ecmascript",
+    b"text/x-javascript",
+];
+
+/// Whether the essence is one of these.
+fn is_among(types: &[&[u8]], essence: &[u8]) -> bool
+    ensures { result ≡ list_any (λ kind. bytes_eq kind.now essence.now) types.now }
+{
+    types.iter().any(|kind| *kind == essence)
+}
+
+/// Whether an essence, which is in lower case, is that of a JavaScript MIME type (MIME Sniffing,
+/// section 4.6). It takes no memory.
+pub fn is_javascript(essence: &[u8]) -> bool
+    ensures { result ≡ spec.is_javascript essence.now }
+{
+    is_among(&JAVASCRIPT_TYPES, essence)
+}
