@@ -1,3 +1,4 @@
 pub mod Errors
 pub mod Names
 pub mod Requests
+pub mod Urls

@@ -1,6 +1,6 @@
 -- Requests: their current URL, tainted origins and the serialized request origin (Fetch, section 2.2.5),
 -- and which values of these types are requests and clients.
-use Rattle.std.specs.Prelude.{ℕ, ◌&&◌, ◌||◌, Bool, true, false, not, ◌≤◌, List, [], ◌∷◌, codes, Option, Some, None, is_some, ⊤, IsTrue, if◌then◌else◌}
+use Rattle.std.specs.Prelude.{ℕ, ◌&&◌, ◌||◌, Bool, true, false, not, ◌≤◌, List, [], ◌∷◌, codes, Option, Some, None, IsTrue, if◌then◌else◌}
 use Rattle.std.specs.List.{last_or}
 use Rattle.url.specs.Parts.{Parts}
 use Rattle.wf_origin.specs.declared.origin.Origin.{Origin}
