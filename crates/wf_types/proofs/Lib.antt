@@ -1,1 +1,2 @@
+pub mod TaintLemmas
 pub mod TextLemmas
