@@ -1,2 +1,3 @@
 pub mod TaintLemmas
 pub mod TextLemmas
+pub mod UrlLemmas

@@ -1,3 +1,4 @@
+pub mod Clients
 pub mod Errors
 pub mod Names
 pub mod Requests
