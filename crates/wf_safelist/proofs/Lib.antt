@@ -1,0 +1,3 @@
+pub mod ForbiddenLemmas
+pub mod RangeLemmas
+pub mod SetLemmas
