@@ -17,4 +17,4 @@ sorted_lowercase_set (name ∷ names) =
 pub record IsSortedLowercaseSet (names texts : List (List ℕ)) : Type 0 where
   pub ascending : IsStrictlySortedBy (slice_cmp nat_cmp) texts
   pub members :
-    (text : List ℕ) → list_any (bytes_eq text) texts ≡ list_any (bytes_eq text) (map str_to_ascii_lowercase names)
+      (text : List ℕ) → list_any (bytes_eq text) texts ≡ list_any (bytes_eq text) (map str_to_ascii_lowercase names)
