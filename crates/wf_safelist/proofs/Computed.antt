@@ -1,7 +1,6 @@
 -- The definitions, computed on examples that were written down by hand.
 use Rattle.std.proofs.Common.{◌≡◌, ℕ, List, [], ◌∷◌, ◌++◌, codes, replicate, true, false, refl}
 use Rattle.wf_headers.specs.declared.headers.Header.{Header}
-use Rattle.wf_safelist.specs.declared.guard.Appended.{Appended}
 use Rattle.wf_safelist.specs.declared.guard.Appended.TheVariants.{Kept, Ignored, BadName, BadValue}
 use Rattle.wf_safelist.specs.declared.guard.Guard.TheVariants.{Request, NoCors}
 use Rattle.wf_safelist.specs.Guards.{outcome}

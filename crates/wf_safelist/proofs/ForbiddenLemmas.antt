@@ -1,5 +1,5 @@
 -- Prefixes of texts, and tests of the texts from an index on.
-use Rattle.std.proofs.Common.{arith, ◌≡◌, ◌<◌, ◌+◌, ◌∷◌, [], ℕ, suc, List, length, take, drop, ap, refl, sym, ◌∙◌, Bool, false, Some, ◌||◌, drop-cons, add-one}
+use Rattle.std.proofs.Common.{arith, ◌≡◌, ◌<◌, ◌+◌, ◌∷◌, [], ℕ, suc, List, length, take, drop, ap, refl, ◌∙◌, Bool, false, Some, ◌||◌, drop-cons, add-one}
 use Rattle.std.proofs.lemmas.Grind.{common_steps}
 use Rattle.std.proofs.lemmas.Option.{slice_get_within, get_or_from_slice_get}
 use Rattle.std.specs.List.{list_any, slice_get}

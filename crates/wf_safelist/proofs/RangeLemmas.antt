@@ -1,11 +1,11 @@
 -- Numbers in decimal digits compare by how many digits they have behind their first zeros, and then by
 -- these digits.
-use Rattle.std.proofs.Common.{arith, inl, inr, ◌≡◌, ◌≤◌, ◌<◌, ◌+◌, ◌*◌, ◌-◌, ◌==◌, ◌&&◌, ◌||◌, ◌∷◌, [], ℕ, suc, List, length, ap, refl, sym, subst, ◌∙◌, Bool, true, false, cond, nat_le, nat_lt, take, drop, Option, Some, None}
+use Rattle.std.proofs.Common.{arith, inl, inr, ◌≡◌, ◌≤◌, ◌<◌, ◌+◌, ◌*◌, ◌-◌, ◌==◌, ◌&&◌, ◌||◌, ◌∷◌, [], ℕ, suc, List, length, refl, subst, ◌∙◌, Bool, true, false, cond, nat_le, nat_lt, take, drop, Option, Some, None}
 use Rattle.std.proofs.lemmas.Bool.Decides.{eqb_tells, leb_tells, nat_tests}
 use Rattle.std.proofs.lemmas.Grind.{common_steps}
 use Rattle.std.specs.Char.{digit_value, is_ascii_digit}
 use Rattle.std.specs.Cmp.Lexicographic.{slice_cmp}
-use Rattle.std.specs.List.{list_all, position, position_or_len}
+use Rattle.std.specs.List.{list_all, position}
 use Rattle.std.specs.Ordering.{is_le, nat_cmp}
 use Rattle.std.specs.Str.Parse.{digits_value, digits_value_after}
 use Rattle.wf_text.specs.Digits.{is_digits}

@@ -13,7 +13,7 @@ sorted_lowercase_set [] = []
 sorted_lowercase_set (name ∷ names) =
     insert_key (slice_cmp nat_cmp) (sorted_lowercase_set names) (str_to_ascii_lowercase name)
 
--- the texts ascend strictly, and they are the names in lower case; no other list of texts does so
+-- the texts ascend strictly, and their members are the names in lower case
 pub record IsSortedLowercaseSet (names texts : List (List ℕ)) : Type 0 where
   pub ascending : IsStrictlySortedBy (slice_cmp nat_cmp) texts
   pub members :

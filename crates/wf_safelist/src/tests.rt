@@ -158,8 +158,25 @@ fn a_value_counts_with_those_before_it(rt: HostRuntime) -> Result<(), Fail> {
     assert_eq!(rt; last, Appended::Kept);
     let joined = list.get(alloc, b"Accept")?.ok_or("Accept")?;
     assert_eq!(rt; joined.as_slice(), b"a, b".as_slice());
+    assert_eq!(rt; list.len(), 2);
     assert_eq!(rt; list.name_at(1), b"Accept".as_slice());
-    assert!(rt; is_forbidden_method(b"tRaCe"));
-    assert!(rt; !is_forbidden_method(b"PUT"));
     Ok(())
+}
+
+#[test]
+fn three_methods_are_forbidden(rt: HostRuntime) {
+    for (method, forbidden) in [
+        ("CONNECT", true),
+        ("tRaCe", true),
+        ("track", true),
+        ("PUT", false),
+        ("TRACES", false),
+        ("", false),
+    ] {
+        assert_eq!(rt;
+            is_forbidden_method(method.as_bytes()),
+            forbidden,
+            "{method}"
+        );
+    }
 }

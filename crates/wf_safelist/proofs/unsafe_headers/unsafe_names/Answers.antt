@@ -1,7 +1,4 @@
-use Rattle.std.proofs.Common.{◌≡◌, map}
 use Rattle.std.proofs.lemmas.Result.{IfOk-weaker}
-use Rattle.std.specs.Str.{str_to_ascii_lowercase}
-use Rattle.wf_safelist.specs.UnsafeNames.{names_of_unsafe}
 use Rattle.wf_safelist.proofs.SetLemmas.{IsSortedLowercaseSet-from, sorted_lowercase_set-only}
 use Rattle.wf_safelist.proofs.unsafe_headers.unsafe_names.Goals as goal
 
