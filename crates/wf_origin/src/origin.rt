@@ -23,6 +23,31 @@ pub struct Origin {
     pub port: u16,
 }
 
+impl HostKind {
+    /// An equal host.
+    pub fn copy(&self, alloc: Global) -> Result<HostKind, OutOfMemory>
+        ensures { IfOk result (λ host. host ≡ self.now) }
+    {
+        match self {
+            HostKind::Domain(name) => Ok(HostKind::Domain(name.copy(alloc)?)),
+            HostKind::V4(bits) => Ok(HostKind::V4(*bits)),
+            HostKind::V6(bits) => Ok(HostKind::V6(*bits)),
+        }
+    }
+}
+
+impl Origin {
+    /// An equal origin.
+    pub fn copy(&self, alloc: Global) -> Result<Origin, OutOfMemory>
+        ensures { IfOk result (λ origin. origin ≡ self.now) }
+    {
+        let scheme = self.scheme.copy(alloc)?;
+        let host = self.host.copy(alloc)?;
+        let port = self.port;
+        Ok(Origin { scheme, host, port })
+    }
+}
+
 fn is_http(scheme: &str) -> bool
     ensures { result ≡ spec.is_http scheme.now }
 {

@@ -1,0 +1,4 @@
+pub mod Computed
+pub mod ForbiddenLemmas
+pub mod RangeLemmas
+pub mod SetLemmas

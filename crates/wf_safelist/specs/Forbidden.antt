@@ -1,0 +1,47 @@
+-- Forbidden methods and forbidden request-headers (Fetch, sections 2.2.1 and 2.2.2). The lists are
+-- closed as they stand here.
+use Rattle.std.specs.Prelude.{ℕ, Bool, ◌||◌, ◌&&◌, List, [], ◌∷◌, length, take, codes}
+use Rattle.std.specs.List.{list_any}
+use Rattle.std.specs.Str.{str_eq_ignore_ascii_case}
+use Rattle.wf_headers.specs.Split.{split}
+use Rattle.wf_safelist.specs.Names.{is_among}
+
+abbrev pub forbidden_methods : List (List ℕ)
+forbidden_methods = codes "CONNECT" ∷ codes "TRACE" ∷ codes "TRACK" ∷ []
+
+-- "forbidden method", in any case
+abbrev pub is_forbidden_method : List ℕ → Bool
+is_forbidden_method method = is_among forbidden_methods method
+
+abbrev pub forbidden_names : List (List ℕ)
+forbidden_names =
+    codes "Accept-Charset" ∷ codes "Accept-Encoding" ∷ codes "Access-Control-Request-Headers"
+    ∷ codes "Access-Control-Request-Method" ∷ codes "Connection" ∷ codes "Content-Length" ∷ codes "Cookie"
+    ∷ codes "Cookie2" ∷ codes "Date" ∷ codes "DNT" ∷ codes "Expect" ∷ codes "Host" ∷ codes "Keep-Alive"
+    ∷ codes "Origin" ∷ codes "Referer" ∷ codes "Set-Cookie" ∷ codes "TE" ∷ codes "Trailer"
+    ∷ codes "Transfer-Encoding" ∷ codes "Upgrade" ∷ codes "Via" ∷ []
+
+abbrev pub forbidden_prefixes : List (List ℕ)
+forbidden_prefixes = codes "proxy-" ∷ codes "sec-" ∷ []
+
+-- the text begins with the prefix, in any case
+abbrev pub begins_with : List ℕ → List ℕ → Bool
+begins_with prefix text = str_eq_ignore_ascii_case (take (length prefix) text) prefix
+
+-- the name begins with one of the prefixes
+abbrev pub has_forbidden_prefix : List ℕ → Bool
+has_forbidden_prefix name = list_any (λ prefix. begins_with prefix name) forbidden_prefixes
+
+-- the names whose values override the method
+abbrev pub override_names : List (List ℕ)
+override_names = codes "X-HTTP-Method" ∷ codes "X-HTTP-Method-Override" ∷ codes "X-Method-Override" ∷ []
+
+-- the value is for a method to override with, and one of its split values is a forbidden method
+abbrev pub overrides_with_forbidden_method : List ℕ → List ℕ → Bool
+overrides_with_forbidden_method name value =
+    is_among override_names name && list_any is_forbidden_method (split value)
+
+-- "forbidden request-header"
+abbrev pub is_forbidden_header : List ℕ → List ℕ → Bool
+is_forbidden_header name value =
+    is_among forbidden_names name || has_forbidden_prefix name || overrides_with_forbidden_method name value

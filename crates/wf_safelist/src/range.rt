@@ -1,0 +1,74 @@
+ghost use Rattle.std.specs.Prelude.{◌≡◌, ◌==◌, IsTrue};
+ghost use Rattle.std.specs.List.{position};
+ghost use Rattle.wf_text.specs.Digits.{is_digits};
+ghost use Rattle.wf_safelist.specs.Ranges as spec;
+
+use wf_text::parse_digits;
+
+/// Whether the text is one decimal digit or more.
+fn is_digits(text: &[u8]) -> bool
+    ensures { result ≡ is_digits text.now }
+{
+    parse_digits(text, 0).is_some()
+}
+
+/// The digits from the first that is no zero on.
+fn without_zeros(digits: &[u8]) -> &[u8]
+    ensures { result.now ≡ spec.without_zeros digits.now }
+{
+    let mut rest = digits;
+    while let [b'0', after @ ..] = rest {
+        rest = after;
+    }
+    rest
+}
+
+/// Whether the number that the first digits write is at most that of the second. It takes no memory,
+/// however many digits there are.
+fn is_at_most(start: &[u8], end: &[u8]) -> bool
+    requires start { IsTrue (is_digits start.now) }
+    requires end { IsTrue (is_digits end.now) }
+    ensures { result ≡ spec.is_at_most start.now end.now }
+{
+    let start = without_zeros(start);
+    let end = without_zeros(end);
+    start.len() < end.len() || (start.len() == end.len() && start.cmp(end).is_le())
+}
+
+/// Whether the end is left out, or is digits and not below the start.
+fn is_end_of(start: &[u8], end: &[u8]) -> bool
+    requires { IsTrue (is_digits start.now) }
+    ensures { result ≡ spec.is_end_of start.now end.now }
+{
+    end.is_empty() || (is_digits(end) && is_at_most(start, end))
+}
+
+/// Where the first dash is.
+fn first_dash(text: &[u8]) -> Option<usize>
+    ensures { result ≡ position (λ byte. byte == 45) text.now }
+{
+    text.iter().position(|byte| *byte == b'-')
+}
+
+/// Whether the text is digits, a dash, and an end.
+fn is_span(text: &[u8]) -> bool
+    ensures { result ≡ spec.is_span text.now }
+{
+    let Some(dash) = first_dash(text) else {
+        return false;
+    };
+    let start = text.split_at(dash).0;
+    let end = text.split_at(dash + 1).1;
+    is_digits(start) && is_end_of(start, end)
+}
+
+/// Whether the value of a Range is `bytes=`, a start, a dash, and an end that is not below the start
+/// or is left out.
+pub(crate) fn is_simple_range(value: &[u8]) -> bool
+    ensures { result ≡ spec.is_simple_range value.now }
+{
+    match value.strip_prefix(b"bytes=") {
+        Some(span) => is_span(span),
+        None => false,
+    }
+}

@@ -1,0 +1,25 @@
+-- Methods (Fetch, section 2.2.1): which are CORS-safelisted, and how they are normalised.
+use Rattle.std.specs.Prelude.{ℕ, Bool, ◌||◌, List, [], ◌∷◌, codes, bytes_eq, if◌then◌else◌}
+use Rattle.std.specs.List.{list_any}
+use Rattle.std.specs.Str.{str_eq_ignore_ascii_case, str_to_ascii_uppercase}
+
+abbrev pub safelisted_methods : List (List ℕ)
+safelisted_methods = codes "GET" ∷ codes "HEAD" ∷ codes "POST" ∷ []
+
+-- "CORS-safelisted method"
+abbrev pub is_safelisted_method : List ℕ → Bool
+is_safelisted_method method = list_any (λ listed. bytes_eq listed method) safelisted_methods
+
+abbrev pub normalized_methods : List (List ℕ)
+normalized_methods =
+    codes "DELETE" ∷ codes "GET" ∷ codes "HEAD" ∷ codes "OPTIONS" ∷ codes "POST" ∷ codes "PUT" ∷ []
+
+-- "normalize a method": these are in upper case, others keep their case
+abbrev pub normalized : List ℕ → List ℕ
+normalized method =
+    if list_any (λ listed. str_eq_ignore_ascii_case listed method) normalized_methods
+    then str_to_ascii_uppercase method else method
+
+-- GET or HEAD, whose requests have no body
+abbrev pub is_get_or_head : List ℕ → Bool
+is_get_or_head method = bytes_eq method (codes "GET") || bytes_eq method (codes "HEAD")
