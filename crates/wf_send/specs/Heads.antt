@@ -1,5 +1,5 @@
 -- A request as it is sent (Fetch, section 4.6 "HTTP-network-or-cache fetch"; RFC 9112, section 3.2).
-use Rattle.std.specs.Prelude.{ℕ, ◌&&◌, ◌||◌, Bool, true, false, not, List, [], ◌∷◌, ◌++◌, length, codes, decimal, bytes_eq, Option, Some, None, if◌then◌else◌}
+use Rattle.std.specs.Prelude.{ℕ, ◌&&◌, Bool, true, false, not, List, [], ◌∷◌, ◌++◌, length, codes, decimal, bytes_eq, Option, Some, None, if◌then◌else◌}
 use Rattle.std.specs.List.{list_any}
 use Rattle.url.specs.Host.{host_text}
 use Rattle.url.specs.Parts.{Parts, host_or_empty, serialize}
@@ -21,7 +21,7 @@ use Rattle.wf_types.specs.declared.request.Referrer.{Referrer}
 use Rattle.wf_types.specs.declared.request.Referrer.TheVariants as referrer
 use Rattle.wf_types.specs.declared.request.Request.{Request}
 use Rattle.wf_types.specs.Requests.{current_url, is_origin, serialized_request_origin}
-use Rattle.wf_send.specs.Methods.{is_get_or_head}
+use Rattle.wf_send.specs.Methods.{is_get_or_head, is_post_or_put}
 
 -- ---- the target
 
@@ -114,10 +114,6 @@ abbrev pub cookie_value : List Cookie → Request → Parts → Option (List ℕ
 cookie_value cookies request url =
     if includes_credentials request.credentials request.tainting
     then cookie_of (origin_text (origin_of url)) cookies else None
-
--- a method with which an empty body is told
-abbrev pub is_post_or_put : List ℕ → Bool
-is_post_or_put method = bytes_eq method (codes "POST") || bytes_eq method (codes "PUT")
 
 -- the value of Content-Length: the body's, or 0 for POST and PUT without one
 abbrev pub length_value : List ℕ → Option (List ℕ) → Option (List ℕ)

@@ -63,9 +63,13 @@ abbrev pub is_navigate : Mode → Bool
 is_navigate Navigate = true
 is_navigate _ = false
 
+-- how many bytes a name and a value have together
+abbrev pub pair_size : Pair → ℕ
+pair_size pair = length pair.name + length pair.value
+
 -- how many bytes the method and the headers have together, as they are given
 abbrev pub given_size : Init → ℕ
-given_size init = length init.method + sum_by (λ pair. length pair.name + length pair.value) init.headers
+given_size init = length init.method + sum_by pair_size init.headers
 
 -- the body has more than 65,536 bytes
 abbrev pub is_long_body : Option (List ℕ) → Bool
@@ -128,7 +132,7 @@ accept_value _ = codes "*/*"
 abbrev pub header_list : Init → List Header
 header_list init =
     unless_there (codes "Accept") (accept_value destination.Fetch)
-        (with_body_type init.body (filled (guard_of init.mode) init.headers []))
+    (with_body_type init.body (filled (guard_of init.mode) init.headers []))
 
 -- ---- the request
 

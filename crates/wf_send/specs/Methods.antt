@@ -14,12 +14,18 @@ abbrev pub normalized_methods : List (List ℕ)
 normalized_methods =
     codes "DELETE" ∷ codes "GET" ∷ codes "HEAD" ∷ codes "OPTIONS" ∷ codes "POST" ∷ codes "PUT" ∷ []
 
+-- the method, in any case, is one of these
+abbrev pub is_normalized : List ℕ → Bool
+is_normalized method = list_any (λ listed. str_eq_ignore_ascii_case listed method) normalized_methods
+
 -- "normalize a method": these are in upper case, others keep their case
 abbrev pub normalized : List ℕ → List ℕ
-normalized method =
-    if list_any (λ listed. str_eq_ignore_ascii_case listed method) normalized_methods
-    then str_to_ascii_uppercase method else method
+normalized method = if is_normalized method then str_to_ascii_uppercase method else method
 
 -- GET or HEAD, whose requests have no body
 abbrev pub is_get_or_head : List ℕ → Bool
 is_get_or_head method = bytes_eq method (codes "GET") || bytes_eq method (codes "HEAD")
+
+-- POST or PUT, with which an empty body is told
+abbrev pub is_post_or_put : List ℕ → Bool
+is_post_or_put method = bytes_eq method (codes "POST") || bytes_eq method (codes "PUT")

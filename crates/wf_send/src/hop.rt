@@ -1,0 +1,60 @@
+ghost use Rattle.std.specs.Prelude.{◌≡◌, IfOk, IsTrue};
+ghost use Rattle.wf_origin.specs.Origins as origins;
+ghost use Rattle.wf_send.specs.Heads as spec;
+ghost use Rattle.wf_types.specs.Requests.{IsAtHttp, IsRequest, is_determined};
+
+use crate::head::head_lines;
+use crate::make::copy_of;
+use std::alloc::Global;
+use url::{Position, Url};
+use wf_origin::{origin_of, serialize};
+use wf_text::{Bytes, OutOfMemory};
+use wf_types::{Cookies, Hop, Request};
+
+/// The request target in origin form: the path, and the query where there is one (RFC 9112, section
+/// 3.2.1). It takes no memory.
+pub fn target_of(url: &Url) -> &str
+    ensures { result.now ≡ spec.target_of url.now }
+{
+    url.slice(Position::BeforePath, Position::AfterQuery)
+}
+
+/// The value of Host: the host, and the port where the URL has one (RFC 9112, section 3.2). It takes
+/// no memory.
+pub fn host_value(url: &Url) -> &str
+    ensures { result.now ≡ spec.host_value url.now }
+{
+    url.slice(Position::BeforeHost, Position::AfterPort)
+}
+
+/// The serialised origin of a URL, or `null` where it has none (HTML, section 7.1.1).
+pub fn origin_text(alloc: Global, url: &Url) -> Result<Bytes, OutOfMemory>
+    ensures { IfOk result (λ text. text ≡ spec.origin_text (origins.origin_of url.now)) }
+{
+    match origin_of(alloc, url)? {
+        None => Bytes::of(alloc, b"null"),
+        Some(origin) => serialize(alloc, &origin),
+    }
+}
+
+/// The request as it is sent to its current URL (Fetch, section 4.6; RFC 9112, section 3.2): the
+/// target of its request line, and its header list from Host on. Behind Host stand the request's own
+/// headers, and behind those, where there is a value, User-Agent, Accept-Encoding, Referer, Origin,
+/// Cookie, Content-Length and Connection. The credentials and the fragment of a URL are not sent.
+pub fn hop_of(alloc: Global, request: &Request, cookies: &Cookies) -> Result<Hop, OutOfMemory>
+    requires request { IsRequest request.now }
+    requires at_http { IsAtHttp request.now }
+    requires determined { IsTrue (is_determined request.now.referrer) }
+    ensures { IfOk result (λ hop. hop ≡ spec.hop_of cookies.now request.now) }
+{
+    let url = request.current_url();
+    let origin = origin_text(alloc, url)?;
+    Ok(Hop {
+        preflight: false,
+        url: Bytes::of(alloc, target_of(url).as_bytes())?,
+        method: request.method.copy(alloc)?,
+        headers: head_lines(alloc, cookies.as_slice(), request, url, origin.as_slice())?,
+        body: copy_of(alloc, &request.body)?,
+        origin,
+    })
+}
