@@ -3,7 +3,8 @@ use Rattle.std.proofs.Common.{◌≡◌, ℕ, List, [], ◌∷◌, Bool, true, f
 use Rattle.std.specs.Prelude.{◌==◌, ◌&&◌, ◌||◌, IsUtf8}
 use Rattle.std.specs.Str.{is_utf8}
 use Rattle.std.proofs.lemmas.Str.{IsUtf8-from_is_utf8, is_utf8-from_IsUtf8}
-use Rattle.wf_script.specs.Urls.{utf8_text, has_template}
+use Rattle.wf_script.specs.Texts.{has_template}
+use Rattle.wf_script.specs.Urls.{utf8_text}
 
 pub utf8_text-IsUtf8 : (bytes : List ℕ) → IsUtf8 bytes → utf8_text bytes ≡ Some bytes
 utf8_text-IsUtf8 bytes valid = rw (is_utf8-from_IsUtf8 bytes valid) refl

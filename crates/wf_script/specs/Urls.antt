@@ -1,12 +1,12 @@
 -- URLs read from texts (URL Standard, section 4.4), and those that documents and fetches may have.
-use Rattle.std.specs.Prelude.{ℕ, ◌&&◌, ◌||◌, Bool, false, not, nat_le, nat_eq, List, [], ◌∷◌, length, codes, bytes_eq, Option, Some, None, is_some, if◌then◌else◌}
-use Rattle.std.specs.List.{starts_with}
+use Rattle.std.specs.Prelude.{ℕ, ◌&&◌, ◌||◌, Bool, true, false, not, nat_le, List, length, codes, bytes_eq, Option, Some, None, is_some, if◌then◌else◌}
 use Rattle.std.specs.Result.{result_ok}
 use Rattle.std.specs.Str.{is_utf8}
 use Rattle.url.specs.Parser.{parse_url}
 use Rattle.url.specs.Parts.{Parts, has_credentials, serialize}
 use Rattle.wf_origin.specs.Origins.{origin_of, serialized}
 use Rattle.wf_origin.specs.declared.origin.Origin.{Origin}
+use Rattle.wf_script.specs.Texts.{lacks_template}
 
 -- the text that bytes are, where they are UTF-8
 abbrev pub utf8_text : List ℕ → Option (List ℕ)
@@ -41,7 +41,12 @@ origin_in (Some url) = origin_of url
 abbrev pub is_origin_text : List ℕ → Bool
 is_origin_text text = is_serialized (origin_in (url_of_text None (Some text))) text
 
--- `${`, which begins a template, stands somewhere in the text
-abbrev pub has_template : List ℕ → Bool
-has_template [] = false
-has_template (byte ∷ text) = starts_with nat_eq (byte ∷ text) (codes "${") || has_template text
+-- A URL that a fetch may have here: neither an http URL nor one with a port. A text that gives no URL
+-- may stand too, since the fetch then fails.
+abbrev pub may_be_fetched : Option Parts → Bool
+may_be_fetched None = true
+may_be_fetched (Some url) = not (bytes_eq url.scheme (codes "http") || is_some url.port)
+
+-- a text without templates that gives such a URL against the document's
+abbrev pub is_fetch_url : Parts → List ℕ → Bool
+is_fetch_url document text = lacks_template text && may_be_fetched (url_against document text)

@@ -4,6 +4,7 @@ ghost use Rattle.url.specs.Parts.{Parts};
 ghost use Rattle.url.specs.Parser.{Parsed, Gives};
 ghost use Rattle.wf_script.specs.Urls as spec;
 
+use crate::texts::has_template;
 use std::alloc::Global;
 use url::{ParseError, Url};
 use wf_origin::{origin_of, serialize};
@@ -59,6 +60,28 @@ pub(crate) fn is_plain_https(url: &Url) -> bool
         && url.as_str().len() <= 8192
 }
 
+// Whether a fetch may have a URL: neither an http one nor one with a port.
+fn may_be_fetched(url: &Option<Url>) -> bool
+    ensures { result ≡ spec.may_be_fetched url.now }
+{
+    match url {
+        None => true,
+        Some(url) => url.scheme() != "http" && url.port().is_none(),
+    }
+}
+
+/// Whether a text without templates gives a URL that a fetch may have against the document's, or no
+/// URL.
+pub(crate) fn is_fetch_url(alloc: Global, document: &Url, text: &str) -> Result<bool, OutOfMemory>
+    ensures { IfOk result (λ is. is ≡ spec.is_fetch_url document.now text.now) }
+{
+    if has_template(text.as_bytes()) {
+        return Ok(false);
+    }
+    let url = url_against(alloc, document, text.as_bytes())?;
+    Ok(may_be_fetched(&url))
+}
+
 /// Whether a text is the serialized origin of an http or https URL (HTML, section 7.1.1).
 pub(crate) fn is_origin_text(alloc: Global, text: &str) -> Result<bool, OutOfMemory>
     ensures { IfOk result (λ is. is ≡ spec.is_origin_text text.now) }
@@ -71,19 +94,4 @@ pub(crate) fn is_origin_text(alloc: Global, text: &str) -> Result<bool, OutOfMem
     };
     let serialized = serialize(alloc, &origin)?;
     Ok(serialized.as_slice() == text.as_bytes())
-}
-
-/// Whether `${` stands somewhere in the text.
-#[tactic(auto, using(crate::proofs::TextLemmas::templates))]
-pub(crate) fn has_template(text: &[u8]) -> bool
-    ensures { result ≡ spec.has_template text.now }
-{
-    let mut dollar = false;
-    for byte in text {
-        if dollar && *byte == b'{' {
-            return true;
-        }
-        dollar = *byte == b'$';
-    }
-    false
 }
