@@ -1,6 +1,6 @@
 -- Requests: their current URL, tainted origins and the serialized request origin (Fetch, section 2.2.5),
 -- and which values of these types are requests and clients.
-use Rattle.std.specs.Prelude.{ℕ, ◌&&◌, ◌||◌, Bool, true, false, not, ◌≤◌, List, [], ◌∷◌, codes, Option, Some, None, is_some, ⊤, IsTrue, if◌then◌else◌}
+use Rattle.std.specs.Prelude.{ℕ, ◌&&◌, ◌||◌, Bool, true, false, not, ◌≤◌, List, [], ◌∷◌, codes, Option, Some, None, unwrap_or, IsTrue, if◌then◌else◌}
 use Rattle.std.specs.List.{last_or}
 use Rattle.url.specs.Parts.{Parts}
 use Rattle.wf_origin.specs.declared.origin.Origin.{Origin}
@@ -12,9 +12,22 @@ use Rattle.wf_types.specs.declared.request.Referrer.{Referrer}
 use Rattle.wf_types.specs.declared.request.Referrer.TheVariants.{NoReferrer, Client as TheClient, Address}
 use Rattle.wf_types.specs.declared.request.Request.{Request}
 
--- "current URL": the last of the URL list
-abbrev pub current_url : Request → Option Parts
-current_url request = last_or None request.urls
+-- what stands for a URL where a list has none
+abbrev pub no_url : Parts
+no_url = record {
+  scheme = [];
+  username = [];
+  password = [];
+  host = None;
+  port = None;
+  path = [];
+  query = None;
+  fragment = None;
+}
+
+-- "current URL": the last of the URL list, which is never empty in a request
+abbrev pub current_url : Request → Parts
+current_url request = unwrap_or (last_or None request.urls) no_url
 
 -- the URL is http or https, and so has a tuple origin
 abbrev pub is_http_url : Parts → Bool
@@ -50,7 +63,7 @@ abbrev pub serialized_request_origin : Request → List ℕ
 serialized_request_origin request =
     if has_tainted_origin request.origin request.urls then codes "null" else serialized request.origin
 
--- each URL of a list but the last is http or https
+-- there is a URL, and each of the list but the last is http or https
 abbrev pub were_http : List Parts → Bool
 were_http [] = false
 were_http (url ∷ []) = true
@@ -69,14 +82,9 @@ pub record IsRequest (request : Request) : Type 0 where
   pub redirects : request.redirects ≤ 20
   pub referrer : IsTrue (is_http_referrer request.referrer)
 
--- there is a URL, an http or https one
-abbrev pub stands_at_http : Option Parts → Bool
-stands_at_http None = false
-stands_at_http (Some url) = is_http_url url
-
--- the request stands at an http or https URL
+-- the current URL is http or https
 abbrev pub IsAtHttp : Request → Type 0
-IsAtHttp request = IsTrue (stands_at_http (current_url request))
+IsAtHttp request = IsTrue (is_http_url (current_url request))
 
 -- the referrer was determined: it is none or a URL
 abbrev pub is_determined : Referrer → Bool

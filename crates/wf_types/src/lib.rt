@@ -13,6 +13,7 @@ mod request;
 mod response;
 #[cfg(test)]
 mod tests;
+mod urls;
 
 pub use client::{Client, Cookie, Cookies};
 pub use error::NetError;
@@ -23,3 +24,4 @@ pub use mode::{Credentials, Mode, RedirectMode, ReferrerPolicy, Tainting};
 pub use policy::{Destination, Directive, Violation};
 pub use request::{Referrer, Request, Urls};
 pub use response::{BodyEnd, Outcome, Response, ResponseKind};
+pub use urls::{url_against, url_alone, utf8_text};

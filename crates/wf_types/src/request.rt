@@ -1,3 +1,6 @@
+ghost use Rattle.std.specs.Prelude.{◌≡◌, ◌<◌, length};
+ghost use Rattle.wf_types.specs.Requests as spec;
+
 use crate::mode::{Credentials, Mode, RedirectMode, ReferrerPolicy, Tainting};
 use crate::policy::Destination;
 use url::Url;
@@ -38,4 +41,14 @@ pub struct Request {
     pub destination: Destination,
     pub tainting: Tainting,
     pub redirects: u32,
+}
+
+impl Request {
+    /// The current URL: the last of the URL list, which is not empty. It takes no memory.
+    pub fn current_url(&self) -> &Url
+        requires { 0 < length self.now.urls }
+        ensures { result.now ≡ spec.current_url self.now }
+    {
+        self.urls.at(self.urls.len() - 1)
+    }
 }
