@@ -7,13 +7,12 @@ use Rattle.std.proofs.lemmas.List.Elements.{All-nil}
 use Rattle.serde_json.specs.Data.{Data}
 use Rattle.serde_json.specs.Find.{get, as_number, as_u64, as_str}
 use Rattle.url.specs.Parts.{Parts}
-use Rattle.wf_types.specs.declared.client.Cookie.{Cookie}
-use Rattle.wf_types.specs.declared.init.Pair.{Pair}
+use Rattle.wf_types.specs.Urls.{url_of_text}
 use Rattle.wf_script.specs.declared.types.Command.TheVariants.{Fetch}
 use Rattle.wf_script.specs.declared.types.Scenario.{Scenario}
-use Rattle.wf_script.specs.Reading.{Read, present, given, any, at_most, only_keys, number_of, text_that, word_of, some_of, items_of, list_of}
+use Rattle.wf_script.specs.Reading.{Read, present, any, at_most, only_keys, number_of, text_that, word_of, some_of, items_of, list_of}
 use Rattle.wf_script.specs.Texts.{lacks_template, is_cookie_value}
-use Rattle.wf_script.specs.Urls.{url_of_text, is_plain_https, is_origin_text, is_fetch_url}
+use Rattle.wf_script.specs.Urls.{is_plain_https, is_origin_text, is_fetch_url}
 use Rattle.wf_script.specs.Scenarios.{cookie_of, rule_keys, rule_of, server_keys, server_of, modes, referrers, header_of, fetch_keys, fetch_of, command_of, document_url_of, document_keys, document_of, scenario_keys, scenario_in}
 use Rattle.wf_script.specs.Valid.{IsValidCookie, IsValidRule, IsValidServer, is_opened_mode, IsPlainPair, IsValidInit, IsValidCommand, IsValidDocument, IsValid}
 use Rattle.wf_script.proofs.KeepsLemmas.{Keeps, Anything, keeps-anything, keeps-then, keeps-after, keeps-under, keeps-given, keeps-required, keeps-optional, IsListOf, keeps-items, keeps-list, keeps-text_that, keeps-word, keeps-some, keeps-parts}

@@ -13,6 +13,7 @@ use Rattle.wf_types.specs.declared.mode.Mode.{Mode}
 use Rattle.wf_types.specs.declared.mode.Mode.TheVariants as mode
 use Rattle.wf_types.specs.declared.mode.RedirectMode.TheVariants as redirect
 use Rattle.wf_types.specs.declared.mode.ReferrerPolicy.TheVariants as policy
+use Rattle.wf_types.specs.Urls.{utf8_text, url_of_text}
 use Rattle.wf_script.specs.declared.types.Rule.{Rule}
 use Rattle.wf_script.specs.declared.types.Server.{Server}
 use Rattle.wf_script.specs.declared.types.Command.{Command}
@@ -22,7 +23,7 @@ use Rattle.wf_script.specs.declared.types.Scenario.{Scenario}
 use Rattle.wf_script.specs.declared.types.Place.{Place}
 use Rattle.wf_script.specs.Reading.{Read, ◌>>=◌, present, given, number_of, text_that, any, at_most, word_of, some_of, only_keys, required, optional, under, items_of, list_of, pair_of}
 use Rattle.wf_script.specs.Texts.{lacks_template, is_cookie_value}
-use Rattle.wf_script.specs.Urls.{utf8_text, url_of_text, is_plain_https, is_origin_text, is_fetch_url}
+use Rattle.wf_script.specs.Urls.{is_plain_https, is_origin_text, is_fetch_url}
 
 -- ---- cookies and servers
 

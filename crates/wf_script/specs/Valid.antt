@@ -1,5 +1,5 @@
 -- What every scenario that is read keeps: the bounds and the forms of its values.
-use Rattle.std.specs.Prelude.{◌≡◌, ◌≤◌, Bool, true, false, List, ℕ, [], length, IfSome, IsTrue}
+use Rattle.std.specs.Prelude.{◌≡◌, ◌≤◌, Bool, true, false, [], length, IfSome, IsTrue}
 use Rattle.std.specs.List.{All}
 use Rattle.url.specs.Parts.{Parts}
 use Rattle.wf_types.specs.declared.client.Cookie.{Cookie}

@@ -7,10 +7,11 @@ use crate::form::{Form, at_segment, refused_here};
 use crate::lists::ItemsOf;
 use crate::refused::Refused;
 use crate::types::{Command, Document};
-use crate::urls::{is_plain_https, url_alone};
+use crate::urls::is_plain_https;
 use serde_json::Value;
 use std::alloc::Global;
 use url::Url;
+use wf_types::url_alone;
 
 // A command, told by its key.
 #[derive(Drop)]

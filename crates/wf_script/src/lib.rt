@@ -20,4 +20,4 @@ mod words;
 pub use types::{
     Command, Document, Documents, Place, Rule, Rules, Scenario, Script, Server, Servers,
 };
-pub use urls::url_against;
+pub use wf_types::url_against;

@@ -12,10 +12,10 @@ use crate::lists::{ItemsOf, ListOf};
 use crate::refused::Refused;
 use crate::servers::ServerTable;
 use crate::types::{Place, Scenario};
-use crate::urls::utf8_text;
 use serde_json::Value;
 use std::alloc::Global;
 use wf_text::{Bytes, Items, OutOfMemory};
+use wf_types::utf8_text;
 
 const KEYS: &[&str] = &["format", "cookies", "servers", "documents"];
 

@@ -1,6 +1,6 @@
 //! Scenarios that are read, and the places of texts that are refused.
 use crate::types::{Command, Scenario};
-use crate::urls::url_against;
+use crate::url_against;
 use std::alloc::Global;
 use std::test::Fail;
 use url::Url;

@@ -1,4 +1,4 @@
-use Rattle.std.proofs.Common.{◌≡◌, ℕ, ◌<◌, List, length, arith, sym, ap, ◌∙◌, Option}
+use Rattle.std.proofs.Common.{◌≡◌, List, length, arith, ap, ◌∙◌, Option}
 use Rattle.std.specs.Prelude.{option_and_then}
 use Rattle.serde_json.specs.Data.{Items}
 use Rattle.serde_json.specs.declared.value.Value.{Value}
