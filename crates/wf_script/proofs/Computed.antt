@@ -1,35 +1,43 @@
 -- The scenario of a text, computed on examples by the definitions alone.
-use Rattle.std.proofs.Common.{◌≡◌, ℕ, List, [], ◌∷◌, codes, refl, Ok, Err, Some, None, Option, Result, option_map}
+use Rattle.std.proofs.Common.{◌≡◌, ℕ, false, List, [], ◌∷◌, ◌++◌, codes, refl, Ok, Err, Some, None, Result}
 use Rattle.std.specs.Str.{is_utf8, chars}
 use Rattle.url.proofs.OnLiterals.{url_on_literals}
 use Rattle.serde_json.proofs.OnLiterals.{serde_json_on_literals}
 use Rattle.url.specs.declared.host.Host.TheVariants.{Domain}
 use Rattle.url.specs.Parts.{Parts}
+use Rattle.wf_types.specs.declared.init.Init.{Init}
+use Rattle.wf_types.specs.declared.mode.Credentials.TheVariants as credentials
+use Rattle.wf_types.specs.declared.mode.Mode.TheVariants as mode
+use Rattle.wf_types.specs.declared.mode.RedirectMode.TheVariants as redirect
+use Rattle.wf_types.specs.declared.mode.ReferrerPolicy.TheVariants as policy
 use Rattle.wf_script.specs.declared.types.Command.TheVariants.{Fetch}
 use Rattle.wf_script.specs.declared.types.Scenario.{Scenario}
 use Rattle.wf_script.specs.declared.types.Place.{Place}
-use Rattle.wf_script.specs.Reading.{Read}
-use Rattle.wf_script.specs.Scenarios.{scenario_in, tree_of, scenario_of}
-
--- the exact place at which a text's tree is refused, from the root
-abbrev place_in : List ℕ → Option (Read Scenario)
-place_in text = option_map scenario_in (tree_of text)
-
-pub computes-exact-places : (place_in (codes "{\"format\":1,\"documents\":[{\"url\":\"ftp://a/\",\"script\":[]}]}") ≡ Some (Err (codes "/documents/0/url")))
-    × (place_in (codes "{\"format\":1,\"documents\":[],\"extra\":0}") ≡ Some (Err []))
-    × (place_in (codes "{\"format\":1,\"documents\":[0,0]}") ≡ Some (Err (codes "/documents")))
-    × (place_in (codes "{\"format\":1,\"documents\":[{\"url\":\"https://a.test/\",\"script\":[{\"fetch\":{\"url\":\"/${body}\"}}]}]}") ≡ Some (Err (codes "/documents/0/script/0/fetch/url")))
-    × (place_in (codes "{\"servers\":[],\"format\":1.0}") ≡ Some (Err (codes "/format")))
-unfolding url_on_literals serde_json_on_literals is_utf8 chars
-computes-exact-places = (refl, refl, refl, refl, refl)
+use Rattle.wf_script.specs.Scenarios.{scenario_of}
 
 abbrev refused : List ℕ → Result Scenario Place
 refused place = Err (record { text = place })
 
+-- a text that is no tree, the root, keys, and a list that is too long
 pub computes-places : (scenario_of (codes "{\"format\":") ≡ refused (codes "json"))
-    × (scenario_of (codes "{\"format\":1,\"documents\":[{\"url\":\"ftp://a/\",\"script\":[]}]}") ≡ refused (codes "/"))
+    × (scenario_of (codes "{\"format\":1,\"documents\":[{\"url\":\"ftp://a/\",\"script\":[]}]}") ≡ refused (codes "/documents/0/url"))
+    × (scenario_of (codes "{\"format\":1,\"documents\":[],\"extra\":0}") ≡ refused (codes "/"))
+    × (scenario_of (codes "{\"servers\":[],\"format\":1.0}") ≡ refused (codes "/format"))
+    × (scenario_of (codes "{\"format\":1,\"documents\":[0,0]}") ≡ refused (codes "/documents"))
 unfolding url_on_literals serde_json_on_literals is_utf8 chars
-computes-places = (refl, refl)
+computes-places = (refl, refl, refl, refl, refl)
+
+-- a document whose one command is this text
+abbrev with_command : List ℕ → List ℕ
+with_command command = codes "{\"format\":1,\"documents\":[{\"url\":\"https://a.test/\",\"script\":[" ++ command ++ codes "]}]}"
+
+-- the parts of a fetch
+pub computes-places-of-fetches : (scenario_of (with_command (codes "{\"fetch\":{\"url\":\"/${body}\"}}")) ≡ refused (codes "/documents/0/script/0/fetch/url"))
+    × (scenario_of (with_command (codes "{\"fetch\":{\"url\":\"/\",\"referrer\":\"none\"}}")) ≡ refused (codes "/documents/0/script/0/fetch/mode"))
+    × (scenario_of (with_command (codes "{\"fetch\":{\"url\":\"/\",\"mode\":\"navigate\",\"headers\":[[\"A\",\"${body}\"]]}}")) ≡ refused (codes "/documents/0/script/0/fetch/headers/0/1"))
+    × (scenario_of (with_command (codes "{\"fetch\":{\"url\":\"/\",\"mode\":\"navigate\",\"headers\":[[\"A\"]]}}")) ≡ refused (codes "/documents/0/script/0/fetch/headers/0"))
+unfolding url_on_literals serde_json_on_literals is_utf8 chars
+computes-places-of-fetches = (refl, refl, refl, refl)
 
 abbrev page : Parts
 page = record {
@@ -43,10 +51,47 @@ page = record {
   fragment = None;
 }
 
+-- what a fetch of this URL asks for, where the keys say no more than has to be said
+abbrev plain : List ℕ → Init
+plain url = record {
+  url = url;
+  method = codes "GET";
+  mode = mode.SameOrigin;
+  credentials = credentials.SameOrigin;
+  redirect = redirect.Follow;
+  headers = [];
+  body = None;
+  client_referrer = false;
+  referrer_policy = policy.Empty;
+  integrity = [];
+  upload = false;
+}
+
 pub computes-whole : scenario_of (codes "{\"format\":1,\"servers\":[{\"origin\":\"https://a.test\",\"rules\":[{\"status\":200,\"body\":\"hi\"}]}],\"documents\":[{\"url\":\"https://a.test/\",\"script\":[{\"fetch\":{\"url\":\"/\",\"mode\":\"same-origin\",\"referrer\":\"none\"}}]}]}")
     ≡ Ok (record {
+      cookies = [];
       servers = record { origin = codes "https://a.test"; rules = record { status = 200; body = codes "hi" } ∷ [] } ∷ [];
-      documents = record { url = page; script = Fetch (codes "/") ∷ [] } ∷ [];
+      documents = record { url = page; top = page; script = Fetch (plain (codes "/")) ∷ [] } ∷ [];
+      body_limit = 262144;
     })
 unfolding url_on_literals serde_json_on_literals is_utf8 chars
 computes-whole = refl
+
+pub computes-fetch : scenario_of (with_command (codes "{\"fetch\":{\"url\":\"/x\",\"method\":\"PUT\",\"mode\":\"navigate\",\"headers\":[[\"X-A\",\"1\"]],\"body\":\"q\",\"referrer\":\"none\"}}"))
+    ≡ Ok (record {
+      cookies = [];
+      servers = [];
+      documents = record {
+        url = page;
+        top = page;
+        script = Fetch (record (plain (codes "/x")) {
+          method = codes "PUT";
+          mode = mode.Navigate;
+          headers = record { name = codes "X-A"; value = codes "1" } ∷ [];
+          body = Some (codes "q");
+        }) ∷ [];
+      } ∷ [];
+      body_limit = 262144;
+    })
+unfolding url_on_literals serde_json_on_literals is_utf8 chars
+computes-fetch = refl

@@ -1,12 +1,12 @@
 -- What is read keeps: a fact goes through each step of a reading.
-use Rattle.std.proofs.Common.{◌≡◌, ℕ, ◌+◌, ◌≤◌, Bool, true, false, List, [], ◌∷◌, length, Option, Some, None, Ok, Err, refl, arith}
-use Rattle.std.specs.Prelude.{nat_le, decimal, IsTrue}
+use Rattle.std.proofs.Common.{◌≡◌, ℕ, ◌+◌, ◌≤◌, Bool, true, false, List, [], ◌∷◌, length, Option, Some, None, Ok, Err, refl, arith, if◌then◌else◌}
+use Rattle.std.specs.Prelude.{nat_le, decimal, bytes_eq, option_and_then, IfSome, IsTrue}
 use Rattle.std.specs.List.{All}
 use Rattle.std.proofs.lemmas.Bool.{leb-true}
 use Rattle.std.proofs.lemmas.List.Elements.{All-nil, All-cons}
 use Rattle.serde_json.specs.Data.{Data, Items, no_items, item}
-use Rattle.serde_json.specs.Find.{get, as_array}
-use Rattle.wf_script.specs.Reading.{Read, ◌>>=◌, under, present, given, found_or, required, optional, count, each_from, list_of}
+use Rattle.serde_json.specs.Find.{get, as_str, as_array}
+use Rattle.wf_script.specs.Reading.{Read, ◌>>=◌, under, present, given, text_that, meaning, word_of, some_of, found_or, required, optional, count, each_from, items_of, list_of, two_of, pair_of}
 
 -- the value has the property, where one is read
 abbrev pub Keeps : {A : Type 0} → (A → Type 0) → Read A → Type 0
@@ -20,6 +20,10 @@ Anything x = Unit {0}
 pub keeps-anything : {A : Type 0} (read : Read A) → Keeps Anything read
 keeps-anything (Ok x) = tt
 keeps-anything (Err place) = tt
+
+keeps-weaker : {A : Type 0} (P Q : A → Type 0) (read : Read A) → ((x : A) → P x → Q x) → Keeps P read → Keeps Q read
+keeps-weaker P Q (Ok x) goes kept = goes x kept
+keeps-weaker P Q (Err place) goes kept = tt
 
 pub keeps-then : {A B : Type 0} (P : A → Type 0) (Q : B → Type 0) (read : Read A) (next : A → Read B)
     → Keeps P read → ((x : A) → P x → Keeps Q (next x)) → Keeps Q (read >>= next)
@@ -75,9 +79,11 @@ keeps-each P read each i (item tree items) =
     (keeps-each P read each (i + 1) items)
     (λ xs rest. record { few = omega (arith, rest.few); all = All-cons P x xs kept rest.all }))
 
-shorter : {A : Type 0} (P : A → Type 0) (few most : ℕ) (read : Read (List A)) → few ≤ most → Keeps (IsListOf P few) read → Keeps (IsListOf P most) read
-shorter P few most (Ok xs) le kept = record { few = omega (arith, kept.few); all = kept.all }
-shorter P few most (Err place) le kept = tt
+pub keeps-items : {A : Type 0} (P : A → Type 0) (read : Data → Read A)
+    → ((inside : Data) → Keeps P (read inside)) → (tree : Data) → Keeps (λ xs. All P xs) (items_of read tree)
+keeps-items P read each tree =
+    keeps-after (λ xs. All P xs) (present (as_array tree)) (λ items. each_from read 0 items)
+    (λ items. keeps-weaker (IsListOf P (count items)) (λ xs. All P xs) (each_from read 0 items) (λ xs kept. kept.all) (keeps-each P read each 0 items))
 
 pub keeps-list : {A : Type 0} (P : A → Type 0) (most : ℕ) (read : Data → Read A)
     → ((inside : Data) → Keeps P (read inside)) → (tree : Data) → Keeps (IsListOf P most) (list_of most read tree)
@@ -85,4 +91,50 @@ keeps-list P most read each tree =
     keeps-after (IsListOf P most) (present (as_array tree)) (λ items. given (nat_le (count items) most) items >>= (λ few. each_from read 0 few))
     (λ items. keeps-then (λ few. IsTrue (nat_le (count few) most)) (IsListOf P most) (given (nat_le (count items) most) items) (λ few. each_from read 0 few)
     (keeps-given (λ few. IsTrue (nat_le (count few) most)) (nat_le (count items) most) items (λ holds. holds))
-    (λ few holds. shorter P (count few) most (each_from read 0 few) (leb-true (count few) most holds) (keeps-each P read each 0 few)))
+    (λ few holds. keeps-weaker (IsListOf P (count few)) (IsListOf P most) (each_from read 0 few)
+    (λ xs kept. record { few = omega (arith, kept.few, leb-true (count few) most holds); all = kept.all }) (keeps-each P read each 0 few)))
+
+-- ---- values of one form
+
+pub keeps-text_that : (passes : List ℕ → Bool) (tree : Data) → Keeps (λ text. IsTrue (passes text)) (text_that passes tree)
+keeps-text_that passes tree =
+    keeps-after (λ text. IsTrue (passes text)) (present (as_str tree)) (λ text. given (passes text) text)
+    (λ text. keeps-given (λ (t : List ℕ). IsTrue (passes t)) (passes text) text (λ holds. holds))
+
+-- what each word stands for has the property
+abbrev pub Means : {A : Type 0} → (A → Type 0) → List (List ℕ × A) → Type 0
+Means P [] = Unit {0}
+Means P (entry ∷ words) = P entry.1 × Means P words
+
+keeps-meaning : {A : Type 0} (P : A → Type 0) (words : List (List ℕ × A)) (text : List ℕ) → Means P words → Keeps P (present (meaning words text))
+keeps-meaning P [] text each = tt
+keeps-meaning {A} P (entry ∷ words) text each =
+    elim (bytes_eq entry.0 text) as (λ b. let found : Option A = if b then Some entry.1 else meaning words text in Keeps P (present found))
+    [ true ↦ each.0 | false ↦ keeps-meaning P words text each.1 ]
+
+pub keeps-word : {A : Type 0} (P : A → Type 0) (words : List (List ℕ × A)) → Means P words → (tree : Data) → Keeps P (word_of words tree)
+keeps-word P words each tree =
+    keeps-after P (present (as_str tree)) (λ text. present (meaning words text)) (λ text. keeps-meaning P words text each)
+
+pub keeps-some : {A : Type 0} (P : A → Type 0) (read : Data → Read A)
+    → ((inside : Data) → Keeps P (read inside)) → (tree : Data) → Keeps (λ x. IfSome x P) (some_of read tree)
+keeps-some P read each tree = keeps-then P (λ x. IfSome x P) (read tree) (λ x. Ok (Some x)) (each tree) (λ x kept. kept)
+
+keeps-pair : {A B : Type 0} (P : A → Type 0) (Q : B → Type 0) (first : Data → Read A) (second : Data → Read B)
+    → ((inside : Data) → Keeps P (first inside)) → ((inside : Data) → Keeps Q (second inside))
+    → (tree : Data) → Keeps (λ (pair : A × B). P pair.0 × Q pair.1) (pair_of first second tree)
+keeps-pair {A} {B} P Q first second each other tree =
+    let Both : A × B → Type 0 = λ pair. P pair.0 × Q pair.1 in
+    keeps-after Both (present (option_and_then two_of (as_array tree))) _ (λ two.
+    keeps-then P Both (under (decimal 0) (first two.0)) (λ x. under (decimal 1) (second two.1) >>= (λ y. Ok (x, y)))
+    (keeps-under P (decimal 0) (first two.0) (each two.0)) (λ x one.
+    keeps-then Q Both (under (decimal 1) (second two.1)) (λ y. Ok (x, y))
+    (keeps-under Q (decimal 1) (second two.1) (other two.1)) (λ y two. (one, two))))
+
+-- the two parts of a pair, and what is read after them
+pub keeps-parts : {A B C : Type 0} (P : A → Type 0) (Q : B → Type 0) (R : C → Type 0) (first : Data → Read A) (second : Data → Read B) (tree : Data) (next : A × B → Read C)
+    → ((inside : Data) → Keeps P (first inside)) → ((inside : Data) → Keeps Q (second inside))
+    → ((x : A) (y : B) → P x → Q y → Keeps R (next (x, y))) → Keeps R (pair_of first second tree >>= next)
+keeps-parts {A} {B} P Q R first second tree next each other goes =
+    keeps-then (λ (pair : A × B). P pair.0 × Q pair.1) R (pair_of first second tree) next
+    (keeps-pair P Q first second each other tree) (λ pair is. goes pair.0 pair.1 is.0 is.1)

@@ -1,16 +1,20 @@
 -- What the keys of an object and a loop over the items of a list come to.
-use Rattle.std.proofs.Common.{◌≡◌, ℕ, zero, suc, ◌+◌, ◌<◌, ◌≤◌, Bool, List, [], ◌∷◌, ◌++◌, map, length, drop, get_or, String, Global, string_bytes, Bor, Ok, Err, refl, ap, sym, ◌∙◌, arith, add-one, drop-cons, append_assoc}
+use Rattle.std.proofs.Common.{◌≡◌, ℕ, zero, suc, ◌+◌, ◌<◌, ◌≤◌, Bool, List, [], ◌∷◌, ◌++◌, map, length, drop, get_or, String, Global, string_bytes, Bor, Some, None, Ok, Err, refl, ap, sym, ◌∙◌, arith, add-one, drop-cons, append_assoc}
 use Rattle.std.proofs.lemmas.List.{append-nil}
 use Rattle.std.specs.Prelude.{◌&&◌, decimal}
 use Rattle.std.specs.List.{list_all}
 use Rattle.serde_json.specs.Data.{Data, item}
 use Rattle.serde_json.specs.View.{view, members_view, items_view}
 use Rattle.serde_json.specs.declared.value.Value.{Value}
-use Rattle.wf_script.specs.Reading.{Read, ◌>>=◌, is_one_of, known, count, under, each_from, Gives}
+use Rattle.wf_script.specs.Reading.{Read, ◌>>=◌, is_one_of, known, count, two_of, under, each_from, Gives}
 use Rattle.wf_script.specs.declared.refused.Refused.{Refused}
 use Rattle.wf_script.specs.declared.refused.Refused.TheVariants.{Memory, At}
 
 -- ---- words and keys
+
+-- words that are lent, with what they stand for
+abbrev pub entries : {A : Type 0} → List (Bor (List ℕ) × A) → List (List ℕ × A)
+entries words = map (λ entry. (entry.0.now, entry.1)) words
 
 -- the keys of an object are known where each is
 pub known-keys : (names : List (List ℕ)) (entries : List (String Global × Value))
@@ -19,6 +23,13 @@ known-keys names [] = refl
 known-keys names (e ∷ entries) = ap (λ (b : Bool). is_one_of names (string_bytes e.0) && b) (known-keys names entries)
 
 -- ---- lists
+
+-- a list of another length than two
+pub two_of-None : (items : List Value) → (length items ≡ 2 → ⊥) → None ≡ two_of (items_view items)
+two_of-None [] other = refl
+two_of-None (x ∷ []) other = refl
+two_of-None (x ∷ y ∷ []) other = absurd (other refl)
+two_of-None (x ∷ y ∷ z ∷ items) other = refl
 
 pub count-items_view : (items : List Value) → count (items_view items) ≡ length items
 count-items_view [] = refl

@@ -1,4 +1,5 @@
 pub mod Reading
+pub mod Texts
 pub mod Urls
 pub mod Scenarios
 pub mod Valid

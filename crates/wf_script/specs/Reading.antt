@@ -49,23 +49,42 @@ number_of least most tree = do
   number ← present (option_and_then as_u64 (as_number tree))
   given (nat_le least number && nat_le number most) number
 
--- a text of so many bytes at most
-abbrev pub text_of : ℕ → Data → Read (List ℕ)
-text_of most tree = do
+-- a text that passes its test
+abbrev pub text_that : (List ℕ → Bool) → Data → Read (List ℕ)
+text_that passes tree = do
   text ← present (as_str tree)
-  given (nat_le (length text) most) text
+  given (passes text) text
 
--- the text is one of these words
-abbrev pub is_one_of : List (List ℕ) → List ℕ → Bool
-is_one_of words text = list_any (λ word. bytes_eq word text) words
+-- any text passes
+abbrev pub any : List ℕ → Bool
+any text = true
 
--- one of these words
-abbrev pub word_of : List (List ℕ) → Data → Read (List ℕ)
+-- so many bytes at most
+abbrev pub at_most : ℕ → List ℕ → Bool
+at_most most text = nat_le (length text) most
+
+-- what a word stands for in a table of words
+abbrev pub meaning : {A : Type 0} → List (List ℕ × A) → List ℕ → Option A
+meaning [] text = None
+meaning (entry ∷ words) text = if bytes_eq entry.0 text then Some entry.1 else meaning words text
+
+-- what one of these words stands for
+abbrev pub word_of : {A : Type 0} → List (List ℕ × A) → Data → Read A
 word_of words tree = do
   text ← present (as_str tree)
-  given (is_one_of words text) text
+  present (meaning words text)
+
+-- the value where it is there: for a key whose default is that there is none
+abbrev pub some_of : {A : Type 0} → (Data → Read A) → Data → Read (Option A)
+some_of read tree = do
+  x ← read tree
+  Ok (Some x)
 
 -- ---- objects
+
+-- the key is one of the names
+abbrev pub is_one_of : List (List ℕ) → List ℕ → Bool
+is_one_of names key = list_any (λ name. bytes_eq name key) names
 
 -- each key is one of the names
 abbrev pub known : List (List ℕ) → Members → Bool
@@ -109,9 +128,28 @@ each_from read i (item tree items) = do
   xs ← each_from read (i + 1) items
   Ok (x ∷ xs)
 
+-- a list of any length
+abbrev pub items_of : {A : Type 0} → (Data → Read A) → Data → Read (List A)
+items_of read tree = do
+  items ← present (as_array tree)
+  each_from read 0 items
+
 -- a list of so many items at most
 abbrev pub list_of : {A : Type 0} → ℕ → (Data → Read A) → Data → Read (List A)
 list_of most read tree = do
   items ← present (as_array tree)
   few ← given (nat_le (count items) most) items
   each_from read 0 few
+
+-- the two items of a list of two
+abbrev pub two_of : Items → Option (Data × Data)
+two_of (item first (item second no_items)) = Some (first, second)
+two_of items = None
+
+-- a list of two, each read in its own way
+abbrev pub pair_of : {A B : Type 0} → (Data → Read A) → (Data → Read B) → Data → Read (A × B)
+pair_of first second tree = do
+  two ← present (option_and_then two_of (as_array tree))
+  x ← under (decimal 0) (first two.0)
+  y ← under (decimal 1) (second two.1)
+  Ok (x, y)

@@ -1,9 +1,19 @@
 -- The scenario of a text: the tables of a scenario's objects over the tree that `serde_json` reads.
-use Rattle.std.specs.Prelude.{ℕ, not, List, [], ◌∷◌, codes, Option, Some, None, option_and_then, Result, Ok, Err}
+-- The keys of a table are listed and read in one order.
+use Rattle.std.specs.Prelude.{ℕ, Bool, false, List, [], ◌∷◌, codes, Option, Some, None, option_and_then, Result, Ok, Err}
 use Rattle.serde_json.specs.Data.{Data}
 use Rattle.serde_json.specs.Find.{get, as_str}
 use Rattle.serde_json.specs.Read.{read}
 use Rattle.url.specs.Parts.{Parts}
+use Rattle.wf_types.specs.declared.client.Cookie.{Cookie}
+use Rattle.wf_types.specs.declared.init.Init.{Init}
+use Rattle.wf_types.specs.declared.init.Pair.{Pair}
+use Rattle.wf_types.specs.declared.mode.Credentials.TheVariants as credentials
+use Rattle.wf_types.specs.declared.mode.Mode.{Mode}
+use Rattle.wf_types.specs.declared.mode.Mode.TheVariants as mode
+use Rattle.wf_types.specs.declared.mode.RedirectMode.TheVariants as redirect
+use Rattle.wf_types.specs.declared.mode.ReferrerPolicy.TheVariants as policy
+use Rattle.wf_types.specs.Urls.{utf8_text, url_of_text}
 use Rattle.wf_script.specs.declared.types.Rule.{Rule}
 use Rattle.wf_script.specs.declared.types.Server.{Server}
 use Rattle.wf_script.specs.declared.types.Command.{Command}
@@ -11,58 +21,91 @@ use Rattle.wf_script.specs.declared.types.Command.TheVariants.{Fetch}
 use Rattle.wf_script.specs.declared.types.Document.{Document}
 use Rattle.wf_script.specs.declared.types.Scenario.{Scenario}
 use Rattle.wf_script.specs.declared.types.Place.{Place}
-use Rattle.wf_script.specs.Reading.{Read, ◌>>=◌, present, given, number_of, text_of, word_of, only_keys, required, optional, under, list_of}
-use Rattle.wf_script.specs.Urls.{utf8_text, url_of_text, url_against, is_plain_https, is_origin_text, has_template}
+use Rattle.wf_script.specs.Reading.{Read, ◌>>=◌, present, given, number_of, text_that, any, at_most, word_of, some_of, only_keys, required, optional, under, items_of, list_of, pair_of}
+use Rattle.wf_script.specs.Texts.{lacks_template, is_cookie_value}
+use Rattle.wf_script.specs.Urls.{is_plain_https, is_origin_text, is_fetch_url}
 
--- ---- servers
+-- ---- cookies and servers
+
+-- a serialized origin, and the value of the Cookie header that goes to it
+abbrev pub cookie_of : Data → Read Cookie
+cookie_of tree = do
+  pair ← pair_of (text_that is_origin_text) (text_that is_cookie_value) tree
+  Ok (record { origin = pair.0; value = pair.1 })
+
+abbrev pub rule_keys : List (List ℕ)
+rule_keys = codes "status" ∷ codes "body" ∷ []
 
 -- an answer's status and body
 abbrev pub rule_of : Data → Read Rule
 rule_of tree = do
-  known ← only_keys (codes "status" ∷ codes "body" ∷ []) tree
+  known ← only_keys rule_keys tree
   status ← required (codes "status") (number_of 200 200) tree
-  body ← optional (codes "body") [] (text_of 4096) tree
+  body ← optional (codes "body") [] (text_that (at_most 262144)) tree
   Ok (record { status = status; body = body })
 
--- a serialized origin
-abbrev pub origin_text_of : Data → Read (List ℕ)
-origin_text_of tree = do
-  text ← present (as_str tree)
-  given (is_origin_text text) text
+abbrev pub server_keys : List (List ℕ)
+server_keys = codes "origin" ∷ codes "rules" ∷ []
 
 -- a server: its origin and at most one rule
 abbrev pub server_of : Data → Read Server
 server_of tree = do
-  known ← only_keys (codes "origin" ∷ codes "rules" ∷ []) tree
-  origin ← required (codes "origin") origin_text_of tree
+  known ← only_keys server_keys tree
+  origin ← required (codes "origin") (text_that is_origin_text) tree
   rules ← required (codes "rules") (list_of 1 rule_of) tree
   Ok (record { origin = origin; rules = rules })
 
--- ---- documents
+-- ---- fetches
 
--- the URL of a fetch, as it is written: without templates, and plain https against the document's URL
-abbrev pub fetch_url_of : Parts → Data → Read (List ℕ)
-fetch_url_of document tree = do
-  text ← present (as_str tree)
-  plain ← given (not (has_template text)) text
-  url ← present (url_against document plain)
-  given (is_plain_https url) plain
+abbrev pub modes : List (List ℕ × Mode)
+modes = (codes "same-origin", mode.SameOrigin) ∷ (codes "navigate", mode.Navigate) ∷ []
 
--- what a fetch asks for
-abbrev pub fetch_of : Parts → Data → Read Command
+-- whether the referrer is the client
+abbrev pub referrers : List (List ℕ × Bool)
+referrers = (codes "none", false) ∷ []
+
+-- a name and a value, which need not be a header; templates stand in values alone
+abbrev pub header_of : Data → Read Pair
+header_of tree = do
+  pair ← pair_of (text_that any) (text_that lacks_template) tree
+  Ok (record { name = pair.0; value = pair.1 })
+
+abbrev pub fetch_keys : List (List ℕ)
+fetch_keys = codes "url" ∷ codes "method" ∷ codes "mode" ∷ codes "headers" ∷ codes "body" ∷ codes "referrer" ∷ []
+
+-- what a fetch asks for; what no key says is as `fetch` has it by itself
+abbrev pub fetch_of : Parts → Data → Read Init
 fetch_of document tree = do
-  known ← only_keys (codes "url" ∷ codes "mode" ∷ codes "referrer" ∷ []) tree
-  url ← required (codes "url") (fetch_url_of document) tree
-  mode ← required (codes "mode") (word_of (codes "same-origin" ∷ [])) tree
-  referrer ← required (codes "referrer") (word_of (codes "none" ∷ [])) tree
-  Ok (Fetch url)
+  known ← only_keys fetch_keys tree
+  url ← required (codes "url") (text_that (is_fetch_url document)) tree
+  method ← optional (codes "method") (codes "GET") (text_that any) tree
+  mode ← required (codes "mode") (word_of modes) tree
+  headers ← optional (codes "headers") [] (list_of 64 header_of) tree
+  body ← optional (codes "body") None (some_of (text_that lacks_template)) tree
+  client_referrer ← required (codes "referrer") (word_of referrers) tree
+  Ok (record {
+    url = url;
+    method = method;
+    mode = mode;
+    credentials = credentials.SameOrigin;
+    redirect = redirect.Follow;
+    headers = headers;
+    body = body;
+    client_referrer = client_referrer;
+    referrer_policy = policy.Empty;
+    integrity = [];
+    upload = false;
+  })
+
+-- ---- documents
 
 -- a command, told by its key: without one it is refused at its own place
 abbrev pub command_of : Parts → Data → Read Command
 command_of document tree = do
   known ← only_keys (codes "fetch" ∷ []) tree
   fetch ← present (get (codes "fetch") tree)
-  under (codes "fetch") (fetch_of document fetch)
+  init ← under (codes "fetch") (fetch_of document fetch)
+  Ok (Fetch init)
 
 -- the URL of a document
 abbrev pub document_url_of : Data → Read Parts
@@ -71,29 +114,41 @@ document_url_of tree = do
   url ← present (url_of_text None (Some text))
   given (is_plain_https url) url
 
--- a document: its URL and at most one command
+abbrev pub document_keys : List (List ℕ)
+document_keys = codes "url" ∷ codes "script" ∷ []
+
+-- a document, the page at the top itself: its URL and its commands
 abbrev pub document_of : Data → Read Document
 document_of tree = do
-  known ← only_keys (codes "url" ∷ codes "script" ∷ []) tree
+  known ← only_keys document_keys tree
   url ← required (codes "url") document_url_of tree
-  script ← required (codes "script") (list_of 1 (command_of url)) tree
-  Ok (record { url = url; script = script })
+  script ← required (codes "script") (items_of (command_of url)) tree
+  Ok (record { url = url; top = url; script = script })
 
 -- ---- the whole
+
+abbrev pub scenario_keys : List (List ℕ)
+scenario_keys = codes "format" ∷ codes "cookies" ∷ codes "servers" ∷ codes "documents" ∷ []
 
 -- a scenario of format 1: at most one server and one document
 abbrev pub scenario_in : Data → Read Scenario
 scenario_in tree = do
-  known ← only_keys (codes "format" ∷ codes "servers" ∷ codes "documents" ∷ []) tree
+  known ← only_keys scenario_keys tree
   format ← required (codes "format") (number_of 1 1) tree
+  cookies ← optional (codes "cookies") [] (items_of cookie_of) tree
   servers ← optional (codes "servers") [] (list_of 1 server_of) tree
   documents ← required (codes "documents") (list_of 1 document_of) tree
-  Ok (record { servers = servers; documents = documents })
+  Ok (record { cookies = cookies; servers = servers; documents = documents; body_limit = 262144 })
 
--- where a text is refused that is a tree: the exact place is told from the next stage on
+-- a place as it is told: that of the root is `/`
+abbrev pub place_text : List ℕ → List ℕ
+place_text [] = codes "/"
+place_text (byte ∷ place) = byte ∷ place
+
+-- what a tree is read as, with the place as it is told
 abbrev pub told : Read Scenario → Result Scenario Place
 told (Ok scenario) = Ok scenario
-told (Err place) = Err (record { text = codes "/" })
+told (Err place) = Err (record { text = place_text place })
 
 -- the scenario of a text's tree, where it has one
 abbrev pub scenario_of_tree : Option Data → Result Scenario Place

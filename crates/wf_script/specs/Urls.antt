@@ -1,25 +1,10 @@
--- URLs read from texts (URL Standard, section 4.4), and those that documents and fetches may have.
-use Rattle.std.specs.Prelude.{ℕ, ◌&&◌, ◌||◌, Bool, false, not, nat_le, nat_eq, List, [], ◌∷◌, length, codes, bytes_eq, Option, Some, None, is_some, if◌then◌else◌}
-use Rattle.std.specs.List.{starts_with}
-use Rattle.std.specs.Result.{result_ok}
-use Rattle.std.specs.Str.{is_utf8}
-use Rattle.url.specs.Parser.{parse_url}
+-- The URLs that documents and fetches may have, and serialized origins.
+use Rattle.std.specs.Prelude.{ℕ, ◌&&◌, ◌||◌, Bool, true, false, not, nat_le, List, length, codes, bytes_eq, Option, Some, None, is_some}
 use Rattle.url.specs.Parts.{Parts, has_credentials, serialize}
 use Rattle.wf_origin.specs.Origins.{origin_of, serialized}
 use Rattle.wf_origin.specs.declared.origin.Origin.{Origin}
-
--- the text that bytes are, where they are UTF-8
-abbrev pub utf8_text : List ℕ → Option (List ℕ)
-utf8_text bytes = if is_utf8 bytes then Some bytes else None
-
--- the URL that a text gives, with or without a base, where it gives one
-abbrev pub url_of_text : Option Parts → Option (List ℕ) → Option Parts
-url_of_text base None = None
-url_of_text base (Some text) = result_ok (parse_url base text)
-
--- the URL that bytes give against a base, unless they are not UTF-8 or no URL
-abbrev pub url_against : Parts → List ℕ → Option Parts
-url_against base text = url_of_text (Some base) (utf8_text text)
+use Rattle.wf_types.specs.Urls.{url_of_text, url_against}
+use Rattle.wf_script.specs.Texts.{lacks_template}
 
 -- an https URL without credentials and without a port, of at most 8,192 bytes as printed
 abbrev pub is_plain_https : Parts → Bool
@@ -41,7 +26,12 @@ origin_in (Some url) = origin_of url
 abbrev pub is_origin_text : List ℕ → Bool
 is_origin_text text = is_serialized (origin_in (url_of_text None (Some text))) text
 
--- `${`, which begins a template, stands somewhere in the text
-abbrev pub has_template : List ℕ → Bool
-has_template [] = false
-has_template (byte ∷ text) = starts_with nat_eq (byte ∷ text) (codes "${") || has_template text
+-- A URL that a fetch may have here: neither an http URL nor one with a port. A text that gives no URL
+-- may stand too, since the fetch then fails.
+abbrev pub may_be_fetched : Option Parts → Bool
+may_be_fetched None = true
+may_be_fetched (Some url) = not (bytes_eq url.scheme (codes "http") || is_some url.port)
+
+-- a text without templates that gives such a URL against the document's
+abbrev pub is_fetch_url : Parts → List ℕ → Bool
+is_fetch_url document text = lacks_template text && may_be_fetched (url_against document text)

@@ -1,19 +1,33 @@
 -- What every scenario that is read keeps: the bounds and the forms of its values.
-use Rattle.std.specs.Prelude.{◌≡◌, ◌≤◌, length, Some, IsTrue}
+use Rattle.std.specs.Prelude.{◌≡◌, ◌≤◌, Bool, true, false, [], length, IfSome, IsTrue}
 use Rattle.std.specs.List.{All}
 use Rattle.url.specs.Parts.{Parts}
+use Rattle.wf_types.specs.declared.client.Cookie.{Cookie}
+use Rattle.wf_types.specs.declared.init.Init.{Init}
+use Rattle.wf_types.specs.declared.init.Pair.{Pair}
+use Rattle.wf_types.specs.declared.mode.Credentials.TheVariants as credentials
+use Rattle.wf_types.specs.declared.mode.Mode.{Mode}
+use Rattle.wf_types.specs.declared.mode.Mode.TheVariants as mode
+use Rattle.wf_types.specs.declared.mode.RedirectMode.TheVariants as redirect
+use Rattle.wf_types.specs.declared.mode.ReferrerPolicy.TheVariants as policy
 use Rattle.wf_script.specs.declared.types.Rule.{Rule}
 use Rattle.wf_script.specs.declared.types.Server.{Server}
 use Rattle.wf_script.specs.declared.types.Command.{Command}
 use Rattle.wf_script.specs.declared.types.Command.TheVariants.{Fetch}
 use Rattle.wf_script.specs.declared.types.Document.{Document}
 use Rattle.wf_script.specs.declared.types.Scenario.{Scenario}
-use Rattle.wf_script.specs.Urls.{url_against, is_plain_https, is_origin_text}
+use Rattle.wf_script.specs.Texts.{lacks_template, is_cookie_value}
+use Rattle.wf_script.specs.Urls.{is_plain_https, is_origin_text, is_fetch_url}
 
--- status 200 and a body of at most 4,096 bytes
+-- a serialized origin, and a header value of 1 to 4,096 bytes
+pub record IsValidCookie (cookie : Cookie) : Type 0 where
+  pub origin : IsTrue (is_origin_text cookie.origin)
+  pub value : IsTrue (is_cookie_value cookie.value)
+
+-- status 200 and a body of at most 262,144 bytes
 pub record IsValidRule (rule : Rule) : Type 0 where
   pub status : rule.status ≡ 200
-  pub body : length rule.body ≤ 4096
+  pub body : length rule.body ≤ 262144
 
 -- a serialized origin and at most one rule
 pub record IsValidServer (server : Server) : Type 0 where
@@ -21,20 +35,47 @@ pub record IsValidServer (server : Server) : Type 0 where
   pub few : length server.rules ≤ 1
   pub rules : All IsValidRule server.rules
 
--- the text of a fetch gives a plain https URL against the document's
-abbrev pub IsValidCommand : Parts → Command → Type 0
-IsValidCommand document (Fetch text) =
-    (url : Parts) × (url_against document text ≡ Some url) × IsTrue (is_plain_https url)
+-- the mode of a request is same-origin or navigate
+abbrev pub is_opened_mode : Mode → Bool
+is_opened_mode mode.SameOrigin = true
+is_opened_mode mode.NoCors = false
+is_opened_mode mode.Cors = false
+is_opened_mode mode.Navigate = true
 
--- a plain https URL and at most one command
+-- the value has no template
+abbrev pub IsPlainPair : Pair → Type 0
+IsPlainPair pair = IsTrue (lacks_template pair.value)
+
+-- Neither its URL nor its values have templates, and its URL is opened against the document's; it has
+-- at most 64 headers and no referrer, and what no key says is as `fetch` has it by itself.
+pub record IsValidInit (document : Parts) (init : Init) : Type 0 where
+  pub url : IsTrue (is_fetch_url document init.url)
+  pub mode : IsTrue (is_opened_mode init.mode)
+  pub few : length init.headers ≤ 64
+  pub headers : All IsPlainPair init.headers
+  pub body : IfSome init.body (λ body. IsTrue (lacks_template body))
+  pub client_referrer : init.client_referrer ≡ false
+  pub credentials : init.credentials ≡ credentials.SameOrigin
+  pub redirect : init.redirect ≡ redirect.Follow
+  pub referrer_policy : init.referrer_policy ≡ policy.Empty
+  pub integrity : init.integrity ≡ []
+  pub upload : init.upload ≡ false
+
+-- what a fetch asks for may be asked by the document
+abbrev pub IsValidCommand : Parts → Command → Type 0
+IsValidCommand document (Fetch init) = IsValidInit document init
+
+-- plain https URLs of the document and of the page at the top, and commands
 pub record IsValidDocument (document : Document) : Type 0 where
   pub url : IsTrue (is_plain_https document.url)
-  pub few : length document.script ≤ 1
+  pub top : IsTrue (is_plain_https document.top)
   pub script : All (IsValidCommand document.url) document.script
 
 -- at most one server and at most one document
 pub record IsValid (scenario : Scenario) : Type 0 where
+  pub cookies : All IsValidCookie scenario.cookies
   pub few_servers : length scenario.servers ≤ 1
   pub servers : All IsValidServer scenario.servers
   pub few_documents : length scenario.documents ≤ 1
   pub documents : All IsValidDocument scenario.documents
+  pub body_limit : scenario.body_limit ≡ 262144

@@ -1,4 +1,4 @@
-// Numbers, texts and words, and the keys of an object.
+// Numbers, values that may be absent, and the keys of an object.
 ghost use Rattle.std.specs.Prelude.{◌≡◌, map, string_bytes};
 ghost use Rattle.std.specs.List.{list_all};
 ghost use Rattle.serde_json.specs.Find.{as_object};
@@ -10,7 +10,6 @@ use crate::form::{Form, at_segment, refused_here};
 use crate::refused::Refused;
 use serde_json::{Map, Value};
 use std::alloc::Global;
-use wf_text::Bytes;
 
 /// A whole number from `least` to `most`.
 #[derive(Drop)]
@@ -32,54 +31,20 @@ impl Form for Number {
     }
 }
 
-/// A text of at most `most` bytes.
+/// A value of a key whose default is that there is none.
 #[derive(Drop)]
-pub(crate) struct Text {
-    pub(crate) most: usize,
+pub(crate) struct Given<F> {
+    pub(crate) form: F,
 }
 
-impl Form for Text {
-    type Out = Bytes;
+impl<F: Form> Form for Given<F> {
+    type Out = Option<F::Out>;
 
-    ghost reads = { λ text. spec.text_of text.most };
+    ghost reads = { λ given. spec.some_of (F.reads given.form) };
 
-    fn read(&self, alloc: Global, tree: &Value) -> Result<Bytes, Refused> {
-        match tree.as_str() {
-            Some(text) if text.len() <= self.most => Ok(Bytes::of(alloc, text.as_bytes())?),
-            _ => refused_here(alloc),
-        }
+    fn read(&self, alloc: Global, tree: &Value) -> Result<Option<F::Out>, Refused> {
+        Ok(Some(self.form.read(alloc, tree)?))
     }
-}
-
-/// One of these words.
-#[derive(Drop)]
-pub(crate) struct Word<'a> {
-    pub(crate) words: &'a [&'a str],
-}
-
-impl Form for Word<'_> {
-    type Out = Bytes;
-
-    ghost reads = { λ word. spec.word_of (map (λ text. text.now) word.words.now) };
-
-    fn read(&self, alloc: Global, tree: &Value) -> Result<Bytes, Refused> {
-        match tree.as_str() {
-            Some(text) if is_one_of(text, self.words) => Ok(Bytes::of(alloc, text.as_bytes())?),
-            _ => refused_here(alloc),
-        }
-    }
-}
-
-// Whether the text is one of these.
-fn is_one_of(text: &str, words: &[&str]) -> bool
-    ensures { result ≡ spec.is_one_of (map (λ word. word.now) words.now) text.now }
-{
-    for word in words {
-        if *word == text {
-            return true;
-        }
-    }
-    false
 }
 
 /// The value of a key, which has to be there.
@@ -140,4 +105,16 @@ fn all_known(members: &Map<String, Value>, names: &[&str]) -> bool
         (map (λ member. member.0) members.now.entries) }
 {
     members.keys().all(|key| is_one_of(key.as_str(), names))
+}
+
+// Whether the key is one of the names.
+fn is_one_of(key: &str, names: &[&str]) -> bool
+    ensures { result ≡ spec.is_one_of (map (λ name. name.now) names.now) key.now }
+{
+    for name in names {
+        if *name == key {
+            return true;
+        }
+    }
+    false
 }

@@ -1,7 +1,9 @@
-// Scenarios: documents with their scripts, and the servers that answer them.
+// Scenarios: documents with their scripts, the cookies that are sent, and the servers that answer.
 #![tactic(auto)]
 
+mod cookies;
 mod documents;
+mod fetches;
 mod fields;
 mod form;
 mod lists;
@@ -10,10 +12,12 @@ mod refused;
 mod servers;
 #[cfg(test)]
 mod tests;
+mod texts;
 mod types;
 mod urls;
+mod words;
 
 pub use types::{
     Command, Document, Documents, Place, Rule, Rules, Scenario, Script, Server, Servers,
 };
-pub use urls::url_against;
+pub use wf_types::url_against;

@@ -1,5 +1,6 @@
-// Lists of items of one form.
-ghost use Rattle.std.specs.Prelude.{decimal};
+// Lists of items of one form, and pairs.
+ghost use Rattle.std.specs.Prelude.{◌≡◌, decimal, option_map, option_and_then};
+ghost use Rattle.serde_json.specs.Find.{as_array};
 ghost use Rattle.serde_json.specs.View.{view, items_view};
 ghost use Rattle.wf_script.specs.Reading as spec;
 ghost use Rattle.wf_script.specs.Reading.{Gives, under};
@@ -9,6 +10,25 @@ use crate::refused::Refused;
 use serde_json::Value;
 use std::alloc::Global;
 use wf_text::Items;
+
+/// A list of any number of items of one form.
+#[derive(Drop)]
+pub(crate) struct ItemsOf<F> {
+    pub(crate) item: F,
+}
+
+impl<F: Form> Form for ItemsOf<F> {
+    type Out = Items<F::Out>;
+
+    ghost reads = { λ list. spec.items_of (F.reads list.item) };
+
+    fn read(&self, alloc: Global, tree: &Value) -> Result<Items<F::Out>, Refused> {
+        match tree.as_array() {
+            Some(items) => each(alloc, items.as_slice(), &self.item),
+            None => refused_here(alloc),
+        }
+    }
+}
 
 /// A list of at most `most` items of one form.
 #[derive(Drop)]
@@ -53,5 +73,38 @@ fn item_at<F: Form>(alloc: Global, index: usize, item: &Value, form: &F) -> Resu
             let segment = index.to_string(alloc)?;
             at_segment(alloc, segment.as_str(), Err(refused))
         }
+    }
+}
+
+/// A list of two items, each of its own form.
+#[derive(Drop)]
+pub(crate) struct PairOf<F, G> {
+    pub(crate) first: F,
+    pub(crate) second: G,
+}
+
+impl<F: Form, G: Form> Form for PairOf<F, G> {
+    type Out = (F::Out, G::Out);
+
+    ghost reads = { λ pair. spec.pair_of (F.reads pair.first) (G.reads pair.second) };
+
+    fn read(&self, alloc: Global, tree: &Value) -> Result<(F::Out, G::Out), Refused> {
+        let Some((first, second)) = two_of(tree) else {
+            return refused_here(alloc);
+        };
+        let first = item_at(alloc, 0, first, &self.first)?;
+        let second = item_at(alloc, 1, second, &self.second)?;
+        Ok((first, second))
+    }
+}
+
+// The two items of a list of two.
+fn two_of(tree: &Value) -> Option<(&Value, &Value)>
+    ensures { option_map (λ two. (view two.0.now, view two.1.now)) result
+        ≡ option_and_then spec.two_of (as_array (view tree.now)) }
+{
+    match tree.as_array()?.as_slice() {
+        [first, second] => Some((first, second)),
+        _ => None,
     }
 }

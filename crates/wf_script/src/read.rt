@@ -4,19 +4,24 @@ ghost use Rattle.serde_json.specs.View.{view};
 ghost use Rattle.wf_script.specs.Scenarios as spec;
 ghost use Rattle.wf_script.specs.Valid.{IsValid};
 
+use crate::cookies::CookiePair;
 use crate::documents::DocumentTable;
 use crate::fields::{Number, only_keys, optional, required};
 use crate::form::Form;
-use crate::lists::ListOf;
+use crate::lists::{ItemsOf, ListOf};
 use crate::refused::Refused;
 use crate::servers::ServerTable;
 use crate::types::{Place, Scenario};
-use crate::urls::utf8_text;
 use serde_json::Value;
 use std::alloc::Global;
 use wf_text::{Bytes, Items, OutOfMemory};
+use wf_types::utf8_text;
+
+const KEYS: &[&str] = &["format", "cookies", "servers", "documents"];
 
 const FORMAT: Number = Number { least: 1, most: 1 };
+
+const COOKIES: ItemsOf<CookiePair> = ItemsOf { item: CookiePair };
 
 const SERVERS: ListOf<ServerTable> = ListOf {
     most: 1,
@@ -37,11 +42,17 @@ impl Form for ScenarioTable {
     ghost reads = { λ _. spec.scenario_in };
 
     fn read(&self, alloc: Global, tree: &Value) -> Result<Scenario, Refused> {
-        only_keys(alloc, tree, &["format", "servers", "documents"])?;
+        only_keys(alloc, tree, KEYS)?;
         required(alloc, tree, "format", &FORMAT)?;
+        let cookies = optional(alloc, tree, "cookies", Items::new(alloc), &COOKIES)?;
         let servers = optional(alloc, tree, "servers", Items::new(alloc), &SERVERS)?;
         let documents = required(alloc, tree, "documents", &DOCUMENTS)?;
-        Ok(Scenario { servers, documents })
+        Ok(Scenario {
+            cookies,
+            servers,
+            documents,
+            body_limit: 262_144,
+        })
     }
 }
 
@@ -59,17 +70,25 @@ fn tree_of(alloc: Global, text: &[u8]) -> Result<Option<Value>, OutOfMemory>
     }
 }
 
-fn refused_at(alloc: Global, place: &[u8]) -> Result<Place, OutOfMemory>
-    ensures { IfOk result (λ refused. refused.text ≡ place.now) }
+// A refused place from the root, as it is told.
+fn told(alloc: Global, place: Bytes) -> Result<Place, OutOfMemory>
+    ensures { IfOk result (λ refused. refused.text ≡ spec.place_text place) }
 {
-    let text = Bytes::of(alloc, place)?;
+    let text = if place.is_empty() {
+        Bytes::of(alloc, b"/")?
+    } else {
+        place
+    };
     Ok(Place { text })
 }
 
 impl Scenario {
-    /// Reads a scenario of format 1 from the JSON tree (RFC 8259) of a text. It answers the place
-    /// `json` exactly where the text is no tree, since it is not UTF-8 or not JSON, and the place
-    /// `/` exactly where the tree has a key or a value that is not taken, or lacks a required key.
+    /// Reads a scenario of format 1 from the JSON tree (RFC 8259) of a text, or answers the place at
+    /// which the text is refused: `json` exactly where it is no tree, since it is not UTF-8 or not
+    /// JSON, and else the first place, in the order in which the tables are walked, depth first. An
+    /// object that is none, or has a key that its table lacks, is refused at its own place, a
+    /// required key that is missing and a value that is not taken at the key, an item of a list at
+    /// its number, as in `/documents/0/script/0/fetch/headers/0/1`. The place of the root is `/`.
     /// What is read is valid: its counts and values keep the format's bounds. `OutOfMemory` tells
     /// want of memory alone.
     pub fn read(alloc: Global, text: &[u8]) -> Result<Result<Scenario, Place>, OutOfMemory>
@@ -77,13 +96,13 @@ impl Scenario {
         ensures valid { IfOk result (λ read. IfOk read IsValid) }
     {
         let Some(tree) = tree_of(alloc, text)? else {
-            return Ok(Err(refused_at(alloc, b"json")?));
+            let text = Bytes::of(alloc, b"json")?;
+            return Ok(Err(Place { text }));
         };
         match ScenarioTable.read(alloc, &tree) {
             Ok(scenario) => Ok(Ok(scenario)),
             Err(Refused::Memory) => Err(OutOfMemory),
-            // The exact place is told from the next stage on.
-            Err(Refused::At(_)) => Ok(Err(refused_at(alloc, b"/")?)),
+            Err(Refused::At(place)) => Ok(Err(told(alloc, place)?)),
         }
     }
 }

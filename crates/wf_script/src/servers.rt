@@ -1,12 +1,12 @@
 // The tables of servers and their rules.
 ghost use Rattle.wf_script.specs.Scenarios as spec;
 
-use crate::fields::{Number, Text, only_keys, optional, required};
-use crate::form::{Form, refused_here};
+use crate::fields::{Number, only_keys, optional, required};
+use crate::form::Form;
 use crate::lists::ListOf;
 use crate::refused::Refused;
+use crate::texts::{AtMost, OriginText, TextThat};
 use crate::types::{Rule, Server};
-use crate::urls::is_origin_text;
 use serde_json::Value;
 use std::alloc::Global;
 use wf_text::Bytes;
@@ -16,7 +16,11 @@ const STATUS: Number = Number {
     most: 200,
 };
 
-const BODY: Text = Text { most: 4096 };
+const BODY: TextThat<AtMost> = TextThat {
+    test: AtMost(262_144),
+};
+
+const ORIGIN: TextThat<OriginText> = TextThat { test: OriginText };
 
 const RULES: ListOf<RuleTable> = ListOf {
     most: 1,
@@ -43,26 +47,6 @@ impl Form for RuleTable {
     }
 }
 
-// A serialized origin.
-struct OriginText;
-
-impl Form for OriginText {
-    type Out = Bytes;
-
-    ghost reads = { λ _. spec.origin_text_of };
-
-    fn read(&self, alloc: Global, tree: &Value) -> Result<Bytes, Refused> {
-        let Some(text) = tree.as_str() else {
-            return refused_here(alloc);
-        };
-        if is_origin_text(alloc, text)? {
-            Ok(Bytes::of(alloc, text.as_bytes())?)
-        } else {
-            refused_here(alloc)
-        }
-    }
-}
-
 /// A server: its origin and at most one rule.
 #[derive(Drop)]
 pub(crate) struct ServerTable;
@@ -74,7 +58,7 @@ impl Form for ServerTable {
 
     fn read(&self, alloc: Global, tree: &Value) -> Result<Server, Refused> {
         only_keys(alloc, tree, &["origin", "rules"])?;
-        let origin = required(alloc, tree, "origin", &OriginText)?;
+        let origin = required(alloc, tree, "origin", &ORIGIN)?;
         let rules = required(alloc, tree, "rules", &RULES)?;
         Ok(Server { origin, rules })
     }

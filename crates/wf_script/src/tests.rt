@@ -1,14 +1,15 @@
-//! Scenarios that are read, and texts that are refused.
+//! Scenarios that are read, and the places of texts that are refused.
 use crate::types::{Command, Scenario};
-use crate::urls::url_against;
+use crate::url_against;
 use std::alloc::Global;
 use std::test::Fail;
 use url::Url;
 use wf_text::OutOfMemory;
+use wf_types::{Credentials, Mode, RedirectMode, ReferrerPolicy};
 
-// The whole scenario with one fetch, as the format's example has it.
+// A scenario that has each key once.
 const WHOLE: &str =
-    r#"{"format":1,"servers":[{"origin":"https://a.test","rules":[{"status":200,"body":"hi"}]}],"documents":[{"url":"https://a.test/","script":[{"fetch":{"url":"/","mode":"same-origin","referrer":"none"}}]}]}"#;
+    r#"{"format":1,"cookies":[["https://a.test","sid=7"]],"servers":[{"origin":"https://a.test","rules":[{"status":200,"body":"hi"}]}],"documents":[{"url":"https://a.test/","script":[{"fetch":{"url":"/x","method":"PUT","mode":"navigate","headers":[["X-A","1"]],"body":"q","referrer":"none"}},{"fetch":{"url":"/","mode":"same-origin","referrer":"none"}}]}]}"#;
 
 // The place at which a text is refused, if it is.
 fn is_refused_at(alloc: Global, text: &str, place: &str) -> Result<bool, OutOfMemory> {
@@ -22,12 +23,20 @@ fn is_read(alloc: Global, text: &str) -> Result<bool, OutOfMemory> {
     Ok(Scenario::read(alloc, text.as_bytes())?.is_ok())
 }
 
-// So many letters.
-fn letters(alloc: Global, count: usize) -> Result<String, OutOfMemory> {
+// So many copies of a piece.
+fn copies(alloc: Global, piece: &str, count: usize) -> Result<String, OutOfMemory> {
     let mut text = String::new(alloc);
     for _ in 0..count {
-        text.push('x')?;
+        text.push_str(piece)?;
     }
+    Ok(text)
+}
+
+// A scenario whose one command is this text.
+fn with_command(alloc: Global, command: &str) -> Result<String, OutOfMemory> {
+    let text = format!(in alloc;
+        r#"{{"format":1,"documents":[{{"url":"https://a.test/","script":[{command}]}}]}}"#
+    )?;
     Ok(text)
 }
 
@@ -36,6 +45,11 @@ fn reads_the_parts_of_a_scenario(rt: HostRuntime) -> Result<(), Fail> {
     let scenario = Scenario::read(rt.alloc(), WHOLE.as_bytes())?
         .ok()
         .ok_or("refused")?;
+    assert_eq!(rt; scenario.body_limit, 262_144);
+    assert_eq!(rt; scenario.cookies.len(), 1);
+    let cookie = scenario.cookies.at(0);
+    assert_eq!(rt; cookie.origin.as_slice(), b"https://a.test".as_slice());
+    assert_eq!(rt; cookie.value.as_slice(), b"sid=7".as_slice());
     assert_eq!(rt; scenario.servers.len(), 1);
     let server = scenario.servers.at(0);
     assert_eq!(rt; server.origin.as_slice(), b"https://a.test".as_slice());
@@ -45,9 +59,37 @@ fn reads_the_parts_of_a_scenario(rt: HostRuntime) -> Result<(), Fail> {
     assert_eq!(rt; scenario.documents.len(), 1);
     let document = scenario.documents.at(0);
     assert_eq!(rt; document.url.as_str(), "https://a.test/");
-    assert_eq!(rt; document.script.len(), 1);
-    let Command::Fetch(url) = document.script.at(0);
-    assert_eq!(rt; url.as_slice(), b"/".as_slice());
+    assert_eq!(rt; document.top.as_str(), "https://a.test/");
+    assert_eq!(rt; document.script.len(), 2);
+    Ok(())
+}
+
+#[test]
+fn reads_what_a_fetch_asks_for(rt: HostRuntime) -> Result<(), Fail> {
+    let scenario = Scenario::read(rt.alloc(), WHOLE.as_bytes())?
+        .ok()
+        .ok_or("refused")?;
+    assert_eq!(rt; scenario.documents.len(), 1);
+    let script = &scenario.documents.at(0).script;
+    assert_eq!(rt; script.len(), 2);
+    let Command::Fetch(init) = script.at(0);
+    assert_eq!(rt; init.url.as_slice(), b"/x".as_slice());
+    assert_eq!(rt; init.method.as_slice(), b"PUT".as_slice());
+    assert_eq!(rt; init.mode, Mode::Navigate);
+    assert_eq!(rt; init.headers.len(), 1);
+    assert_eq!(rt; init.headers.at(0).name.as_slice(), b"X-A".as_slice());
+    assert_eq!(rt; init.headers.at(0).value.as_slice(), b"1".as_slice());
+    let body = init.body.as_ref().ok_or("no body")?;
+    assert_eq!(rt; body.as_slice(), b"q".as_slice());
+    let Command::Fetch(init) = script.at(1);
+    assert_eq!(rt; init.method.as_slice(), b"GET".as_slice());
+    assert_eq!(rt; init.mode, Mode::SameOrigin);
+    assert_eq!(rt; init.credentials, Credentials::SameOrigin);
+    assert_eq!(rt; init.redirect, RedirectMode::Follow);
+    assert_eq!(rt; init.headers.len(), 0);
+    assert!(rt; init.body.is_none());
+    assert!(rt; !init.client_referrer);
+    assert_eq!(rt; init.referrer_policy, ReferrerPolicy::Empty);
     Ok(())
 }
 
@@ -57,11 +99,30 @@ fn tells_the_place_of_a_refused_text(rt: HostRuntime) -> Result<(), Fail> {
         (r#"{"format":"#, "json"),
         (
             r#"{"format":1,"documents":[{"url":"ftp://a/","script":[]}]}"#,
-            "/",
+            "/documents/0/url",
         ),
+        (r#"[]"#, "/"),
         (r#"{"format":1,"documents":[],"extra":0}"#, "/"),
-        (r#"{"format":1.0,"documents":[]}"#, "/"),
-        (r#"{"format":1}"#, "/"),
+        (r#"{"format":1.0,"documents":[]}"#, "/format"),
+        (r#"{"format":1}"#, "/documents"),
+        (r#"{"format":1,"documents":[0,0]}"#, "/documents"),
+        (r#"{"format":1,"documents":[0]}"#, "/documents/0"),
+        (
+            r#"{"format":1,"cookies":[["https://a.test"]]}"#,
+            "/cookies/0",
+        ),
+        (
+            r#"{"format":1,"cookies":[["https://a.test","a"],["a.test",""]]}"#,
+            "/cookies/1/0",
+        ),
+        (
+            r#"{"format":1,"cookies":[["https://a.test",""]]}"#,
+            "/cookies/0/1",
+        ),
+        (
+            r#"{"format":1,"servers":[{"origin":"https://a.test","rules":[{"status":404}]}]}"#,
+            "/servers/0/rules/0/status",
+        ),
     ] {
         assert!(rt; is_refused_at(rt.alloc(), text, place)?, "at {text}");
     }
@@ -70,9 +131,57 @@ fn tells_the_place_of_a_refused_text(rt: HostRuntime) -> Result<(), Fail> {
 }
 
 #[test]
-fn takes_a_body_of_4096_bytes_and_no_longer_one(rt: HostRuntime) -> Result<(), Fail> {
-    for (count, taken) in [(4096, true), (4097, false)] {
-        let body = letters(rt.alloc(), count)?;
+fn tells_the_place_within_a_fetch(rt: HostRuntime) -> Result<(), Fail> {
+    for (command, place) in [
+        (r#"{"wait":1}"#, "/documents/0/script/0"),
+        (r#"{}"#, "/documents/0/script/0"),
+        (r#"{"fetch":0}"#, "/documents/0/script/0/fetch"),
+        (
+            r#"{"fetch":{"url":"/","mode":"navigate","referrer":"none","upload":true}}"#,
+            "/documents/0/script/0/fetch",
+        ),
+        (
+            r#"{"fetch":{"url":"/","referrer":"none"}}"#,
+            "/documents/0/script/0/fetch/mode",
+        ),
+        (
+            r#"{"fetch":{"url":"/","mode":"cors","referrer":"none"}}"#,
+            "/documents/0/script/0/fetch/mode",
+        ),
+        (
+            r#"{"fetch":{"url":"/","mode":"navigate","headers":[["A","1"],["A"]]}}"#,
+            "/documents/0/script/0/fetch/headers/1",
+        ),
+        (
+            r#"{"fetch":{"url":"/","mode":"navigate","headers":[["A","${body}"]]}}"#,
+            "/documents/0/script/0/fetch/headers/0/1",
+        ),
+        (
+            r#"{"fetch":{"url":"/","mode":"navigate","headers":[["${body}",0]]}}"#,
+            "/documents/0/script/0/fetch/headers/0/1",
+        ),
+        (
+            r#"{"fetch":{"url":"/","mode":"navigate","body":"${url}"}}"#,
+            "/documents/0/script/0/fetch/body",
+        ),
+        (
+            r#"{"fetch":{"url":"/","mode":"navigate","referrer":"client"}}"#,
+            "/documents/0/script/0/fetch/referrer",
+        ),
+    ] {
+        let text = with_command(rt.alloc(), command)?;
+        assert!(rt;
+            is_refused_at(rt.alloc(), text.as_str(), place)?,
+            "at {command}"
+        );
+    }
+    Ok(())
+}
+
+#[test]
+fn takes_a_body_of_262144_bytes_and_no_longer_one(rt: HostRuntime) -> Result<(), Fail> {
+    for (count, taken) in [(262_144, true), (262_145, false)] {
+        let body = copies(rt.alloc(), "x", count)?;
         let text = format!(in rt.alloc();
             r#"{{"format":1,"servers":[{{"origin":"https://a.test","rules":[{{"status":200,"body":"{body}"}}]}}],"documents":[]}}"#
         )?;
@@ -82,10 +191,41 @@ fn takes_a_body_of_4096_bytes_and_no_longer_one(rt: HostRuntime) -> Result<(), F
 }
 
 #[test]
+fn takes_a_cookie_of_4096_bytes_and_no_longer_one(rt: HostRuntime) -> Result<(), Fail> {
+    for (count, taken) in [(4096, true), (4097, false)] {
+        let value = copies(rt.alloc(), "x", count)?;
+        let text = format!(in rt.alloc();
+            r#"{{"format":1,"cookies":[["https://a.test","{value}"]],"documents":[]}}"#
+        )?;
+        assert_eq!(rt; is_read(rt.alloc(), text.as_str())?, taken, "with {count}");
+    }
+    Ok(())
+}
+
+#[test]
+fn takes_64_headers_and_no_more(rt: HostRuntime) -> Result<(), Fail> {
+    for (count, taken) in [(63, true), (64, false)] {
+        let more = copies(rt.alloc(), r#",["A","1"]"#, count)?;
+        let command = format!(in rt.alloc();
+            r#"{{"fetch":{{"url":"/","mode":"navigate","headers":[["A","1"]{more}],"referrer":"none"}}}}"#
+        )?;
+        let text = with_command(rt.alloc(), command.as_str())?;
+        let place = "/documents/0/script/0/fetch/headers";
+        assert_eq!(rt; is_read(rt.alloc(), text.as_str())?, taken, "after {count}");
+        assert_eq!(rt;
+            is_refused_at(rt.alloc(), text.as_str(), place)?,
+            !taken,
+            "after {count}"
+        );
+    }
+    Ok(())
+}
+
+#[test]
 fn takes_a_url_of_8192_bytes_and_no_longer_one(rt: HostRuntime) -> Result<(), Fail> {
     let front = "https://a.test/";
     for (count, taken) in [(8192, true), (8193, false)] {
-        let path = letters(rt.alloc(), count - front.len())?;
+        let path = copies(rt.alloc(), "x", count - front.len())?;
         let text = format!(in rt.alloc();
             r#"{{"format":1,"documents":[{{"url":"{front}{path}","script":[]}}]}}"#
         )?;
@@ -95,19 +235,23 @@ fn takes_a_url_of_8192_bytes_and_no_longer_one(rt: HostRuntime) -> Result<(), Fa
 }
 
 #[test]
-fn refuses_fetches_outside_the_format(rt: HostRuntime) -> Result<(), Fail> {
+fn takes_fetches_of_any_url_but_of_http_and_ports(rt: HostRuntime) -> Result<(), Fail> {
     for (url, taken) in [
         ("/a?b", true),
-        ("https://b.test/", true),
+        ("https://b.test:443/", true),
+        ("https://me@a.test/", true),
+        ("https://[", true),
+        ("ftp://a.test/", true),
+        ("data:,x", true),
         ("http://a.test/", false),
         ("https://a.test:444/", false),
-        ("https://me@a.test/", false),
+        ("ftp://a.test:99/", false),
         ("/${status}", false),
-        ("https://[", false),
     ] {
-        let text = format!(in rt.alloc();
-            r#"{{"format":1,"documents":[{{"url":"https://a.test/","script":[{{"fetch":{{"url":"{url}","mode":"same-origin","referrer":"none"}}}}]}}]}}"#
+        let command = format!(in rt.alloc();
+            r#"{{"fetch":{{"url":"{url}","mode":"same-origin","referrer":"none"}}}}"#
         )?;
+        let text = with_command(rt.alloc(), command.as_str())?;
         assert_eq!(rt; is_read(rt.alloc(), text.as_str())?, taken, "at {url}");
     }
     Ok(())

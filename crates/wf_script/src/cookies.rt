@@ -1,0 +1,30 @@
+// The table of cookies.
+ghost use Rattle.wf_script.specs.Scenarios as spec;
+
+use crate::form::Form;
+use crate::lists::PairOf;
+use crate::refused::Refused;
+use crate::texts::{CookieValue, OriginText, TextThat};
+use serde_json::Value;
+use std::alloc::Global;
+use wf_types::Cookie;
+
+const COOKIE: PairOf<TextThat<OriginText>, TextThat<CookieValue>> = PairOf {
+    first: TextThat { test: OriginText },
+    second: TextThat { test: CookieValue },
+};
+
+/// A serialized origin, and the value of the Cookie header that goes to it.
+#[derive(Drop)]
+pub(crate) struct CookiePair;
+
+impl Form for CookiePair {
+    type Out = Cookie;
+
+    ghost reads = { λ _. spec.cookie_of };
+
+    fn read(&self, alloc: Global, tree: &Value) -> Result<Cookie, Refused> {
+        let (origin, value) = COOKIE.read(alloc, tree)?;
+        Ok(Cookie { origin, value })
+    }
+}

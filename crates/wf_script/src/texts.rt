@@ -1,0 +1,119 @@
+// Texts, and what a text has to be.
+ghost use Rattle.std.specs.Prelude.{◌≡◌, Bool, List, ℕ, IfOk};
+ghost use Rattle.wf_script.specs.Reading.{any, at_most, text_that};
+ghost use Rattle.wf_script.specs.Texts as spec;
+ghost use Rattle.wf_script.specs.Urls.{is_origin_text};
+
+use crate::form::{Form, refused_here};
+use crate::refused::Refused;
+use crate::urls;
+use serde_json::Value;
+use std::alloc::Global;
+use wf_text::{Bytes, OutOfMemory, is_value};
+
+/// What a text has to be.
+pub(crate) trait TextTest {
+    /// The texts that pass.
+    ghost taken: { Self → List ℕ → Bool };
+
+    fn takes(&self, alloc: Global, text: &str) -> Result<bool, OutOfMemory>
+        ensures { IfOk result (λ takes. takes ≡ taken self.now text.now) };
+}
+
+/// A text that passes a test.
+#[derive(Drop)]
+pub(crate) struct TextThat<T> {
+    pub(crate) test: T,
+}
+
+impl<T: TextTest> Form for TextThat<T> {
+    type Out = Bytes;
+
+    ghost reads = { λ form. text_that (T.taken form.test) };
+
+    fn read(&self, alloc: Global, tree: &Value) -> Result<Bytes, Refused> {
+        let Some(text) = tree.as_str() else {
+            return refused_here(alloc);
+        };
+        if self.test.takes(alloc, text)? {
+            Ok(Bytes::of(alloc, text.as_bytes())?)
+        } else {
+            refused_here(alloc)
+        }
+    }
+}
+
+/// Any text.
+#[derive(Drop)]
+pub(crate) struct AnyText;
+
+impl TextTest for AnyText {
+    ghost taken = { λ _. any };
+
+    fn takes(&self, _alloc: Global, _text: &str) -> Result<bool, OutOfMemory> {
+        Ok(true)
+    }
+}
+
+/// A text of at most so many bytes.
+#[derive(Drop)]
+pub(crate) struct AtMost(pub(crate) usize);
+
+impl TextTest for AtMost {
+    ghost taken = { λ most. at_most most.0 };
+
+    fn takes(&self, _alloc: Global, text: &str) -> Result<bool, OutOfMemory> {
+        Ok(text.len() <= self.0)
+    }
+}
+
+/// A text in which no template begins.
+#[derive(Drop)]
+pub(crate) struct WithoutTemplate;
+
+impl TextTest for WithoutTemplate {
+    ghost taken = { λ _. spec.lacks_template };
+
+    fn takes(&self, _alloc: Global, text: &str) -> Result<bool, OutOfMemory> {
+        Ok(!has_template(text.as_bytes()))
+    }
+}
+
+/// The value of a Cookie header: a header value of 1 to 4,096 bytes.
+#[derive(Drop)]
+pub(crate) struct CookieValue;
+
+impl TextTest for CookieValue {
+    ghost taken = { λ _. spec.is_cookie_value };
+
+    fn takes(&self, _alloc: Global, text: &str) -> Result<bool, OutOfMemory> {
+        Ok(1 <= text.len() && text.len() <= 4096 && is_value(text.as_bytes()))
+    }
+}
+
+/// The serialized origin of an http or https URL.
+#[derive(Drop)]
+pub(crate) struct OriginText;
+
+impl TextTest for OriginText {
+    ghost taken = { λ _. is_origin_text };
+
+    fn takes(&self, alloc: Global, text: &str) -> Result<bool, OutOfMemory> {
+        urls::is_origin_text(alloc, text)
+    }
+}
+
+/// Whether `${` stands somewhere in the text.
+#[tactic(auto, using(crate::proofs::TextLemmas::templates))]
+pub(crate) fn has_template(text: &[u8]) -> bool
+    ensures { result ≡ spec.has_template text.now }
+{
+    let mut dollar = false;
+    for byte in text {
+        if dollar && *byte == b'{' {
+            return true;
+        }
+        dollar = *byte == b'$';
+    }
+    false
+}
