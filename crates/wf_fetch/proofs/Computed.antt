@@ -1,27 +1,40 @@
 -- The definitions computed on worked examples: a document that fetches its own root and is answered,
--- and URLs that it may not fetch or that have more parts.
-use Rattle.std.proofs.Common.{◌≡◌, refl, false, List, [], ◌∷◌, codes, Some, None}
+-- requests that are refused, and the limits of a run.
+use Rattle.std.proofs.Common.{◌≡◌, refl, true, false, ℕ, List, [], ◌∷◌, codes, Option, Some, None, Result, Ok, Err}
 use Rattle.url.proofs.OnLiterals.{url_on_literals}
 use Rattle.url.specs.declared.host.Host.TheVariants.{Domain}
 use Rattle.url.specs.Parts.{Parts}
+use Rattle.wf_origin.specs.Origins.{tuple_origin}
+use Rattle.wf_headers.specs.declared.headers.Header.{Header}
+use Rattle.wf_types.specs.declared.client.Client.{Client}
+use Rattle.wf_types.specs.declared.error.NetError.TheVariants.{Scheme, SameOriginMode}
+use Rattle.wf_types.specs.declared.fault.TypeFault.TheVariants.{ForbiddenMethod, NavigateMode}
 use Rattle.wf_types.specs.declared.hop.Hop.{Hop}
-use Rattle.wf_types.specs.declared.response.BodyEnd.TheVariants.{Whole}
+use Rattle.wf_types.specs.declared.init.Init.{Init}
+use Rattle.wf_types.specs.declared.mode.Credentials.TheVariants as credentials
+use Rattle.wf_types.specs.declared.mode.Mode.TheVariants as mode
+use Rattle.wf_types.specs.declared.mode.RedirectMode.TheVariants as redirect
+use Rattle.wf_types.specs.declared.mode.ReferrerPolicy.TheVariants as policy
+use Rattle.wf_types.specs.declared.mode.Tainting.TheVariants as tainting
+use Rattle.wf_types.specs.declared.policy.Destination.TheVariants as destination
+use Rattle.wf_types.specs.declared.request.Referrer.TheVariants.{NoReferrer}
+use Rattle.wf_types.specs.declared.request.Request.{Request}
+use Rattle.wf_types.specs.declared.response.BodyEnd.TheVariants.{Whole, Null}
 use Rattle.wf_types.specs.declared.response.Outcome.{Outcome}
-use Rattle.wf_types.specs.declared.error.NetError.TheVariants.{SameOriginMode}
 use Rattle.wf_types.specs.declared.response.Outcome.TheVariants.{Answer, Error}
 use Rattle.wf_types.specs.declared.response.ResponseKind.TheVariants.{Basic}
+use Rattle.wf_send.specs.Heads.{header}
+use Rattle.wf_send.specs.Making.{new_request}
 use Rattle.wf_script.specs.declared.types.Command.TheVariants as command
 use Rattle.wf_script.specs.declared.types.Document.{Document}
-use Rattle.wf_script.specs.Urls.{url_against}
-use Rattle.wf_print.specs.declared.events.Ending.TheVariants.{Finished}
+use Rattle.wf_print.specs.declared.events.Ending.TheVariants.{Finished, Fetches, Commands}
 use Rattle.wf_print.specs.declared.events.Event.TheVariants as event
 use Rattle.wf_fetch.specs.declared.act.Input.{Input}
 use Rattle.wf_fetch.specs.declared.act.Input.TheVariants.{Sent, HeadIs, BodyIs}
-use Rattle.wf_fetch.specs.Fetch.{without_fragment, main_fetch}
-use Rattle.wf_fetch.specs.Hops.{target_of, host_value, header, hop_of}
+use Rattle.wf_fetch.specs.Fetch.{Context, lent, main_fetch}
 use Rattle.wf_fetch.specs.Play.{run_play}
-use Rattle.wf_fetch.specs.Process.{ended}
-use Rattle.wf_fetch.specs.Runs.{document_run}
+use Rattle.wf_fetch.specs.Process.{ended, run}
+use Rattle.wf_fetch.specs.Runs.{document_client, document_run, limit_before, normalized_init}
 
 -- https://a.test/
 abbrev pub root : Parts
@@ -36,9 +49,25 @@ root = record {
   fragment = None;
 }
 
--- its document, with a script that fetches `/`
+-- a GET of `/` in mode same-origin without a referrer
+abbrev pub init : Init
+init = record {
+  url = codes "/";
+  method = codes "GET";
+  mode = mode.SameOrigin;
+  credentials = credentials.SameOrigin;
+  redirect = redirect.Follow;
+  headers = [];
+  body = None;
+  client_referrer = false;
+  referrer_policy = policy.Empty;
+  integrity = [];
+  upload = false;
+}
+
+-- the root's document, with a script that fetches `/`
 abbrev pub document : Document
-document = record { url = root; script = command.Fetch (codes "/") ∷ [] }
+document = record { url = root; top = root; script = command.Fetch init ∷ [] }
 
 -- the answer: status 200 without headers, and the body `hi`
 abbrev pub tape : List Input
@@ -71,38 +100,69 @@ answer = Answer (record {
   body = Whole (codes "hi");
 })
 
--- the URL of the fetch
-pub url_of_root : url_against root (codes "/") ≡ Some root
-unfolding url_on_literals
-url_of_root = refl
-
 -- the whole run
-pub run_of_example : run_play (document_run document) tape
+pub run_of_example : run_play (document_run [] document) tape
     ≡ record { events = event.Fetch 0 ∷ event.Sent hop ∷ event.Result answer ∷ []; ending = Some (Finished, 0) }
 unfolding url_on_literals
 run_of_example = refl
 
--- http://u:p@a.test:8080/y?q#f
-abbrev parted : Parts
-parted = record root {
-  scheme = codes "http";
-  username = codes "u";
-  password = codes "p";
-  port = Some 8080;
-  path = codes "/y";
-  query = Some (codes "q");
-  fragment = Some (codes "f");
+-- the request of that fetch
+abbrev pub request : Request
+request = record {
+  method = codes "GET";
+  urls = root ∷ [];
+  headers = header (codes "Accept") (codes "*/*") ∷ [];
+  body = None;
+  origin = tuple_origin root;
+  mode = mode.SameOrigin;
+  credentials = credentials.SameOrigin;
+  redirect = redirect.Follow;
+  referrer = NoReferrer;
+  policy = policy.Empty;
+  integrity = [];
+  nonce = [];
+  parser = false;
+  unsafe_request = true;
+  use_preflight = false;
+  destination = destination.Fetch;
+  tainting = tainting.Basic;
+  redirects = 0;
 }
 
--- another scheme, host or port is another origin: nothing is sent
-pub refused : (main_fetch root parted ≡ ended (Error SameOriginMode))
-    × (main_fetch root (record root { host = Some (Domain (codes "b.test")) }) ≡ ended (Error SameOriginMode))
-    × (main_fetch root (record root { port = Some 444 }) ≡ ended (Error SameOriginMode))
+pub request_of_example : new_request (document_client document) init ≡ Ok request
 unfolding url_on_literals
-refused = (refl, refl, refl)
+request_of_example = refl
 
--- the port is sent, the credentials and the fragment are not
-pub parts_sent : ((hop_of parted).origin ≡ codes "http://a.test:8080") × (target_of parted ≡ codes "/y?q")
-    × (host_value parted ≡ codes "a.test:8080") × (without_fragment parted ≡ codes "http://u:p@a.test:8080/y?q")
+-- a script that asks for a forbidden method, and one that navigates
+pub faults_of_examples : (new_request (document_client document) (record init { method = codes "TRACE" }) ≡ Err ForbiddenMethod)
+    × (new_request (document_client document) (record init { mode = mode.Navigate }) ≡ Err NavigateMode)
 unfolding url_on_literals
-parts_sent = (refl, refl, refl, refl)
+faults_of_examples = (refl, refl)
+
+-- the context of the document
+abbrev pub context : Context
+context = lent (document_client document) []
+
+-- a request at another URL
+abbrev pub at_url : Parts → Request
+at_url url = record request { urls = url ∷ [] }
+
+-- another scheme, host or port is another origin, and then nothing is sent; ftp is no scheme to fetch
+pub refused : (main_fetch context (at_url (record root { scheme = codes "http" })) ≡ ended (Error SameOriginMode))
+    × (main_fetch context (at_url (record root { host = Some (Domain (codes "b.test")) })) ≡ ended (Error SameOriginMode))
+    × (main_fetch context (at_url (record root { port = Some 444 })) ≡ ended (Error SameOriginMode))
+    × (main_fetch context (at_url (record root { scheme = codes "ftp" })) ≡ ended (Error Scheme))
+unfolding url_on_literals
+refused = (refl, refl, refl, refl)
+
+-- the response to HEAD has no body, and none is read
+pub head_is_read_alone : (run (main_fetch context (record request { method = codes "HEAD" })) tape).outcome
+    ≡ Some (Answer (record { kind = Basic; status = 200; url = Some (codes "https://a.test/"); headers = []; body = Null }))
+unfolding url_on_literals
+head_is_read_alone = refl
+
+-- the limits before a fetch, that of commands first
+pub limits : (limit_before (command.Fetch init) (record { commands = 16384; fetches = 1024; shown = [] }) ≡ Some Commands)
+    × (limit_before (command.Fetch init) (record { commands = 1024; fetches = 1024; shown = [] }) ≡ Some Fetches)
+    × (limit_before (command.Fetch init) (record { commands = 1023; fetches = 1023; shown = [] }) ≡ None)
+limits = (refl, refl, refl)

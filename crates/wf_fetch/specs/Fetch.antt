@@ -1,27 +1,45 @@
--- A fetch of a URL for a document, by GET in mode same-origin: main fetch and what it calls (Fetch,
--- sections 4.1, 4.3 and 4.6). Each rule hands what it came to on to `next`, as the standard's steps
--- return to the step that called them.
-use Rattle.std.specs.Prelude.{ℕ, List, Bool, false, Option, Some, None, Result, Ok, Err, if◌then◌else◌}
+-- A fetch: main fetch and what it calls (Fetch, sections 4.1, 4.3 and 4.6), for requests in mode
+-- same-origin. Each rule hands what it came to on to `next`, as the standard's steps return to the step
+-- that called them.
+use Rattle.std.specs.Prelude.{ℕ, ◌==◌, ◌&&◌, ◌||◌, Bool, true, false, List, [], ◌∷◌, codes, bytes_eq, Option, Some, None, Result, Ok, Err, if◌then◌else◌}
+use Rattle.std.specs.List.{list_any}
 use Rattle.url.specs.Parts.{Parts, serialize}
-use Rattle.wf_origin.specs.declared.origin.Origin.{Origin}
-use Rattle.wf_origin.specs.Origins.{origin_of, same_origin}
+use Rattle.wf_origin.specs.Origins.{origin_of}
+use Rattle.wf_types.specs.declared.client.Client.{Client}
+use Rattle.wf_types.specs.declared.client.Cookie.{Cookie}
 use Rattle.wf_types.specs.declared.error.NetError.{NetError}
-use Rattle.wf_types.specs.declared.error.NetError.TheVariants.{SameOriginMode, BadHead}
+use Rattle.wf_types.specs.declared.error.NetError.TheVariants.{Scheme, SameOriginMode, BadHead}
 use Rattle.wf_types.specs.declared.hop.Head.{Head}
+use Rattle.wf_types.specs.declared.mode.ReferrerPolicy.{ReferrerPolicy}
+use Rattle.wf_types.specs.declared.mode.ReferrerPolicy.TheVariants as policy
+use Rattle.wf_types.specs.declared.mode.Tainting.{Tainting}
+use Rattle.wf_types.specs.declared.mode.Tainting.TheVariants as tainting
+use Rattle.wf_types.specs.declared.request.Request.{Request}
 use Rattle.wf_types.specs.declared.response.BodyEnd.{BodyEnd}
 use Rattle.wf_types.specs.declared.response.BodyEnd.TheVariants.{Null}
 use Rattle.wf_types.specs.declared.response.Response.{Response}
 use Rattle.wf_types.specs.declared.response.ResponseKind.TheVariants.{Basic}
 use Rattle.wf_types.specs.declared.response.Outcome.TheVariants.{Answer, Error}
+use Rattle.wf_types.specs.Requests.{current_url, is_http_url, is_origin}
+use Rattle.wf_send.specs.Heads.{hop_of}
 use Rattle.wf_fetch.specs.declared.act.Act.TheVariants.{Send, ReadHead, ReadBody}
 use Rattle.wf_fetch.specs.declared.act.Input.{Input}
 use Rattle.wf_fetch.specs.declared.act.Input.TheVariants.{HeadIs, BodyIs}
 use Rattle.wf_fetch.specs.Process.{Process, ended, act}
-use Rattle.wf_fetch.specs.Hops.{hop_of}
 
--- what is done with the URL and with what HTTP fetch came to: a head, or a network error
+-- What a fetch is lent: the client that fetches, and the table of cookies.
+pub record Context : Type 0 where
+  pub client : Client
+  pub cookies : List Cookie
+
+-- a context of these
+abbrev pub lent : Client → List Cookie → Context
+lent client cookies = record { client = client; cookies = cookies }
+
+-- what is done with the request as it stands and with what HTTP fetch came to: a head, or a network
+-- error
 abbrev pub Then : Type 0
-Then = Parts → Result Head NetError → Process
+Then = Request → Result Head NetError → Process
 
 -- ---- what an input says
 
@@ -38,57 +56,96 @@ body_of _ = Null
 -- ---- HTTP fetch
 
 -- the head of the answer has come, or something else
-abbrev pub after_head : Then → Parts → Input → Process
-after_head next url input = next url (head_of input)
+abbrev pub after_head : Then → Request → Input → Process
+after_head next request input = next request (head_of input)
 
 -- the head of the answer is read
-abbrev pub read_head : Then → Parts → Process
-read_head next url = act ReadHead (after_head next url)
+abbrev pub read_head : Then → Request → Process
+read_head next request = act request ReadHead (after_head next request)
 
 -- the request is on its way
-abbrev pub after_sent : Then → Parts → Input → Process
-after_sent next url input = read_head next url
+abbrev pub after_sent : Then → Request → Input → Process
+after_sent next request input = read_head next request
 
 -- HTTP fetch: the request is sent
-abbrev pub http_fetch : Then → Parts → Process
-http_fetch next url = act (Send (hop_of url)) (after_sent next url)
+abbrev pub http_fetch : Context → Then → Request → Process
+http_fetch context next request =
+    act request (Send (hop_of context.cookies request)) (after_sent next request)
 
 -- ---- main fetch
 
--- both have an origin, and these are the same
-abbrev pub are_same_origin : Option Origin → Option Origin → Bool
-are_same_origin (Some a) (Some b) = same_origin a b
-are_same_origin _ _ = false
+-- the tainting is basic
+abbrev pub is_basic : Tainting → Bool
+is_basic tainting.Basic = true
+is_basic _ = false
 
--- main fetch up to the response: the URL has the document's origin, or mode same-origin refuses it
-abbrev pub main_level : Then → Parts → Parts → Process
-main_level next document url =
-    if are_same_origin (origin_of document) (origin_of url) then http_fetch next url
-    else next url (Err SameOriginMode)
+-- the request stands at a URL of its own origin, and its tainting is basic
+abbrev pub is_at_home : Request → Bool
+is_at_home request = is_basic request.tainting && is_origin request.origin (origin_of (current_url request))
+
+-- the switch: a URL of the request's origin is fetched, and mode same-origin refuses another
+abbrev pub main_switch : Context → Then → Request → Process
+main_switch context next request =
+    if is_at_home request then http_fetch context next request else next request (Err SameOriginMode)
+
+-- the policy of a request, or the client's where it has none
+abbrev pub policy_or : ReferrerPolicy → ReferrerPolicy → ReferrerPolicy
+policy_or policy.Empty client = client
+policy_or own client = own
+
+-- the request, with a referrer policy
+abbrev pub with_policy : Client → Request → Request
+with_policy client request = record request { policy = policy_or request.policy client.policy }
+
+-- main fetch up to the response: a URL that is neither http nor https is refused
+abbrev pub main_level : Context → Then → Request → Process
+main_level context next request =
+    if is_http_url (current_url request) then main_switch context next (with_policy context.client request)
+    else next request (Err Scheme)
+
+-- ---- the response
 
 -- the text of a URL without its fragment
 abbrev pub without_fragment : Parts → List ℕ
 without_fragment url = serialize (record url { fragment = None })
 
+-- "null body status" (Fetch, section 2.2.3), and Not Modified
+abbrev pub null_body_statuses : List ℕ
+null_body_statuses = 101 ∷ 103 ∷ 204 ∷ 205 ∷ 304 ∷ []
+
+abbrev pub is_null_body_status : ℕ → Bool
+is_null_body_status status = list_any (λ null. null == status) null_body_statuses
+
+-- the response has no body: that of HEAD has none, nor one of such a status
+abbrev pub has_null_body : Request → Head → Bool
+has_null_body request head = bytes_eq request.method (codes "HEAD") || is_null_body_status head.status
+
 -- the basic filtered response of a head and a body
-abbrev pub basic_response : Parts → Head → BodyEnd → Response
-basic_response url head body = record {
+abbrev pub basic_response : Request → Head → BodyEnd → Response
+basic_response request head body = record {
   kind = Basic;
   status = head.status;
-  url = Some (without_fragment url);
+  url = Some (without_fragment (current_url request));
   headers = head.headers;
   body = body;
 }
 
--- the body is at its end: the response is handed over
-abbrev pub after_body : Parts → Head → Input → Process
-after_body url head input = ended (Answer (basic_response url head (body_of input)))
+-- the response is handed over
+abbrev pub handed_over : Request → Head → BodyEnd → Process
+handed_over request head body = ended (Answer (basic_response request head body))
 
--- the end of main fetch: a network error is the outcome, and of an answer the body is read
+-- the body is at its end
+abbrev pub after_body : Request → Head → Input → Process
+after_body request head input = handed_over request head (body_of input)
+
+-- the end of main fetch: a network error is the outcome, and of an answer the body is read, where it
+-- is not null
 abbrev pub finished : Then
-finished url (Err error) = ended (Error error)
-finished url (Ok head) = act ReadBody (after_body url head)
+finished request (Err error) = ended (Error error)
+finished request (Ok head) =
+    if has_null_body request head then handed_over request head Null
+    else act request ReadBody (after_body request head)
 
 -- main fetch
-abbrev pub main_fetch : Parts → Parts → Process
-main_fetch document url = main_level finished document url
+abbrev pub main_fetch : Context → Request → Process
+main_fetch context request = main_level context finished request

@@ -1,5 +1,4 @@
 pub mod Process
-pub mod Hops
 pub mod Fetch
 pub mod Machine
 pub mod Play

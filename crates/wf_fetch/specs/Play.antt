@@ -1,25 +1,20 @@
 -- A document's run as a tree: what it shows, the acts of its fetches, and its ending.
 use Rattle.std.specs.Prelude.{ℕ, List, [], ◌∷◌, ◌++◌, Option, Some, None, if◌then◌else◌}
-use Rattle.wf_types.specs.declared.response.Outcome.{Outcome}
+use Rattle.wf_types.specs.declared.request.Request.{Request}
 use Rattle.wf_print.specs.declared.events.Ending.{Ending}
 use Rattle.wf_print.specs.declared.events.Event.{Event}
 use Rattle.wf_print.specs.declared.events.Event.TheVariants.{Sent}
 use Rattle.wf_fetch.specs.declared.act.Act.{Act}
 use Rattle.wf_fetch.specs.declared.act.Act.TheVariants.{Send, ReadHead, ReadBody}
 use Rattle.wf_fetch.specs.declared.act.Input.{Input}
-use Rattle.wf_fetch.specs.Process.{Process, ended, act, fits}
+use Rattle.wf_fetch.specs.Process.{fits}
 
--- It is over, with an ending and the clock then; or it shows an event and goes on; or it acts and
--- goes on from the input that comes.
+-- It is over, with an ending and the clock then; or it shows an event and goes on; or it acts for a
+-- request and goes on from the input that comes.
 pub data Play : Type 0 where
   over : Ending → ℕ → Play
   emit : Event → Play → Play
-  step : Act → (Input → Play) → Play
-
--- a fetch inside a run, and what follows its outcome
-abbrev pub embed : Process → (Outcome → Play) → Play
-embed (ended outcome) next = next outcome
-embed (act first after) next = step first (λ input. embed (after input) next)
+  step : Request → Act → (Input → Play) → Play
 
 -- what an act shows when its input has come
 abbrev pub events_of : Act → Input → List Event
@@ -50,4 +45,4 @@ play_on first after (input ∷ tape) =
 abbrev pub run_play : Play → List Input → PlayRun
 run_play (over ending clock) tape = record { events = []; ending = Some (ending, clock) }
 run_play (emit event rest) tape = shows (event ∷ []) (run_play rest tape)
-run_play (step first after) tape = play_on first (λ input. run_play (after input)) tape
+run_play (step request first after) tape = play_on first (λ input. run_play (after input)) tape

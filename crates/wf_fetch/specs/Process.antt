@@ -1,16 +1,18 @@
 -- A fetch as a tree of acts: what is done next, and how it goes on from each input that comes
 -- (Fetch, section 4, where the algorithm waits for the network).
 use Rattle.std.specs.Prelude.{Bool, true, false, List, [], ◌∷◌, Option, Some, None, if◌then◌else◌}
+use Rattle.wf_types.specs.declared.request.Request.{Request}
 use Rattle.wf_types.specs.declared.response.Outcome.{Outcome}
 use Rattle.wf_fetch.specs.declared.act.Act.{Act}
 use Rattle.wf_fetch.specs.declared.act.Act.TheVariants.{Send, ReadHead, ReadBody}
 use Rattle.wf_fetch.specs.declared.act.Input.{Input}
 use Rattle.wf_fetch.specs.declared.act.Input.TheVariants.{Sent, HeadIs, HeadBad, BodyIs}
 
--- It has ended with an outcome, or it acts and goes on from the input that comes.
+-- It has ended with an outcome, or it acts for a request as it stands and goes on from the input that
+-- comes.
 pub data Process : Type 0 where
   ended : Outcome → Process
-  act : Act → (Input → Process) → Process
+  act : Request → Act → (Input → Process) → Process
 
 -- the input may follow the act
 abbrev pub fits : Act → Input → Bool
@@ -41,4 +43,4 @@ followed first after (input ∷ tape) = if fits first input then after input tap
 -- the process over a tape, as far as the tape goes and its items fit
 abbrev pub run : Process → List Input → Run
 run (ended outcome) tape = record { acts = []; outcome = Some outcome }
-run (act first after) tape = began first (followed first (λ input. run (after input)) tape)
+run (act request first after) tape = began first (followed first (λ input. run (after input)) tape)

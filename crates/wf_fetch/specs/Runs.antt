@@ -1,41 +1,134 @@
 -- A document's run: its script's commands in order, each fetch with what it shows and what it came to
--- (Fetch, section 5.6, for each `fetch` of a script).
-use Rattle.std.specs.Prelude.{ℕ, ◌+◌, List, [], ◌∷◌, Option, Some, None}
-use Rattle.url.specs.Parts.{Parts}
-use Rattle.wf_types.specs.declared.fault.TypeFault.TheVariants.{BadUrl}
+-- (Fetch, section 5.6, for each `fetch` of a script), and the limits at which a run ends early.
+use Rattle.std.specs.Prelude.{ℕ, ◌+◌, ◌&&◌, Bool, true, nat_le, nat_lt, List, [], ◌∷◌, ◌++◌, map, sum_by, length, Option, Some, None, Result, Ok, Err, if◌then◌else◌}
+use Rattle.wf_text.specs.Trims.{http_whitespace, trimmed}
+use Rattle.wf_types.specs.declared.client.Client.{Client}
+use Rattle.wf_types.specs.declared.client.Cookie.{Cookie}
+use Rattle.wf_types.specs.declared.fault.TypeFault.{TypeFault}
+use Rattle.wf_types.specs.declared.init.Init.{Init}
+use Rattle.wf_types.specs.declared.init.Pair.{Pair}
+use Rattle.wf_types.specs.declared.mode.ReferrerPolicy.TheVariants.{StrictOriginWhenCrossOrigin}
+use Rattle.wf_types.specs.declared.request.Request.{Request}
+use Rattle.wf_types.specs.declared.response.Outcome.{Outcome}
+use Rattle.wf_types.specs.Clients.{client_of}
+use Rattle.wf_send.specs.Making.{new_request}
 use Rattle.wf_script.specs.declared.types.Command.{Command}
 use Rattle.wf_script.specs.declared.types.Command.TheVariants as command
 use Rattle.wf_script.specs.declared.types.Document.{Document}
-use Rattle.wf_script.specs.Urls.{url_against}
-use Rattle.wf_print.specs.declared.events.Ending.TheVariants.{Finished}
-use Rattle.wf_print.specs.declared.events.Event.TheVariants.{Fetch, Result, TypeError}
-use Rattle.wf_fetch.specs.Fetch.{main_fetch}
-use Rattle.wf_fetch.specs.Play.{Play, over, emit, embed}
+use Rattle.wf_print.specs.declared.events.Ending.{Ending}
+use Rattle.wf_print.specs.declared.events.Ending.TheVariants.{Finished, Fetches, Commands, Text}
+use Rattle.wf_print.specs.declared.events.Event.{Event}
+use Rattle.wf_print.specs.declared.events.Event.TheVariants.{Fetch, Result as ResultIs, TypeError}
+use Rattle.wf_print.specs.Text.{event_text}
+use Rattle.wf_fetch.specs.Fetch.{Context, lent, main_fetch}
+use Rattle.wf_fetch.specs.Play.{Play, over, emit, step, events_of}
+use Rattle.wf_fetch.specs.Process.{Process, ended, act}
 
--- what follows, by how many fetches have started
+-- Where a run stands: how many commands and how many fetches have started, and the events so far.
+pub record Progress : Type 0 where
+  pub commands : ℕ
+  pub fetches : ℕ
+  pub shown : List Event
+
+-- what follows, by where the run stands
 abbrev pub Next : Type 0
-Next = ℕ → Play
+Next = Progress → Play
 
--- the fetch of the URL that a text gives against the document's, or the fault where it gives none
-abbrev pub fetched : Parts → Option Parts → Play → Play
-fetched document None next = emit (TypeError BadUrl) next
-fetched document (Some url) next = embed (main_fetch document url) (λ outcome. emit (Result outcome) next)
+-- ---- what is shown
+
+-- these events more were shown
+abbrev pub after_events : List Event → Progress → Progress
+after_events events progress = record progress { shown = progress.shown ++ events }
+
+-- an event is shown, and then what follows
+abbrev pub showing : Event → Next → Next
+showing event next progress = emit event (next (after_events (event ∷ []) progress))
+
+-- a fetch inside a run, and what follows its outcome
+abbrev pub embed : Process → (Outcome → Next) → Next
+embed (ended outcome) next progress = next outcome progress
+embed (act request first after) next progress =
+    step request first (λ input. embed (after input) next (after_events (events_of first input) progress))
+
+-- ---- the limits
+
+abbrev pub most_commands : ℕ
+most_commands = 16384
+
+abbrev pub most_fetches : ℕ
+most_fetches = 1024
+
+abbrev pub most_printed : ℕ
+most_printed = 8388608
+
+-- how many bytes the lines of events have
+abbrev pub text_length : List Event → ℕ
+text_length events = sum_by (λ event. length (event_text event)) events
+
+-- the limit that a run has reached before a fetch
+abbrev pub fetch_limit : Progress → Option Ending
+fetch_limit progress =
+    if nat_le most_fetches progress.fetches then Some Fetches
+    else if nat_lt most_printed (text_length progress.shown) then Some Text
+    else None
+
+-- the limit that a run has reached before a command
+abbrev pub limit_before : Command → Progress → Option Ending
+limit_before (command.Fetch init) progress =
+    if nat_le most_commands progress.commands then Some Commands else fetch_limit progress
+
+-- ---- commands
+
+-- the values of headers, normalised (Fetch, section 2.2.2)
+abbrev pub normalized_pair : Pair → Pair
+normalized_pair pair = record { name = pair.name; value = trimmed http_whitespace pair.value }
+
+-- what a command asks for, with its header values normalised
+abbrev pub normalized_init : Init → Init
+normalized_init init = record init { headers = map normalized_pair init.headers }
+
+-- the fetch of a request, or the fault where none was made
+abbrev pub fetched : Context → Result Request TypeFault → Next → Next
+fetched context (Err fault) next = showing (TypeError fault) next
+fetched context (Ok request) next = embed (main_fetch context request) (λ outcome. showing (ResultIs outcome) next)
+
+-- a fetch has started
+abbrev pub started : Progress → Progress
+started progress = record progress { commands = progress.commands + 1; fetches = progress.fetches + 1 }
 
 -- one command
-abbrev pub command_run : Parts → Command → Next → Next
-command_run document (command.Fetch text) next started =
-    emit (Fetch started) (fetched document (url_against document text) (next (started + 1)))
+abbrev pub command_run : Context → Command → Next → Next
+command_run context (command.Fetch init) next progress =
+    showing (Fetch progress.fetches) (fetched context (new_request context.client (normalized_init init)) next) (started progress)
 
--- the commands, in order
-abbrev pub script_run : Parts → List Command → Next → Next
-script_run document [] next started = next started
-script_run document (command ∷ commands) next started =
-    command_run document command (script_run document commands next) started
+-- the clock stands still
+abbrev pub ends : Ending → Play
+ends ending = over ending 0
 
--- after the last command; the clock stands still
+-- a run that has reached a limit is over; else it goes on
+abbrev pub unless_limit : Option Ending → Play → Play
+unless_limit (Some ending) play = ends ending
+unless_limit None play = play
+
+-- the commands, in order, up to a limit
+abbrev pub script_run : Context → List Command → Next → Next
+script_run context [] next progress = next progress
+script_run context (one ∷ more) next progress =
+    unless_limit (limit_before one progress) (command_run context one (script_run context more next) progress)
+
+-- nothing has started or been shown
+abbrev pub beginning : Progress
+beginning = record { commands = 0; fetches = 0; shown = [] }
+
+-- after the last command
 abbrev pub finished : Next
-finished started = over Finished 0
+finished progress = ends Finished
+
+-- the client of a document that names no policy of its own
+abbrev pub document_client : Document → Client
+document_client document = client_of document.url document.top StrictOriginWhenCrossOrigin
 
 -- the whole run
-abbrev pub document_run : Document → Play
-document_run document = script_run document.url document.script finished 0
+abbrev pub document_run : List Cookie → Document → Play
+document_run cookies document =
+    script_run (lent (document_client document) cookies) document.script finished beginning

@@ -2,11 +2,12 @@
 #![tactic(auto)]
 
 mod act;
-mod hop;
 mod machine;
+mod normalize;
 mod place;
 #[cfg(test)]
 mod tests;
 
 pub use act::{Act, Input, fits};
+pub use normalize::normalized_init;
 pub use place::{Fetching, Place, Step};

@@ -1,17 +1,24 @@
-ghost use Rattle.std.specs.Prelude.{◌≡◌, ◌∷◌, IfOk, IsTrue};
-ghost use Rattle.wf_origin.specs.Origins as origins;
+ghost use Rattle.std.specs.Prelude.{◌≡◌, ◌∷◌, IfOk, IsTrue, Ok, Err};
+ghost use Rattle.wf_origin.specs.Origins.{origin_of as origin_in};
+ghost use Rattle.wf_types.specs.declared.client.Client.{Client as LentClient};
+ghost use Rattle.wf_types.specs.declared.mode.Mode.TheVariants.{SameOrigin};
+ghost use Rattle.wf_types.specs.Requests.{IsRequest, IsAtHttp, is_determined, is_http_url, is_origin};
 ghost use Rattle.wf_fetch.specs.Fetch as spec;
+ghost use Rattle.wf_fetch.specs.Fetch.{Context, lent};
 ghost use Rattle.wf_fetch.specs.Process.{fits, run};
 ghost use Rattle.wf_fetch.specs.Machine.{Does, Leads, RunsAs, last_act, rest, rest_of};
 
 use crate::act::{Act, Input};
-use crate::hop::hop_of;
 use crate::place::{Fetching, Place, Step};
 use std::alloc::Global;
 use url::{Position, Url};
-use wf_origin::{origin_of, same_origin};
+use wf_origin::{Origin, origin_of, same_origin};
+use wf_send::hop_of;
 use wf_text::{Bytes, OutOfMemory};
-use wf_types::{BodyEnd, Head, NetError, Outcome, Response, ResponseKind};
+use wf_types::{
+    BodyEnd, Client, Cookies, Head, NetError, Outcome, ReferrerPolicy, Request, Response,
+    ResponseKind, Tainting,
+};
 
 // The head that an input brings, or the network error in its place.
 fn head_of(input: Input) -> Result<Head, NetError>
@@ -33,19 +40,6 @@ fn body_of(input: Input) -> BodyEnd
     }
 }
 
-// The end of main fetch: a network error is the outcome, and of an answer the body is read.
-fn finished(url: Url, came: Result<Head, NetError>) -> Step
-    ensures { Does result (spec.finished url came) }
-{
-    match came {
-        Err(error) => Step::Over(Outcome::Error(error)),
-        Ok(head) => {
-            let place = Place::BodyReading(head);
-            Step::Going(Fetching { url, place }, Act::ReadBody)
-        }
-    }
-}
-
 // The text of a URL without its fragment.
 fn without_fragment(url: &Url) -> &str
     ensures { result.now ≡ spec.without_fragment url.now }
@@ -53,104 +47,208 @@ fn without_fragment(url: &Url) -> &str
     url.slice(Position::BeforeScheme, Position::AfterQuery)
 }
 
-// The basic filtered response of a head and a body.
-fn basic_response(
-    alloc: Global,
-    url: &Url,
-    head: Head,
-    body: BodyEnd,
-) -> Result<Response, OutOfMemory>
-    ensures { IfOk result (λ response. response ≡ spec.basic_response url.now head body) }
+// Whether a status goes with no body.
+fn is_null_body_status(status: u16) -> bool
+    ensures { result ≡ spec.is_null_body_status status }
 {
-    Ok(Response {
-        kind: ResponseKind::Basic,
-        status: head.status,
-        url: Some(Bytes::of(alloc, without_fragment(url).as_bytes())?),
-        headers: head.headers,
-        body,
-    })
+    matches!(status, 101 | 103 | 204 | 205 | 304)
 }
 
-// The body is at its end: the response is handed over.
-fn after_body(alloc: Global, url: Url, head: Head, input: Input) -> Result<Step, OutOfMemory>
-    ensures { Leads result (spec.after_body url head input) }
+// Whether the response to a request has no body.
+fn has_null_body(request: &Request, head: &Head) -> bool
+    ensures { result ≡ spec.has_null_body request.now head.now }
 {
-    let response = basic_response(alloc, &url, head, body_of(input))?;
-    Ok(Step::Over(Outcome::Answer(response)))
+    request.method.as_slice() == b"HEAD".as_slice() || is_null_body_status(head.status)
+}
+
+// The response of a head and a body is handed over.
+fn handed_over(
+    alloc: Global,
+    request: Request,
+    head: Head,
+    body: BodyEnd,
+) -> Result<Step, OutOfMemory>
+    requires { IsRequest request }
+    ensures { (context : Context) → Leads context result (spec.handed_over request head body) }
+{
+    let url = Bytes::of(alloc, without_fragment(request.current_url()).as_bytes())?;
+    Ok(Step::Over(Outcome::Answer(Response {
+        kind: ResponseKind::Basic,
+        status: head.status,
+        url: Some(url),
+        headers: head.headers,
+        body,
+    })))
+}
+
+// The end of main fetch: a network error is the outcome, and of an answer the body is read, where it
+// is not null.
+fn finished(
+    alloc: Global,
+    request: Request,
+    came: Result<Head, NetError>,
+) -> Result<Step, OutOfMemory>
+    requires { IsRequest request }
+    ensures { (context : Context) → Leads context result (spec.finished request came) }
+{
+    match came {
+        Err(error) => Ok(Step::Over(Outcome::Error(error))),
+        Ok(head) => {
+            if has_null_body(&request, &head) {
+                return handed_over(alloc, request, head, BodyEnd::Null);
+            }
+            let place = Place::BodyReading(head);
+            Ok(Step::Going(Fetching { request, place }, Act::ReadBody))
+        }
+    }
 }
 
 // The head of the answer is read.
-fn read_head(url: Url) -> Step
-    ensures { Does result (spec.read_head spec.finished url) }
+fn read_head(request: Request) -> Step
+    requires { IsRequest request }
+    ensures { (context : Context) → Does context result (spec.read_head spec.finished request) }
 {
     let place = Place::HeadReading;
-    Step::Going(Fetching { url, place }, Act::ReadHead)
+    Step::Going(Fetching { request, place }, Act::ReadHead)
 }
 
 // HTTP fetch: the request is sent.
-fn http_fetch(alloc: Global, url: Url) -> Result<Step, OutOfMemory>
-    ensures { Leads result (spec.http_fetch spec.finished url) }
+fn http_fetch(alloc: Global, request: Request, cookies: &Cookies) -> Result<Step, OutOfMemory>
+    requires valid { IsRequest request }
+    requires http { IsAtHttp request }
+    requires determined { IsTrue (is_determined request.referrer) }
+    ensures { (client : LentClient) → Leads (lent client cookies.now) result
+        (spec.http_fetch (lent client cookies.now) spec.finished request) }
 {
-    let hop = hop_of(alloc, &url)?;
+    let hop = hop_of(alloc, &request, cookies)?;
     let place = Place::Sending;
-    Ok(Step::Going(Fetching { url, place }, Act::Send(hop)))
+    Ok(Step::Going(Fetching { request, place }, Act::Send(hop)))
 }
 
-// Whether two URLs have an origin, and these are the same.
-fn are_same_origin(alloc: Global, a: &Url, b: &Url) -> Result<bool, OutOfMemory>
-    ensures { IfOk result (λ same. same
-        ≡ spec.are_same_origin (origins.origin_of a.now) (origins.origin_of b.now)) }
+// Whether the URL has that origin.
+fn has_origin(alloc: Global, url: &Url, origin: &Origin) -> Result<bool, OutOfMemory>
+    ensures { IfOk result (λ same. same ≡ is_origin origin.now (origin_in url.now)) }
 {
-    match (origin_of(alloc, a)?, origin_of(alloc, b)?) {
-        (Some(a), Some(b)) => Ok(same_origin(&a, &b)),
-        _ => Ok(false),
+    match origin_of(alloc, url)? {
+        None => Ok(false),
+        Some(other) => Ok(same_origin(origin, &other)),
     }
 }
 
-// Main fetch up to the response: the URL has the document's origin, or mode same-origin refuses it.
-fn main_level(alloc: Global, document: &Url, url: Url) -> Result<Step, OutOfMemory>
-    ensures { Leads result (spec.main_level spec.finished document.now url) }
+// Whether the request stands at a URL of its own origin, and has stood at no other.
+fn is_at_home(alloc: Global, request: &Request) -> Result<bool, OutOfMemory>
+    requires { IsRequest request.now }
+    ensures { IfOk result (λ home. home ≡ spec.is_at_home request.now) }
 {
-    if are_same_origin(alloc, document, &url)? {
-        http_fetch(alloc, url)
+    if request.tainting != Tainting::Basic {
+        return Ok(false);
+    }
+    has_origin(alloc, request.current_url(), &request.origin)
+}
+
+// The switch: a URL of the request's origin is fetched, and mode same-origin refuses another.
+fn main_switch(alloc: Global, request: Request, cookies: &Cookies) -> Result<Step, OutOfMemory>
+    requires valid { IsRequest request }
+    requires http { IsAtHttp request }
+    requires determined { IsTrue (is_determined request.referrer) }
+    ensures { (client : LentClient) → Leads (lent client cookies.now) result
+        (spec.main_switch (lent client cookies.now) spec.finished request) }
+{
+    if is_at_home(alloc, &request)? {
+        http_fetch(alloc, request, cookies)
     } else {
-        Ok(finished(url, Err(NetError::SameOriginMode)))
+        finished(alloc, request, Err(NetError::SameOriginMode))
     }
+}
+
+// The policy of a request, or the client's where it has none.
+fn policy_or(own: ReferrerPolicy, client: ReferrerPolicy) -> ReferrerPolicy
+    ensures { result ≡ spec.policy_or own client }
+{
+    match own {
+        ReferrerPolicy::Empty => client,
+        _ => own,
+    }
+}
+
+// Whether the URL is http or https.
+fn is_http(url: &Url) -> bool
+    ensures { result ≡ is_http_url url.now }
+{
+    url.scheme() == "http" || url.scheme() == "https"
+}
+
+// Main fetch up to the response.
+fn main_level(
+    alloc: Global,
+    request: Request,
+    client: &Client,
+    cookies: &Cookies,
+) -> Result<Step, OutOfMemory>
+    requires valid { IsRequest request }
+    requires determined { IsTrue (is_determined request.referrer) }
+    ensures { Leads (lent client.now cookies.now) result
+        (spec.main_level (lent client.now cookies.now) spec.finished request) }
+{
+    if !is_http(request.current_url()) {
+        return finished(alloc, request, Err(NetError::Scheme));
+    }
+    let mut request = request;
+    request.policy = policy_or(request.policy, client.policy);
+    main_switch(alloc, request, cookies)
 }
 
 impl Fetching {
-    /// Begins main fetch of a URL for the document with this URL: a GET in mode same-origin without
-    /// a referrer (Fetch, section 4.1). It is over at once with the network error `SameOriginMode`
-    /// exactly where the two URLs don't both have an origin, the same one; otherwise the request is
-    /// to be sent.
-    pub fn start(alloc: Global, document: &Url, url: &Url) -> Result<Step, OutOfMemory>
-        ensures process { Leads result (spec.main_fetch document.now url.now) }
-        ensures runs { IfOk result (λ step. RunsAs step (run (spec.main_fetch document.now url.now))) }
+    /// Begins main fetch of a request in mode same-origin, for a client and with a table of cookies
+    /// (Fetch, section 4.1). It is over at once with the network error `Scheme` exactly where the
+    /// request's current URL is neither http nor https, and else with `SameOriginMode` exactly where
+    /// that URL has another origin than the request or the request is tainted; otherwise the request
+    /// is to be sent.
+    pub fn start(
+        alloc: Global,
+        request: Request,
+        client: &Client,
+        cookies: &Cookies,
+    ) -> Result<Step, OutOfMemory>
+        requires valid { IsRequest request }
+        requires same_origin { request.mode ≡ SameOrigin }
+        requires determined { IsTrue (is_determined request.referrer) }
+        ensures process { Leads (lent client.now cookies.now) result
+            (spec.main_fetch (lent client.now cookies.now) request) }
+        ensures runs { IfOk result (λ step. RunsAs (lent client.now cookies.now) step
+            (run (spec.main_fetch (lent client.now cookies.now) request))) }
     {
-        main_level(alloc, document, url.clone()?)
+        main_level(alloc, request, client, cookies)
     }
 
     /// Goes on from the input that followed the last act: the head of the answer is read, then its
-    /// body, and then the fetch is over with a response of type basic (Fetch, sections 4.1, 4.3 and
-    /// 4.6). It is over with the network error `BadHead` exactly where the input is `HeadBad`. After
-    /// `OutOfMemory` the fetch is gone.
-    pub fn resume(self, alloc: Global, input: Input) -> Result<Step, OutOfMemory>
-        requires { IsTrue (fits (last_act self) input) }
-        ensures process { Leads result (rest self input) }
-        ensures runs { IfOk result (λ step. RunsAs step (λ tape. rest_of self (input ∷ tape))) }
+    /// body where it is not null, and then the fetch is over with a response of type basic (Fetch,
+    /// sections 4.1, 4.3 and 4.6). It is over with the network error `BadHead` exactly where the
+    /// input is `HeadBad`. After `OutOfMemory` the fetch is gone.
+    pub fn resume(
+        self,
+        alloc: Global,
+        client: &Client,
+        cookies: &Cookies,
+        input: Input,
+    ) -> Result<Step, OutOfMemory>
+        requires { IsTrue (fits (last_act (lent client.now cookies.now) self) input) }
+        ensures process { Leads (lent client.now cookies.now) result (rest self input) }
+        ensures runs { IfOk result (λ step. RunsAs (lent client.now cookies.now) step
+            (λ tape. rest_of (lent client.now cookies.now) self (input ∷ tape))) }
     {
         self.go_on(alloc, input)
     }
 
     // Goes on from an input, whatever it is.
     fn go_on(self, alloc: Global, input: Input) -> Result<Step, OutOfMemory>
-        ensures { Leads result (rest self input) }
+        ensures { (context : Context) → Leads context result (rest self input) }
     {
-        let Fetching { url, place } = self;
+        let Fetching { request, place } = self;
         match place {
-            Place::Sending => Ok(read_head(url)),
-            Place::HeadReading => Ok(finished(url, head_of(input))),
-            Place::BodyReading(head) => after_body(alloc, url, head, input),
+            Place::Sending => Ok(read_head(request)),
+            Place::HeadReading => finished(alloc, request, head_of(input)),
+            Place::BodyReading(head) => handed_over(alloc, request, head, body_of(input)),
         }
     }
 }

@@ -1,6 +1,7 @@
+ghost use Rattle.wf_types.specs.Requests.{IsRequest};
+
 use crate::act::Act;
-use url::Url;
-use wf_types::{Head, Outcome};
+use wf_types::{Head, Outcome, Request};
 
 /// What a fetch waits for.
 #[derive(Drop)]
@@ -13,11 +14,12 @@ pub enum Place {
     BodyReading(Head),
 }
 
-/// A fetch of a URL that waits for the input that follows its last act.
+/// A fetch of a request, as it stands, that waits for the input that follows its last act.
 #[derive(Drop)]
 pub struct Fetching {
-    pub url: Url,
+    pub request: Request,
     pub place: Place,
+    pub ghost valid: { IsRequest request },
 }
 
 /// How far a fetch has come: it goes on and asks for an act, or it is over.

@@ -1,5 +1,7 @@
 //! Fetches step by step, over inputs made by hand.
 ghost use Rattle.std.specs.Prelude.{◌≡◌, IfOk, IsTrue};
+ghost use Rattle.wf_types.specs.Requests.{IsRequest};
+ghost use Rattle.wf_fetch.specs.Fetch.{lent};
 ghost use Rattle.wf_fetch.specs.Machine.{last_act};
 ghost use Rattle.wf_fetch.specs.Process as spec;
 
@@ -10,40 +12,112 @@ use std::process::Abort;
 use std::test::Fail;
 use url::Url;
 use wf_headers::HeaderList;
-use wf_text::{Bytes, OutOfMemory};
-use wf_types::{BodyEnd, Head, Hop, NetError, Outcome, Response, ResponseKind};
+use wf_origin::tuple_origin;
+use wf_text::{Bytes, Items, OutOfMemory};
+use wf_types::{
+    BodyEnd, Client, Cookies, Credentials, Destination, Head, Hop, Mode, NetError, Outcome,
+    RedirectMode, Referrer, ReferrerPolicy, Request, Response, ResponseKind, Tainting, Urls,
+};
 
-// The request that a fetch sends first.
-fn sent(alloc: Global, document: &Url, url: &Url) -> Result<(Fetching, Hop), Fail>
-    ensures { IfOk result (λ sent. last_act sent.0 ≡ Act.Send sent.1) }
+// The client of the document at https://a.test/.
+fn client(alloc: Global) -> Result<Client, Fail> {
+    let url = Url::parse(alloc, "https://a.test/")?;
+    Ok(Client::of(alloc, &url, &url, ReferrerPolicy::NoReferrer)?)
+}
+
+// A request in mode same-origin, without a referrer, of that client.
+fn request(alloc: Global, method: &[u8], address: &str) -> Result<Request, Fail>
+    ensures valid { IfOk result IsRequest }
+    ensures mode { IfOk result (λ request. request.mode ≡ Mode.SameOrigin) }
+    ensures referrer { IfOk result (λ request. request.referrer ≡ Referrer.NoReferrer) }
 {
-    match Fetching::start(alloc, document, url)? {
-        Step::Going(fetching, act) => match act {
-            Act::Send(hop) => Ok((fetching, hop)),
-            _ => Err(Fail::new("something else was asked for")),
-        },
-        Step::Over(_) => Err(Fail::new("nothing was sent")),
-    }
+    let mut urls: Urls = Items::new(alloc);
+    urls.push(Url::parse(alloc, address)?)?;
+    let home = Url::parse(alloc, "https://a.test/")?;
+    Ok(Request {
+        method: Bytes::of(alloc, method)?,
+        urls,
+        headers: HeaderList::new(alloc),
+        body: None,
+        origin: tuple_origin(alloc, &home)?,
+        mode: Mode::SameOrigin,
+        credentials: Credentials::SameOrigin,
+        redirect: RedirectMode::Follow,
+        referrer: Referrer::NoReferrer,
+        policy: ReferrerPolicy::Empty,
+        integrity: Bytes::new(alloc),
+        nonce: Bytes::new(alloc),
+        parser: false,
+        unsafe_request: true,
+        use_preflight: false,
+        destination: Destination::Fetch,
+        tainting: Tainting::Basic,
+        redirects: 0,
+    })
+}
+
+// What a fetch begins with, for a client without cookies.
+fn started(alloc: Global, client: &Client, method: &[u8], address: &str) -> Result<Step, Fail> {
+    let request = request(alloc, method, address)?;
+    Ok(Fetching::start(alloc, request, client, &Cookies::new(alloc))?)
 }
 
 // The next act, after an input that fits.
-fn gone_on(alloc: Global, fetching: Fetching, input: Input) -> Result<(Fetching, Act), Fail>
-    requires { IsTrue (spec.fits (last_act fetching) input) }
-    ensures { IfOk result (λ next. last_act next.0 ≡ next.1) }
+fn gone_on(
+    alloc: Global,
+    client: &Client,
+    cookies: &Cookies,
+    fetching: Fetching,
+    input: Input,
+) -> Result<(Fetching, Act), Fail>
+    requires { IsTrue (spec.fits (last_act (lent client.now cookies.now) fetching) input) }
+    ensures { IfOk result (λ next. last_act (lent client.now cookies.now) next.0 ≡ next.1) }
 {
-    match fetching.resume(alloc, input)? {
+    match fetching.resume(alloc, client, cookies, input)? {
         Step::Going(fetching, act) => Ok((fetching, act)),
         Step::Over(_) => Err(Fail::new("the fetch is over")),
     }
 }
 
 // The outcome, after an input that fits.
-fn ended(alloc: Global, fetching: Fetching, input: Input) -> Result<Outcome, Fail>
-    requires { IsTrue (spec.fits (last_act fetching) input) }
+fn ended(
+    alloc: Global,
+    client: &Client,
+    cookies: &Cookies,
+    fetching: Fetching,
+    input: Input,
+) -> Result<Outcome, Fail>
+    requires { IsTrue (spec.fits (last_act (lent client.now cookies.now) fetching) input) }
 {
-    match fetching.resume(alloc, input)? {
+    match fetching.resume(alloc, client, cookies, input)? {
         Step::Going(..) => Err(Fail::new("the fetch goes on")),
         Step::Over(outcome) => Ok(outcome),
+    }
+}
+
+// A fetch that waits for the head of its answer.
+fn sent(
+    alloc: Global,
+    client: &Client,
+    cookies: &Cookies,
+    method: &[u8],
+    address: &str,
+) -> Result<(Fetching, Act), Fail>
+    ensures waits { IfOk result (λ sent. last_act (lent client.now cookies.now) sent.0 ≡ sent.1) }
+    ensures head { IfOk result (λ sent. sent.1 ≡ Act.ReadHead) }
+{
+    let request = request(alloc, method, address)?;
+    let step = Fetching::start(alloc, request, client, cookies)?;
+    let Step::Going(fetching, act) = step else {
+        return Err(Fail::new("nothing was sent"));
+    };
+    if !fits(&act, &Input::Sent) {
+        return Err(Fail::new("something else was asked for"));
+    }
+    let (fetching, act) = gone_on(alloc, client, cookies, fetching, Input::Sent)?;
+    match act {
+        Act::ReadHead => Ok((fetching, Act::ReadHead)),
+        _ => Err(Fail::new("no head is read")),
     }
 }
 
@@ -83,65 +157,70 @@ fn see(rt: &impl Abort, alloc: Global, response: &Response) -> Result<(), Fail> 
 }
 
 #[test]
-fn a_request_has_its_origin_target_and_headers(rt: HostRuntime) -> Result<(), Fail> {
-    let alloc = rt.alloc();
-    let url = Url::parse(alloc, "http://u:p@a.test:8080/x/../y?q=1#part")?;
-    let (_, hop) = sent(alloc, &url, &url)?;
-    assert!(rt; !hop.preflight && hop.body.is_none());
-    assert_eq!(rt; hop.origin.as_slice(), b"http://a.test:8080".as_slice());
-    assert_eq!(rt; hop.method.as_slice(), b"GET".as_slice());
-    assert_eq!(rt; hop.url.as_slice(), b"/y?q=1".as_slice());
-    let lines = lines_of(alloc, &hop.headers)?;
-    let expected =
-        "Host: a.test:8080\nAccept: */*\nUser-Agent: fetchplay/1\nAccept-Encoding: identity\nConnection: close\n";
-    assert_eq!(rt; lines.as_slice(), expected.as_bytes());
-    Ok(())
-}
-
-#[test]
 fn an_answer_is_read_and_handed_over(rt: HostRuntime) -> Result<(), Fail> {
     let alloc = rt.alloc();
-    let url = Url::parse(alloc, "https://a.test/cart#top")?;
-    let (fetching, _) = sent(alloc, &url, &url)?;
-    let (fetching, act) = gone_on(alloc, fetching, Input::Sent)?;
+    let (client, cookies) = (client(alloc)?, Cookies::new(alloc));
+    let (fetching, act) = sent(alloc, &client, &cookies, b"GET", "https://a.test/cart#top")?;
     let head = not_found(alloc)?;
     assert!(rt; fits(&act, &head));
-    let (fetching, act) = gone_on(alloc, fetching, head)?;
+    let (fetching, act) = gone_on(alloc, &client, &cookies, fetching, head)?;
     let body = Input::BodyIs(BodyEnd::Whole(Bytes::of(alloc, b"hi")?));
     assert!(rt; fits(&act, &body));
-    match ended(alloc, fetching, body)? {
+    match ended(alloc, &client, &cookies, fetching, body)? {
         Outcome::Answer(response) => see(&rt, alloc, &response),
         _ => Err(Fail::new("there was no response")),
     }
 }
 
+// Whether it is a response with a null body.
+fn has_no_body(outcome: &Outcome) -> bool {
+    match outcome {
+        Outcome::Answer(response) => matches!(response.body, BodyEnd::Null),
+        _ => false,
+    }
+}
+
+#[test]
+fn the_response_to_head_has_no_body(rt: HostRuntime) -> Result<(), Fail> {
+    let alloc = rt.alloc();
+    let (client, cookies) = (client(alloc)?, Cookies::new(alloc));
+    let (fetching, act) = sent(alloc, &client, &cookies, b"HEAD", "https://a.test/cart")?;
+    let head = not_found(alloc)?;
+    assert!(rt; fits(&act, &head));
+    let outcome = ended(alloc, &client, &cookies, fetching, head)?;
+    assert!(rt; has_no_body(&outcome));
+    Ok(())
+}
+
 #[test]
 fn a_bad_head_is_a_network_error(rt: HostRuntime) -> Result<(), Fail> {
     let alloc = rt.alloc();
-    let url = Url::parse(alloc, "https://a.test/")?;
-    let (fetching, _) = sent(alloc, &url, &url)?;
-    let (fetching, act) = gone_on(alloc, fetching, Input::Sent)?;
+    let (client, cookies) = (client(alloc)?, Cookies::new(alloc));
+    let (fetching, act) = sent(alloc, &client, &cookies, b"GET", "https://a.test/")?;
     assert!(rt; fits(&act, &Input::HeadBad) && !fits(&act, &Input::Sent));
-    let outcome = ended(alloc, fetching, Input::HeadBad)?;
+    let outcome = ended(alloc, &client, &cookies, fetching, Input::HeadBad)?;
     assert!(rt; matches!(outcome, Outcome::Error(NetError::BadHead)));
     Ok(())
+}
+
+// The number of the network error with which a fetch of this address begins.
+fn refusal(alloc: Global, address: &str) -> Result<u32, Fail> {
+    match started(alloc, &client(alloc)?, b"GET", address)? {
+        Step::Over(Outcome::Error(error)) => Ok(error.number()),
+        _ => Err(Fail::new("it was not refused")),
+    }
 }
 
 #[test]
 fn another_origin_is_refused_and_nothing_is_sent(rt: HostRuntime) -> Result<(), Fail> {
     let alloc = rt.alloc();
-    let document = Url::parse(alloc, "https://a.test/")?;
-    for address in [
-        "https://b.test/",
-        "http://a.test/",
-        "https://a.test:444/",
-        "ftp://a.test/",
+    for (address, number) in [
+        ("https://b.test/", 5),
+        ("http://a.test/", 5),
+        ("https://a.test:444/", 5),
+        ("ftp://a.test/", 1),
     ] {
-        let url = Url::parse(alloc, address)?;
-        match Fetching::start(alloc, &document, &url)? {
-            Step::Over(Outcome::Error(NetError::SameOriginMode)) => {}
-            _ => return Err(Fail::new("another origin was asked")),
-        }
+        assert_eq!(rt; refusal(alloc, address)?, number, "at {address}");
     }
     Ok(())
 }

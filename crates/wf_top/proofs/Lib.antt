@@ -1,4 +1,4 @@
 pub mod RunLemmas
 pub mod PlayLemmas
-pub mod Computed
 pub mod ProgramLemmas
+pub mod RequestLemmas

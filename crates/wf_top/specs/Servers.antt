@@ -45,5 +45,5 @@ answer_after servers answer ReadBody = answer
 abbrev pub tape_of : List Server → Option Rule → Play → List Input
 tape_of servers answer (over ending clock) = []
 tape_of servers answer (emit event rest) = tape_of servers answer rest
-tape_of servers answer (step act after) =
+tape_of servers answer (step request act after) =
     input_for answer act ∷ tape_of servers (answer_after servers answer act) (after (input_for answer act))

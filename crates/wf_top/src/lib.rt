@@ -2,8 +2,10 @@
 #![tactic(auto)]
 
 mod complaint;
+mod limits;
 mod play;
 mod program;
+mod running;
 mod servers;
 mod status;
 #[cfg(test)]

@@ -1,28 +1,37 @@
-ghost use Rattle.std.specs.Prelude.{◌≡◌, ◌++◌, ◌+◌, ◌<◌, ◌^◌, IfOk, OnOk, IsTrue, length, List};
+ghost use Rattle.std.specs.Prelude.{◌≡◌, ◌≢◌, ◌++◌, None, IfOk, OnOk, IsTrue};
+ghost use Rattle.std.specs.List.{All};
 ghost use Rattle.wf_print.specs.Text.{HasText};
-ghost use Rattle.wf_script.specs.Valid.{IsValid};
-ghost use Rattle.wf_fetch.specs.Fetch.{main_fetch};
+ghost use Rattle.wf_script.specs.Valid.{IsValid, IsValidDocument, IsValidCommand, IsValidInit};
+ghost use Rattle.wf_types.specs.Requests.{IsClient};
+ghost use Rattle.wf_send.specs.Making.{new_request as request_of};
+ghost use Rattle.wf_fetch.specs.Fetch.{lent, main_fetch};
 ghost use Rattle.wf_fetch.specs.Play.{events_of};
 ghost use Rattle.wf_fetch.specs.Process.{fits};
-ghost use Rattle.wf_fetch.specs.Runs.{command_run};
-ghost use Rattle.wf_fetch.specs.Hops.{origin_text};
-ghost use Rattle.wf_origin.specs.Origins as spec;
+ghost use Rattle.wf_fetch.specs.Runs.{command_run, script_run, fetched, document_client, document_run, finished, limit_before, normalized_init as normal_init};
 ghost use Rattle.wf_top.specs.Plays.{IsPlay, IsTranscript};
-ghost use Rattle.wf_fetch.specs.Runs.{fetched};
-ghost use Rattle.wf_script.specs.Urls.{url_against};
-ghost use Rattle.wf_top.specs.Runs.{Fetched, Played, Shown};
+ghost use Rattle.wf_top.specs.Runs.{Ends, Fetched, IsFetchable, Played, progress_of};
 ghost use Rattle.wf_top.specs.Servers.{answer_after, body_of_answer, head_of_answer, input_for};
 
+use crate::running::Running;
 use crate::servers::answer_to;
 use std::alloc::Global;
 use url::Url;
-use wf_fetch::{Act, Fetching, Input, Step};
+use wf_fetch::{Act, Fetching, Input, Step, normalized_init};
 use wf_headers::HeaderList;
-use wf_origin::{origin_of, serialize};
-use wf_print::{Ending, Event, Events, Transcript, Transcripts};
-use wf_script::{Command, Document, Rule, Scenario, Servers, url_against};
-use wf_text::{Bytes, OutOfMemory};
-use wf_types::{BodyEnd, Head, Outcome, TypeFault};
+use wf_print::{Ending, Event, Transcript, Transcripts};
+use wf_script::{Command, Document, Rule, Scenario, Servers};
+use wf_send::new_request;
+use wf_text::OutOfMemory;
+use wf_types::{BodyEnd, Client, Cookies, Head, Init, Outcome, ReferrerPolicy, Request, TypeFault};
+
+/// What the fetches of a document are lent: the servers that answer, the document's client, and the
+/// table of cookies.
+#[derive(Drop)]
+struct Setting<'a> {
+    servers: &'a Servers,
+    client: &'a Client,
+    cookies: &'a Cookies,
+}
 
 // The head of an answer: the rule's status without headers.
 fn head_input(alloc: Global, last: &Option<Rule>) -> Input
@@ -47,139 +56,166 @@ fn body_input(alloc: Global, last: &Option<Rule>) -> Result<Input, OutOfMemory>
     }
 }
 
-// Hands an act to the servers and answers what comes of it; `last` is the last answer.
+// Hands an act to the servers and answers what comes of it.
 fn exchange(
     alloc: Global,
     servers: &Servers,
-    last: &mut Option<Rule>,
+    running: &mut Running,
     act: Act,
-    events: &mut Events,
 ) -> Result<Input, OutOfMemory>
-    ensures input { IfOk result (λ input. input ≡ input_for last.old act) }
+    ensures input { IfOk result (λ input. input ≡ input_for running.old.last act) }
     ensures fits { IfOk result (λ input. IsTrue (fits act input)) }
-    ensures last { OnOk result (last.new ≡ answer_after servers.now last.old act) }
-    ensures events { IfOk result (λ input. events.new ≡ events.old ++ events_of act input) }
+    ensures last { OnOk result (running.new.last ≡ answer_after servers.now running.old.last act) }
+    ensures events { IfOk result (λ input. running.new.events ≡ running.old.events ++ events_of act input) }
+    ensures commands { running.new.commands ≡ running.old.commands }
+    ensures fetches { running.new.fetches ≡ running.old.fetches }
 {
     match act {
         Act::Send(hop) => {
-            *last = answer_to(alloc, servers, &hop)?;
-            events.push(Event::Sent(hop))?;
+            running.last = answer_to(alloc, servers, &hop)?;
+            running.show(Event::Sent(hop))?;
             Ok(Input::Sent)
         }
-        Act::ReadHead => Ok(head_input(alloc, last)),
-        Act::ReadBody => body_input(alloc, last),
+        Act::ReadHead => Ok(head_input(alloc, &running.last)),
+        Act::ReadBody => body_input(alloc, &running.last),
     }
 }
 
 // One fetch, to its outcome.
 fn run_fetch(
     alloc: Global,
-    servers: &Servers,
-    last: &mut Option<Rule>,
-    document: &Url,
-    url: &Url,
-    events: &mut Events,
+    setting: &Setting<'_>,
+    running: &mut Running,
+    request: Request,
 ) -> Result<Outcome, OutOfMemory>
-    ensures { IfOk result (λ outcome. Fetched servers.now (main_fetch document.now url.now)
-        last.old last.new events.old events.new outcome) }
+    requires { IsFetchable request }
+    ensures { IfOk result (λ outcome. Fetched setting.now.servers.now
+        (main_fetch (lent setting.now.client.now setting.now.cookies.now) request) running.old running.new outcome) }
 {
-    let mut step = Fetching::start(alloc, document, url)?;
+    let mut step = Fetching::start(alloc, request, setting.client, setting.cookies)?;
     loop {
         match step {
             Step::Over(outcome) => return Ok(outcome),
             Step::Going(fetching, act) => {
-                let input = exchange(alloc, servers, last, act, events)?;
-                step = fetching.resume(alloc, input)?;
+                let input = exchange(alloc, setting.servers, running, act)?;
+                step = fetching.resume(alloc, setting.client, setting.cookies, input)?;
             }
         }
     }
 }
 
-// A fetch of the text of a URL: what it came to, or that it is no URL.
-fn run_text(
+// The request of what a script asks of `fetch`, or why there is none.
+#[tactic(auto, using(crate::proofs::RequestLemmas::fetchable_request))]
+fn requested(
     alloc: Global,
-    servers: &Servers,
-    last: &mut Option<Rule>,
+    client: &Client,
     document: &Url,
-    text: &Bytes,
-    events: &mut Events,
-) -> Result<(), OutOfMemory>
-    ensures { OnOk result (Shown servers.now (λ next. fetched document.now (url_against document.now text.now) next)
-        last.old last.new events.old events.new) }
+    init: &Init,
+) -> Result<Result<Request, TypeFault>, OutOfMemory>
+    requires client { IsClient client.now }
+    requires valid { IsValidInit document.now init.now }
+    ensures value { IfOk result (λ made. made ≡ request_of client.now (normal_init init.now)) }
+    ensures fetchable { IfOk result (λ made. IfOk made IsFetchable) }
 {
-    match url_against(alloc, document, text.as_slice())? {
-        None => {
-            events.push(Event::TypeError(TypeFault::BadUrl))?;
-            Ok(())
-        }
-        Some(url) => {
-            let outcome = run_fetch(alloc, servers, last, document, &url, events)?;
-            events.push(Event::Result(outcome))?;
-            Ok(())
+    let init = normalized_init(alloc, init)?;
+    new_request(alloc, &init, client)
+}
+
+// The request's outcome, or that there is no request.
+#[tactic(auto, using(crate::proofs::RunLemmas::played_event))]
+fn run_request(
+    alloc: Global,
+    setting: &Setting<'_>,
+    running: &mut Running,
+    made: Result<Request, TypeFault>,
+) -> Result<(), OutOfMemory>
+    requires { IfOk made IsFetchable }
+    ensures { OnOk result (Played setting.now.servers.now
+        (fetched (lent setting.now.client.now setting.now.cookies.now) made) running.old running.new) }
+{
+    match made {
+        Err(fault) => running.show(Event::TypeError(fault)),
+        Ok(request) => {
+            let outcome = run_fetch(alloc, setting, running, request)?;
+            running.show(Event::Result(outcome))
         }
     }
 }
 
-// One command, with so many fetches started before it.
+// One command.
+#[tactic(auto, using(crate::proofs::RunLemmas::played_started))]
 fn run_command(
     alloc: Global,
-    servers: &Servers,
-    last: &mut Option<Rule>,
+    setting: &Setting<'_>,
+    running: &mut Running,
     document: &Url,
     command: &Command,
-    started: u32,
-    events: &mut Events,
 ) -> Result<(), OutOfMemory>
-    ensures { OnOk result (Played servers.now (command_run document.now command.now) started (started + 1)
-        last.old last.new events.old events.new) }
+    requires client { IsClient setting.now.client.now }
+    requires valid { IsValidCommand document.now command.now }
+    requires limit { limit_before command.now (progress_of running.old) ≡ None }
+    ensures { OnOk result (Played setting.now.servers.now
+        (command_run (lent setting.now.client.now setting.now.cookies.now) command.now) running.old running.new) }
 {
-    events.push(Event::Fetch(started))?;
     match command {
-        Command::Fetch(text) => run_text(alloc, servers, last, document, text, events),
+        Command::Fetch(init) => {
+            running.start_fetch()?;
+            let made = requested(alloc, setting.client, document, init)?;
+            run_request(alloc, setting, running, made)
+        }
     }
 }
 
-// The serialised origin of a document's URL.
-fn key_of(alloc: Global, url: &Url) -> Result<Bytes, OutOfMemory>
-    ensures { IfOk result (λ key. key ≡ origin_text (spec.origin_of url.now)) }
+// The commands of a script, in order, up to a limit.
+fn run_script(
+    alloc: Global,
+    setting: &Setting<'_>,
+    running: &mut Running,
+    document: &Document,
+) -> Result<Ending, OutOfMemory>
+    requires client { IsClient setting.now.client.now }
+    requires valid { All (IsValidCommand document.now.url) document.now.script }
+    ensures ends { IfOk result (λ ending. Ends setting.now.servers.now
+        (script_run (lent setting.now.client.now setting.now.cookies.now) document.now.script finished (progress_of running.old))
+        running.old running.new ending) }
+    ensures has_text { IfOk result (λ ending. ending ≢ Ending.Memory) }
 {
-    match origin_of(alloc, url)? {
-        None => Bytes::of(alloc, b"null"),
-        Some(origin) => serialize(alloc, &origin),
+    for command in document.script.as_slice() {
+        if let Some(ending) = running.limit_before(command) {
+            return Ok(ending);
+        }
+        run_command(alloc, setting, running, &document.url, command)?;
     }
+    Ok(Ending::Finished)
 }
 
 // A document's run.
 fn run_document(
     alloc: Global,
     servers: &Servers,
+    cookies: &Cookies,
     number: u32,
     document: &Document,
 ) -> Result<Transcript, OutOfMemory>
-    requires { length document.now.script < 2 ^ 32 }
-    ensures run { IfOk result (λ transcript. IsTranscript servers.now number document.now transcript) }
-    ensures finished { IfOk result (λ transcript. transcript.ending ≡ Ending.Finished) }
+    requires { IsValidDocument document.now }
+    ensures run { IfOk result (λ transcript. IsTranscript servers.now cookies.now number document.now transcript) }
+    ensures has_text { IfOk result (λ transcript. transcript.ending ≢ Ending.Memory) }
 {
-    let key = key_of(alloc, &document.url)?;
-    let mut events = Events::new(alloc);
-    let mut last = None;
-    for (index, command) in document.script.as_slice().iter().enumerate() {
-        let started = index as u32;
-        run_command(
-            alloc,
-            servers,
-            &mut last,
-            &document.url,
-            command,
-            started,
-            &mut events,
-        )?;
-    }
+    let policy = ReferrerPolicy::StrictOriginWhenCrossOrigin;
+    let client = Client::of(alloc, &document.url, &document.top, policy)?;
+    let setting = Setting {
+        servers,
+        client: &client,
+        cookies,
+    };
+    let mut running = Running::new(alloc);
+    let ending = run_script(alloc, &setting, &mut running, document)?;
+    let key = client.key.copy(alloc)?;
     Ok(Transcript {
         document: number,
         key,
-        events,
-        ending: Ending::Finished,
+        events: running.events,
+        ending,
         clock: 0,
     })
 }
@@ -193,7 +229,13 @@ pub fn play_all(alloc: Global, scenario: &Scenario) -> Result<Transcripts, OutOf
     let mut transcripts = Transcripts::new(alloc);
     for (index, document) in scenario.documents.as_slice().iter().enumerate() {
         let number = index as u32;
-        let transcript = run_document(alloc, &scenario.servers, number, document)?;
+        let transcript = run_document(
+            alloc,
+            &scenario.servers,
+            &scenario.cookies,
+            number,
+            document,
+        )?;
         transcripts.push(transcript)?;
     }
     Ok(transcripts)

@@ -31,7 +31,7 @@ const NONE: Faults<'static> = Faults {
     complaints: &[],
 };
 
-const ROOM: usize = 65_536;
+const ROOM: usize = 1_048_576;
 
 fn sink(alloc: Global, fails: &[u64], zeros: &[u64]) -> Result<MemorySink, OutOfMemory> {
     MemorySink::new(
@@ -177,7 +177,110 @@ fn a_refused_scenario_is_told_with_its_place(rt: HostRuntime) -> Result<(), Fail
     check(&rt, &ran, 2, b"", b"fetchplay: scenario refused at json\n");
     let text = br#"{"format":1,"documents":[{"url":"ftp://a/","script":[]}]}"#;
     let ran = play(&rt, text, NONE)?;
-    check(&rt, &ran, 2, b"", b"fetchplay: scenario refused at /\n");
+    check(
+        &rt,
+        &ran,
+        2,
+        b"",
+        b"fetchplay: scenario refused at /documents/0/url\n",
+    );
+    Ok(())
+}
+
+const PUT_WITH_A_BODY: &[u8] =
+    br#"{"format":1,"servers":[{"origin":"https://a.test","rules":[{"status":200}]}],"documents":[{"url":"https://a.test/","script":[{"fetch":{"url":"/x","method":"PUT","mode":"same-origin","headers":[["X-A","1"]],"body":"q","referrer":"none"}}]}]}"#;
+
+const PUT_WITH_A_BODY_TEXT: &[u8] = b"fetchplay 1
+document 0 https://a.test
+fetch 0
+send https://a.test
+  PUT /x HTTP/1.1
+  Host: a.test
+  X-A: 1
+  Content-Type: text/plain;charset=UTF-8
+  Accept: */*
+  User-Agent: fetchplay/1
+  Accept-Encoding: identity
+  Origin: https://a.test
+  Content-Length: 1
+  Connection: close
+  body 1: q
+result basic 200 https://a.test/x
+  body whole 0: 
+end finished
+history
+done
+";
+
+#[test]
+fn a_put_is_sent_with_its_headers_and_body(rt: HostRuntime) -> Result<(), Fail> {
+    let ran = play(&rt, PUT_WITH_A_BODY, NONE)?;
+    check(&rt, &ran, 0, PUT_WITH_A_BODY_TEXT, b"");
+    Ok(())
+}
+
+#[test]
+fn a_cookie_is_sent_to_its_origin(rt: HostRuntime) -> Result<(), Fail> {
+    let text =
+        br#"{"format":1,"cookies":[["https://b.test","no=1"],["https://a.test","sid=7"]],"documents":[{"url":"https://a.test/","script":[{"fetch":{"url":"/","mode":"same-origin","referrer":"none"}}]}]}"#;
+    let ran = play(&rt, text, NONE)?;
+    let wanted =
+        b"fetchplay 1\ndocument 0 https://a.test\nfetch 0\nsend https://a.test\n  GET / HTTP/1.1\n  Host: a.test\n  Accept: */*\n  User-Agent: fetchplay/1\n  Accept-Encoding: identity\n  Cookie: sid=7\n  Connection: close\nresult error 25 BadHead\nend finished\nhistory\ndone\n";
+    check(&rt, &ran, 0, wanted, b"");
+    Ok(())
+}
+
+#[test]
+fn a_script_goes_on_after_what_is_refused(rt: HostRuntime) -> Result<(), Fail> {
+    let text =
+        br#"{"format":1,"documents":[{"url":"https://a.test/","script":[{"fetch":{"url":"/","method":"TRACE","mode":"same-origin","referrer":"none"}},{"fetch":{"url":"/","mode":"navigate","referrer":"none"}},{"fetch":{"url":"/","mode":"same-origin","headers":[["X-A"," 1 "],["a b","2"]],"referrer":"none"}},{"fetch":{"url":"ftp://a.test/","mode":"same-origin","referrer":"none"}}]}]}"#;
+    let ran = play(&rt, text, NONE)?;
+    let wanted =
+        b"fetchplay 1\ndocument 0 https://a.test\nfetch 0\nresult type-error 4 ForbiddenMethod\nfetch 1\nresult type-error 8 NavigateMode\nfetch 2\nresult type-error 7 BadHeader 1\nfetch 3\nresult error 1 Scheme\nend finished\nhistory\ndone\n";
+    check(&rt, &ran, 0, wanted, b"");
+    Ok(())
+}
+
+// A scenario whose script has so many fetches of `/`, which is answered by an empty body.
+fn fetches(alloc: Global, count: u32) -> Result<Bytes, OutOfMemory> {
+    let mut text = Bytes::of(
+        alloc,
+        br#"{"format":1,"servers":[{"origin":"https://a.test","rules":[{"status":200}]}],"documents":[{"url":"https://a.test/","script":["#,
+    )?;
+    for index in 0..count {
+        if index > 0 {
+            text.append(b",")?;
+        }
+        text.append(br#"{"fetch":{"url":"/","mode":"same-origin","referrer":"none"}}"#)?;
+    }
+    text.append(b"]}]}")?;
+    Ok(text)
+}
+
+// What is printed of them up to the ending.
+fn text_of_fetches(alloc: Global, count: u32) -> Result<Bytes, OutOfMemory> {
+    let mut text = Bytes::of(alloc, b"fetchplay 1\ndocument 0 https://a.test\n")?;
+    for index in 0..count {
+        text.append(b"fetch ")?;
+        text.append(index.to_string(alloc)?.as_bytes())?;
+        text.append(
+            b"\nsend https://a.test\n  GET / HTTP/1.1\n  Host: a.test\n  Accept: */*\n  User-Agent: fetchplay/1\n  Accept-Encoding: identity\n  Connection: close\nresult basic 200 https://a.test/\n  body whole 0: \n",
+        )?;
+    }
+    Ok(text)
+}
+
+#[test]
+fn a_script_ends_before_its_1025th_fetch(rt: HostRuntime) -> Result<(), Fail> {
+    let alloc = rt.alloc();
+    let ran = play(&rt, fetches(alloc, 1_025)?.as_slice(), NONE)?;
+    let mut wanted = text_of_fetches(alloc, 1_024)?;
+    wanted.append(b"end limit fetches\nhistory\ndone\n")?;
+    check(&rt, &ran, 0, wanted.as_slice(), b"");
+    let ran = play(&rt, fetches(alloc, 1_024)?.as_slice(), NONE)?;
+    let mut wanted = text_of_fetches(alloc, 1_024)?;
+    wanted.append(b"end finished\nhistory\ndone\n")?;
+    check(&rt, &ran, 0, wanted.as_slice(), b"");
     Ok(())
 }
 

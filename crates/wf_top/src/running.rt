@@ -1,0 +1,69 @@
+ghost use Rattle.std.specs.Prelude.{◌≡◌, ◌≤◌, ◌<◌, ◌+◌, ◌++◌, ◌∷◌, [], None, OnOk};
+ghost use Rattle.wf_print.specs.Lengths.{capped};
+ghost use Rattle.wf_fetch.specs.Runs.{text_length};
+
+use std::alloc::Global;
+use wf_print::{Event, Events, event_len};
+use wf_script::Rule;
+use wf_text::OutOfMemory;
+
+/// Where a document's run stands: how many commands and how many fetches have started, the events so
+/// far with the number of bytes that their lines have, as far as 64 bits tell it, and the last answer
+/// of a server.
+#[derive(Drop)]
+pub(crate) struct Running {
+    pub(crate) commands: u32,
+    pub(crate) fetches: u32,
+    pub(crate) events: Events,
+    pub(crate) printed: u64,
+    pub(crate) last: Option<Rule>,
+    pub ghost measured: { printed ≡ capped (text_length events) },
+    pub ghost few_commands: { commands ≤ 16384 },
+    pub ghost few_fetches: { fetches ≤ 1024 },
+}
+
+impl Running {
+    /// The beginning of a run.
+    pub(crate) fn new(alloc: Global) -> Running
+        ensures commands { result.commands ≡ 0 }
+        ensures fetches { result.fetches ≡ 0 }
+        ensures events { result.events ≡ [] }
+        ensures last { result.last ≡ None }
+    {
+        Running {
+            commands: 0,
+            fetches: 0,
+            events: Events::new(alloc),
+            printed: 0,
+            last: None,
+        }
+    }
+
+    /// Adds an event.
+    pub(crate) fn show(&mut self, event: Event) -> Result<(), OutOfMemory>
+        ensures events { OnOk result (self.new.events ≡ self.old.events ++ event ∷ []) }
+        ensures commands { self.new.commands ≡ self.old.commands }
+        ensures fetches { self.new.fetches ≡ self.old.fetches }
+        ensures last { self.new.last ≡ self.old.last }
+    {
+        let printed = self.printed.saturating_add(event_len(&event));
+        self.events.push(event)?;
+        self.printed = printed;
+        Ok(())
+    }
+
+    /// Starts a fetch.
+    pub(crate) fn start_fetch(&mut self) -> Result<(), OutOfMemory>
+        requires commands { self.old.commands < 16384 }
+        requires fetches { self.old.fetches < 1024 }
+        ensures events { OnOk result (self.new.events ≡ self.old.events ++ Event.Fetch self.old.fetches ∷ []) }
+        ensures commands { OnOk result (self.new.commands ≡ self.old.commands + 1) }
+        ensures fetches { OnOk result (self.new.fetches ≡ self.old.fetches + 1) }
+        ensures last { self.new.last ≡ self.old.last }
+    {
+        self.show(Event::Fetch(self.fetches))?;
+        self.commands += 1;
+        self.fetches += 1;
+        Ok(())
+    }
+}
