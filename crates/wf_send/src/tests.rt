@@ -61,6 +61,7 @@ fn letters(alloc: Global, count: usize) -> Result<Bytes, Fail> {
     Ok(Bytes::from_vec(vec![in alloc; b'A'; count]?))
 }
 
+// The fault for which a script's request is refused.
 fn fault_of(alloc: Global, init: &Init) -> Result<Option<TypeFault>, Fail>
     requires { length init.now.headers < 2 ^ 32 }
 {
@@ -104,105 +105,58 @@ fn lines_of(alloc: Global, headers: &HeaderList) -> Result<Bytes, OutOfMemory> {
     Ok(text)
 }
 
-#[test]
-fn a_request_is_refused_for_its_first_fault(rt: HostRuntime) -> Result<(), Fail> {
-    let alloc = rt.alloc();
-    for (url, method, mode, has_body, expected) in [
-        ("/", "get", Mode::Cors, false, None),
-        ("http://", "GET", Mode::Cors, false, Some(TypeFault::BadUrl)),
-        (
-            "http://u@b.test/",
-            "GET",
-            Mode::Cors,
-            false,
-            Some(TypeFault::UrlCredentials),
-        ),
-        ("/", "A B", Mode::Cors, false, Some(TypeFault::BadMethod)),
-        (
-            "/",
-            "tRaCe",
-            Mode::Cors,
-            false,
-            Some(TypeFault::ForbiddenMethod),
-        ),
-        ("/", "GET", Mode::Cors, true, Some(TypeFault::BodyWithGet)),
-        (
-            "/",
-            "PUT",
-            Mode::NoCors,
-            false,
-            Some(TypeFault::NoCorsMethod),
-        ),
-        (
-            "/",
-            "GET",
-            Mode::Navigate,
-            false,
-            Some(TypeFault::NavigateMode),
-        ),
-    ] {
-        let body = if has_body {
-            Some(letters(alloc, 1)?)
-        } else {
-            None
-        };
-        let init = asked(alloc, url.as_bytes(), method.as_bytes(), mode, body)?;
-        assert_eq!(rt; fault_of(alloc, &init)?, expected, "{method} {url}");
-    }
-    Ok(())
+// The fault of a request without headers and with a body of so many letters, or without one.
+fn fault(
+    alloc: Global,
+    url: &[u8],
+    method: &[u8],
+    mode: Mode,
+    letters_in_body: usize,
+) -> Result<Option<TypeFault>, Fail> {
+    let body = if letters_in_body == 0 {
+        None
+    } else {
+        Some(letters(alloc, letters_in_body)?)
+    };
+    let init = asked(alloc, url, method, mode, body)?;
+    fault_of(alloc, &init)
 }
 
-#[test]
-fn a_bad_header_is_told_by_its_index(rt: HostRuntime) -> Result<(), Fail> {
-    let alloc = rt.alloc();
+// The fault of a method of so many letters.
+fn fault_of_long_method(alloc: Global, count: usize) -> Result<Option<TypeFault>, Fail> {
+    let method = letters(alloc, count)?;
+    fault(alloc, b"/", method.as_slice(), Mode::Cors, 0)
+}
+
+// The fault of a request whose second header has a bad name.
+fn fault_of_bad_header(alloc: Global) -> Result<Option<TypeFault>, Fail> {
     let mut init = asked(alloc, b"/", b"GET", Mode::Cors, None)?;
     init.headers.push(pair(alloc, b"a", b"b")?)?;
     init.headers.push(pair(alloc, b"a b", b"c")?)?;
-    assert_eq!(rt; fault_of(alloc, &init)?, Some(TypeFault::BadHeader(1)));
-    Ok(())
+    fault_of(alloc, &init)
 }
 
-#[test]
-fn methods_and_bodies_have_a_greatest_length(rt: HostRuntime) -> Result<(), Fail> {
-    let alloc = rt.alloc();
-    for (length, expected) in [(65_536, None), (65_537, Some(TypeFault::TooLong))] {
-        let body = Some(letters(alloc, length)?);
-        let init = asked(alloc, b"/", b"POST", Mode::Cors, body)?;
-        assert_eq!(rt; fault_of(alloc, &init)?, expected, "a body of {length}");
-    }
-    for (length, expected) in [(16_384, None), (16_385, Some(TypeFault::TooLong))] {
-        let method = letters(alloc, length)?;
-        let init = asked(alloc, b"/", method.as_slice(), Mode::Cors, None)?;
-        assert_eq!(rt; fault_of(alloc, &init)?, expected, "a method of {length}");
-    }
-    Ok(())
-}
-
-#[test]
-fn a_put_is_sent_with_its_type_origin_and_length(rt: HostRuntime) -> Result<(), Fail> {
-    let alloc = rt.alloc();
+// A PUT with a header and a body, in mode same-origin.
+fn put_sent(alloc: Global) -> Result<Hop, Fail> {
     let body = Some(Bytes::of(alloc, b"q")?);
     let mut init = asked(alloc, b"/x", b"put", Mode::SameOrigin, body)?;
     init.headers.push(pair(alloc, b"X-A", b"1")?)?;
     let mut request = made(alloc, &init)?;
     request.referrer = Referrer::NoReferrer;
-    let hop = sent(alloc, &request, &Cookies::new(alloc))?;
-    assert!(rt; !hop.preflight);
-    assert_eq!(rt; hop.origin.as_slice(), b"https://a.test".as_slice());
-    assert_eq!(rt; hop.method.as_slice(), b"PUT".as_slice());
-    assert_eq!(rt; hop.url.as_slice(), b"/x".as_slice());
-    let lines = lines_of(alloc, &hop.headers)?;
-    let expected =
-        "Host: a.test\nX-A: 1\nContent-Type: text/plain;charset=UTF-8\nAccept: */*\nUser-Agent: fetchplay/1\nAccept-Encoding: identity\nOrigin: https://a.test\nContent-Length: 1\nConnection: close\n";
-    assert_eq!(rt; lines.as_slice(), expected.as_bytes());
-    let body = hop.body.ok_or("the body is not sent")?;
-    assert_eq!(rt; body.as_slice(), b"q".as_slice());
-    Ok(())
+    sent(alloc, &request, &Cookies::new(alloc))
 }
 
-#[test]
-fn a_get_of_another_origin_tells_referrer_and_origin(rt: HostRuntime) -> Result<(), Fail> {
-    let alloc = rt.alloc();
+fn cookie(alloc: Global, origin: &[u8], value: &[u8]) -> Result<Cookie, OutOfMemory> {
+    let origin = Bytes::of(alloc, origin)?;
+    let value = Bytes::of(alloc, value)?;
+    Ok(Cookie { origin, value })
+}
+
+// A GET of another origin, behind the CORS protocol, with credentials and a referrer.
+fn cross_origin_get(alloc: Global) -> Result<Request, Fail>
+    ensures valid { IfOk result IsRequest }
+    ensures determined { IfOk result (λ request. IsTrue (is_determined request.referrer)) }
+{
     let init = asked(
         alloc,
         b"https://b.test:8080/y?z#f",
@@ -211,18 +165,72 @@ fn a_get_of_another_origin_tells_referrer_and_origin(rt: HostRuntime) -> Result<
         None,
     )?;
     let mut request = made(alloc, &init)?;
-    let client = client_of(alloc)?;
-    request.referrer = Referrer::Address(client.url);
+    request.referrer = Referrer::Address(client_of(alloc)?.url);
     request.tainting = Tainting::Cors;
     request.credentials = Credentials::Include;
+    Ok(request)
+}
+
+fn cross_origin_get_sent(alloc: Global) -> Result<Hop, Fail> {
     let mut cookies = Cookies::new(alloc);
-    for (origin, value) in [("https://b.test", "a=1"), ("https://b.test:8080", "b=2")] {
-        cookies.push(Cookie {
-            origin: Bytes::of(alloc, origin.as_bytes())?,
-            value: Bytes::of(alloc, value.as_bytes())?,
-        })?;
-    }
-    let hop = sent(alloc, &request, &cookies)?;
+    cookies.push(cookie(alloc, b"https://b.test", b"a=1")?)?;
+    cookies.push(cookie(alloc, b"https://b.test:8080", b"b=2")?)?;
+    let request = cross_origin_get(alloc)?;
+    sent(alloc, &request, &cookies)
+}
+
+#[test]
+fn a_request_is_refused_for_its_first_fault(rt: HostRuntime) -> Result<(), Fail> {
+    let alloc = rt.alloc();
+    let cors = Mode::Cors;
+    let bad_url = fault(alloc, b"http://", b"GET", cors, 0)?;
+    assert_eq!(rt; bad_url, Some(TypeFault::BadUrl));
+    let credentials = fault(alloc, b"http://u@b.test/", b"GET", cors, 0)?;
+    assert_eq!(rt; credentials, Some(TypeFault::UrlCredentials));
+    let bad_method = fault(alloc, b"/", b"A B", cors, 0)?;
+    assert_eq!(rt; bad_method, Some(TypeFault::BadMethod));
+    let forbidden = fault(alloc, b"/", b"tRaCe", cors, 0)?;
+    assert_eq!(rt; forbidden, Some(TypeFault::ForbiddenMethod));
+    let body_with_get = fault(alloc, b"/", b"GET", cors, 1)?;
+    assert_eq!(rt; body_with_get, Some(TypeFault::BodyWithGet));
+    let no_cors = fault(alloc, b"/", b"PUT", Mode::NoCors, 0)?;
+    assert_eq!(rt; no_cors, Some(TypeFault::NoCorsMethod));
+    assert_eq!(rt; fault_of_bad_header(alloc)?, Some(TypeFault::BadHeader(1)));
+    let navigate = fault(alloc, b"/", b"GET", Mode::Navigate, 0)?;
+    assert_eq!(rt; navigate, Some(TypeFault::NavigateMode));
+    Ok(())
+}
+
+#[test]
+fn methods_and_bodies_have_a_greatest_length(rt: HostRuntime) -> Result<(), Fail> {
+    let alloc = rt.alloc();
+    assert_eq!(rt; fault(alloc, b"/", b"POST", Mode::Cors, 65_536)?, None);
+    let long_body = fault(alloc, b"/", b"POST", Mode::Cors, 65_537)?;
+    assert_eq!(rt; long_body, Some(TypeFault::TooLong));
+    assert_eq!(rt; fault_of_long_method(alloc, 16_384)?, None);
+    let long_method = fault_of_long_method(alloc, 16_385)?;
+    assert_eq!(rt; long_method, Some(TypeFault::TooLong));
+    Ok(())
+}
+
+#[test]
+fn a_put_is_sent_with_its_type_origin_and_length(rt: HostRuntime) -> Result<(), Fail> {
+    let alloc = rt.alloc();
+    let hop = put_sent(alloc)?;
+    assert_eq!(rt; hop.origin.as_slice(), b"https://a.test".as_slice());
+    assert_eq!(rt; hop.method.as_slice(), b"PUT".as_slice());
+    assert_eq!(rt; hop.url.as_slice(), b"/x".as_slice());
+    let lines = lines_of(alloc, &hop.headers)?;
+    let expected =
+        "Host: a.test\nX-A: 1\nContent-Type: text/plain;charset=UTF-8\nAccept: */*\nUser-Agent: fetchplay/1\nAccept-Encoding: identity\nOrigin: https://a.test\nContent-Length: 1\nConnection: close\n";
+    assert_eq!(rt; lines.as_slice(), expected.as_bytes());
+    Ok(())
+}
+
+#[test]
+fn a_get_of_another_origin_tells_referrer_and_origin(rt: HostRuntime) -> Result<(), Fail> {
+    let alloc = rt.alloc();
+    let hop = cross_origin_get_sent(alloc)?;
     assert_eq!(rt; hop.url.as_slice(), b"/y?z".as_slice());
     let lines = lines_of(alloc, &hop.headers)?;
     let expected =
