@@ -1,0 +1,99 @@
+-- The definitions computed on worked examples: methods, the faults of requests in their order, and the head
+-- of a PUT.
+use Rattle.std.proofs.Common.{◌≡◌, refl, false, List, [], ◌∷◌, codes, Some, None, Ok, Err}
+use Rattle.url.proofs.OnLiterals.{url_on_literals}
+use Rattle.url.specs.declared.host.Host.TheVariants.{Domain}
+use Rattle.url.specs.Parts.{Parts}
+use Rattle.wf_types.specs.declared.client.Client.{Client}
+use Rattle.wf_types.specs.declared.fault.TypeFault.TheVariants.{BadUrl, UrlCredentials, BadMethod, ForbiddenMethod, BodyWithGet, NoCorsMethod, BadHeader, NavigateMode}
+use Rattle.wf_types.specs.declared.init.Init.{Init}
+use Rattle.wf_types.specs.declared.mode.Credentials.TheVariants as credentials
+use Rattle.wf_types.specs.declared.mode.Mode.TheVariants as mode
+use Rattle.wf_types.specs.declared.mode.RedirectMode.TheVariants.{Follow}
+use Rattle.wf_types.specs.declared.mode.ReferrerPolicy.TheVariants as policy
+use Rattle.wf_types.specs.Clients.{client_of}
+use Rattle.wf_send.specs.Heads.{header, head_lines}
+use Rattle.wf_send.specs.Making.{made, new_request}
+use Rattle.wf_send.specs.Methods.{normalized}
+
+-- https://a.test/
+abbrev pub root : Parts
+root = record {
+  scheme = codes "https";
+  username = [];
+  password = [];
+  host = Some (Domain (codes "a.test"));
+  port = None;
+  path = codes "/";
+  query = None;
+  fragment = None;
+}
+
+-- the client of its document
+abbrev pub client : Client
+client = client_of root root policy.StrictOriginWhenCrossOrigin
+
+-- a GET of `/x`
+abbrev pub asked : Init
+asked = record {
+  url = codes "/x";
+  method = codes "GET";
+  mode = mode.Cors;
+  credentials = credentials.SameOrigin;
+  redirect = Follow;
+  headers = [];
+  body = None;
+  client_referrer = false;
+  referrer_policy = policy.Empty;
+  integrity = [];
+  upload = false;
+}
+
+-- a PUT of `/x` with a header and a body, in mode same-origin
+abbrev pub put : Init
+put = record asked {
+  method = codes "put";
+  mode = mode.SameOrigin;
+  headers = record { name = codes "X-A"; value = codes "1" } ∷ [];
+  body = Some (codes "q");
+}
+
+-- methods in any case
+pub methods : (normalized (codes "pUt") ≡ codes "PUT") × (normalized (codes "patch") ≡ codes "patch")
+methods = (refl, refl)
+
+-- each fault before those behind it
+pub faults_in_order : (new_request client (record put { url = codes "http://" }) ≡ Err BadUrl)
+    × (new_request client (record put { url = codes "http://u@b.test/"; method = codes "A B" }) ≡ Err UrlCredentials)
+    × (new_request client (record put { method = codes "A B" }) ≡ Err BadMethod)
+    × (new_request client (record put { method = codes "tRaCe"; mode = mode.NoCors }) ≡ Err ForbiddenMethod)
+    × (new_request client (record put { method = codes "get"; mode = mode.Navigate }) ≡ Err BodyWithGet)
+    × (new_request client (record put { mode = mode.NoCors; headers = record { name = []; value = [] } ∷ [] }) ≡ Err NoCorsMethod)
+    × (new_request client (record asked { mode = mode.Navigate; headers = record { name = codes "a"; value = [] } ∷ record { name = codes "a b"; value = [] } ∷ [] }) ≡ Err (BadHeader 1))
+    × (new_request client (record asked { mode = mode.Navigate }) ≡ Err NavigateMode)
+unfolding url_on_literals
+faults_in_order = (refl, refl, refl, refl, refl, refl, refl, refl)
+
+-- https://a.test/x
+abbrev pub target : Parts
+target = record root { path = codes "/x" }
+
+-- the request of the PUT
+pub put_made : new_request client put ≡ Ok (made client put target)
+unfolding url_on_literals
+put_made = refl
+
+-- its head
+pub put_sent : head_lines [] (made client put target) target
+    ≡ header (codes "Host") (codes "a.test")
+    ∷ header (codes "X-A") (codes "1")
+    ∷ header (codes "Content-Type") (codes "text/plain;charset=UTF-8")
+    ∷ header (codes "Accept") (codes "*/*")
+    ∷ header (codes "User-Agent") (codes "fetchplay/1")
+    ∷ header (codes "Accept-Encoding") (codes "identity")
+    ∷ header (codes "Origin") (codes "https://a.test")
+    ∷ header (codes "Content-Length") (codes "1")
+    ∷ header (codes "Connection") (codes "close")
+    ∷ []
+unfolding url_on_literals
+put_sent = refl
