@@ -1,0 +1,4 @@
+pub mod Entries
+pub mod Teaching
+pub mod Keys
+pub mod Cache

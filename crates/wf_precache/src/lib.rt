@@ -1,0 +1,13 @@
+// The CORS-preflight cache: what servers have allowed, and for how long.
+#![tactic(auto)]
+
+mod cache;
+mod entry;
+mod partition;
+mod question;
+#[cfg(test)]
+mod tests;
+
+pub use cache::Precache;
+pub use entry::{Allowed, CacheEntry};
+pub use question::{Lesson, Question};
