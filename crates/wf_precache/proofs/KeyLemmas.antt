@@ -1,9 +1,8 @@
 -- Lists of entries under keys in order: look-ups and changes of one key, as filters of the one list.
-use Rattle.std.proofs.Common.{arith, ◌≡◌, ◌++◌, ◌∷◌, [], ℕ, List, Bool, true, false, cond, not, ◌&&◌, map, filter, refl, sym, ap, ◌∙◌, subst, Option, Some, None, append_assoc}
+use Rattle.std.proofs.Common.{arith, ◌≡◌, ◌++◌, ◌∷◌, [], ℕ, List, Bool, true, false, cond, not, ◌&&◌, map, filter, refl, sym, ap, ◌∙◌, Option, Some, None, append_assoc}
 use Rattle.std.specs.declared.cmp.Ordering.{Ordering}
 use Rattle.std.specs.declared.cmp.Ordering.TheVariants.{Less, Equal, Greater}
 use Rattle.std.specs.Ordering.{is_eq, is_lt, match_ordering, nat_cmp, ordering_reverse}
-use Rattle.std.specs.Cmp.{IsTotalOrder}
 use Rattle.std.specs.Cmp.Lexicographic.{slice_cmp, bytes_decides, texts_ties, nat_list_cmp_total, nat_list_eq_equiv}
 use Rattle.std.specs.BTreeMap.{insert_entry, is_at}
 use Rattle.std.specs.Map.{keys_of, lookup, remove_entry, set_value}
@@ -11,14 +10,12 @@ use Rattle.std.specs.List.{AllByRecursion}
 use Rattle.std.specs.List.Sorted.{IsStrictlySortedBy}
 use Rattle.std.specs.Option.{unwrap_or}
 use Rattle.std.specs.Str.{bytes_eq}
-use Rattle.std.proofs.lemmas.List.{append-nil}
 use Rattle.std.proofs.lemmas.List.Elements.{filter-append}
 use Rattle.std.proofs.lemmas.Map.Keys.{sorted_head, sorted_tail}
-use Rattle.std.proofs.lemmas.Grind.{common_steps}
 use Rattle.wf_precache.specs.declared.entry.CacheEntry.{CacheEntry}
 use Rattle.wf_precache.specs.Cache.{cleared}
 use Rattle.wf_precache.specs.Entries.{is_of}
-use Rattle.wf_precache.specs.Keys.{Keyed, before, behind, entries_of, key_cmp, keyed, listed, stands_before, with_entries}
+use Rattle.wf_precache.specs.Keys.{Keyed, entries_of, key_cmp, keyed, listed, stands_before, with_entries}
 
 -- the entries under one key all pass a test of the key, or none does
 part-kept : (test : List ℕ → Bool) (key : List ℕ) (entries : List CacheEntry) → test key ≡ true → filter (λ (k : Keyed). test k.key) (map (keyed key) entries) ≡ map (keyed key) entries

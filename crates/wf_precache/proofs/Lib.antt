@@ -1,3 +1,4 @@
+pub mod Computed
 pub mod KeyLemmas
 pub mod ListLemmas
 pub mod TeachLemmas

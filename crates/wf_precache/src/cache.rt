@@ -3,6 +3,9 @@ ghost use Rattle.std.specs.BTreeMap.{IsOrdered};
 ghost use Rattle.wf_precache.specs.Cache.{cleared, covers, learned};
 ghost use Rattle.wf_precache.specs.Keys.{entries_of, key_cmp, listed, with_entries};
 
+#[cfg(test)]
+mod tests;
+
 use crate::entry::CacheEntry;
 use crate::partition::{Partition, covers};
 use crate::question::{Lesson, Question};
@@ -65,12 +68,7 @@ fn put(
 }
 
 // Takes out the entries of a key, an origin and a URL.
-fn clear_in(
-    partitions: &mut BTreeMap<Vec<u8>, Partition>,
-    key: &[u8],
-    origin: &[u8],
-    url: &[u8],
-)
+fn clear_in(partitions: &mut BTreeMap<Vec<u8>, Partition>, key: &[u8], origin: &[u8], url: &[u8])
     requires { IsOrdered (key_cmp (λ key. key.items)) partitions.old }
     ensures ordered { IsOrdered (key_cmp (λ key. key.items)) partitions.new }
     ensures cleared { listed (λ key. key.items) partitions.new.entries ≡ cleared key.now origin.now url.now (listed (λ key. key.items) partitions.old.entries) }

@@ -99,9 +99,7 @@ impl CacheEntry {
     pub(crate) fn is_entry_match(&self, origin: &[u8], url: &[u8], include: bool) -> bool
         ensures { result ≡ is_entry_match origin.now url.now include self.now }
     {
-        self.origin.as_slice() == origin
-            && self.url.as_slice() == url
-            && (!include || self.include)
+        self.origin.as_slice() == origin && self.url.as_slice() == url && (!include || self.include)
     }
 
     pub(crate) fn copy(&self, alloc: Global) -> Result<CacheEntry, OutOfMemory>

@@ -91,11 +91,7 @@ pub fn covers(entries: &[CacheEntry], question: &Question, now: u64) -> bool
 }
 
 // A copy of the entries that are alive.
-fn alive_of(
-    alloc: Global,
-    entries: &[CacheEntry],
-    now: u64,
-) -> Result<Vec<CacheEntry>, OutOfMemory>
+fn alive_of(alloc: Global, entries: &[CacheEntry], now: u64) -> Result<Vec<CacheEntry>, OutOfMemory>
     ensures { IfOk result (λ alive. alive.items ≡ filter (is_alive now) entries.now) }
 {
     let mut alive = Vec::new(alloc);
@@ -226,12 +222,7 @@ impl Partition {
     }
 
     // Learns the methods, in order.
-    fn teach_methods(
-        &mut self,
-        alloc: Global,
-        lesson: &Lesson,
-        now: u64,
-    ) -> Result<(), OutOfMemory>
+    fn teach_methods(&mut self, alloc: Global, lesson: &Lesson, now: u64) -> Result<(), OutOfMemory>
         ensures { OnOk result (self.new ≡ fold (with_item lesson.now now) self.old (methods_of lesson.now)) }
     {
         for index in 0..lesson.methods.len() {
@@ -242,12 +233,7 @@ impl Partition {
     }
 
     // Learns the header names, in order.
-    fn teach_names(
-        &mut self,
-        alloc: Global,
-        lesson: &Lesson,
-        now: u64,
-    ) -> Result<(), OutOfMemory>
+    fn teach_names(&mut self, alloc: Global, lesson: &Lesson, now: u64) -> Result<(), OutOfMemory>
         ensures { OnOk result (self.new ≡ fold (with_item lesson.now now) self.old (names_of lesson.now)) }
     {
         for index in 0..lesson.names.len() {

@@ -1,4 +1,4 @@
-use Rattle.std.proofs.Common.{sym, ap, ◌∙◌, ◌≡◌, []}
+use Rattle.std.proofs.Common.{ap, ◌∙◌}
 use Rattle.wf_precache.specs.Keys.{entries_of, listed}
 use Rattle.wf_precache.proofs.ListLemmas.{empty}
 use Rattle.wf_precache.proofs.KeyLemmas.{entries-emptied}

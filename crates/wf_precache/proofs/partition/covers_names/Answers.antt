@@ -1,5 +1,4 @@
-use Rattle.std.proofs.Common.{arith, ◌≡◌, ◌&&◌, drop, ◌+◌, List, ℕ}
-use Rattle.std.specs.List.{list_all}
+use Rattle.std.proofs.Common.{arith}
 use Rattle.wf_precache.specs.Entries.{has_match}
 use Rattle.wf_precache.specs.declared.entry.Allowed.TheVariants.{HeaderName}
 use Rattle.wf_precache.proofs.ListLemmas.{list_all-from}

@@ -1,4 +1,4 @@
-use Rattle.std.proofs.Common.{arith, refl, not, ◌≡◌, ◌≤◌, length, filter}
+use Rattle.std.proofs.Common.{arith, refl, not, ◌≤◌, length, filter}
 use Rattle.std.proofs.lemmas.List.Filters.{length-filter_both}
 use Rattle.wf_precache.specs.Entries.{is_alive}
 use Rattle.wf_precache.proofs.partition.Partition.taught.Goals as goal
