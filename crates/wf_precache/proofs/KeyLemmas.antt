@@ -18,29 +18,29 @@ use Rattle.wf_precache.specs.Entries.{is_of}
 use Rattle.wf_precache.specs.Keys.{Keyed, entries_of, key_cmp, keyed, listed, stands_before, with_entries}
 
 -- the entries under one key all pass a test of the key, or none does
-part-kept : (test : List ℕ → Bool) (key : List ℕ) (entries : List CacheEntry) → test key ≡ true → filter (λ (k : Keyed). test k.key) (map (keyed key) entries) ≡ map (keyed key) entries
+pub part-kept : (test : List ℕ → Bool) (key : List ℕ) (entries : List CacheEntry) → test key ≡ true → filter (λ (k : Keyed). test k.key) (map (keyed key) entries) ≡ map (keyed key) entries
 part-kept test key [] passes = refl
 part-kept test key (e ∷ es) passes = rw passes (ap (λ (ks : List Keyed). keyed key e ∷ ks) (part-kept test key es passes))
 
-part-dropped : (test : List ℕ → Bool) (key : List ℕ) (entries : List CacheEntry) → test key ≡ false → filter (λ (k : Keyed). test k.key) (map (keyed key) entries) ≡ []
+pub part-dropped : (test : List ℕ → Bool) (key : List ℕ) (entries : List CacheEntry) → test key ≡ false → filter (λ (k : Keyed). test k.key) (map (keyed key) entries) ≡ []
 part-dropped test key [] fails = refl
 part-dropped test key (e ∷ es) fails = rw fails (part-dropped test key es fails)
 
 -- where a key stands to another, by the order of their bytes
 module _ (key other : List ℕ) (o : Ordering) (is : slice_cmp nat_cmp key other ≡ o) where
-  same-by : bytes_eq other key ≡ is_eq o
+  pub same-by : bytes_eq other key ≡ is_eq o
   same-by = nat_list_eq_equiv.symm other key ∙ (texts_ties key other ∙ ap is_eq is)
 
-  low-by : stands_before other key ≡ is_lt (ordering_reverse o)
+  pub low-by : stands_before other key ≡ is_lt (ordering_reverse o)
   low-by = ap is_lt (nat_list_cmp_total.antisymm other key ∙ ap ordering_reverse is)
 
-  high-by : stands_before key other ≡ is_lt o
+  pub high-by : stands_before key other ≡ is_lt o
   high-by = ap is_lt is
 
 equal-keys : (key other : List ℕ) → slice_cmp nat_cmp key other ≡ Equal → other ≡ key
 equal-keys key other is = (bytes_decides other key).0 (same-by key other Equal is)
 
-entries-back : (key : List ℕ) (entries : List CacheEntry) → map (λ (k : Keyed). k.entry) (map (keyed key) entries ++ []) ≡ entries
+pub entries-back : (key : List ℕ) (entries : List CacheEntry) → map (λ (k : Keyed). k.entry) (map (keyed key) entries ++ []) ≡ entries
 entries-back key [] = refl
 entries-back key (e ∷ es) = ap (λ (xs : List CacheEntry). e ∷ xs) (entries-back key es)
 

@@ -1,4 +1,5 @@
 pub mod Computed
+pub mod KeyLaws
 pub mod KeyLemmas
 pub mod ListLemmas
 pub mod TeachLemmas

@@ -1,7 +1,7 @@
 -- Steps of loops over lists.
 use Rattle.std.proofs.Common.{arith, add-one, ◌≡◌, ◌<◌, ◌++◌, ◌+◌, ◌∷◌, [], ℕ, zero, suc, List, length, take, drop, get_or, set, map, Bool, false, true, cond, ◌&&◌, ◌||◌, ◌==◌, Some, refl, subst, sym, ap, ◌∙◌}
 use Rattle.std.specs.List.{fold, list_all, list_any, slice_get}
-use Rattle.std.proofs.lemmas.List.{at_drop_more, get_or_default}
+use Rattle.std.proofs.lemmas.List.{at_drop_more, get_or_default, take_more}
 use Rattle.std.proofs.lemmas.List.Folds.{list_any_more}
 use Rattle.std.proofs.lemmas.Option.{slice_get_within, get_or_from_slice_get}
 use Rattle.std.proofs.lemmas.Grind.{common_steps}
@@ -60,3 +60,9 @@ folded-from step made xs i x y before after whole at same is so_far =
 pub empty : {X : Type 0} (xs ys : List X) → ys ≡ xs → true ≡ (length ys == 0) → xs ≡ []
 empty [] ys is none = refl
 empty (x ∷ xs) ys is none = let some : true ≡ (length (x ∷ xs) == 0) = subst (λ (l : List _). true ≡ (length l == 0)) is none in absurd (grind (arith, some))
+
+-- one item more is copied
+pub copied-more : {X : Type 0} (xs : List X) (i : ℕ) (x y : X) (before after : List X) → slice_get xs i ≡ Some x → y ≡ x → after ≡ before ++ y ∷ [] → before ≡ take i xs → after ≡ take (i + 1) xs
+copied-more xs i x y before after at same is so_far =
+    let found : get_or xs i x ≡ y = get_or_from_slice_get xs i x x at ∙ sym same in
+    is ∙ ((λ k. so_far k ++ (sym found) k ∷ []) ∙ sym (take_more xs i x (slice_get_within xs i x at)))
