@@ -2,3 +2,4 @@ pub mod Entries
 pub mod Teaching
 pub mod Keys
 pub mod Cache
+pub mod Laws

@@ -3,6 +3,7 @@
 
 mod cache;
 mod entry;
+mod laws;
 mod partition;
 mod question;
 #[cfg(test)]
@@ -10,4 +11,5 @@ mod tests;
 
 pub use cache::Precache;
 pub use entry::{Allowed, CacheEntry};
+pub use laws::{law_clears, law_lessons};
 pub use question::{Lesson, Question};
