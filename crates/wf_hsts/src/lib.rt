@@ -1,0 +1,8 @@
+// HTTP Strict Transport Security: the header field, and the hosts that are known to ask for it.
+#![tactic(auto)]
+
+mod directives;
+mod pieces;
+mod sts;
+
+pub use sts::{Sts, parse_sts};
