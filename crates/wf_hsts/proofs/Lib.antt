@@ -2,6 +2,10 @@ pub mod BlankLemmas
 pub mod CuttingLemmas
 pub mod EqualsLemmas
 pub mod FieldLemmas
+pub mod IndexLemmas
+pub mod NameLemmas
+pub mod OrderLemmas
 pub mod QuotedLemmas
+pub mod SortedLemmas
 pub mod StsLemmas
 pub mod TwiceLemmas

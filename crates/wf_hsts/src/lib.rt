@@ -2,7 +2,10 @@
 #![tactic(auto)]
 
 mod directives;
+mod hosts;
+mod index;
 mod pieces;
 mod sts;
 
+pub use hosts::{HstsList, KnownHost};
 pub use sts::{Sts, parse_sts};
