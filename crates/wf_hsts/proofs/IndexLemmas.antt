@@ -1,5 +1,5 @@
 -- The two indexes of known hosts, and the list that they hold.
-use Rattle.std.proofs.Common.{◌≡◌, ◌==◌, ◌&&◌, not, ℕ, Bool, true, false, cond, List, [], ◌∷◌, map, Option, Some, None, refl, ap, sym, subst, ◌∙◌, if◌then◌else◌, nat_lt, arith}
+use Rattle.std.proofs.Common.{◌≡◌, ◌<◌, length, ◌==◌, ◌&&◌, not, ℕ, Bool, true, false, cond, List, [], ◌∷◌, map, Option, Some, None, refl, ap, sym, subst, ◌∙◌, if◌then◌else◌, nat_lt, arith, eq-eqb}
 use Rattle.std.proofs.lemmas.Bool.{eqb-true}
 use Rattle.std.proofs.lemmas.Grind.{common_steps}
 use Rattle.std.proofs.lemmas.Map.Keys.{sorted_head, sorted_tail}
@@ -7,17 +7,18 @@ use Rattle.std.specs.BTreeMap.{insert_entry}
 use Rattle.std.specs.List.{AllByRecursion, list_any}
 use Rattle.std.specs.List.Sorted.{IsStrictlySortedBy}
 use Rattle.std.specs.Map.{remove_entry}
-use Rattle.std.specs.Ordering.{is_eq, match_ordering, nat_cmp, ordering_then}
+use Rattle.std.specs.Ordering.{is_eq, is_gt, match_ordering, nat_cmp, ordering_then}
 use Rattle.std.specs.Str.{bytes_eq}
 use Rattle.std.specs.declared.cmp.Ordering.{Ordering}
 use Rattle.std.specs.declared.cmp.Ordering.TheVariants.{Equal, Greater, Less}
-use Rattle.wf_hsts.specs.Hosts.{AreSorted, text_cmp, with_host, without}
+use Rattle.wf_hsts.specs.Hosts.{AreSorted, Each, holds, text_cmp, with_host, without, without_first_to_end}
 use Rattle.wf_hsts.specs.Index.{IsIndexed, end_cmp, ends_at, known_of, listed, name_cmp, term_of}
 use Rattle.wf_hsts.specs.Terms.{term_in}
 use Rattle.wf_hsts.specs.declared.hosts.KnownHost.{KnownHost}
 use Rattle.wf_hsts.specs.declared.index.Term.{Term}
-use Rattle.wf_hsts.proofs.OrderLemmas.{bytes-order-back, text-equal}
-use Rattle.wf_hsts.proofs.SortedLemmas.{ComeAfter, insert-with, insert_known, remove-without, remove_known}
+use Rattle.wf_hsts.proofs.FirstLemmas.{each-term, end_order, first-goes, term-holds}
+use Rattle.wf_hsts.proofs.OrderLemmas.{bytes-order, bytes-order-back, bytes-self, text-equal}
+use Rattle.wf_hsts.proofs.SortedLemmas.{ComeAfter, insert-with, insert_known, remove-without, remove_known, term_from}
 
 -- ---- tests of ends
 
@@ -26,8 +27,11 @@ eq-then Less p = refl
 eq-then Equal p = refl
 eq-then Greater p = refl
 
-eq-flip : (a b : ℕ) → (a == b) ≡ (b == a)
+pub eq-flip : (a b : ℕ) → (a == b) ≡ (b == a)
 eq-flip a b = grind (arith, common_steps)
+
+eqb-self : (n : ℕ) → (n == n) ≡ true
+eqb-self n = eq-eqb n n refl
 
 eq-nat : (a b : ℕ) → is_eq (nat_cmp a b) ≡ (a == b)
 eq-nat a b = grind (arith, common_steps)
@@ -266,3 +270,43 @@ module _ {V : Type 0} (items : V → List ℕ) where
         (λ e. term-same host (items q.1) es (Some was) (equal-text host (items q.1) e) there) (agree q)
       ∙ ap (λ text. ends_at items q.0 (cond (is_eq (text_cmp text (items q.1))) (Some term) (term_of items (items q.1) es))) (sym named)
       ∙ ap (λ o. ends_at items q.0 o) (sym (terms q.1))
+
+  -- ---- the first of the ends
+
+  -- each host of some entries ends no earlier than this end
+  each-late : (end : ℕ × V) (all es : List (V × Term)) → ((q : ℕ × V) → ends_at items q.0 (term_of items (items q.1) all) ≡ true → is_gt (end_cmp items end q) ≡ false)
+      → Each (λ known. term_in known.host (listed items all) ≡ Some (term_from known)) (listed items es)
+      → Each (λ other. is_gt (end_order end.0 (items end.1) other) ≡ false) (listed items es)
+  each-late end all [] late found = tt
+  each-late end all (e ∷ es) late found =
+      (late (e.1.until, e.0) (ap (λ o. ends_at items e.1.until o) (term-listed (items e.0) all ∙ found.0) ∙ eqb-self e.1.until), each-late end all es late found.1)
+
+  record TermThere (until : ℕ) (found : Option Term) : Type 0 where
+    term : Term
+    is : found ≡ Some term
+    until_is : term.until ≡ until
+
+  term-there : (until : ℕ) (found : Option Term) → ends_at items until found ≡ true → TermThere until found
+  term-there until None e = absurd (cc)
+  term-there until (Some term) e = record { term = term; is = refl; until_is = eqb-true term.until until e }
+
+  -- the host of the first end is the first to end
+  pub first-is : (end : ℕ × V) (es : List (V × Term)) (ends : List (ℕ × V)) → IsStrictlySortedBy (name_cmp items) (map (λ e. e.0) es) → Agree es ends
+      → ends_hold end ends ≡ true → ((q : ℕ × V) → ends_hold q ends ≡ true → is_gt (end_cmp items end q) ≡ false)
+      → (holds (items end.1) (listed items es) ≡ true) × (without_first_to_end (listed items es) ≡ without (items end.1) (listed items es))
+  first-is end es ends sorted agree there least =
+      let t = term-there end.0 (term_of items (items end.1) es) (sym (agree end) ∙ there) in
+      let found : term_in (items end.1) (listed items es) ≡ Some t.term = sym (term-listed (items end.1) es) ∙ t.is in
+      let hosts = listed-sorted es sorted in
+      let late = each-late end es es (λ q e. least q (agree q ∙ e)) (each-term (listed items es) hosts) in
+      (term-holds (items end.1) (listed items es) t.term found,
+       first-goes (items end.1) t.term (listed items es) hosts found (subst (λ u. Each (λ other. is_gt (end_order u (items end.1) other) ≡ false) (listed items es)) (sym t.until_is) late))
+
+  -- with no end there is no host
+  pub none-first : (es : List (V × Term)) (ends : List (ℕ × V)) → Agree es ends → (0 < length ends → ⊥) → listed items es ≡ []
+  none-first es (end ∷ ends) agree none = absurd (none (omega arith))
+  none-first [] [] agree none = refl
+  none-first (e ∷ es) [] agree none =
+      let there : term_of items (items e.0) (e ∷ es) ≡ Some e.1 = rw (← bytes-order (items e.0) (items e.0), bytes-self (items e.0)) refl in
+      let held : false ≡ true = agree (e.1.until, e.0) ∙ ap (λ o. ends_at items e.1.until o) there ∙ eqb-self e.1.until in
+      absurd (cc)

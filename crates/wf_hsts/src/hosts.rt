@@ -1,6 +1,6 @@
-ghost use Rattle.std.specs.Prelude.{◌≡◌, ◌^◌, ◌<◌, ◌&&◌, [], length, nat_lt, OnOk, OnErr};
+ghost use Rattle.std.specs.Prelude.{◌≡◌, ◌^◌, ◌<◌, ◌≤◌, ◌&&◌, [], length, nat_lt, IfOk, OnOk, OnErr};
 ghost use Rattle.wf_hsts.specs.Hosts.{AreHosts, is_under, matches_host, noted, without};
-ghost use Rattle.wf_hsts.specs.Terms.{passes, term_in};
+ghost use Rattle.wf_hsts.specs.Terms.{IsLeaving, begins_under, covers, holds_alive, passes};
 
 use crate::index::{Index, Term};
 use crate::sts::Sts;
@@ -26,6 +26,7 @@ pub struct KnownHost {
 /// most 4,096.
 #[derive(Drop)]
 pub struct HstsList {
+    alloc: Global,
     index: Index,
 }
 
@@ -60,18 +61,66 @@ fn covers_subdomains(term: Option<Term>, now: u64) -> bool
     }
 }
 
-/// Whether a text behind one of the name's dots is a host with subdomains whose term has not ended.
+/// Whether the host itself is there, and its term has not ended.
+fn holds_alive(index: &Index, host: &[u8], now: u64) -> bool
+    ensures { result ≡ holds_alive index.now host.now now }
+{
+    is_alive(index.term_of(host), now)
+}
+
+/// Whether the host is there with subdomains, and its term has not ended.
+fn covers(index: &Index, host: &[u8], now: u64) -> bool
+    ensures { result ≡ covers index.now host.now now }
+{
+    covers_subdomains(index.term_of(host), now)
+}
+
+/// Whether the text is a dot and such a host.
+fn begins_under(index: &Index, text: &[u8], now: u64) -> bool
+    ensures { result ≡ begins_under index.now text.now now }
+{
+    match text {
+        [b'.', host @ ..] => covers(index, host, now),
+        _ => false,
+    }
+}
+
+/// Whether the name ends in a dot and such a host.
 fn is_under(index: &Index, name: &[u8], now: u64) -> bool
     ensures { result ≡ is_under index.now name.now now }
 {
-    let mut rest = name;
-    while let [first, after @ ..] = rest {
-        if *first == b'.' && covers_subdomains(index.term_of(after), now) {
+    for start in 0..name.len() {
+        if begins_under(index, name.split_at(start).1, now) {
             return true;
         }
-        rest = after;
     }
     false
+}
+
+/// Whether fewer than 4,096 other hosts are known.
+fn has_room(index: &Index, host: &[u8]) -> bool
+    requires { length index.now ≤ 4096 }
+    ensures { result ≡ nat_lt (length (without host.now index.now)) 4096 }
+{
+    index.len() < MOST_HOSTS || index.term_of(host).is_some()
+}
+
+/// The host that goes where there is no room for this one.
+fn leaving_for(
+    alloc: Global,
+    index: &Index,
+    host: &[u8],
+) -> Result<Option<Bytes>, OutOfMemory>
+    requires { length index.now ≤ 4096 }
+    ensures { IfOk result (λ leaving. IsLeaving leaving host.now index.now) }
+{
+    if has_room(index, host) {
+        return Ok(None);
+    }
+    match index.first_to_end() {
+        Some(name) => Ok(Some(Bytes::of(alloc, name)?)),
+        None => Ok(None),
+    }
 }
 
 impl HstsList {
@@ -80,6 +129,7 @@ impl HstsList {
         ensures { result ≡ [] }
     {
         HstsList {
+            alloc,
             index: Index::new(alloc),
         }
     }
@@ -98,7 +148,7 @@ impl HstsList {
     pub fn is_known(&self, host: &[u8], now: u64) -> bool
         ensures { result ≡ matches_host self.now host.now now }
     {
-        is_alive(self.index.term_of(host), now) || is_under(&self.index, host, now)
+        holds_alive(&self.index, host, now) || is_under(&self.index, host, now)
     }
 
     /// Takes the host out, if it is there. It takes no memory.
@@ -106,5 +156,32 @@ impl HstsList {
         ensures { self.new ≡ without host.now self.old }
     {
         self.index.take_out(host);
+    }
+
+    /// Takes in what a Strict-Transport-Security field of the host says at this time, in seconds.
+    /// With age 0 the host is forgotten; else it is known until the time and the age, in the place
+    /// of what was known of it. Where 4,096 other hosts are known, the one whose term ends first
+    /// goes, of some whose terms end then the first by its bytes (profile). Want of memory leaves
+    /// the list as it was (RFC 6797, section 8.1).
+    pub fn note(&mut self, host: Bytes, sts: Sts, now: u64) -> Result<(), OutOfMemory>
+        requires time { now < 2 ^ 48 }
+        requires age { sts.age < 2 ^ 48 }
+        ensures ok { OnOk result (self.new ≡ noted host sts now self.old) }
+        ensures err { OnErr result (self.new ≡ self.old) }
+    {
+        if sts.age == 0 {
+            self.forget(host.as_slice());
+            return Ok(());
+        }
+        let term = Term {
+            subdomains: sts.subdomains,
+            until: now + sts.age,
+        };
+        let leaving = leaving_for(self.alloc, &self.index, host.as_slice())?;
+        self.index.put(self.alloc, host.as_slice(), term)?;
+        if let Some(name) = leaving {
+            self.index.take_out(name.as_slice());
+        }
+        Ok(())
     }
 }

@@ -18,7 +18,6 @@ pub(crate) struct Term {
 /// bytes of the host.
 #[derive(Drop)]
 pub(crate) struct Index {
-    alloc: Global,
     /// Each host's term.
     terms: BTreeMap<Vec<u8>, Term>,
     /// When each host's term ends, the earliest first.
@@ -42,7 +41,6 @@ impl Index {
         ensures { result ≡ [] }
     {
         Index {
-            alloc,
             terms: BTreeMap::new(alloc),
             ends: BTreeSet::new(alloc),
         }
@@ -83,24 +81,35 @@ impl Index {
     }
 
     /// Gives a host a term, in the place of the one that it has.
-    pub(crate) fn put(&mut self, host: &[u8], term: Term) -> Result<(), OutOfMemory>
+    pub(crate) fn put(
+        &mut self,
+        alloc: Global,
+        host: &[u8],
+        term: Term,
+    ) -> Result<(), OutOfMemory>
         ensures ok { OnOk result (self.new ≡ with_host (known_host host.now term.subdomains term.until) self.old) }
         ensures err { OnErr result (self.new ≡ self.old) }
     {
         match self.term_of(host) {
-            Some(old) => self.replace(host, old, term),
-            None => self.add(host, term),
+            Some(old) => self.replace(alloc, host, old, term),
+            None => self.add(alloc, host, term),
         }
     }
 
     // Gives a host that is there another term.
-    fn replace(&mut self, host: &[u8], old: Term, term: Term) -> Result<(), OutOfMemory>
+    fn replace(
+        &mut self,
+        alloc: Global,
+        host: &[u8],
+        old: Term,
+        term: Term,
+    ) -> Result<(), OutOfMemory>
         requires { term_in host.now self.old ≡ Some old }
         ensures ok { OnOk result (self.new ≡ with_host (known_host host.now term.subdomains term.until) self.old) }
         ensures err { OnErr result (self.new ≡ self.old) }
     {
-        let end = (term.until, Vec::from_slice(self.alloc, host)?);
-        let ended = (old.until, Vec::from_slice(self.alloc, host)?);
+        let end = (term.until, Vec::from_slice(alloc, host)?);
+        let ended = (old.until, Vec::from_slice(alloc, host)?);
         if self.ends.insert(end)? {
             self.ends.remove(&ended);
         }
@@ -112,13 +121,13 @@ impl Index {
     }
 
     // Adds a host that is not there.
-    fn add(&mut self, host: &[u8], term: Term) -> Result<(), OutOfMemory>
+    fn add(&mut self, alloc: Global, host: &[u8], term: Term) -> Result<(), OutOfMemory>
         requires { term_in host.now self.old ≡ None }
         ensures ok { OnOk result (self.new ≡ with_host (known_host host.now term.subdomains term.until) self.old) }
         ensures err { OnErr result (self.new ≡ self.old) }
     {
-        let name = Vec::from_slice(self.alloc, host)?;
-        let end = (term.until, Vec::from_slice(self.alloc, host)?);
+        let name = Vec::from_slice(alloc, host)?;
+        let end = (term.until, Vec::from_slice(alloc, host)?);
         self.ends.insert(end)?;
         match self.terms.insert(name, term) {
             Ok(_) => Ok(()),
