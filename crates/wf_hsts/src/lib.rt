@@ -1,0 +1,11 @@
+// HTTP Strict Transport Security: the header field, and the hosts that are known to ask for it.
+#![tactic(auto)]
+
+mod directives;
+mod hosts;
+mod index;
+mod pieces;
+mod sts;
+
+pub use hosts::{HstsList, KnownHost};
+pub use sts::{Sts, parse_sts};
