@@ -89,4 +89,4 @@ module _ (lessons : LessonsKeepOtherKeys) (clears : ClearsKeepOtherKeys) (key : 
 pub past-replies : LessonsKeepOtherKeys → ClearsKeepOtherKeys → PastReplies
 past-replies lessons clears key opening history op is =
     reply-alike lessons clears key (book_after opening (past key history)) (book_after opening history) op is
-      (past-agrees lessons clears key history opening opening (record { hosts = refl; entries = refl }))
+    (past-agrees lessons clears key history opening opening (record { hosts = refl; entries = refl }))

@@ -1,3 +1,4 @@
+pub mod CacheLaws
 pub mod Computed
 pub mod KeyLaws
 pub mod KeyLemmas

@@ -11,5 +11,5 @@ mod tests;
 
 pub use cache::Precache;
 pub use entry::{Allowed, CacheEntry};
-pub use laws::{law_clears, law_lessons};
+pub use laws::{law_caches, law_clears, law_lessons};
 pub use question::{Lesson, Question};
