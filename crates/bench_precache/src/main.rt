@@ -4,7 +4,7 @@
 
 use std::alloc::{AllocError, Global};
 use std::process::ExitCode;
-use std::rt::{Env, Print};
+use std::rt::Env;
 use std::{env, io};
 use wf_precache::{Lesson, Precache, Question};
 use wf_text::{Bytes, BytesList, OutOfMemory};
