@@ -49,7 +49,7 @@ pub field-step : (rest : List ℕ) (old : List Directive) (whole added : Option 
     → whole ≡ with_more added (directives_in (pieces_behind behind))
 field-step rest old whole added piece behind end e front back before now =
     let cut : directives_of rest ≡ with_more (piece_in piece) (directives_in (pieces_behind behind)) =
-        rw (pieces-cut Outside rest, front, back, e) refl in
+    rw (pieces-cut Outside rest, front, back, e) refl in
     before ∙ ap (λ found. with_more (Some old) found) cut ∙ with_more-assoc (Some old) (piece_in piece) (directives_in (pieces_behind behind))
     ∙ ap (λ found. with_more found (directives_in (pieces_behind behind))) (sym now)
 

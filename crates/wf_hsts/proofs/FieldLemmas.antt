@@ -25,9 +25,9 @@ is_plain byte = not (byte == 34) && (not (byte == 59) && not (byte == 61))
 plain-by : (p : ℕ → Bool) → p 34 ≡ false → p 59 ≡ false → p 61 ≡ false → (byte : ℕ) → p byte ≡ true → is_plain byte ≡ true
 plain-by p a b c byte taken =
     let apart-from : (k : ℕ) → p k ≡ false → (byte == k) ≡ false =
-        λ k refused. unequal byte k (λ same.
-          let there : p k ≡ true = subst (λ n. p n ≡ true) same taken in
-          cc) in
+    λ k refused. unequal byte k (λ same.
+    let there : p k ≡ true = subst (λ n. p n ≡ true) same taken in
+    cc) in
     rw (apart-from 34 a, apart-from 59 b, apart-from 61 c) refl
 
 all-plain : (p : ℕ → Bool) → ((byte : ℕ) → p byte ≡ true → is_plain byte ≡ true) → (text : List ℕ) → list_all p text ≡ true → list_all is_plain text ≡ true
@@ -95,7 +95,7 @@ directive-read _ _ (IsDirective.bare name text token padded) =
 directive-read _ _ (IsDirective.valued name left written right value token padded is_value padded_value) =
     let plain = padded-plain name left token padded in
     let read : value_in (trimmed tab_or_space right) ≡ Some value =
-        ap (λ l. value_in l) (padded-trimmed written right padded_value (value-solid written value is_value)) ∙ value-read written value is_value in
+    ap (λ l. value_in l) (padded-trimmed written right padded_value (value-solid written value is_value)) ∙ value-read written value is_value in
     read-parts (left ++ 61 ∷ right) name (Some right) token (ap (λ l. trimmed tab_or_space l) (until-plain left right plain) ∙ padded-trimmed name left padded (token-solid name token)) (after-plain left right plain)
     ∙ ap (λ found. option_map (λ v. directive name (Some v)) found) read
 
@@ -126,11 +126,11 @@ passes-both a b p q = record {
 plain-next : (byte : ℕ) → is_plain byte ≡ true → next_place Outside byte ≡ Some Outside
 plain-next byte plain =
     let quote : (byte == 34) ≡ false = unequal byte 34 (λ same.
-      let there : is_plain 34 ≡ true = subst (λ b. is_plain b ≡ true) same plain in
-      cc) in
+    let there : is_plain 34 ≡ true = subst (λ b. is_plain b ≡ true) same plain in
+    cc) in
     let semicolon : (byte == 59) ≡ false = unequal byte 59 (λ same.
-      let there : is_plain 59 ≡ true = subst (λ b. is_plain b ≡ true) same plain in
-      cc) in
+    let there : is_plain 59 ≡ true = subst (λ b. is_plain b ≡ true) same plain in
+    cc) in
     rw (semicolon, quote) refl
 
 plain-over : (text rest : List ℕ) → list_all is_plain text ≡ true → pieces Outside (text ++ rest) ≡ onto text (pieces Outside rest)

@@ -64,9 +64,9 @@ mutual
 token-unquoted : (byte : ℕ) (text : List ℕ) → is_token (byte ∷ text) ≡ true → (byte == 34) ≡ false
 token-unquoted byte text token =
     unequal byte 34 (λ same.
-      let taken : is_tchar byte ≡ true = first_so (is_tchar byte) (list_all is_tchar text) (second_so (not (length (byte ∷ text) == 0)) (list_all is_tchar (byte ∷ text)) token) in
-      let there : is_tchar 34 ≡ true = subst (λ b. is_tchar b ≡ true) same taken in
-      cc)
+    let taken : is_tchar byte ≡ true = first_so (is_tchar byte) (list_all is_tchar text) (second_so (not (length (byte ∷ text) == 0)) (list_all is_tchar (byte ∷ text)) token) in
+    let there : is_tchar 34 ≡ true = subst (λ b. is_tchar b ≡ true) same taken in
+    cc)
 
 -- a value is read as what it stands for
 pub value-read : (written value : List ℕ) → IsValue written value → value_in written ≡ Some value
