@@ -1,10 +1,9 @@
 -- A field: the grammar and its reading agree.
-use Rattle.std.proofs.Common.{◌≡◌, ◌==◌, ◌&&◌, ◌↔◌, not, ℕ, Bool, true, false, List, [], ◌∷◌, ◌++◌, length, Option, Some, None, option_map, refl, ap, sym, subst, ◌∙◌, if◌then◌else◌, append_assoc, append-nil}
+use Rattle.std.proofs.Common.{◌≡◌, ◌==◌, ◌&&◌, not, ℕ, Bool, true, false, List, [], ◌∷◌, ◌++◌, length, Option, Some, None, option_map, refl, ap, sym, subst, ◌∙◌, if◌then◌else◌, append_assoc, append-nil}
 use Rattle.std.proofs.lemmas.Bool.{eqb-true}
 use Rattle.std.proofs.lemmas.List.Folds.{list_all-append}
 use Rattle.std.specs.Cmp.{first_so, second_so}
 use Rattle.std.specs.List.{before_first, list_all}
-use Rattle.std.specs.Str.{str_to_ascii_lowercase}
 use Rattle.wf_text.specs.Tokens.{is_tchar, is_token}
 use Rattle.wf_text.specs.Trims.{tab_or_space, trimmed}
 use Rattle.wf_hsts.specs.Grammar.{IsBlank, IsDirective, IsField, IsPadded, IsPiece, IsQuoted, IsValue, is_blank}
@@ -12,8 +11,8 @@ use Rattle.wf_hsts.specs.Reading.{behind_equals, directive, directive_from, dire
 use Rattle.wf_hsts.specs.declared.directives.Directive.{Directive}
 use Rattle.wf_hsts.specs.declared.pieces.Place.{Place}
 use Rattle.wf_hsts.specs.declared.pieces.Place.TheVariants.{Escaped, Outside, Quoted}
-use Rattle.wf_hsts.proofs.BlankLemmas.{IsSolid, apart, padded-trimmed, quoted-solid, tchar-solid, token-solid, trimmed-padded}
-use Rattle.wf_hsts.proofs.CuttingLemmas.{pieces-cut, pieces_behind, with_more-nothing}
+use Rattle.wf_hsts.proofs.BlankLemmas.{IsSolid, padded-trimmed, quoted-solid, token-solid, trimmed-padded}
+use Rattle.wf_hsts.proofs.CuttingLemmas.{pieces-cut, with_more-nothing}
 use Rattle.wf_hsts.proofs.EqualsLemmas.{after_equals, after_equals-is, until_equals, until_equals-is}
 use Rattle.wf_hsts.proofs.QuotedLemmas.{read-value, unequal, value-read}
 

@@ -1,6 +1,5 @@
 -- The host whose term ends first.
-use Rattle.std.proofs.Common.{◌≡◌, ◌==◌, ◌&&◌, ◌||◌, ◌<◌, not, ℕ, Bool, true, false, cond, List, [], ◌∷◌, filter, length, Option, Some, None, nat_eq, refl, ap, sym, subst, ◌∙◌, if◌then◌else◌, arith}
-use Rattle.std.proofs.lemmas.Bool.{eqb-true}
+use Rattle.std.proofs.Common.{◌≡◌, ◌||◌, not, ℕ, Bool, true, false, List, [], ◌∷◌, filter, Option, Some, refl, ap, sym, ◌∙◌, if◌then◌else◌}
 use Rattle.std.specs.Cmp.{nat_cmp_total}
 use Rattle.std.specs.List.{list_any}
 use Rattle.std.specs.Ordering.{is_eq, is_gt, is_lt, nat_cmp, ordering_reverse, ordering_then}

@@ -1,5 +1,5 @@
 -- The two indexes of known hosts, and the list that they hold.
-use Rattle.std.proofs.Common.{◌≡◌, ◌<◌, length, ◌==◌, ◌&&◌, not, ℕ, Bool, true, false, cond, List, [], ◌∷◌, map, Option, Some, None, refl, ap, sym, subst, ◌∙◌, if◌then◌else◌, nat_lt, arith, eq-eqb}
+use Rattle.std.proofs.Common.{◌≡◌, ◌<◌, length, ◌==◌, ◌&&◌, ℕ, Bool, true, false, cond, List, [], ◌∷◌, map, Option, Some, None, refl, ap, sym, subst, ◌∙◌, if◌then◌else◌, arith, eq-eqb}
 use Rattle.std.proofs.lemmas.Bool.{eqb-true}
 use Rattle.std.proofs.lemmas.Grind.{common_steps}
 use Rattle.std.proofs.lemmas.Map.Keys.{sorted_head, sorted_tail}
@@ -8,11 +8,10 @@ use Rattle.std.specs.List.{AllByRecursion, list_any}
 use Rattle.std.specs.List.Sorted.{IsStrictlySortedBy}
 use Rattle.std.specs.Map.{remove_entry}
 use Rattle.std.specs.Ordering.{is_eq, is_gt, match_ordering, nat_cmp, ordering_then}
-use Rattle.std.specs.Str.{bytes_eq}
 use Rattle.std.specs.declared.cmp.Ordering.{Ordering}
 use Rattle.std.specs.declared.cmp.Ordering.TheVariants.{Equal, Greater, Less}
 use Rattle.wf_hsts.specs.Hosts.{AreSorted, Each, holds, text_cmp, with_host, without, without_first_to_end}
-use Rattle.wf_hsts.specs.Index.{IsIndexed, end_cmp, ends_at, known_of, listed, name_cmp, term_of}
+use Rattle.wf_hsts.specs.Index.{end_cmp, ends_at, known_of, listed, name_cmp, term_of}
 use Rattle.wf_hsts.specs.Terms.{term_in}
 use Rattle.wf_hsts.specs.declared.hosts.KnownHost.{KnownHost}
 use Rattle.wf_hsts.specs.declared.index.Term.{Term}

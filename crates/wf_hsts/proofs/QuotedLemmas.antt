@@ -1,10 +1,9 @@
 -- Quoted strings and values: the grammar and its reading agree.
-use Rattle.std.proofs.Common.{◌≡◌, ◌==◌, ◌&&◌, not, ℕ, Bool, true, false, List, [], ◌∷◌, length, Option, Some, None, option_map, refl, ap, sym, subst, ◌∙◌, if◌then◌else◌, arith}
+use Rattle.std.proofs.Common.{◌≡◌, ◌==◌, not, ℕ, Bool, true, false, List, [], ◌∷◌, length, Option, Some, None, option_map, refl, sym, subst, if◌then◌else◌, arith}
 use Rattle.std.proofs.lemmas.Bool.{eqb-false, eqb-true}
 use Rattle.wf_text.specs.Tokens.{is_tchar, is_token}
 use Rattle.wf_hsts.specs.Grammar.{IsQuoted, IsValue}
 use Rattle.wf_hsts.specs.Reading.{behind_backslash, unquoted, value_in}
-use Rattle.wf_hsts.proofs.BlankLemmas.{apart}
 use Rattle.std.specs.Cmp.{first_so, second_so}
 use Rattle.std.specs.List.{list_all}
 

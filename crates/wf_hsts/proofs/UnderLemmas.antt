@@ -1,5 +1,5 @@
 -- Names under a known host, by the texts behind their dots.
-use Rattle.std.proofs.Common.{◌≡◌, ◌==◌, ◌&&◌, ◌||◌, ◌<◌, ◌≤◌, ◌-◌, ◌+◌, ◌⊎◌, inl, inr, not, take, get_or, ℕ, zero, suc, Bool, true, false, cond, List, [], ◌∷◌, drop, length, nat_eq, nat_lt, refl, ap, sym, subst, ◌∙◌, arith}
+use Rattle.std.proofs.Common.{◌≡◌, ◌==◌, ◌&&◌, ◌||◌, ◌<◌, ◌≤◌, ◌-◌, ◌+◌, inl, inr, get_or, ℕ, zero, suc, Bool, true, false, List, [], ◌∷◌, drop, length, nat_eq, nat_lt, refl, ap, sym, ◌∙◌, arith}
 use Rattle.std.proofs.lemmas.Bool.{cases_lt}
 use Rattle.std.proofs.lemmas.List.{drop_all, drop_more}
 use Rattle.std.specs.Cmp.Lexicographic.{unequal}

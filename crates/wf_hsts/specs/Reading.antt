@@ -1,6 +1,6 @@
 -- How a field is read: it is cut at the semicolons outside quoted strings, and each piece is read. That
 -- this comes to the grammar is proved in proofs/StsLemmas.antt.
-use Rattle.std.specs.Prelude.{ℕ, ◌==◌, ◌+◌, suc, Bool, List, [], ◌∷◌, ◌++◌, length, drop, Option, Some, None, option_map, if◌then◌else◌}
+use Rattle.std.specs.Prelude.{ℕ, ◌==◌, ◌+◌, suc, List, [], ◌∷◌, ◌++◌, length, drop, Option, Some, None, option_map, if◌then◌else◌}
 use Rattle.std.specs.List.{before_first, list_all, position}
 use Rattle.std.specs.Str.{str_to_ascii_lowercase}
 use Rattle.wf_text.specs.Tokens.{is_token}

@@ -1,4 +1,4 @@
-use Rattle.std.proofs.Common.{ap, sym, ◌∙◌, arith}
+use Rattle.std.proofs.Common.{ap, sym, ◌∙◌}
 use Rattle.wf_hsts.specs.Terms.{begins_under}
 use Rattle.wf_hsts.proofs.UnderLemmas.{under-ended, under-here, under-later}
 use Rattle.wf_hsts.proofs.hosts.is_under.Goals as goal

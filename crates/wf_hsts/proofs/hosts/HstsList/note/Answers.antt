@@ -1,4 +1,4 @@
-use Rattle.std.proofs.Common.{◌≡◌, ◌+◌, ◌≤◌, ◌∷◌, List, length, None, Some, ap, subst, sym, ◌∙◌}
+use Rattle.std.proofs.Common.{◌≡◌, ◌+◌, None, Some, ap, subst, ◌∙◌}
 use Rattle.wf_hsts.specs.Hosts.{known_host, noted, with_host, without}
 use Rattle.wf_hsts.specs.Terms.{IsLeaving}
 use Rattle.wf_hsts.proofs.NotedLemmas.{put-kept, put-left}

@@ -1,4 +1,4 @@
-use Rattle.std.proofs.Common.{◌≡◌, List, ℕ, None, ap, subst, sym, ◌∙◌}
+use Rattle.std.proofs.Common.{◌≡◌, None, ap, subst, sym, ◌∙◌}
 use Rattle.wf_hsts.specs.Hosts.{known_host, with_host}
 use Rattle.wf_hsts.specs.Index.{listed, term_of}
 use Rattle.wf_hsts.specs.Terms.{term_in}

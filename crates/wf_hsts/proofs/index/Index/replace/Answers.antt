@@ -1,10 +1,9 @@
-use Rattle.std.proofs.Common.{◌≡◌, ℕ, List, Vec, Global, Option, Some, None, cond, ap, refl, subst, sym, ◌∙◌}
+use Rattle.std.proofs.Common.{◌≡◌, ℕ, Vec, Global, Some, None, cond, ap, subst, sym, ◌∙◌}
 use Rattle.std.specs.Ordering.{is_eq}
 use Rattle.wf_hsts.specs.Hosts.{known_host, text_cmp, with_host}
 use Rattle.std.specs.BTreeMap.{insert_entry}
 use Rattle.wf_hsts.specs.Index.{listed, name_cmp, term_of}
 use Rattle.wf_hsts.specs.Terms.{term_in}
-use Rattle.wf_hsts.specs.declared.index.Term.{Term}
 use Rattle.wf_hsts.proofs.IndexLemmas.{Agree, agree-moved, agree-stayed, put-in, term-listed}
 use Rattle.wf_hsts.proofs.NameLemmas.{bytes_of}
 use Rattle.wf_hsts.proofs.TwiceLemmas.{from-new, from-old}
