@@ -23,15 +23,17 @@ kind_of_host (Some (Ipv6 address)) = kind.V6 (ipv6_bits address)
 abbrev pub is_http : List ℕ → Bool
 is_http scheme = bytes_eq scheme (codes "http") || bytes_eq scheme (codes "https")
 
--- the origin of an http or https URL
+-- the tuple of scheme, host and port of a URL; a URL without a port has the default one of its scheme
+abbrev pub tuple_origin : Parts → Origin
+tuple_origin url = record {
+  scheme = url.scheme;
+  host = kind_of_host (nonempty_host url);
+  port = unwrap_or (option_or url.port (default_port url.scheme)) 0;
+}
+
+-- the origin of an http or https URL; another has an opaque one
 abbrev pub origin_of : Parts → Option Origin
-origin_of url =
-    if is_http url.scheme then Some (record {
-      scheme = url.scheme;
-      host = kind_of_host (nonempty_host url);
-      port = unwrap_or (option_or url.port (default_port url.scheme)) 0;
-    })
-    else None
+origin_of url = if is_http url.scheme then Some (tuple_origin url) else None
 
 -- the hosts are of one kind and identical
 abbrev pub same_host : HostKind → HostKind → Bool

@@ -9,6 +9,6 @@ mod tests;
 mod trust;
 
 pub use names::is_local_name;
-pub use origin::{HostKind, Origin, origin_of, same_origin, serialize};
+pub use origin::{HostKind, Origin, origin_of, same_origin, serialize, tuple_origin};
 pub use site::same_site;
 pub use trust::is_trustworthy;

@@ -40,6 +40,16 @@ fn kind_of(alloc: Global, url: &Url) -> Result<HostKind, OutOfMemory>
     }
 }
 
+/// The tuple of scheme, host and port that is the origin of an http or https URL (URL, section 4.7).
+pub fn tuple_origin(alloc: Global, url: &Url) -> Result<Origin, OutOfMemory>
+    ensures { IfOk result (λ origin. origin ≡ spec.tuple_origin url.now) }
+{
+    let scheme = Bytes::of(alloc, url.scheme().as_bytes())?;
+    let host = kind_of(alloc, url)?;
+    let port = url.port_or_known_default().unwrap_or(0);
+    Ok(Origin { scheme, host, port })
+}
+
 /// The origin of a URL, or nothing exactly where its scheme is neither http nor https
 /// (URL, section 4.7).
 pub fn origin_of(alloc: Global, url: &Url) -> Result<Option<Origin>, OutOfMemory>
@@ -48,10 +58,7 @@ pub fn origin_of(alloc: Global, url: &Url) -> Result<Option<Origin>, OutOfMemory
     if !is_http(url.scheme()) {
         return Ok(None);
     }
-    let scheme = Bytes::of(alloc, url.scheme().as_bytes())?;
-    let host = kind_of(alloc, url)?;
-    let port = url.port_or_known_default().unwrap_or(0);
-    Ok(Some(Origin { scheme, host, port }))
+    Ok(Some(tuple_origin(alloc, url)?))
 }
 
 fn same_host(a: &HostKind, b: &HostKind) -> bool

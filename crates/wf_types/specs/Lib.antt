@@ -1,2 +1,5 @@
+pub mod Clients
 pub mod Errors
 pub mod Names
+pub mod Requests
+pub mod Urls

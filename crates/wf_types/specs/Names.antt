@@ -1,5 +1,13 @@
--- The names of destinations (Fetch, section 2.2.5), effective directives (CSP 3, section 6.8.1) and response types (Fetch, section 2.2.6).
-use Rattle.std.specs.Prelude.{ℕ, List, codes}
+-- The names of destinations and of a request's modes (Fetch, section 2.2.5), effective directives (CSP 3, section 6.8.1), response types (Fetch, section 2.2.6) and referrer policies (Referrer Policy, section 3).
+use Rattle.std.specs.Prelude.{ℕ, List, [], codes}
+use Rattle.wf_types.specs.declared.mode.Credentials.{Credentials}
+use Rattle.wf_types.specs.declared.mode.Credentials.TheVariants as credentials
+use Rattle.wf_types.specs.declared.mode.Mode.{Mode}
+use Rattle.wf_types.specs.declared.mode.Mode.TheVariants as mode
+use Rattle.wf_types.specs.declared.mode.RedirectMode.{RedirectMode}
+use Rattle.wf_types.specs.declared.mode.RedirectMode.TheVariants as redirect
+use Rattle.wf_types.specs.declared.mode.ReferrerPolicy.{ReferrerPolicy}
+use Rattle.wf_types.specs.declared.mode.ReferrerPolicy.TheVariants as policy
 use Rattle.wf_types.specs.declared.policy.Destination.{Destination}
 use Rattle.wf_types.specs.declared.policy.Destination.TheVariants as destination
 use Rattle.wf_types.specs.declared.policy.Directive.{Directive}
@@ -34,3 +42,34 @@ kind_name kind.Basic = codes "basic"
 kind_name kind.Cors = codes "cors"
 kind_name kind.Opaque = codes "opaque"
 kind_name kind.OpaqueRedirect = codes "opaqueredirect"
+
+-- the name of a mode
+abbrev pub mode_name : Mode → List ℕ
+mode_name mode.SameOrigin = codes "same-origin"
+mode_name mode.NoCors = codes "no-cors"
+mode_name mode.Cors = codes "cors"
+mode_name mode.Navigate = codes "navigate"
+
+-- the name of a credentials mode
+abbrev pub credentials_name : Credentials → List ℕ
+credentials_name credentials.Omit = codes "omit"
+credentials_name credentials.SameOrigin = codes "same-origin"
+credentials_name credentials.Include = codes "include"
+
+-- the name of a redirect mode
+abbrev pub redirect_name : RedirectMode → List ℕ
+redirect_name redirect.Follow = codes "follow"
+redirect_name redirect.Error = codes "error"
+redirect_name redirect.Manual = codes "manual"
+
+-- the token of a referrer policy
+abbrev pub policy_name : ReferrerPolicy → List ℕ
+policy_name policy.Empty = []
+policy_name policy.NoReferrer = codes "no-referrer"
+policy_name policy.NoReferrerWhenDowngrade = codes "no-referrer-when-downgrade"
+policy_name policy.SameOrigin = codes "same-origin"
+policy_name policy.Origin = codes "origin"
+policy_name policy.StrictOrigin = codes "strict-origin"
+policy_name policy.OriginWhenCrossOrigin = codes "origin-when-cross-origin"
+policy_name policy.StrictOriginWhenCrossOrigin = codes "strict-origin-when-cross-origin"
+policy_name policy.UnsafeUrl = codes "unsafe-url"

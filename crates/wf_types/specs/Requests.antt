@@ -1,0 +1,103 @@
+-- Requests: their current URL, tainted origins and the serialized request origin (Fetch, section 2.2.5),
+-- and which values of these types are requests and clients.
+use Rattle.std.specs.Prelude.{ℕ, ◌&&◌, ◌||◌, Bool, true, false, not, ◌≤◌, List, [], ◌∷◌, codes, Option, Some, None, unwrap_or, IsTrue, if◌then◌else◌}
+use Rattle.std.specs.List.{last_or}
+use Rattle.url.specs.Parts.{Parts}
+use Rattle.wf_origin.specs.declared.origin.Origin.{Origin}
+use Rattle.wf_origin.specs.Origins.{is_http, origin_of, same_origin, serialized}
+use Rattle.wf_types.specs.declared.client.Client.{Client}
+use Rattle.wf_types.specs.declared.mode.ReferrerPolicy.{ReferrerPolicy}
+use Rattle.wf_types.specs.declared.mode.ReferrerPolicy.TheVariants as policy
+use Rattle.wf_types.specs.declared.request.Referrer.{Referrer}
+use Rattle.wf_types.specs.declared.request.Referrer.TheVariants.{NoReferrer, Client as TheClient, Address}
+use Rattle.wf_types.specs.declared.request.Request.{Request}
+
+-- what stands for a URL where a list has none
+abbrev pub no_url : Parts
+no_url = record {
+  scheme = [];
+  username = [];
+  password = [];
+  host = None;
+  port = None;
+  path = [];
+  query = None;
+  fragment = None;
+}
+
+-- "current URL": the last of the URL list, which is never empty in a request
+abbrev pub current_url : Request → Parts
+current_url request = unwrap_or (last_or None request.urls) no_url
+
+-- the URL is http or https, and so has a tuple origin
+abbrev pub is_http_url : Parts → Bool
+is_http_url url = is_http url.scheme
+
+-- the origin is that of a URL, where this has one
+abbrev pub is_origin : Origin → Option Origin → Bool
+is_origin origin None = false
+is_origin origin (Some other) = same_origin origin other
+
+-- the origins of two URLs are the same, where they have some
+abbrev pub are_same : Option Origin → Option Origin → Bool
+are_same None other = false
+are_same (Some origin) other = is_origin origin other
+
+-- a redirect from this URL to another origin, while the request's origin was not that of the URL
+abbrev pub taints : Origin → Parts → Parts → Bool
+taints origin url next =
+    not (are_same (origin_of url) (origin_of next)) && not (is_origin origin (origin_of url))
+
+-- "redirect-tainted": some URL of a list and the one after it taint
+abbrev pub tainted_from : Origin → Parts → List Parts → Bool
+tainted_from origin url [] = false
+tainted_from origin url (next ∷ urls) = taints origin url next || tainted_from origin next urls
+
+-- a URL list has a tainted origin
+abbrev pub has_tainted_origin : Origin → List Parts → Bool
+has_tainted_origin origin [] = false
+has_tainted_origin origin (url ∷ urls) = tainted_from origin url urls
+
+-- "serializing a request origin": `null` for a tainted origin, and else the origin's text
+abbrev pub serialized_request_origin : Request → List ℕ
+serialized_request_origin request =
+    if has_tainted_origin request.origin request.urls then codes "null" else serialized request.origin
+
+-- there is a URL, and each of the list but the last is http or https
+abbrev pub were_http : List Parts → Bool
+were_http [] = false
+were_http (url ∷ []) = true
+were_http (url ∷ next ∷ urls) = is_http_url url && were_http (next ∷ urls)
+
+-- a referrer that is a URL is an http or https one
+abbrev pub is_http_referrer : Referrer → Bool
+is_http_referrer NoReferrer = true
+is_http_referrer TheClient = true
+is_http_referrer (Address url) = is_http_url url
+
+-- A request that there can be: its URL list is not empty and its earlier URLs are http or https, it
+-- was redirected at most 20 times, and a URL as its referrer is http or https.
+pub record IsRequest (request : Request) : Type 0 where
+  pub urls : IsTrue (were_http request.urls)
+  pub redirects : request.redirects ≤ 20
+  pub referrer : IsTrue (is_http_referrer request.referrer)
+
+-- the current URL is http or https
+abbrev pub IsAtHttp : Request → Type 0
+IsAtHttp request = IsTrue (is_http_url (current_url request))
+
+-- the referrer was determined: it is none or a URL
+abbrev pub is_determined : Referrer → Bool
+is_determined NoReferrer = true
+is_determined TheClient = false
+is_determined (Address url) = true
+
+-- there is a policy
+abbrev pub is_policy : ReferrerPolicy → Bool
+is_policy policy.Empty = false
+is_policy _ = true
+
+-- A client that there can be: its URL is http or https, and its policy is not empty.
+pub record IsClient (client : Client) : Type 0 where
+  pub url : IsTrue (is_http_url client.url)
+  pub policy : IsTrue (is_policy client.policy)

@@ -1,0 +1,108 @@
+ghost use Rattle.std.specs.Prelude.{◌≡◌};
+ghost use Rattle.wf_types.specs.Names.{mode_name, credentials_name, redirect_name, policy_name};
+
+/// The mode of a request (Fetch, section 2.2.5).
+#[derive(Clone, Copy, Debug, PartialEq, Eq)]
+pub enum Mode {
+    SameOrigin,
+    NoCors,
+    Cors,
+    Navigate,
+}
+
+impl Mode {
+    /// The name of the mode.
+    pub fn name(self) -> &'static str
+        ensures { result.now ≡ mode_name self }
+    {
+        match self {
+            Mode::SameOrigin => "same-origin",
+            Mode::NoCors => "no-cors",
+            Mode::Cors => "cors",
+            Mode::Navigate => "navigate",
+        }
+    }
+}
+
+/// The credentials mode of a request (Fetch, section 2.2.5).
+#[derive(Clone, Copy, Debug, PartialEq, Eq)]
+pub enum Credentials {
+    Omit,
+    SameOrigin,
+    Include,
+}
+
+impl Credentials {
+    /// The name of the credentials mode.
+    pub fn name(self) -> &'static str
+        ensures { result.now ≡ credentials_name self }
+    {
+        match self {
+            Credentials::Omit => "omit",
+            Credentials::SameOrigin => "same-origin",
+            Credentials::Include => "include",
+        }
+    }
+}
+
+/// The redirect mode of a request (Fetch, section 2.2.5).
+#[derive(Clone, Copy, Debug, PartialEq, Eq)]
+pub enum RedirectMode {
+    Follow,
+    Error,
+    Manual,
+}
+
+impl RedirectMode {
+    /// The name of the redirect mode.
+    pub fn name(self) -> &'static str
+        ensures { result.now ≡ redirect_name self }
+    {
+        match self {
+            RedirectMode::Follow => "follow",
+            RedirectMode::Error => "error",
+            RedirectMode::Manual => "manual",
+        }
+    }
+}
+
+/// The response tainting of a request (Fetch, section 2.2.5).
+#[derive(Clone, Copy, Debug, PartialEq, Eq)]
+pub enum Tainting {
+    Basic,
+    Cors,
+    Opaque,
+}
+
+/// A referrer policy (Referrer Policy, section 3); `Empty` is the empty string, no policy.
+#[derive(Clone, Copy, Debug, PartialEq, Eq)]
+pub enum ReferrerPolicy {
+    Empty,
+    NoReferrer,
+    NoReferrerWhenDowngrade,
+    SameOrigin,
+    Origin,
+    StrictOrigin,
+    OriginWhenCrossOrigin,
+    StrictOriginWhenCrossOrigin,
+    UnsafeUrl,
+}
+
+impl ReferrerPolicy {
+    /// The token of the policy; that of `Empty` is empty.
+    pub fn name(self) -> &'static str
+        ensures { result.now ≡ policy_name self }
+    {
+        match self {
+            ReferrerPolicy::Empty => "",
+            ReferrerPolicy::NoReferrer => "no-referrer",
+            ReferrerPolicy::NoReferrerWhenDowngrade => "no-referrer-when-downgrade",
+            ReferrerPolicy::SameOrigin => "same-origin",
+            ReferrerPolicy::Origin => "origin",
+            ReferrerPolicy::StrictOrigin => "strict-origin",
+            ReferrerPolicy::OriginWhenCrossOrigin => "origin-when-cross-origin",
+            ReferrerPolicy::StrictOriginWhenCrossOrigin => "strict-origin-when-cross-origin",
+            ReferrerPolicy::UnsafeUrl => "unsafe-url",
+        }
+    }
+}
