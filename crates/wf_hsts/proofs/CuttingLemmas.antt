@@ -1,5 +1,5 @@
 -- The first piece of a text, and the others.
-use Rattle.std.proofs.Common.{◌≡◌, ◌≤◌, ◌+◌, ℕ, List, [], ◌∷◌, ◌++◌, length, take, drop, Option, Some, None, refl, ap, sym, ◌∙◌, arith, append_assoc, append-nil, ◌<◌, ◌-◌}
+use Rattle.std.proofs.Common.{◌≡◌, ◌≤◌, ◌+◌, ℕ, List, [], ◌∷◌, length, take, drop, Option, Some, None, refl, ap, sym, ◌∙◌, arith, append_assoc, append-nil, ◌<◌, ◌-◌}
 use Rattle.std.proofs.lemmas.List.{take_rest}
 use Rattle.wf_hsts.specs.Reading.{directives_in, directives_of, next_place, one_more, piece_end, piece_in, pieces, pieces_from, with_front, with_more}
 use Rattle.wf_hsts.specs.declared.directives.Directive.{Directive}
@@ -49,7 +49,7 @@ pub field-step : (rest : List ℕ) (old : List Directive) (whole added : Option 
     → whole ≡ with_more added (directives_in (pieces_behind behind))
 field-step rest old whole added piece behind end e front back before now =
     let cut : directives_of rest ≡ with_more (piece_in piece) (directives_in (pieces_behind behind)) =
-        rw (pieces-cut Outside rest, front, back, e) refl in
+    rw (pieces-cut Outside rest, front, back, e) refl in
     before ∙ ap (λ found. with_more (Some old) found) cut ∙ with_more-assoc (Some old) (piece_in piece) (directives_in (pieces_behind behind))
     ∙ ap (λ found. with_more found (directives_in (pieces_behind behind))) (sym now)
 

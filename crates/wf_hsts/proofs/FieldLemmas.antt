@@ -1,10 +1,9 @@
 -- A field: the grammar and its reading agree.
-use Rattle.std.proofs.Common.{◌≡◌, ◌==◌, ◌&&◌, ◌↔◌, not, ℕ, Bool, true, false, List, [], ◌∷◌, ◌++◌, length, Option, Some, None, option_map, refl, ap, sym, subst, ◌∙◌, if◌then◌else◌, append_assoc, append-nil}
+use Rattle.std.proofs.Common.{◌≡◌, ◌==◌, ◌&&◌, not, ℕ, Bool, true, false, List, [], ◌∷◌, ◌++◌, length, Option, Some, None, option_map, refl, ap, sym, subst, ◌∙◌, if◌then◌else◌, append_assoc, append-nil}
 use Rattle.std.proofs.lemmas.Bool.{eqb-true}
 use Rattle.std.proofs.lemmas.List.Folds.{list_all-append}
 use Rattle.std.specs.Cmp.{first_so, second_so}
 use Rattle.std.specs.List.{before_first, list_all}
-use Rattle.std.specs.Str.{str_to_ascii_lowercase}
 use Rattle.wf_text.specs.Tokens.{is_tchar, is_token}
 use Rattle.wf_text.specs.Trims.{tab_or_space, trimmed}
 use Rattle.wf_hsts.specs.Grammar.{IsBlank, IsDirective, IsField, IsPadded, IsPiece, IsQuoted, IsValue, is_blank}
@@ -12,8 +11,8 @@ use Rattle.wf_hsts.specs.Reading.{behind_equals, directive, directive_from, dire
 use Rattle.wf_hsts.specs.declared.directives.Directive.{Directive}
 use Rattle.wf_hsts.specs.declared.pieces.Place.{Place}
 use Rattle.wf_hsts.specs.declared.pieces.Place.TheVariants.{Escaped, Outside, Quoted}
-use Rattle.wf_hsts.proofs.BlankLemmas.{IsSolid, apart, padded-trimmed, quoted-solid, tchar-solid, token-solid, trimmed-padded}
-use Rattle.wf_hsts.proofs.CuttingLemmas.{pieces-cut, pieces_behind, with_more-nothing}
+use Rattle.wf_hsts.proofs.BlankLemmas.{IsSolid, padded-trimmed, quoted-solid, token-solid, trimmed-padded}
+use Rattle.wf_hsts.proofs.CuttingLemmas.{pieces-cut, with_more-nothing}
 use Rattle.wf_hsts.proofs.EqualsLemmas.{after_equals, after_equals-is, until_equals, until_equals-is}
 use Rattle.wf_hsts.proofs.QuotedLemmas.{read-value, unequal, value-read}
 
@@ -25,9 +24,9 @@ is_plain byte = not (byte == 34) && (not (byte == 59) && not (byte == 61))
 plain-by : (p : ℕ → Bool) → p 34 ≡ false → p 59 ≡ false → p 61 ≡ false → (byte : ℕ) → p byte ≡ true → is_plain byte ≡ true
 plain-by p a b c byte taken =
     let apart-from : (k : ℕ) → p k ≡ false → (byte == k) ≡ false =
-        λ k refused. unequal byte k (λ same.
-          let there : p k ≡ true = subst (λ n. p n ≡ true) same taken in
-          cc) in
+    λ k refused. unequal byte k (λ same.
+    let there : p k ≡ true = subst (λ n. p n ≡ true) same taken in
+    cc) in
     rw (apart-from 34 a, apart-from 59 b, apart-from 61 c) refl
 
 all-plain : (p : ℕ → Bool) → ((byte : ℕ) → p byte ≡ true → is_plain byte ≡ true) → (text : List ℕ) → list_all p text ≡ true → list_all is_plain text ≡ true
@@ -95,7 +94,7 @@ directive-read _ _ (IsDirective.bare name text token padded) =
 directive-read _ _ (IsDirective.valued name left written right value token padded is_value padded_value) =
     let plain = padded-plain name left token padded in
     let read : value_in (trimmed tab_or_space right) ≡ Some value =
-        ap (λ l. value_in l) (padded-trimmed written right padded_value (value-solid written value is_value)) ∙ value-read written value is_value in
+    ap (λ l. value_in l) (padded-trimmed written right padded_value (value-solid written value is_value)) ∙ value-read written value is_value in
     read-parts (left ++ 61 ∷ right) name (Some right) token (ap (λ l. trimmed tab_or_space l) (until-plain left right plain) ∙ padded-trimmed name left padded (token-solid name token)) (after-plain left right plain)
     ∙ ap (λ found. option_map (λ v. directive name (Some v)) found) read
 
@@ -126,11 +125,11 @@ passes-both a b p q = record {
 plain-next : (byte : ℕ) → is_plain byte ≡ true → next_place Outside byte ≡ Some Outside
 plain-next byte plain =
     let quote : (byte == 34) ≡ false = unequal byte 34 (λ same.
-      let there : is_plain 34 ≡ true = subst (λ b. is_plain b ≡ true) same plain in
-      cc) in
+    let there : is_plain 34 ≡ true = subst (λ b. is_plain b ≡ true) same plain in
+    cc) in
     let semicolon : (byte == 59) ≡ false = unequal byte 59 (λ same.
-      let there : is_plain 59 ≡ true = subst (λ b. is_plain b ≡ true) same plain in
-      cc) in
+    let there : is_plain 59 ≡ true = subst (λ b. is_plain b ≡ true) same plain in
+    cc) in
     rw (semicolon, quote) refl
 
 plain-over : (text rest : List ℕ) → list_all is_plain text ≡ true → pieces Outside (text ++ rest) ≡ onto text (pieces Outside rest)

@@ -1,6 +1,5 @@
 -- The host whose term ends first.
-use Rattle.std.proofs.Common.{◌≡◌, ◌==◌, ◌&&◌, ◌||◌, ◌<◌, not, ℕ, Bool, true, false, cond, List, [], ◌∷◌, filter, length, Option, Some, None, nat_eq, refl, ap, sym, subst, ◌∙◌, if◌then◌else◌, arith}
-use Rattle.std.proofs.lemmas.Bool.{eqb-true}
+use Rattle.std.proofs.Common.{◌≡◌, ◌||◌, not, ℕ, Bool, true, false, List, [], ◌∷◌, filter, Option, Some, refl, ap, sym, ◌∙◌, if◌then◌else◌}
 use Rattle.std.specs.Cmp.{nat_cmp_total}
 use Rattle.std.specs.List.{list_any}
 use Rattle.std.specs.Ordering.{is_eq, is_gt, is_lt, nat_cmp, ordering_reverse, ordering_then}
@@ -26,9 +25,10 @@ pass-over known other hosts found less e = rw (less-apart known.host other.host 
 -- each host of a sorted list is looked up by its name
 pub each-term : (hosts : List KnownHost) → AreSorted hosts → Each (λ known. term_in known.host hosts ≡ Some (term_from known)) hosts
 each-term [] sorted = tt
-each-term (known ∷ hosts) sorted =
-    (rw (bytes-self known.host) refl,
-     each-both (λ other. pass-over known other hosts (Some (term_from other))) hosts sorted.0 (each-term hosts sorted.1))
+each-term (known ∷ hosts) sorted = (
+  rw (bytes-self known.host) refl,
+  each-both (λ other. pass-over known other hosts (Some (term_from other))) hosts sorted.0 (each-term hosts sorted.1),
+)
 
 -- a term that is looked up is that of a host
 pub term-holds : (host : List ℕ) (hosts : List KnownHost) (term : Term) → term_in host hosts ≡ Some term → holds host hosts ≡ true
@@ -82,7 +82,7 @@ reverse-lt Greater = refl
 not-before : (other known : KnownHost) → is_gt (end_order known.until known.host other) ≡ false → ends_before other known ≡ false
 not-before other known h =
     let turn : ordering_then (nat_cmp other.until known.until) (text_cmp other.host known.host) ≡ ordering_reverse (end_order known.until known.host other) =
-        rw (nat_cmp_total.antisymm other.until known.until, flipped other.host known.host) (reverse-then (nat_cmp known.until other.until) (text_cmp known.host other.host)) in
+    rw (nat_cmp_total.antisymm other.until known.until, flipped other.host known.host) (reverse-then (nat_cmp known.until other.until) (text_cmp known.host other.host)) in
     ap is_lt turn ∙ reverse-lt (end_order known.until known.host other) ∙ h
 
 lt-by : (o p : Ordering) → is_gt (ordering_then o p) ≡ false → is_eq p ≡ false → is_lt (ordering_then o p) ≡ true
@@ -108,13 +108,13 @@ kept-by host term hosts known true same there each found late =
     let until : known.until ≡ term.until = cc in
     none-from (λ other. ends_before other known) hosts
     (each-both {P = λ other. is_gt (end_order term.until host other) ≡ false} {Q = λ other. is_gt (end_order term.until host other) ≡ false}
-      (λ other p q. not-before other known (ap (λ u. is_gt (end_order u known.host other)) until ∙ ap (λ text. is_gt (end_order term.until text other)) named ∙ p)) hosts each each)
+    (λ other p q. not-before other known (ap (λ u. is_gt (end_order u known.host other)) until ∙ ap (λ text. is_gt (end_order term.until text other)) named ∙ p)) hosts each each)
 kept-by host term hosts known false same there each found late =
     any-from (λ other. ends_before other known) host hosts term there
     (λ first named until.
-      let late_first : is_gt (end_order first.until first.host known) ≡ false = ap (λ u. is_gt (end_order u first.host known)) until ∙ ap (λ text. is_gt (end_order term.until text known)) named ∙ late in
-      let other : bytes_eq first.host known.host ≡ false = ap (λ text. bytes_eq text known.host) named ∙ bytes-flip host known.host ∙ same in
-      first-before first known late_first other)
+    let late_first : is_gt (end_order first.until first.host known) ≡ false = ap (λ u. is_gt (end_order u first.host known)) until ∙ ap (λ text. is_gt (end_order term.until text known)) named ∙ late in
+    let other : bytes_eq first.host known.host ≡ false = ap (λ text. bytes_eq text known.host) named ∙ bytes-flip host known.host ∙ same in
+    first-before first known late_first other)
 
 pub first-goes : (host : List ℕ) (term : Term) (hosts : List KnownHost) → AreSorted hosts → term_in host hosts ≡ Some term → Each (λ other. is_gt (end_order term.until host other) ≡ false) hosts
     → without_first_to_end hosts ≡ without host hosts

@@ -1,5 +1,5 @@
 -- The two indexes of known hosts, and the list that they hold.
-use Rattle.std.proofs.Common.{◌≡◌, ◌<◌, length, ◌==◌, ◌&&◌, not, ℕ, Bool, true, false, cond, List, [], ◌∷◌, map, Option, Some, None, refl, ap, sym, subst, ◌∙◌, if◌then◌else◌, nat_lt, arith, eq-eqb}
+use Rattle.std.proofs.Common.{◌≡◌, ◌<◌, length, ◌==◌, ◌&&◌, ℕ, Bool, true, false, cond, List, [], ◌∷◌, map, Option, Some, None, refl, ap, sym, subst, ◌∙◌, if◌then◌else◌, arith, eq-eqb}
 use Rattle.std.proofs.lemmas.Bool.{eqb-true}
 use Rattle.std.proofs.lemmas.Grind.{common_steps}
 use Rattle.std.proofs.lemmas.Map.Keys.{sorted_head, sorted_tail}
@@ -8,11 +8,10 @@ use Rattle.std.specs.List.{AllByRecursion, list_any}
 use Rattle.std.specs.List.Sorted.{IsStrictlySortedBy}
 use Rattle.std.specs.Map.{remove_entry}
 use Rattle.std.specs.Ordering.{is_eq, is_gt, match_ordering, nat_cmp, ordering_then}
-use Rattle.std.specs.Str.{bytes_eq}
 use Rattle.std.specs.declared.cmp.Ordering.{Ordering}
 use Rattle.std.specs.declared.cmp.Ordering.TheVariants.{Equal, Greater, Less}
 use Rattle.wf_hsts.specs.Hosts.{AreSorted, Each, holds, text_cmp, with_host, without, without_first_to_end}
-use Rattle.wf_hsts.specs.Index.{IsIndexed, end_cmp, ends_at, known_of, listed, name_cmp, term_of}
+use Rattle.wf_hsts.specs.Index.{end_cmp, ends_at, known_of, listed, name_cmp, term_of}
 use Rattle.wf_hsts.specs.Terms.{term_in}
 use Rattle.wf_hsts.specs.declared.hosts.KnownHost.{KnownHost}
 use Rattle.wf_hsts.specs.declared.index.Term.{Term}
@@ -134,10 +133,10 @@ module _ {V : Type 0} (items : V → List ℕ) where
   agree-removed host name term es es' ends ends' same there agree terms gone q =
       let named : items name ≡ host = sym (text-equal host (items name) same) in
       let at : is_eq (end_cmp items (term.until, name) q) ≡ ((term.until == q.0) && is_eq (text_cmp host (items q.1))) =
-          at-end term.until name q ∙ ap (λ text. (term.until == q.0) && is_eq (text_cmp text (items q.1))) named in
+      at-end term.until name q ∙ ap (λ text. (term.until == q.0) && is_eq (text_cmp text (items q.1))) named in
       gone q ∙ ap (λ b. cond b false (ends_hold q ends)) at
       ∙ removed-by term.until q.0 (is_eq (text_cmp host (items q.1))) (ends_hold q ends) (term_of items (items q.1) es) term refl
-        (λ e. term-same host (items q.1) es (Some term) (equal-text host (items q.1) e) there) (agree q)
+      (λ e. term-same host (items q.1) es (Some term) (equal-text host (items q.1) e) there) (agree q)
       ∙ ap (λ o. ends_at items q.0 o) (sym (terms q.1))
 
   added-by : (until at : ℕ) (here held : Bool) (found : Option Term) (term : Term) → term.until ≡ until → (here ≡ true → found ≡ None) → held ≡ ends_at items at found
@@ -162,10 +161,10 @@ module _ {V : Type 0} (items : V → List ℕ) where
       → Agree es' ends'
   agree-added host name ended term es es' ends ends' named ended_named absent agree terms come q =
       let at : is_eq (end_cmp items (term.until, ended) q) ≡ ((term.until == q.0) && is_eq (text_cmp host (items q.1))) =
-          at-end term.until ended q ∙ ap (λ text. (term.until == q.0) && is_eq (text_cmp text (items q.1))) ended_named in
+      at-end term.until ended q ∙ ap (λ text. (term.until == q.0) && is_eq (text_cmp text (items q.1))) ended_named in
       come q ∙ ap (λ b. cond b true (ends_hold q ends)) at
       ∙ added-by term.until q.0 (is_eq (text_cmp host (items q.1))) (ends_hold q ends) (term_of items (items q.1) es) term refl
-        (λ e. term-same host (items q.1) es None (equal-text host (items q.1) e) absent) (agree q)
+      (λ e. term-same host (items q.1) es None (equal-text host (items q.1) e) absent) (agree q)
       ∙ ap (λ text. ends_at items q.0 (cond (is_eq (text_cmp text (items q.1))) (Some term) (term_of items (items q.1) es))) (sym named)
       ∙ ap (λ o. ends_at items q.0 o) (sym (terms q.1))
 
@@ -191,7 +190,7 @@ module _ {V : Type 0} (items : V → List ℕ) where
       → Agree es less
   agree-undone host name ended term es ends more less named ended_named absent agree come gone q =
       let at : (v : V) → items v ≡ host → is_eq (end_cmp items (term.until, v) q) ≡ ((term.until == q.0) && is_eq (text_cmp host (items q.1))) =
-          λ v e. at-end term.until v q ∙ ap (λ text. (term.until == q.0) && is_eq (text_cmp text (items q.1))) e in
+      λ v e. at-end term.until v q ∙ ap (λ text. (term.until == q.0) && is_eq (text_cmp text (items q.1))) e in
       gone q ∙ ap (λ b. cond b false (ends_hold q more)) (at name named) ∙ ap (λ b. cond ((term.until == q.0) && is_eq (text_cmp host (items q.1))) false b) (come q ∙ ap (λ b. cond b true (ends_hold q ends)) (at ended ended_named))
       ∙ undone-by term.until q.0 (is_eq (text_cmp host (items q.1))) (ends_hold q ends) (term_of items (items q.1) es) (λ e. term-same host (items q.1) es None (equal-text host (items q.1) e) absent) (agree q)
       ∙ agree q
@@ -229,13 +228,13 @@ module _ {V : Type 0} (items : V → List ℕ) where
       → Agree es' less
   agree-moved host put ended was term es es' ends more less put_named named there agree new terms come gone q =
       let at : (until : ℕ) (v : V) → items v ≡ host → is_eq (end_cmp items (until, v) q) ≡ ((until == q.0) && is_eq (text_cmp host (items q.1))) =
-          λ until v e. at-end until v q ∙ ap (λ text. (until == q.0) && is_eq (text_cmp text (items q.1))) e in
+      λ until v e. at-end until v q ∙ ap (λ text. (until == q.0) && is_eq (text_cmp text (items q.1))) e in
       let other : (was.until == term.until) ≡ false =
-          sym (ap (λ o. ends_at items term.until o) (term-same host (items put) es (Some was) (sym put_named) there)) ∙ sym (agree (term.until, put)) ∙ new in
+      sym (ap (λ o. ends_at items term.until o) (term-same host (items put) es (Some was) (sym put_named) there)) ∙ sym (agree (term.until, put)) ∙ new in
       gone q ∙ ap (λ b. cond b false (ends_hold q more)) (at was.until ended named)
       ∙ ap (λ b. cond ((was.until == q.0) && is_eq (text_cmp host (items q.1))) false b) (come q ∙ ap (λ b. cond b true (ends_hold q ends)) (at term.until put put_named))
       ∙ moved-by was.until term.until q.0 (is_eq (text_cmp host (items q.1))) (ends_hold q ends) (term_of items (items q.1) es) was term refl refl other
-        (λ e. term-same host (items q.1) es (Some was) (equal-text host (items q.1) e) there) (agree q)
+      (λ e. term-same host (items q.1) es (Some was) (equal-text host (items q.1) e) there) (agree q)
       ∙ ap (λ text. ends_at items q.0 (cond (is_eq (text_cmp text (items q.1))) (Some term) (term_of items (items q.1) es))) (sym named)
       ∙ ap (λ o. ends_at items q.0 o) (sym (terms q.1))
 
@@ -262,12 +261,12 @@ module _ {V : Type 0} (items : V → List ℕ) where
       → Agree es' ends'
   agree-stayed host put name was term es es' ends ends' put_named named there agree held terms come q =
       let at : is_eq (end_cmp items (term.until, put) q) ≡ ((term.until == q.0) && is_eq (text_cmp host (items q.1))) =
-          at-end term.until put q ∙ ap (λ text. (term.until == q.0) && is_eq (text_cmp text (items q.1))) put_named in
+      at-end term.until put q ∙ ap (λ text. (term.until == q.0) && is_eq (text_cmp text (items q.1))) put_named in
       let same : was.until ≡ term.until =
-          eqb-true was.until term.until (sym (ap (λ o. ends_at items term.until o) (term-same host (items put) es (Some was) (sym put_named) there)) ∙ sym (agree (term.until, put)) ∙ held) in
+      eqb-true was.until term.until (sym (ap (λ o. ends_at items term.until o) (term-same host (items put) es (Some was) (sym put_named) there)) ∙ sym (agree (term.until, put)) ∙ held) in
       come q ∙ ap (λ b. cond b true (ends_hold q ends)) at
       ∙ stayed-by term.until q.0 (is_eq (text_cmp host (items q.1))) (ends_hold q ends) (term_of items (items q.1) es) was term same refl
-        (λ e. term-same host (items q.1) es (Some was) (equal-text host (items q.1) e) there) (agree q)
+      (λ e. term-same host (items q.1) es (Some was) (equal-text host (items q.1) e) there) (agree q)
       ∙ ap (λ text. ends_at items q.0 (cond (is_eq (text_cmp text (items q.1))) (Some term) (term_of items (items q.1) es))) (sym named)
       ∙ ap (λ o. ends_at items q.0 o) (sym (terms q.1))
 
@@ -298,9 +297,10 @@ module _ {V : Type 0} (items : V → List ℕ) where
       let t = term-there end.0 (term_of items (items end.1) es) (sym (agree end) ∙ there) in
       let found : term_in (items end.1) (listed items es) ≡ Some t.term = sym (term-listed (items end.1) es) ∙ t.is in
       let hosts = listed-sorted es sorted in
-      let late = each-late end es es (λ q e. least q (agree q ∙ e)) (each-term (listed items es) hosts) in
-      (term-holds (items end.1) (listed items es) t.term found,
-       first-goes (items end.1) t.term (listed items es) hosts found (subst (λ u. Each (λ other. is_gt (end_order u (items end.1) other) ≡ false) (listed items es)) (sym t.until_is) late))
+      let late = each-late end es es (λ q e. least q (agree q ∙ e)) (each-term (listed items es) hosts) in (
+        term-holds (items end.1) (listed items es) t.term found,
+        first-goes (items end.1) t.term (listed items es) hosts found (subst (λ u. Each (λ other. is_gt (end_order u (items end.1) other) ≡ false) (listed items es)) (sym t.until_is) late),
+      )
 
   -- with no end there is no host
   pub none-first : (es : List (V × Term)) (ends : List (ℕ × V)) → Agree es ends → (0 < length ends → ⊥) → listed items es ≡ []

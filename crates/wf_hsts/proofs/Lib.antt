@@ -1,4 +1,5 @@
 pub mod BlankLemmas
+pub mod Computed
 pub mod CuttingLemmas
 pub mod EqualsLemmas
 pub mod FieldLemmas

@@ -1,8 +1,7 @@
 -- A field noted: how many hosts there are, and which of them goes.
-use Rattle.std.proofs.Common.{◌≡◌, ◌==◌, ◌&&◌, ◌||◌, ◌<◌, ◌≤◌, ◌+◌, not, ℕ, Bool, true, false, cond, List, [], ◌∷◌, ◌++◌, filter, length, Option, Some, None, is_some, nat_eq, nat_lt, refl, ap, sym, subst, ◌∙◌, if◌then◌else◌, arith, length-append}
+use Rattle.std.proofs.Common.{◌≡◌, ◌==◌, ◌||◌, ◌<◌, ◌≤◌, ◌+◌, not, ℕ, Bool, true, false, cond, List, [], ◌∷◌, ◌++◌, filter, length, Option, Some, None, is_some, nat_lt, refl, ap, sym, subst, ◌∙◌, if◌then◌else◌, arith, length-append}
 use Rattle.std.proofs.lemmas.Bool.{le-ltb, lt-ltb, ltb-false, ltb-true}
 use Rattle.std.proofs.lemmas.List.Filters.{length-filter_both}
-use Rattle.std.specs.List.{list_any}
 use Rattle.std.specs.Ordering.{is_eq, is_gt, is_lt}
 use Rattle.std.specs.Str.{bytes_eq}
 use Rattle.std.specs.declared.cmp.Ordering.{Ordering}
@@ -86,9 +85,9 @@ equal-gt Greater e = sym e
 with-without : (new : KnownHost) (hosts : List KnownHost) → with_host new (without new.host hosts) ≡ with_host new hosts
 with-without new hosts =
     let front : filter (λ known. is_lt (text_cmp known.host new.host)) (without new.host hosts) ≡ filter (λ known. is_lt (text_cmp known.host new.host)) hosts =
-        kept-same (λ known. is_lt (text_cmp known.host new.host)) new.host (λ known e. equal-lt (text_cmp known.host new.host) (sym (bytes-order known.host new.host) ∙ e)) hosts in
+    kept-same (λ known. is_lt (text_cmp known.host new.host)) new.host (λ known e. equal-lt (text_cmp known.host new.host) (sym (bytes-order known.host new.host) ∙ e)) hosts in
     let back : filter (λ known. is_gt (text_cmp known.host new.host)) (without new.host hosts) ≡ filter (λ known. is_gt (text_cmp known.host new.host)) hosts =
-        kept-same (λ known. is_gt (text_cmp known.host new.host)) new.host (λ known e. equal-gt (text_cmp known.host new.host) (sym (bytes-order known.host new.host) ∙ e)) hosts in
+    kept-same (λ known. is_gt (text_cmp known.host new.host)) new.host (λ known e. equal-gt (text_cmp known.host new.host) (sym (bytes-order known.host new.host) ∙ e)) hosts in
     ap (λ l. l ++ (new ∷ filter (λ known. is_gt (text_cmp known.host new.host)) (without new.host hosts))) front
     ∙ ap (λ l. filter (λ known. is_lt (text_cmp known.host new.host)) hosts ++ (new ∷ l)) back
 
@@ -181,9 +180,10 @@ noted-left host name sts now hosts e few full there first =
     let absent = full-absent host hosts (holds host hosts) refl few full in
     let alone = not-held host hosts absent in
     let left : with_room (without host hosts) ≡ without name hosts = room-false (without host hosts) full ∙ ap (λ l. without_first_to_end l) alone ∙ first in
-    let less = with-less new name hosts (other-name host name hosts (bytes_eq host name) refl absent there) in
-    (aged host sts now hosts e ∙ ap (with_host new) left ∙ sym less,
-     subst (λ l. length l ≤ 4096) (sym less) (omega (arith, with-length new (without name hosts), holds-fewer name hosts there)))
+    let less = with-less new name hosts (other-name host name hosts (bytes_eq host name) refl absent there) in (
+      aged host sts now hosts e ∙ ap (with_host new) left ∙ sym less,
+      subst (λ l. length l ≤ 4096) (sym less) (omega (arith, with-length new (without name hosts), holds-fewer name hosts there)),
+    )
 
 -- and how many hosts there are then
 pub kept-few : (host : List ℕ) (subdomains : Bool) (until : ℕ) (hosts : List KnownHost) → nat_lt (length (without host hosts)) 4096 ≡ true → length (with_host (known_host host subdomains until) hosts) ≤ 4096

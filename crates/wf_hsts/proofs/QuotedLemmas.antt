@@ -1,10 +1,9 @@
 -- Quoted strings and values: the grammar and its reading agree.
-use Rattle.std.proofs.Common.{◌≡◌, ◌==◌, ◌&&◌, not, ℕ, Bool, true, false, List, [], ◌∷◌, length, Option, Some, None, option_map, refl, ap, sym, subst, ◌∙◌, if◌then◌else◌, arith}
+use Rattle.std.proofs.Common.{◌≡◌, ◌==◌, not, ℕ, Bool, true, false, List, [], ◌∷◌, length, Option, Some, None, option_map, refl, sym, subst, if◌then◌else◌, arith}
 use Rattle.std.proofs.lemmas.Bool.{eqb-false, eqb-true}
 use Rattle.wf_text.specs.Tokens.{is_tchar, is_token}
 use Rattle.wf_hsts.specs.Grammar.{IsQuoted, IsValue}
 use Rattle.wf_hsts.specs.Reading.{behind_backslash, unquoted, value_in}
-use Rattle.wf_hsts.proofs.BlankLemmas.{apart}
 use Rattle.std.specs.Cmp.{first_so, second_so}
 use Rattle.std.specs.List.{list_all}
 
@@ -64,9 +63,9 @@ mutual
 token-unquoted : (byte : ℕ) (text : List ℕ) → is_token (byte ∷ text) ≡ true → (byte == 34) ≡ false
 token-unquoted byte text token =
     unequal byte 34 (λ same.
-      let taken : is_tchar byte ≡ true = first_so (is_tchar byte) (list_all is_tchar text) (second_so (not (length (byte ∷ text) == 0)) (list_all is_tchar (byte ∷ text)) token) in
-      let there : is_tchar 34 ≡ true = subst (λ b. is_tchar b ≡ true) same taken in
-      cc)
+    let taken : is_tchar byte ≡ true = first_so (is_tchar byte) (list_all is_tchar text) (second_so (not (length (byte ∷ text) == 0)) (list_all is_tchar (byte ∷ text)) token) in
+    let there : is_tchar 34 ≡ true = subst (λ b. is_tchar b ≡ true) same taken in
+    cc)
 
 -- a value is read as what it stands for
 pub value-read : (written value : List ℕ) → IsValue written value → value_in written ≡ Some value

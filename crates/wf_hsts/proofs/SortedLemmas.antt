@@ -1,7 +1,7 @@
 -- Sorted lists of known hosts: a host looked up, taken out and put in.
-use Rattle.std.proofs.Common.{◌≡◌, ◌&&◌, ◌||◌, not, ℕ, Bool, true, false, cond, List, [], ◌∷◌, ◌++◌, filter, Option, Some, None, refl, ap, sym, subst, ◌∙◌, if◌then◌else◌}
+use Rattle.std.proofs.Common.{◌≡◌, ◌&&◌, ◌||◌, not, ℕ, Bool, true, false, cond, List, [], ◌∷◌, ◌++◌, filter, Some, refl, ap, sym, subst, ◌∙◌, if◌then◌else◌}
 use Rattle.std.specs.List.{list_any}
-use Rattle.std.specs.Ordering.{is_eq, is_gt, is_lt, match_ordering, nat_cmp, ordering_reverse}
+use Rattle.std.specs.Ordering.{is_gt, is_lt, match_ordering, ordering_reverse}
 use Rattle.std.specs.Str.{bytes_eq}
 use Rattle.std.specs.declared.cmp.Ordering.{Ordering}
 use Rattle.std.specs.declared.cmp.Ordering.TheVariants.{Equal, Greater, Less}
@@ -9,7 +9,7 @@ use Rattle.wf_hsts.specs.Hosts.{AreSorted, Each, text_cmp, with_host, without}
 use Rattle.wf_hsts.specs.Terms.{passes, term_in}
 use Rattle.wf_hsts.specs.declared.hosts.KnownHost.{KnownHost}
 use Rattle.wf_hsts.specs.declared.index.Term.{Term}
-use Rattle.wf_hsts.proofs.OrderLemmas.{bytes-equal, chained, flipped, less-apart, less-apart-back, text-equal}
+use Rattle.wf_hsts.proofs.OrderLemmas.{bytes-equal, chained, flipped, less-apart-back, text-equal}
 
 -- each of the hosts comes after this text
 abbrev pub ComeAfter : List ℕ → List KnownHost → Type 0

@@ -1,7 +1,7 @@
 -- What a field says, by the grammar and as it is read.
 use Rattle.std.proofs.Common.{◌≡◌, ◌↔◌, ℕ, Bool, true, false, List, Option, Some, None, Result, Ok, Err, IfOk, refl, sym, ap, ◌∙◌, if◌then◌else◌}
-use Rattle.wf_hsts.specs.Field.{IsSts, has_twice, sts_in, sts_of, sts_read}
-use Rattle.wf_hsts.specs.Reading.{directives_of}
+use Rattle.wf_hsts.specs.Field.{IsSts, has_twice, sts_of}
+use Rattle.wf_hsts.specs.Reading.{directives_of, sts_in, sts_read}
 use Rattle.wf_hsts.specs.declared.directives.Directive.{Directive}
 use Rattle.wf_hsts.specs.declared.sts.Sts.{Sts}
 use Rattle.wf_hsts.proofs.FieldLemmas.{field-read, read-field}

@@ -1,6 +1,5 @@
 -- A name stands twice where it is in the set of the names before it.
-use Rattle.std.proofs.Common.{◌≡◌, ◌<◌, ◌+◌, length, drop, get_or, ℕ, Bool, true, false, ◌||◌, ◌&&◌, not, List, [], ◌∷◌, refl, ap, sym, ◌∙◌, arith, cond, Bor}
-use Rattle.std.proofs.lemmas.Grind.{common_steps}
+use Rattle.std.proofs.Common.{◌≡◌, ◌<◌, ◌+◌, length, drop, get_or, ℕ, Bool, true, false, ◌||◌, not, List, [], ◌∷◌, refl, ap, sym, ◌∙◌, cond, Bor}
 use Rattle.std.proofs.lemmas.List.{drop_more}
 use Rattle.std.specs.List.{list_any}
 use Rattle.std.specs.Str.{bytes_eq}
@@ -54,7 +53,7 @@ pub names_twice-more : (keys more : List (Bor (List ℕ))) (key : Bor (List ℕ)
     → names_twice more directives ≡ names_twice keys (directive ∷ directives)
 names_twice-more keys more key directive directives e h absent =
     let grown : (other : List ℕ) → is_seen more other ≡ (bytes_eq directive.name other || is_seen keys other) =
-        λ other. sym (seen-contains more other) ∙ h (record { ref_ptr = (0, 0); now = other }) ∙ rw (← texts_ties key.now other, e, seen-contains keys other) (cond-or (bytes_eq directive.name other) (is_seen keys other)) in
+    λ other. sym (seen-contains more other) ∙ h (record { ref_ptr = (0, 0); now = other }) ∙ rw (← texts_ties key.now other, e, seen-contains keys other) (cond-or (bytes_eq directive.name other) (is_seen keys other)) in
     let new : is_seen keys directive.name ≡ false = sym (seen-contains keys directive.name) ∙ rw e at absent in
     sym (moved keys more directive.name grown directives) ∙ rw new refl
 

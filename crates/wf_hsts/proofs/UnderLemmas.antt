@@ -1,13 +1,13 @@
 -- Names under a known host, by the texts behind their dots.
-use Rattle.std.proofs.Common.{◌≡◌, ◌==◌, ◌&&◌, ◌||◌, ◌<◌, ◌≤◌, ◌-◌, ◌+◌, ◌⊎◌, inl, inr, not, take, get_or, ℕ, zero, suc, Bool, true, false, cond, List, [], ◌∷◌, drop, length, nat_eq, nat_lt, refl, ap, sym, subst, ◌∙◌, arith}
+use Rattle.std.proofs.Common.{◌≡◌, ◌==◌, ◌&&◌, ◌||◌, ◌<◌, ◌≤◌, ◌-◌, ◌+◌, inl, inr, get_or, ℕ, zero, suc, Bool, true, false, List, [], ◌∷◌, drop, length, nat_eq, nat_lt, refl, ap, sym, ◌∙◌, arith}
 use Rattle.std.proofs.lemmas.Bool.{cases_lt}
 use Rattle.std.proofs.lemmas.List.{drop_all, drop_more}
 use Rattle.std.specs.Cmp.Lexicographic.{unequal}
 use Rattle.std.specs.List.{ends_with, list_any}
 use Rattle.std.specs.Str.{bytes_eq}
-use Rattle.wf_hsts.specs.Hosts.{is_under, matches_host}
+use Rattle.wf_hsts.specs.Hosts.{matches_host}
 use Rattle.wf_hsts.proofs.IndexLemmas.{eq-flip}
-use Rattle.wf_hsts.specs.Terms.{begins_under, covers}
+use Rattle.wf_hsts.specs.Terms.{begins_under, covers, is_under}
 use Rattle.wf_hsts.specs.declared.hosts.KnownHost.{KnownHost}
 
 drop-nothing : (n : ℕ) → drop n (let none : List ℕ = [] in none) ≡ []

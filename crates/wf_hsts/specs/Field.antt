@@ -1,10 +1,9 @@
 -- What a Strict-Transport-Security field says (RFC 6797, sections 6.1, 6.1.1 and 6.1.2).
-use Rattle.std.specs.Prelude.{◌≡◌, ℕ, ◌||◌, Bool, true, false, List, [], ◌∷◌, Option, Some, None, codes, if◌then◌else◌}
+use Rattle.std.specs.Prelude.{◌≡◌, ℕ, ◌||◌, Bool, true, false, List, [], ◌∷◌, Option, Some, None, codes}
 use Rattle.std.specs.List.{find, list_any}
 use Rattle.std.specs.Str.{bytes_eq}
 use Rattle.wf_text.specs.Digits.{capped_digits}
 use Rattle.wf_hsts.specs.Grammar.{IsField}
-use Rattle.wf_hsts.specs.Reading.{directives_of}
 use Rattle.wf_hsts.specs.declared.directives.Directive.{Directive}
 use Rattle.wf_hsts.specs.declared.sts.Sts.{Sts}
 
@@ -58,11 +57,3 @@ pub record IsSts (value : List ℕ) (sts : Sts) : Type 0 where
   pub is_field : IsField value directives
   pub each_once : has_twice directives ≡ false
   pub says : sts_of directives ≡ Some sts
-
--- the same as it is read
-abbrev pub sts_read : Option (List Directive) → Option Sts
-sts_read None = None
-sts_read (Some directives) = if has_twice directives then None else sts_of directives
-
-abbrev pub sts_in : List ℕ → Option Sts
-sts_in value = sts_read (directives_of value)

@@ -1,6 +1,6 @@
--- Known HSTS hosts (RFC 6797, sections 8.1 to 8.3 and 11.4): which names are known, and what a
+-- Known HSTS hosts (RFC 6797, sections 6.1.1, 8.1, 8.1.1 and 8.2): which names are known, and what a
 -- Strict-Transport-Security field changes. A list of them is sorted by the bytes of the host.
-use Rattle.std.specs.Prelude.{◌≡◌, ℕ, ◌+◌, ◌≤◌, ◌==◌, ◌||◌, ◌&&◌, not, Bool, List, [], ◌∷◌, ◌++◌, length, Option, Some, None, nat_eq, nat_lt, filter, if◌then◌else◌}
+use Rattle.std.specs.Prelude.{◌≡◌, ℕ, ◌+◌, ◌≤◌, ◌==◌, ◌||◌, ◌&&◌, not, Bool, List, [], ◌∷◌, ◌++◌, length, nat_eq, nat_lt, filter, if◌then◌else◌}
 use Rattle.std.specs.Cmp.Lexicographic.{slice_cmp}
 use Rattle.std.specs.List.{ends_with, list_any}
 use Rattle.std.specs.declared.cmp.Ordering.{Ordering}
@@ -39,10 +39,6 @@ stands_for name known = bytes_eq known.host name || (known.subdomains && ends_wi
 -- a name is known at a time where a host stands for it whose term has not ended
 abbrev pub matches_host : List KnownHost → List ℕ → ℕ → Bool
 matches_host hosts name now = list_any (λ known. stands_for name known && nat_lt now known.until) hosts
-
--- a name is under a host with subdomains whose term has not ended
-abbrev pub is_under : List KnownHost → List ℕ → ℕ → Bool
-is_under hosts name now = list_any (λ known. (known.subdomains && ends_with nat_eq name (46 ∷ known.host)) && nat_lt now known.until) hosts
 
 -- the list has this host
 abbrev pub holds : List ℕ → List KnownHost → Bool

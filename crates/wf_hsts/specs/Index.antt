@@ -1,5 +1,5 @@
 -- How a list of known hosts is held: an index by host, and one by the end of the term.
-use Rattle.std.specs.Prelude.{◌≡◌, ℕ, ◌≤◌, ◌==◌, Bool, false, List, map, length, Option, Some, None}
+use Rattle.std.specs.Prelude.{◌≡◌, ℕ, ◌==◌, Bool, false, List, map, Option, Some, None}
 use Rattle.std.specs.List.{list_any}
 use Rattle.std.specs.List.Sorted.{IsStrictlySortedBy}
 use Rattle.std.specs.Map.{lookup}
@@ -37,4 +37,3 @@ module _ {V : Type 0} (items : V → List ℕ) where
     pub sorted : IsStrictlySortedBy name_cmp (map (λ entry. entry.0) entries)
     pub ends_sorted : IsStrictlySortedBy end_cmp ends
     pub same : (end : ℕ × V) → list_any (λ other. is_eq (end_cmp end other)) ends ≡ ends_at end.0 (term_of (items end.1) entries)
-

@@ -1,13 +1,16 @@
--- How a field is read: it is cut at the semicolons outside quoted strings, and each piece is read.
-use Rattle.std.specs.Prelude.{ℕ, ◌==◌, ◌+◌, suc, Bool, List, [], ◌∷◌, ◌++◌, length, drop, Option, Some, None, option_map, if◌then◌else◌}
+-- How a field is read: it is cut at the semicolons outside quoted strings, and each piece is read. That
+-- this comes to the grammar is proved in proofs/StsLemmas.antt.
+use Rattle.std.specs.Prelude.{ℕ, ◌==◌, ◌+◌, suc, List, [], ◌∷◌, ◌++◌, length, drop, Option, Some, None, option_map, if◌then◌else◌}
 use Rattle.std.specs.List.{before_first, list_all, position}
 use Rattle.std.specs.Str.{str_to_ascii_lowercase}
 use Rattle.wf_text.specs.Tokens.{is_token}
 use Rattle.wf_text.specs.Trims.{tab_or_space, trimmed}
+use Rattle.wf_hsts.specs.Field.{has_twice, sts_of}
 use Rattle.wf_hsts.specs.Grammar.{is_blank}
 use Rattle.wf_hsts.specs.declared.directives.Directive.{Directive}
 use Rattle.wf_hsts.specs.declared.pieces.Place.{Place}
 use Rattle.wf_hsts.specs.declared.pieces.Place.TheVariants.{Outside, Quoted, Escaped}
+use Rattle.wf_hsts.specs.declared.sts.Sts.{Sts}
 
 -- the place behind a byte, or nothing where it is a semicolon between two pieces
 abbrev pub next_place : Place → ℕ → Option Place
@@ -99,3 +102,11 @@ directives_in (piece ∷ pieces) = with_more (piece_in piece) (directives_in pie
 -- the directives of a field
 abbrev pub directives_of : List ℕ → Option (List Directive)
 directives_of value = directives_in (pieces Outside value)
+
+-- the same as it is read
+abbrev pub sts_read : Option (List Directive) → Option Sts
+sts_read None = None
+sts_read (Some directives) = if has_twice directives then None else sts_of directives
+
+abbrev pub sts_in : List ℕ → Option Sts
+sts_in value = sts_read (directives_of value)

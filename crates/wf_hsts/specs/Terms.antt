@@ -1,6 +1,6 @@
 -- Terms of known hosts, looked up by name and by end.
-use Rattle.std.specs.Prelude.{◌≡◌, ◌==◌, ◌&&◌, nat_lt, ℕ, Bool, true, false, List, [], ◌∷◌, length, Option, Some, None, if◌then◌else◌}
-use Rattle.std.specs.List.{list_any}
+use Rattle.std.specs.Prelude.{◌≡◌, ◌==◌, ◌&&◌, nat_eq, nat_lt, ℕ, Bool, true, false, List, [], ◌∷◌, length, Option, Some, None, if◌then◌else◌}
+use Rattle.std.specs.List.{ends_with, list_any}
 use Rattle.std.specs.Str.{bytes_eq}
 use Rattle.wf_hsts.specs.Hosts.{holds, without, without_first_to_end}
 use Rattle.wf_hsts.specs.declared.hosts.KnownHost.{KnownHost}
@@ -40,3 +40,7 @@ covers hosts host now = list_any (λ known. bytes_eq known.host host && (known.s
 abbrev pub begins_under : List KnownHost → List ℕ → ℕ → Bool
 begins_under hosts [] now = false
 begins_under hosts (byte ∷ text) now = byte == 46 && covers hosts text now
+
+-- a name is under a host with subdomains whose term has not ended
+abbrev pub is_under : List KnownHost → List ℕ → ℕ → Bool
+is_under hosts name now = list_any (λ known. (known.subdomains && ends_with nat_eq name (46 ∷ known.host)) && nat_lt now known.until) hosts

@@ -1,6 +1,6 @@
 ghost use Rattle.std.specs.Prelude.{◌≡◌, ◌^◌, ◌<◌, ◌≤◌, ◌&&◌, [], length, nat_lt, IfOk, OnOk, OnErr};
-ghost use Rattle.wf_hsts.specs.Hosts.{AreHosts, is_under, matches_host, noted, without};
-ghost use Rattle.wf_hsts.specs.Terms.{IsLeaving, begins_under, covers, holds_alive, passes};
+ghost use Rattle.wf_hsts.specs.Hosts.{AreHosts, matches_host, noted, without};
+ghost use Rattle.wf_hsts.specs.Terms.{IsLeaving, begins_under, covers, holds_alive, is_under, passes};
 
 use crate::index::{Index, Term};
 use crate::sts::Sts;
@@ -11,7 +11,7 @@ use wf_text::{Bytes, OutOfMemory};
 /// How many hosts a list holds at most (profile).
 const MOST_HOSTS: usize = 4096;
 
-/// A known HSTS host, as contracts see an entry of a list (RFC 6797, section 8.3).
+/// A known HSTS host, as contracts see an entry of a list (RFC 6797, section 8.1.1).
 #[derive(Drop)]
 pub struct KnownHost {
     /// The host's domain, as a URL has it.
@@ -27,7 +27,7 @@ pub struct KnownHost {
 #[derive(Drop)]
 pub struct HstsList {
     alloc: Global,
-    index: Index,
+    pub(crate) index: Index,
 }
 
 impl Model for HstsList {
@@ -106,11 +106,7 @@ fn has_room(index: &Index, host: &[u8]) -> bool
 }
 
 /// The host that goes where there is no room for this one.
-fn leaving_for(
-    alloc: Global,
-    index: &Index,
-    host: &[u8],
-) -> Result<Option<Bytes>, OutOfMemory>
+fn leaving_for(alloc: Global, index: &Index, host: &[u8]) -> Result<Option<Bytes>, OutOfMemory>
     requires { length index.now ≤ 4096 }
     ensures { IfOk result (λ leaving. IsLeaving leaving host.now index.now) }
 {
@@ -144,7 +140,7 @@ impl HstsList {
 
     /// Whether the name is known at this time, in seconds: whether a host of the list whose term has
     /// not ended is the name, or has subdomains and the name ends in a dot and it (RFC 6797, section
-    /// 8.3). It takes no memory.
+    /// 8.2). It takes no memory.
     pub fn is_known(&self, host: &[u8], now: u64) -> bool
         ensures { result ≡ matches_host self.now host.now now }
     {

@@ -81,12 +81,7 @@ impl Index {
     }
 
     /// Gives a host a term, in the place of the one that it has.
-    pub(crate) fn put(
-        &mut self,
-        alloc: Global,
-        host: &[u8],
-        term: Term,
-    ) -> Result<(), OutOfMemory>
+    pub(crate) fn put(&mut self, alloc: Global, host: &[u8], term: Term) -> Result<(), OutOfMemory>
         ensures ok { OnOk result (self.new ≡ with_host (known_host host.now term.subdomains term.until) self.old) }
         ensures err { OnErr result (self.new ≡ self.old) }
     {
@@ -137,5 +132,12 @@ impl Index {
                 Err(OutOfMemory)
             }
         }
+    }
+}
+
+#[cfg(test)]
+impl Index {
+    pub(crate) fn terms(&self) -> &BTreeMap<Vec<u8>, Term> {
+        &self.terms
     }
 }

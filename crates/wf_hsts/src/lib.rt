@@ -6,6 +6,8 @@ mod hosts;
 mod index;
 mod pieces;
 mod sts;
+#[cfg(test)]
+mod tests;
 
 pub use hosts::{HstsList, KnownHost};
 pub use sts::{Sts, parse_sts};

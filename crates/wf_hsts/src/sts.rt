@@ -1,7 +1,6 @@
-ghost use Rattle.std.specs.Prelude.{◌≡◌, ◌==◌, ◌↔◌, Bool, Some, None, IfOk, option_copied, length};
-ghost use Rattle.std.specs.List.{find};
-ghost use Rattle.std.specs.Str.{bytes_eq};
-ghost use Rattle.wf_hsts.specs.Field.{IsSts, has_twice, include_subdomains, max_age, named, sts_in, sts_of};
+ghost use Rattle.std.specs.Prelude.{◌≡◌, ◌↔◌, IfOk, option_copied};
+ghost use Rattle.wf_hsts.specs.Field.{IsSts, has_twice, include_subdomains, max_age, named, sts_of};
+ghost use Rattle.wf_hsts.specs.Reading.{sts_in};
 
 use crate::directives::{Directive, directives_of};
 use std::alloc::Global;

@@ -1,7 +1,5 @@
-use Rattle.std.proofs.Common.{List, Option, None, Some, if◌then◌else◌, ◌≡◌, sym, ap, ◌∙◌}
-use Rattle.wf_hsts.proofs.CuttingLemmas.{field-last, field-others, field-step, piece_end-within, pieces_behind}
-use Rattle.wf_hsts.specs.Reading.{directives_in, directives_of, with_more}
-use Rattle.wf_hsts.specs.declared.directives.Directive.{Directive}
+use Rattle.std.proofs.Common.{None, Some, sym}
+use Rattle.wf_hsts.proofs.CuttingLemmas.{field-last, field-others, field-step, piece_end-within}
 use Rattle.wf_hsts.specs.declared.pieces.Place.TheVariants.{Outside}
 use Rattle.wf_hsts.proofs.directives.directives_of.Goals as goal
 

@@ -1,4 +1,4 @@
-use Rattle.std.proofs.Common.{◌<◌, length, is_some, lt-ltb, ap, sym, subst, ◌∙◌, arith}
+use Rattle.std.proofs.Common.{is_some, lt-ltb, ap, sym, ◌∙◌, arith}
 use Rattle.wf_hsts.proofs.NotedLemmas.{room-few, room-full}
 use Rattle.wf_hsts.proofs.hosts.has_room.Goals as goal
 

@@ -1,4 +1,4 @@
-use Rattle.std.proofs.Common.{◌≡◌, take, drop}
+use Rattle.std.proofs.Common.{◌≡◌, drop}
 use Rattle.wf_hsts.specs.Field.{has_twice}
 use Rattle.wf_hsts.proofs.TwiceLemmas.{names_twice}
 use Rattle.wf_hsts.proofs.sts.has_twice.Given as goal

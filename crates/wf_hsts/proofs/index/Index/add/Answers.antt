@@ -1,4 +1,4 @@
-use Rattle.std.proofs.Common.{◌≡◌, List, ℕ, None, ap, subst, sym, ◌∙◌}
+use Rattle.std.proofs.Common.{◌≡◌, None, ap, subst, sym, ◌∙◌}
 use Rattle.wf_hsts.specs.Hosts.{known_host, with_host}
 use Rattle.wf_hsts.specs.Index.{listed, term_of}
 use Rattle.wf_hsts.specs.Terms.{term_in}
@@ -23,7 +23,7 @@ invariant_of-self-in-Err c =
       sorted = c.in-Err.ensures.ordered;
       ends_sorted = c.remove.ensures.ordered;
       same = subst (λ es. Agree bytes_of es c.remove.new.self.keys) (sym c.in-Err.ensures.err)
-        (agree-undone bytes_of c.args.host.now c.in-Err.refused.value.0 c.in_ok-from_slice.field-0 c.args.term c.self.inside.terms.entries c.self.inside.ends.keys c.insert.new.self.keys c.remove.new.self.keys named c.in_ok-from_slice.ensures.items absent c.self.invariant.same c.in_ok-insert.ensures.updates.0 c.remove.ensures.updates.0);
+          (agree-undone bytes_of c.args.host.now c.in-Err.refused.value.0 c.in_ok-from_slice.field-0 c.args.term c.self.inside.terms.entries c.self.inside.ends.keys c.insert.new.self.keys c.remove.new.self.keys named c.in_ok-from_slice.ensures.items absent c.self.invariant.same c.in_ok-insert.ensures.updates.0 c.remove.ensures.updates.0);
     }
 
 pub returns-in-Ok-clause-ok : goal.returns-in-Ok-clause-ok

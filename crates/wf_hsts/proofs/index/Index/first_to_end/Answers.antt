@@ -13,5 +13,5 @@ pub returns-in-None : goal.returns-in-None
 returns-in-None c =
     sym c.self.view_is
     ∙ none-first bytes_of c.self.inside.terms.entries c.self.inside.ends.keys c.self.invariant.same (λ some.
-      let never : false ≡ true = c.in-None.ensures.variant.1 some in
-      absurd (cc))
+    let never : false ≡ true = c.in-None.ensures.variant.1 some in
+    absurd (cc))
