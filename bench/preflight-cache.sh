@@ -1,12 +1,12 @@
 #!/usr/bin/env bash
 # Counts the instructions of one `covers` of the preflight cache over 1, 100 and 10,000 keys of 64
-# entries: the last entry of a key in the middle is asked for. Callgrind counts a run with 1,000 questions
-# and one with none; the difference is the questions'.
+# entries: of 100 keys in turn the last entry is asked for, so that all 64 are looked at. Callgrind counts
+# a run with ten such rounds and one with none; the difference is the questions'.
 set -eu
 root=$(cd "$(dirname "${BASH_SOURCE[0]}")/.." && pwd)
 work=$(mktemp -d)
 trap 'rm -rf "$work"' EXIT
-(cd "$root/crates/bench_precache" && rt run -- 1 1 >/dev/null)
+(cd "$root/crates/bench_precache" && rt run -- 1 1 >/dev/null 2>&1)
 program=$root/crates/bench_precache/out/bench_precache
 
 # The instructions of a run.
@@ -16,7 +16,7 @@ counted() {
 }
 
 for keys in 1 100 10000; do
-    asked=$(counted "$keys" 1000)
+    asked=$(counted "$keys" 10)
     filled=$(counted "$keys" 0)
     printf '%6s keys: %6s instructions a question\n' "$keys" "$(((asked - filled) / 1000))"
 done

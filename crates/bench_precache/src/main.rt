@@ -1,8 +1,8 @@
-// Fills a preflight cache with so many keys of 64 entries each, asks it so often, and prints how often
-// the answer was yes: `bench_precache KEYS QUESTIONS`.
+// Fills a preflight cache with so many keys of 64 entries each, asks it for 100 of the keys in so many
+// rounds, and prints how often the answer was yes: `bench_precache KEYS ROUNDS`.
 #![tactic(auto)]
 
-use std::alloc::{AllocError, Global};
+use std::alloc::{AllocError, AllocFailed, Global};
 use std::process::ExitCode;
 use std::rt::Env;
 use std::{env, io};
@@ -19,6 +19,12 @@ struct Failed;
 
 impl From<OutOfMemory> for Failed {
     fn from(_error: OutOfMemory) -> Self {
+        Failed
+    }
+}
+
+impl<T: Drop> From<AllocFailed<T>> for Failed {
+    fn from(_error: AllocFailed<T>) -> Self {
         Failed
     }
 }
@@ -81,12 +87,24 @@ fn filled(alloc: Global, keys: u64) -> Result<Precache, Failed> {
     Ok(cache)
 }
 
-// How many of so many questions about one key are covered.
-fn asked(cache: &Precache, question: &Question, questions: u64) -> u64 {
+// A question about each of 100 keys, from the first on to the last.
+fn questions_of(alloc: Global, keys: u64) -> Result<Vec<Question>, Failed> {
+    let mut questions = Vec::new(alloc);
+    for number in 0..100u64 {
+        let key = number.saturating_mul(keys) / 100;
+        questions.push(question(alloc, key)?)?;
+    }
+    Ok(questions)
+}
+
+// How many of so many questions are covered, asked in turn.
+fn asked(cache: &Precache, questions: &[Question], rounds: u64) -> u64 {
     let mut covered = 0u64;
-    for _ in 0..questions {
-        if cache.covers(question, 1) {
-            covered = covered.saturating_add(1);
+    for _ in 0..rounds {
+        for question in questions {
+            if cache.covers(question, 1) {
+                covered = covered.saturating_add(1);
+            }
         }
     }
     covered
@@ -106,11 +124,11 @@ fn number(word: Option<String>) -> Result<u64, Failed> {
 fn run<R: Env + Print + AllocGlobal>(rt: &R) -> Result<(), Failed> {
     let mut words = env::args(rt)?.skip(1);
     let keys = number(words.next())?;
-    let questions = number(words.next())?;
+    let rounds = number(words.next())?;
     let cache = filled(rt.alloc(), keys)?;
-    let question = question(rt.alloc(), keys / 2)?;
-    let covered = asked(&cache, &question, questions);
-    println!(rt; "{keys} keys, {questions} questions, {covered} covered")?;
+    let questions = questions_of(rt.alloc(), keys)?;
+    let covered = asked(&cache, questions.as_slice(), rounds);
+    println!(rt; "{keys} keys, {rounds} rounds, {covered} covered")?;
     Ok(())
 }
 
