@@ -1,0 +1,22 @@
+#!/usr/bin/env bash
+# Counts the instructions of two `is_known` of the host list over 64, 512 and 4,096 hosts of three labels:
+# for a host in the middle, and for a name beside it, which is not known. Callgrind counts a run with 1,000
+# such questions and one with none; the difference is the questions'.
+set -eu
+root=$(cd "$(dirname "${BASH_SOURCE[0]}")/.." && pwd)
+work=$(mktemp -d)
+trap 'rm -rf "$work"' EXIT
+(cd "$root/crates/bench_hsts" && rt run -- 1 1 >/dev/null)
+program=$root/crates/bench_hsts/out/bench_hsts
+
+# The instructions of a run.
+counted() {
+    valgrind --tool=callgrind --callgrind-out-file="$work/out" "$program" "$1" "$2" >/dev/null 2>"$work/log"
+    sed -n 's/.*Collected : //p' "$work/log"
+}
+
+for hosts in 64 512 4096; do
+    asked=$(counted "$hosts" 1000)
+    filled=$(counted "$hosts" 0)
+    printf '%5s hosts: %6s instructions a question\n' "$hosts" "$(((asked - filled) / 1000))"
+done

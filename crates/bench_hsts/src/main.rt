@@ -1,0 +1,99 @@
+// Fills a list with so many known hosts, asks it so often for one of them and for a name beside it, and
+// prints how often the answer was yes: `bench_hsts HOSTS QUESTIONS`.
+#![tactic(auto)]
+
+use std::alloc::{AllocError, Global};
+use std::process::ExitCode;
+use std::rt::{Env, Print};
+use std::{env, io};
+use wf_hsts::{HstsList, Sts};
+use wf_text::{Bytes, OutOfMemory};
+
+/// What each host says.
+const STS: Sts = Sts {
+    age: 31_536_000,
+    subdomains: true,
+};
+
+/// The words are wrong, memory was refused, or the answer could not be written.
+#[derive(Clone, Copy, Debug)]
+struct Failed;
+
+impl From<OutOfMemory> for Failed {
+    fn from(_error: OutOfMemory) -> Self {
+        Failed
+    }
+}
+
+impl From<AllocError> for Failed {
+    fn from(_error: AllocError) -> Self {
+        Failed
+    }
+}
+
+impl From<io::Error> for Failed {
+    fn from(_error: io::Error) -> Self {
+        Failed
+    }
+}
+
+// A name of three labels: the first, a number and `test`.
+fn name(alloc: Global, label: &[u8], number: u64) -> Result<Bytes, Failed> {
+    let mut name = Bytes::of(alloc, label)?;
+    name.append(b".h")?;
+    name.append(number.to_string(alloc)?.as_bytes())?;
+    name.append(b".test")?;
+    Ok(name)
+}
+
+fn filled(alloc: Global, hosts: u64) -> Result<HstsList, Failed> {
+    let mut list = HstsList::new(alloc);
+    for number in 0..hosts {
+        list.note(name(alloc, b"www", number)?, STS, 0)?;
+    }
+    Ok(list)
+}
+
+// How many of so many questions, each about both names, are answered yes.
+fn asked(list: &HstsList, host: &[u8], beside: &[u8], questions: u64) -> u64 {
+    let mut known = 0u64;
+    for _ in 0..questions {
+        if list.is_known(host, 1) {
+            known = known.saturating_add(1);
+        }
+        if list.is_known(beside, 1) {
+            known = known.saturating_add(1);
+        }
+    }
+    known
+}
+
+// The number that a word writes.
+fn number(word: Option<String>) -> Result<u64, Failed> {
+    let Some(word) = word else {
+        return Err(Failed);
+    };
+    match word.parse::<u64>() {
+        Ok(number) => Ok(number),
+        Err(_) => Err(Failed),
+    }
+}
+
+fn run<R: Env + Print + AllocGlobal>(rt: &R) -> Result<(), Failed> {
+    let mut words = env::args(rt)?.skip(1);
+    let hosts = number(words.next())?;
+    let questions = number(words.next())?;
+    let list = filled(rt.alloc(), hosts)?;
+    let host = name(rt.alloc(), b"www", hosts / 2)?;
+    let beside = name(rt.alloc(), b"api", hosts / 2)?;
+    let known = asked(&list, host.as_slice(), beside.as_slice(), questions);
+    println!(rt; "{hosts} hosts, {questions} questions, {known} known")?;
+    Ok(())
+}
+
+fn main(rt: HostRuntime) -> ExitCode {
+    match run(&rt) {
+        Ok(()) => ExitCode::SUCCESS,
+        Err(_) => ExitCode::FAILURE,
+    }
+}

@@ -1,0 +1,23 @@
+ghost use Rattle.wf_book.specs.Entries.{GrowsByAnEntry, IsLastOfItsDocument};
+ghost use Rattle.wf_book.specs.Past.{PastReplies};
+
+use wf_precache::{law_clears, law_lessons};
+
+/// A legal history grows by an entry with the next turn and the book's reply.
+pub fn law_grown()
+    ensures { GrowsByAnEntry }
+{}
+
+/// An entry more is the last of its own document, and leaves the entries of every other one.
+pub fn law_own()
+    ensures { IsLastOfItsDocument }
+{}
+
+/// The book after the notes of a history, and what was learnt and cleared under one key, replies to the
+/// operations of that key as the book after all of it.
+pub fn law_past()
+    ensures { PastReplies }
+{
+    law_lessons();
+    law_clears();
+}

@@ -1,0 +1,15 @@
+pub mod BlankLemmas
+pub mod Computed
+pub mod CuttingLemmas
+pub mod EqualsLemmas
+pub mod FieldLemmas
+pub mod FirstLemmas
+pub mod IndexLemmas
+pub mod NameLemmas
+pub mod NotedLemmas
+pub mod OrderLemmas
+pub mod QuotedLemmas
+pub mod SortedLemmas
+pub mod StsLemmas
+pub mod TwiceLemmas
+pub mod UnderLemmas

@@ -1,0 +1,54 @@
+-- The grammar of the Strict-Transport-Security header field (RFC 6797, section 6.1).
+use Rattle.std.specs.Prelude.{◌≡◌, ℕ, Bool, ◌==◌, List, [], ◌∷◌, ◌++◌, Some, None, IsTrue}
+use Rattle.std.specs.List.{list_all, list_any}
+use Rattle.std.specs.Str.{str_to_ascii_lowercase}
+use Rattle.wf_text.specs.Tokens.{is_token}
+use Rattle.wf_text.specs.Trims.{tab_or_space}
+use Rattle.wf_hsts.specs.declared.directives.Directive.{Directive}
+
+-- a tab or a space
+abbrev pub is_blank : ℕ → Bool
+is_blank byte = list_any (λ blank. blank == byte) tab_or_space
+
+-- tabs and spaces alone
+abbrev pub IsBlank : List ℕ → Type 0
+IsBlank text = IsTrue (list_all is_blank text)
+
+-- a text that has this one between blanks
+pub record IsPadded (inner text : List ℕ) : Type 0 where
+  pub before : List ℕ
+  pub behind : List ℕ
+  pub blank_before : IsBlank before
+  pub blank_behind : IsBlank behind
+  pub text_is : text ≡ before ++ (inner ++ behind)
+
+-- what is written of a quoted-string behind its first quote, and its value: a backslash takes the next
+-- byte with it, and the first other quote is the last byte (RFC 9110, section 5.6.4)
+pub data IsQuoted : List ℕ → List ℕ → Type 0 where
+  closed : IsQuoted (34 ∷ []) []
+  plain : (byte : ℕ) (written value : List ℕ) → (byte ≡ 34 → ⊥) → (byte ≡ 92 → ⊥) → IsQuoted written value → IsQuoted (byte ∷ written) (byte ∷ value)
+  escaped : (byte : ℕ) (written value : List ℕ) → IsQuoted written value → IsQuoted (92 ∷ byte ∷ written) (byte ∷ value)
+
+-- directive-value: a token, which is its own value, or a quoted-string
+pub data IsValue : List ℕ → List ℕ → Type 0 where
+  token : (text : List ℕ) → IsTrue (is_token text) → IsValue text text
+  quoted : (written value : List ℕ) → IsQuoted written value → IsValue (34 ∷ written) value
+
+-- directive: a name, which is a token, or a name, "=" and a value; it is seen with its name in lower
+-- case, since names compare in any case
+pub data IsDirective : List ℕ → Directive → Type 0 where
+  bare : (name text : List ℕ) → IsTrue (is_token name) → IsPadded name text
+      → IsDirective text (record { name = str_to_ascii_lowercase name; value = None })
+  valued : (name left written right value : List ℕ) → IsTrue (is_token name) → IsPadded name left → IsValue written value → IsPadded written right
+      → IsDirective (left ++ 61 ∷ right) (record { name = str_to_ascii_lowercase name; value = Some value })
+
+-- [ directive ]
+pub data IsPiece : List ℕ → List Directive → Type 0 where
+  blank : (text : List ℕ) → IsBlank text → IsPiece text []
+  written : (text : List ℕ) (directive : Directive) → IsDirective text directive → IsPiece text (directive ∷ [])
+
+-- the field: [ directive ] *( ";" [ directive ] )
+pub data IsField : List ℕ → List Directive → Type 0 where
+  last : (text : List ℕ) (directives : List Directive) → IsPiece text directives → IsField text directives
+  more : (piece rest : List ℕ) (directives others : List Directive) → IsPiece piece directives → IsField rest others
+      → IsField (piece ++ 59 ∷ rest) (directives ++ others)

@@ -1,0 +1,73 @@
+-- Known HSTS hosts (RFC 6797, sections 6.1.1, 8.1, 8.1.1 and 8.2): which names are known, and what a
+-- Strict-Transport-Security field changes. A list of them is sorted by the bytes of the host.
+use Rattle.std.specs.Prelude.{◌≡◌, ℕ, ◌+◌, ◌≤◌, ◌==◌, ◌||◌, ◌&&◌, not, Bool, List, [], ◌∷◌, ◌++◌, length, nat_eq, nat_lt, filter, if◌then◌else◌}
+use Rattle.std.specs.Cmp.Lexicographic.{slice_cmp}
+use Rattle.std.specs.List.{ends_with, list_any}
+use Rattle.std.specs.declared.cmp.Ordering.{Ordering}
+use Rattle.std.specs.declared.cmp.Ordering.TheVariants.{Less}
+use Rattle.std.specs.Ordering.{is_gt, is_lt, nat_cmp, ordering_then}
+use Rattle.std.specs.Str.{bytes_eq}
+use Rattle.wf_hsts.specs.declared.hosts.KnownHost.{KnownHost}
+use Rattle.wf_hsts.specs.declared.sts.Sts.{Sts}
+
+-- the order of texts by their bytes
+abbrev pub text_cmp : List ℕ → List ℕ → Ordering
+text_cmp a b = slice_cmp nat_cmp a b
+
+-- P holds of each host
+abbrev pub Each : (KnownHost → Type 0) → List KnownHost → Type 0
+Each P [] = Unit {0}
+Each P (known ∷ hosts) = P known × Each P hosts
+
+-- each host comes before those behind it
+abbrev pub AreSorted : List KnownHost → Type 0
+AreSorted [] = Unit {0}
+AreSorted (known ∷ hosts) = Each (λ other. text_cmp known.host other.host ≡ Less) hosts × AreSorted hosts
+
+-- what every list of known hosts is: sorted, each host once, and at most 4,096
+pub record AreHosts (hosts : List KnownHost) : Type 0 where
+  pub sorted : AreSorted hosts
+  pub few : length hosts ≤ 4096
+
+abbrev pub known_host : List ℕ → Bool → ℕ → KnownHost
+known_host host subdomains until = record { host = host; subdomains = subdomains; until = until }
+
+-- a name that a known host stands for: the host's own, or with subdomains one that ends in a dot and it
+abbrev pub stands_for : List ℕ → KnownHost → Bool
+stands_for name known = bytes_eq known.host name || (known.subdomains && ends_with nat_eq name (46 ∷ known.host))
+
+-- a name is known at a time where a host stands for it whose term has not ended
+abbrev pub matches_host : List KnownHost → List ℕ → ℕ → Bool
+matches_host hosts name now = list_any (λ known. stands_for name known && nat_lt now known.until) hosts
+
+-- the list has this host
+abbrev pub holds : List ℕ → List KnownHost → Bool
+holds host hosts = list_any (λ known. bytes_eq known.host host) hosts
+
+-- the other hosts
+abbrev pub without : List ℕ → List KnownHost → List KnownHost
+without host hosts = filter (λ known. not (bytes_eq known.host host)) hosts
+
+-- the hosts that come before this one, it, and those that come behind it
+abbrev pub with_host : KnownHost → List KnownHost → List KnownHost
+with_host new hosts =
+    filter (λ known. is_lt (text_cmp known.host new.host)) hosts ++ (new ∷ filter (λ known. is_gt (text_cmp known.host new.host)) hosts)
+
+-- a host's term ends before another's, or at the same time and its bytes come first
+abbrev pub ends_before : KnownHost → KnownHost → Bool
+ends_before a b = is_lt (ordering_then (nat_cmp a.until b.until) (text_cmp a.host b.host))
+
+-- all hosts but the one that ends first: those that another ends before
+abbrev pub without_first_to_end : List KnownHost → List KnownHost
+without_first_to_end hosts = filter (λ known. list_any (λ other. ends_before other known) hosts) hosts
+
+-- room for one host more: of 4,096 the one that ends first goes
+abbrev pub with_room : List KnownHost → List KnownHost
+with_room others = if nat_lt (length others) 4096 then others else without_first_to_end others
+
+-- the list after a field of a host: with max-age 0 the host is forgotten, else it is known for so long,
+-- in the place of what was known of it (RFC 6797, sections 6.1.1 and 8.1)
+abbrev pub noted : List ℕ → Sts → ℕ → List KnownHost → List KnownHost
+noted host sts now hosts =
+    if sts.age == 0 then without host hosts
+    else with_host (known_host host sts.subdomains (now + sts.age)) (with_room (without host hosts))

@@ -1,0 +1,143 @@
+ghost use Rattle.std.specs.Prelude.{◌≡◌, [], length, Some, None, OnOk, OnErr, option_copied};
+ghost use Rattle.wf_hsts.specs.Hosts.{AreSorted, known_host, with_host, without};
+ghost use Rattle.wf_hsts.specs.Terms.{IsFirstToEnd, term_in};
+
+use std::alloc::Global;
+use std::collections::{BTreeMap, BTreeSet};
+use std::marker::Model;
+use wf_text::OutOfMemory;
+
+/// With or without subdomains, and until when a host is known.
+#[derive(Clone, Copy)]
+pub(crate) struct Term {
+    pub(crate) subdomains: bool,
+    pub(crate) until: u64,
+}
+
+/// Known hosts, found by name and by the end of their term; seen as the list of them, sorted by the
+/// bytes of the host.
+#[derive(Drop)]
+pub(crate) struct Index {
+    /// Each host's term.
+    terms: BTreeMap<Vec<u8>, Term>,
+    /// When each host's term ends, the earliest first.
+    ends: BTreeSet<(u64, Vec<u8>)>,
+}
+
+impl Model for Index {
+    ghost use Rattle.std.specs.Prelude.{List};
+    ghost use Rattle.wf_hsts.specs.declared.hosts.KnownHost.{KnownHost};
+    ghost use Rattle.wf_hsts.specs.Index.{IsIndexed, listed};
+
+    ghost Value = { List KnownHost };
+
+    ghost view = { λ index. listed (λ name. name.items) index.terms.entries };
+
+    ghost invariant = { λ index. IsIndexed (λ name. name.items) index.terms.entries index.ends.keys };
+}
+
+impl Index {
+    pub(crate) fn new(alloc: Global) -> Index
+        ensures { result ≡ [] }
+    {
+        Index {
+            terms: BTreeMap::new(alloc),
+            ends: BTreeSet::new(alloc),
+        }
+    }
+
+    pub(crate) fn len(&self) -> usize
+        ensures len { result ≡ length self.now }
+        ensures sorted { AreSorted self.now }
+    {
+        self.terms.len()
+    }
+
+    /// The term of a host, if it is known.
+    pub(crate) fn term_of(&self, host: &[u8]) -> Option<Term>
+        ensures term { result ≡ term_in host.now self.now }
+        ensures sorted { AreSorted self.now }
+    {
+        self.terms.get(host).copied()
+    }
+
+    /// The host whose term ends first; of some whose terms end then, the first by its bytes.
+    pub(crate) fn first_to_end(&self) -> Option<&[u8]>
+        ensures { IsFirstToEnd (option_copied result) self.now }
+    {
+        match self.ends.first() {
+            Some((_, name)) => Some(name.as_slice()),
+            None => None,
+        }
+    }
+
+    /// Takes a host out, if it is there.
+    pub(crate) fn take_out(&mut self, host: &[u8])
+        ensures { self.new ≡ without host.now self.old }
+    {
+        if let Some((name, term)) = self.terms.remove_entry(host) {
+            self.ends.remove(&(term.until, name));
+        }
+    }
+
+    /// Gives a host a term, in the place of the one that it has.
+    pub(crate) fn put(&mut self, alloc: Global, host: &[u8], term: Term) -> Result<(), OutOfMemory>
+        ensures ok { OnOk result (self.new ≡ with_host (known_host host.now term.subdomains term.until) self.old) }
+        ensures err { OnErr result (self.new ≡ self.old) }
+    {
+        match self.term_of(host) {
+            Some(old) => self.replace(alloc, host, old, term),
+            None => self.add(alloc, host, term),
+        }
+    }
+
+    // Gives a host that is there another term.
+    fn replace(
+        &mut self,
+        alloc: Global,
+        host: &[u8],
+        old: Term,
+        term: Term,
+    ) -> Result<(), OutOfMemory>
+        requires { term_in host.now self.old ≡ Some old }
+        ensures ok { OnOk result (self.new ≡ with_host (known_host host.now term.subdomains term.until) self.old) }
+        ensures err { OnErr result (self.new ≡ self.old) }
+    {
+        let end = (term.until, Vec::from_slice(alloc, host)?);
+        let ended = (old.until, Vec::from_slice(alloc, host)?);
+        if self.ends.insert(end)? {
+            self.ends.remove(&ended);
+        }
+        match self.terms.insert(ended.1, term) {
+            Ok(_) => Ok(()),
+            // A host that is there needs no memory.
+            Err(_) => unreachable!(),
+        }
+    }
+
+    // Adds a host that is not there.
+    fn add(&mut self, alloc: Global, host: &[u8], term: Term) -> Result<(), OutOfMemory>
+        requires { term_in host.now self.old ≡ None }
+        ensures ok { OnOk result (self.new ≡ with_host (known_host host.now term.subdomains term.until) self.old) }
+        ensures err { OnErr result (self.new ≡ self.old) }
+    {
+        let name = Vec::from_slice(alloc, host)?;
+        let end = (term.until, Vec::from_slice(alloc, host)?);
+        self.ends.insert(end)?;
+        match self.terms.insert(name, term) {
+            Ok(_) => Ok(()),
+            Err(refused) => {
+                let (name, _) = refused.value;
+                self.ends.remove(&(term.until, name));
+                Err(OutOfMemory)
+            }
+        }
+    }
+}
+
+#[cfg(test)]
+impl Index {
+    pub(crate) fn terms(&self) -> &BTreeMap<Vec<u8>, Term> {
+        &self.terms
+    }
+}

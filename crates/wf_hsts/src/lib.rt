@@ -1,0 +1,13 @@
+// HTTP Strict Transport Security: the header field, and the hosts that are known to ask for it.
+#![tactic(auto)]
+
+mod directives;
+mod hosts;
+mod index;
+mod pieces;
+mod sts;
+#[cfg(test)]
+mod tests;
+
+pub use hosts::{HstsList, KnownHost};
+pub use sts::{Sts, parse_sts};

@@ -1,0 +1,6 @@
+pub mod CacheLaws
+pub mod Computed
+pub mod KeyLaws
+pub mod KeyLemmas
+pub mod ListLemmas
+pub mod TeachLemmas

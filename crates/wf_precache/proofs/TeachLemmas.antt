@@ -1,0 +1,22 @@
+-- One method or header name learnt.
+use Rattle.std.proofs.Common.{◌≡◌, ◌++◌, ◌∷◌, [], ℕ, List, Bool, false, cond, map, sym, ap, ◌∙◌, Result, Ok, Err, OnOk}
+use Rattle.std.specs.List.{list_any}
+use Rattle.wf_text.specs.declared.memory.OutOfMemory.{OutOfMemory}
+use Rattle.wf_precache.specs.declared.entry.Allowed.{Allowed}
+use Rattle.wf_precache.specs.declared.entry.CacheEntry.{CacheEntry}
+use Rattle.wf_precache.specs.declared.question.Lesson.{Lesson}
+use Rattle.wf_precache.specs.Teaching.{created, is_known, newest, renewed, with_item}
+use Rattle.wf_precache.proofs.ListLemmas.{unmapped}
+
+module _ (lesson : Lesson) (now : ℕ) (item : Allowed) (old new : List CacheEntry) where
+  -- where no entry is known, the renewed entries with the new one behind are those of the definition
+  created-last : list_any (is_known lesson now item) old ≡ false → new ≡ newest (map (renewed lesson now item) old ++ created lesson now item ∷ []) → new ≡ with_item lesson now old item
+  created-last none is =
+      let same = unmapped (is_known lesson now item) (λ entry. record entry { made = now; age = lesson.age }) old none in
+      let choice : (b : Bool) → b ≡ false → cond b (map (renewed lesson now item) old) (newest (old ++ created lesson now item ∷ [])) ≡ newest (old ++ created lesson now item ∷ []) =
+      λ b e. ap (λ (b : Bool). cond b (map (renewed lesson now item) old) (newest (old ++ created lesson now item ∷ []))) e in
+      is ∙ (ap (λ (entries : List CacheEntry). newest (entries ++ created lesson now item ∷ [])) same ∙ sym (choice _ none))
+
+  pub learnt-new : (result : Result (Unit {0}) OutOfMemory) → list_any (is_known lesson now item) old ≡ false → OnOk result (new ≡ newest (map (renewed lesson now item) old ++ created lesson now item ∷ [])) → OnOk result (new ≡ with_item lesson now old item)
+  learnt-new (Ok done) none is = created-last none is
+  learnt-new (Err error) none is = tt

@@ -1,0 +1,43 @@
+-- The entries of all keys as one list, in the order of the keys' bytes.
+use Rattle.std.specs.Prelude.{ℕ, Bool, List, [], ◌∷◌, ◌++◌, map, filter}
+use Rattle.std.specs.Str.{bytes_eq}
+use Rattle.std.specs.Ordering.{is_lt, nat_cmp}
+use Rattle.std.specs.declared.cmp.Ordering.{Ordering}
+use Rattle.std.specs.Cmp.Lexicographic.{slice_cmp}
+use Rattle.wf_precache.specs.declared.entry.CacheEntry.{CacheEntry}
+
+-- an entry and the network partition key that it is kept under
+pub record Keyed : Type 0 where
+  pub key : List ℕ
+  pub entry : CacheEntry
+
+abbrev pub keyed : List ℕ → CacheEntry → Keyed
+keyed key entry = record { key = key; entry = entry }
+
+-- the first text stands before the second in the order of bytes
+abbrev pub stands_before : List ℕ → List ℕ → Bool
+stands_before a b = is_lt (slice_cmp nat_cmp a b)
+
+-- the entries of one key, in order
+abbrev pub entries_of : List ℕ → List Keyed → List CacheEntry
+entries_of key cache = map (λ k. k.entry) (filter (λ k. bytes_eq k.key key) cache)
+
+-- the entries of the keys before this one, and of those behind it
+abbrev pub before : List ℕ → List Keyed → List Keyed
+before key cache = filter (λ k. stands_before k.key key) cache
+
+abbrev pub behind : List ℕ → List Keyed → List Keyed
+behind key cache = filter (λ k. stands_before key k.key) cache
+
+-- the list with these as the entries of the key
+abbrev pub with_entries : List ℕ → List CacheEntry → List Keyed → List Keyed
+with_entries key entries cache = before key cache ++ (map (keyed key) entries ++ behind key cache)
+
+-- the order of keys by their bytes
+abbrev pub key_cmp : {K : Type 0} → (K → List ℕ) → K → K → Ordering
+key_cmp bytes a b = slice_cmp nat_cmp (bytes a) (bytes b)
+
+-- the entries that lists of entries hold under their keys, as one list
+abbrev pub listed : {K : Type 0} → (K → List ℕ) → List (K × List CacheEntry) → List Keyed
+listed bytes [] = []
+listed bytes (p ∷ ps) = map (keyed (bytes p.0)) p.1 ++ listed bytes ps

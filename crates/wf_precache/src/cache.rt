@@ -1,0 +1,140 @@
+ghost use Rattle.std.specs.Prelude.{◌≡◌, ◌≤◌, [], length, OnOk, OnErr};
+ghost use Rattle.std.specs.BTreeMap.{IsOrdered};
+ghost use Rattle.wf_precache.specs.Cache.{cleared, covers, learned};
+ghost use Rattle.wf_precache.specs.Keys.{entries_of, key_cmp, listed, with_entries};
+
+#[cfg(test)]
+mod tests;
+
+use crate::entry::CacheEntry;
+use crate::partition::{Partition, covers};
+use crate::question::{Lesson, Question};
+use std::alloc::Global;
+use std::collections::BTreeMap;
+use std::marker::Model;
+use wf_text::OutOfMemory;
+
+/// The CORS-preflight cache, seen as the list of all its entries: sorted by the bytes of their keys,
+/// those of one key in the order of their creation (Fetch, "CORS-preflight cache").
+#[derive(Drop)]
+pub struct Precache {
+    alloc: Global,
+    partitions: BTreeMap<Vec<u8>, Partition>,
+}
+
+impl Model for Precache {
+    ghost use Rattle.std.specs.Prelude.{List};
+    ghost use Rattle.std.specs.BTreeMap.{IsOrdered};
+    ghost use Rattle.wf_precache.specs.Keys.{Keyed, key_cmp, listed};
+
+    ghost Value = { List Keyed };
+
+    ghost view = { λ cache. listed (λ key. key.items) cache.partitions.entries };
+
+    ghost invariant = { λ cache. IsOrdered (key_cmp (λ key. key.items)) cache.partitions };
+}
+
+// The entries of a key.
+fn entries_of<'a>(partitions: &'a BTreeMap<Vec<u8>, Partition>, key: &[u8]) -> &'a [CacheEntry]
+    requires { IsOrdered (key_cmp (λ key. key.items)) partitions.now }
+    ensures entries { result.now ≡ entries_of key.now (listed (λ key. key.items) partitions.now.entries) }
+    ensures most { length result.now ≤ 64 }
+{
+    match partitions.get(key) {
+        Some(partition) => partition.as_slice(),
+        None => &[],
+    }
+}
+
+// Puts these in the place of the entries of a key. No key is kept without entries.
+fn put(
+    alloc: Global,
+    partitions: &mut BTreeMap<Vec<u8>, Partition>,
+    key: &[u8],
+    partition: Partition,
+) -> Result<(), OutOfMemory>
+    requires { IsOrdered (key_cmp (λ key. key.items)) partitions.old }
+    ensures ordered { IsOrdered (key_cmp (λ key. key.items)) partitions.new }
+    ensures ok { OnOk result (listed (λ key. key.items) partitions.new.entries ≡ with_entries key.now partition (listed (λ key. key.items) partitions.old.entries)) }
+    ensures err { OnErr result (partitions.new.entries ≡ partitions.old.entries) }
+{
+    if partition.as_slice().is_empty() {
+        partitions.remove(key);
+        return Ok(());
+    }
+    let key = Vec::from_slice(alloc, key)?;
+    partitions.insert(key, partition)?;
+    Ok(())
+}
+
+// Takes out the entries of a key, an origin and a URL.
+fn clear_in(partitions: &mut BTreeMap<Vec<u8>, Partition>, key: &[u8], origin: &[u8], url: &[u8])
+    requires { IsOrdered (key_cmp (λ key. key.items)) partitions.old }
+    ensures ordered { IsOrdered (key_cmp (λ key. key.items)) partitions.new }
+    ensures cleared { listed (λ key. key.items) partitions.new.entries ≡ cleared key.now origin.now url.now (listed (λ key. key.items) partitions.old.entries) }
+{
+    if let Some(partition) = partitions.get_mut(key) {
+        partition.clear(origin, url);
+    }
+}
+
+// Takes out a key that has no entries.
+fn drop_empty(partitions: &mut BTreeMap<Vec<u8>, Partition>, key: &[u8])
+    requires { IsOrdered (key_cmp (λ key. key.items)) partitions.old }
+    ensures ordered { IsOrdered (key_cmp (λ key. key.items)) partitions.new }
+    ensures listed { listed (λ key. key.items) partitions.new.entries ≡ listed (λ key. key.items) partitions.old.entries }
+{
+    if entries_of(partitions, key).is_empty() {
+        partitions.remove(key);
+    }
+}
+
+impl Precache {
+    /// The empty cache. It takes no memory.
+    pub fn new(alloc: Global) -> Precache
+        ensures { result ≡ [] }
+    {
+        Precache {
+            alloc,
+            partitions: BTreeMap::new(alloc),
+        }
+    }
+
+    /// Whether the method, if the question has one, and each of its header names are matched by an
+    /// entry that is alive now, in seconds. It takes no memory.
+    pub fn covers(&self, question: &Question, now: u64) -> bool
+        ensures { result ≡ covers question.now now self.now }
+    {
+        covers(
+            entries_of(&self.partitions, question.key.as_slice()),
+            question,
+            now,
+        )
+    }
+
+    /// Learns what a CORS-preflight fetch taught, now, in seconds: the dead entries of its key go.
+    /// Then for each method and each header name, in order, all entries that are alive and match hold
+    /// for the lesson's age from now on, or else a new entry does. A key's oldest entry goes where it
+    /// would hold 65.
+    pub fn learn(&mut self, lesson: &Lesson, now: u64) -> Result<(), OutOfMemory>
+        ensures ok { OnOk result (self.new ≡ learned lesson.now now self.old) }
+        ensures err { OnErr result (self.new ≡ self.old) }
+    {
+        let entries = entries_of(&self.partitions, lesson.key.as_slice());
+        let partition = Partition::taught(self.alloc, entries, lesson, now)?;
+        put(
+            self.alloc,
+            &mut self.partitions,
+            lesson.key.as_slice(),
+            partition,
+        )
+    }
+
+    /// "clear cache entries": takes out the entries of a key, an origin and a URL. It takes no memory.
+    pub fn clear(&mut self, key: &[u8], origin: &[u8], url: &[u8])
+        ensures { self.new ≡ cleared key.now origin.now url.now self.old }
+    {
+        clear_in(&mut self.partitions, key, origin, url);
+        drop_empty(&mut self.partitions, key);
+    }
+}

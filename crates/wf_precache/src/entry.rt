@@ -1,0 +1,120 @@
+ghost use Rattle.std.specs.Prelude.{◌≡◌, IfOk};
+ghost use Rattle.std.specs.Str.{bytes_eq};
+ghost use Rattle.wf_precache.specs.Entries.{allows, allows_method, allows_name, is_alive, is_entry_match, is_non_wildcard_name, is_wildcard};
+
+use std::alloc::Global;
+use wf_text::{Bytes, OutOfMemory, eq_fold};
+
+/// What one entry allows: a method or a header name. Either may be `*`.
+#[derive(Drop)]
+pub enum Allowed {
+    Method(Bytes),
+    HeaderName(Bytes),
+}
+
+/// One thing that a server allows to an origin for a URL (Fetch, "cache entry").
+#[derive(Drop)]
+pub struct CacheEntry {
+    /// The serialised origin of the request.
+    pub origin: Bytes,
+    pub url: Bytes,
+    /// Whether the request's credentials mode was include.
+    pub include: bool,
+    /// When it was learnt last, in seconds.
+    pub made: u64,
+    /// For how long it holds from then on, in seconds.
+    pub age: u64,
+    pub allowed: Allowed,
+}
+
+// Whether the text is the wildcard.
+fn is_wildcard(text: &[u8]) -> bool
+    ensures { result ≡ is_wildcard text.now }
+{
+    text == b"*".as_slice()
+}
+
+// Whether the wildcard doesn't speak of the name.
+fn is_non_wildcard_name(name: &[u8]) -> bool
+    ensures { result ≡ is_non_wildcard_name name.now }
+{
+    eq_fold(name, b"authorization")
+}
+
+impl Allowed {
+    /// Whether this is the method or the wildcard.
+    pub(crate) fn allows_method(&self, method: &[u8]) -> bool
+        ensures { result ≡ allows_method method.now self.now }
+    {
+        match self {
+            Allowed::Method(allowed) => {
+                allowed.as_slice() == method || is_wildcard(allowed.as_slice())
+            }
+            Allowed::HeaderName(_) => false,
+        }
+    }
+
+    /// Whether this is the header name, ASCII case aside, or the wildcard where that speaks of it.
+    pub(crate) fn allows_name(&self, name: &[u8]) -> bool
+        ensures { result ≡ allows_name name.now self.now }
+    {
+        match self {
+            Allowed::Method(_) => false,
+            Allowed::HeaderName(allowed) => {
+                eq_fold(allowed.as_slice(), name)
+                    || is_wildcard(allowed.as_slice()) && !is_non_wildcard_name(name)
+            }
+        }
+    }
+
+    /// Whether this allows the method or the header name.
+    pub(crate) fn allows(&self, wanted: &Allowed) -> bool
+        ensures { result ≡ allows wanted.now self.now }
+    {
+        match wanted {
+            Allowed::Method(method) => self.allows_method(method.as_slice()),
+            Allowed::HeaderName(name) => self.allows_name(name.as_slice()),
+        }
+    }
+
+    fn copy(&self, alloc: Global) -> Result<Allowed, OutOfMemory>
+        ensures { IfOk result (λ allowed. allowed ≡ self.now) }
+    {
+        match self {
+            Allowed::Method(method) => Ok(Allowed::Method(method.copy(alloc)?)),
+            Allowed::HeaderName(name) => Ok(Allowed::HeaderName(name.copy(alloc)?)),
+        }
+    }
+}
+
+impl CacheEntry {
+    /// Whether the entry is younger than its age.
+    pub(crate) fn is_alive(&self, now: u64) -> bool
+        ensures { result ≡ is_alive now self.now }
+    {
+        now < self.made || now - self.made < self.age
+    }
+
+    /// "cache entry match", the key aside.
+    pub(crate) fn is_entry_match(&self, origin: &[u8], url: &[u8], include: bool) -> bool
+        ensures { result ≡ is_entry_match origin.now url.now include self.now }
+    {
+        self.origin.as_slice() == origin && self.url.as_slice() == url && (!include || self.include)
+    }
+
+    pub(crate) fn copy(&self, alloc: Global) -> Result<CacheEntry, OutOfMemory>
+        ensures { IfOk result (λ entry. entry ≡ self.now) }
+    {
+        let origin = self.origin.copy(alloc)?;
+        let url = self.url.copy(alloc)?;
+        let allowed = self.allowed.copy(alloc)?;
+        Ok(CacheEntry {
+            origin,
+            url,
+            include: self.include,
+            made: self.made,
+            age: self.age,
+            allowed,
+        })
+    }
+}

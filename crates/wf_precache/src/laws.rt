@@ -1,0 +1,16 @@
+ghost use Rattle.wf_precache.specs.Laws.{ChangesKeepCaches, ClearsKeepOtherKeys, LessonsKeepOtherKeys};
+
+/// A lesson teaches the entries of its own key, and leaves those of every other key.
+pub fn law_lessons()
+    ensures { LessonsKeepOtherKeys }
+{}
+
+/// Clearing takes entries out of its own key, and leaves those of every other key.
+pub fn law_clears()
+    ensures { ClearsKeepOtherKeys }
+{}
+
+/// Every cache is sorted by the bytes of its keys, and has at most 64 entries of each.
+pub fn law_caches()
+    ensures { ChangesKeepCaches }
+{}

@@ -1,0 +1,15 @@
+// The CORS-preflight cache: what servers have allowed, and for how long.
+#![tactic(auto)]
+
+mod cache;
+mod entry;
+mod laws;
+mod partition;
+mod question;
+#[cfg(test)]
+mod tests;
+
+pub use cache::Precache;
+pub use entry::{Allowed, CacheEntry};
+pub use laws::{law_caches, law_clears, law_lessons};
+pub use question::{Lesson, Question};

@@ -1,0 +1,99 @@
+ghost use Rattle.std.specs.Prelude.{◌≡◌, IfOk};
+
+use std::alloc::Global;
+use wf_text::{Bytes, BytesList, OutOfMemory};
+
+/// What a request would need of the cache: an entry for its method, where one is named, and for each
+/// of the header names (Fetch, "HTTP fetch", the check before a CORS-preflight fetch).
+#[derive(Drop)]
+pub struct Question {
+    /// The network partition key.
+    pub key: Bytes,
+    /// The serialised origin of the request.
+    pub origin: Bytes,
+    pub url: Bytes,
+    /// Whether the request's credentials mode is include.
+    pub include: bool,
+    pub method: Option<Bytes>,
+    pub names: BytesList,
+}
+
+/// What a CORS-preflight fetch taught: the methods and header names that a server allows.
+#[derive(Drop)]
+pub struct Lesson {
+    /// The network partition key.
+    pub key: Bytes,
+    /// The serialised origin of the request.
+    pub origin: Bytes,
+    pub url: Bytes,
+    /// Whether the request's credentials mode is include.
+    pub include: bool,
+    /// The max-age, in seconds.
+    pub age: u64,
+    pub methods: BytesList,
+    pub names: BytesList,
+}
+
+// An equal list.
+fn copy_of(alloc: Global, texts: &BytesList) -> Result<BytesList, OutOfMemory>
+    ensures { IfOk result (λ copy. copy ≡ texts.now) }
+{
+    let mut copy = BytesList::new(alloc);
+    for index in 0..texts.len() {
+        copy.push(Bytes::of(alloc, texts.at(index))?)?;
+    }
+    Ok(copy)
+}
+
+// An equal method, where there is one.
+fn copy_of_method(alloc: Global, method: &Option<Bytes>) -> Result<Option<Bytes>, OutOfMemory>
+    ensures { IfOk result (λ copy. copy ≡ method.now) }
+{
+    match method {
+        Some(method) => Ok(Some(method.copy(alloc)?)),
+        None => Ok(None),
+    }
+}
+
+impl Question {
+    /// An equal question.
+    pub fn copy(&self, alloc: Global) -> Result<Question, OutOfMemory>
+        ensures { IfOk result (λ copy. copy ≡ self.now) }
+    {
+        let key = self.key.copy(alloc)?;
+        let origin = self.origin.copy(alloc)?;
+        let url = self.url.copy(alloc)?;
+        let method = copy_of_method(alloc, &self.method)?;
+        let names = copy_of(alloc, &self.names)?;
+        Ok(Question {
+            key,
+            origin,
+            url,
+            include: self.include,
+            method,
+            names,
+        })
+    }
+}
+
+impl Lesson {
+    /// An equal lesson.
+    pub fn copy(&self, alloc: Global) -> Result<Lesson, OutOfMemory>
+        ensures { IfOk result (λ copy. copy ≡ self.now) }
+    {
+        let key = self.key.copy(alloc)?;
+        let origin = self.origin.copy(alloc)?;
+        let url = self.url.copy(alloc)?;
+        let methods = copy_of(alloc, &self.methods)?;
+        let names = copy_of(alloc, &self.names)?;
+        Ok(Lesson {
+            key,
+            origin,
+            url,
+            include: self.include,
+            age: self.age,
+            methods,
+            names,
+        })
+    }
+}
