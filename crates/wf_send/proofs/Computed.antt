@@ -1,6 +1,6 @@
 -- The definitions computed on worked examples: methods, the faults of requests in their order, and the head
 -- of a PUT.
-use Rattle.std.proofs.Common.{◌≡◌, refl, false, List, [], ◌∷◌, codes, Some, None, Ok, Err}
+use Rattle.std.proofs.Common.{◌≡◌, refl, false, [], ◌∷◌, codes, Some, None, Ok, Err}
 use Rattle.url.proofs.OnLiterals.{url_on_literals}
 use Rattle.url.specs.declared.host.Host.TheVariants.{Domain}
 use Rattle.url.specs.Parts.{Parts}

@@ -17,7 +17,7 @@ use Rattle.wf_types.specs.declared.fault.TypeFault.TheVariants.{BadUrl, UrlCrede
 use Rattle.wf_types.specs.declared.init.Init.{Init}
 use Rattle.wf_types.specs.declared.init.Pair.{Pair}
 use Rattle.wf_types.specs.declared.mode.Mode.{Mode}
-use Rattle.wf_types.specs.declared.mode.Mode.TheVariants.{SameOrigin, NoCors, Cors, Navigate}
+use Rattle.wf_types.specs.declared.mode.Mode.TheVariants.{NoCors, Navigate}
 use Rattle.wf_types.specs.declared.mode.Tainting.TheVariants.{Basic}
 use Rattle.wf_types.specs.declared.policy.Destination.{Destination}
 use Rattle.wf_types.specs.declared.policy.Destination.TheVariants as destination
