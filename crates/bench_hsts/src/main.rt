@@ -4,7 +4,7 @@
 
 use std::alloc::{AllocError, Global};
 use std::process::ExitCode;
-use std::rt::{Env, Print};
+use std::rt::Env;
 use std::{env, io};
 use wf_hsts::{HstsList, Sts};
 use wf_text::{Bytes, OutOfMemory};
