@@ -1,13 +1,13 @@
-// Fills a list with so many known hosts, asks it so often for one of them and for a name beside it, and
-// prints how often the answer was yes: `bench_hsts HOSTS QUESTIONS`.
+// Fills a list with so many known hosts, asks it for 64 of them and for a name beside each in so many
+// rounds, and prints how often the answer was yes: `bench_hsts HOSTS ROUNDS`.
 #![tactic(auto)]
 
 use std::alloc::{AllocError, Global};
 use std::process::ExitCode;
-use std::rt::{Env, Print};
+use std::rt::Env;
 use std::{env, io};
 use wf_hsts::{HstsList, Sts};
-use wf_text::{Bytes, OutOfMemory};
+use wf_text::{Bytes, BytesList, OutOfMemory};
 
 /// What each host says.
 const STS: Sts = Sts {
@@ -54,15 +54,25 @@ fn filled(alloc: Global, hosts: u64) -> Result<HstsList, Failed> {
     Ok(list)
 }
 
-// How many of so many questions, each about both names, are answered yes.
-fn asked(list: &HstsList, host: &[u8], beside: &[u8], questions: u64) -> u64 {
+// 64 of the hosts, and 64 names that are not known, by turns.
+fn names_of(alloc: Global, hosts: u64) -> Result<BytesList, Failed> {
+    let mut names = BytesList::new(alloc);
+    for asked in 0..64u64 {
+        let number = hosts / 64 * asked;
+        names.push(name(alloc, b"www", number)?)?;
+        names.push(name(alloc, b"api", number)?)?;
+    }
+    Ok(names)
+}
+
+// How many of the names are known, asked in so many rounds.
+fn asked(list: &HstsList, names: &BytesList, rounds: u64) -> u64 {
     let mut known = 0u64;
-    for _ in 0..questions {
-        if list.is_known(host, 1) {
-            known = known.saturating_add(1);
-        }
-        if list.is_known(beside, 1) {
-            known = known.saturating_add(1);
+    for _ in 0..rounds {
+        for index in 0..names.len() {
+            if list.is_known(names.at(index), 1) {
+                known = known.saturating_add(1);
+            }
         }
     }
     known
@@ -82,12 +92,11 @@ fn number(word: Option<String>) -> Result<u64, Failed> {
 fn run<R: Env + Print + AllocGlobal>(rt: &R) -> Result<(), Failed> {
     let mut words = env::args(rt)?.skip(1);
     let hosts = number(words.next())?;
-    let questions = number(words.next())?;
+    let rounds = number(words.next())?;
     let list = filled(rt.alloc(), hosts)?;
-    let host = name(rt.alloc(), b"www", hosts / 2)?;
-    let beside = name(rt.alloc(), b"api", hosts / 2)?;
-    let known = asked(&list, host.as_slice(), beside.as_slice(), questions);
-    println!(rt; "{hosts} hosts, {questions} questions, {known} known")?;
+    let names = names_of(rt.alloc(), hosts)?;
+    let known = asked(&list, &names, rounds);
+    println!(rt; "{hosts} hosts, {rounds} rounds, {known} known")?;
     Ok(())
 }
 
