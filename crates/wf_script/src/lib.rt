@@ -20,4 +20,3 @@ mod words;
 pub use types::{
     Command, Document, Documents, Place, Rule, Rules, Scenario, Script, Server, Servers,
 };
-pub use wf_types::url_against;

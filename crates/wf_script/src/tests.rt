@@ -1,9 +1,7 @@
 //! Scenarios that are read, and the places of texts that are refused.
 use crate::types::{Command, Scenario};
-use crate::url_against;
 use std::alloc::Global;
 use std::test::Fail;
-use url::Url;
 use wf_text::OutOfMemory;
 use wf_types::{Credentials, Mode, RedirectMode, ReferrerPolicy};
 
@@ -254,14 +252,5 @@ fn takes_fetches_of_any_url_but_of_http_and_ports(rt: HostRuntime) -> Result<(),
         let text = with_command(rt.alloc(), command.as_str())?;
         assert_eq!(rt; is_read(rt.alloc(), text.as_str())?, taken, "at {url}");
     }
-    Ok(())
-}
-
-#[test]
-fn gives_the_url_against_a_base(rt: HostRuntime) -> Result<(), Fail> {
-    let base = Url::parse(rt.alloc(), "https://a.test/x/y")?;
-    let url = url_against(rt.alloc(), &base, b"../z")?.ok_or("no URL")?;
-    assert_eq!(rt; url.as_str(), "https://a.test/z");
-    assert!(rt; url_against(rt.alloc(), &base, b"\xff")?.is_none());
     Ok(())
 }

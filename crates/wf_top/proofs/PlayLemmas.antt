@@ -1,5 +1,5 @@
 -- The transcripts of the documents, one after another.
-use Rattle.std.proofs.Common.{◌≡◌, ℕ, ◌+◌, ◌<◌, List, [], ◌∷◌, ◌++◌, take, length, get_or, subst, sym, arith, ◌∙◌, ◌≢◌}
+use Rattle.std.proofs.Common.{◌≡◌, ℕ, ◌+◌, ◌<◌, List, [], ◌∷◌, ◌++◌, take, length, get_or, subst, arith, ◌≢◌}
 use Rattle.std.proofs.lemmas.List.{take_more, length-take}
 use Rattle.std.proofs.lemmas.List.Elements.{All-push}
 use Rattle.wf_types.specs.declared.client.Cookie.{Cookie}

@@ -1,5 +1,5 @@
 -- Requests that scripts can have made.
-use Rattle.std.proofs.Common.{◌≡◌, List, [], ◌∷◌, Bool, true, false, Option, Some, None, Result, Ok, Err, IsTrue, IfOk, refl, ap, sym, subst, ◌∙◌}
+use Rattle.std.proofs.Common.{◌≡◌, List, [], ◌∷◌, false, Option, Some, None, Result, Ok, Err, IsTrue, IfOk, refl, sym, subst}
 use Rattle.std.specs.Prelude.{◌&&◌, not, is_some, option_map}
 use Rattle.url.specs.Parts.{Parts, has_credentials}
 use Rattle.wf_text.specs.Tokens.{is_token}

@@ -1,5 +1,5 @@
 -- Parts of a run over the servers' tape, one after another.
-use Rattle.std.proofs.Common.{◌≡◌, ◌≢◌, ℕ, suc, ◌+◌, ◌≤◌, ◌<◌, List, [], ◌∷◌, ◌++◌, Option, Some, None, Bool, true, false, IsTrue, refl, ap, sym, subst, ◌∙◌, arith, append_assoc, add-one, drop, drop-cons, get_or, length, Result, Ok, Err, OnOk}
+use Rattle.std.proofs.Common.{◌≡◌, ◌≢◌, ℕ, suc, ◌+◌, ◌≤◌, ◌<◌, List, [], ◌∷◌, ◌++◌, Option, Some, None, true, false, IsTrue, refl, ap, sym, subst, ◌∙◌, arith, append_assoc, add-one, drop, drop-cons, get_or, length, Result, Ok, Err, OnOk}
 use Rattle.std.specs.Prelude.{⊤}
 use Rattle.std.proofs.lemmas.List.{append-nil, drop_all}
 use Rattle.wf_types.specs.declared.error.NetError.{NetError}
@@ -26,7 +26,7 @@ use Rattle.wf_fetch.specs.declared.place.Place.{Place}
 use Rattle.wf_fetch.specs.declared.place.Place.TheVariants.{Sending, HeadReading, BodyReading}
 use Rattle.wf_fetch.specs.declared.place.Step.{Step}
 use Rattle.wf_fetch.specs.declared.place.Step.TheVariants.{Going, Over}
-use Rattle.wf_fetch.specs.Fetch.{Context, Then, handed_over, finished, has_null_body, head_of, body_of, after_head, after_body, main_fetch}
+use Rattle.wf_fetch.specs.Fetch.{Context, handed_over, finished, has_null_body, head_of, after_head, after_body, main_fetch}
 use Rattle.wf_fetch.specs.Machine.{Does, rest, from_place, act_at, last_act}
 use Rattle.wf_fetch.specs.Process.{Process, ended, act, fits}
 use Rattle.wf_fetch.specs.Play.{Play, PlayRun, emit, step, shows, events_of}
@@ -108,9 +108,9 @@ fetching-next context servers whole old a b fetching first input at is came last
     let added' : b.events ≡ a.events ++ events_of first given = added ∙ ap (λ (i : Input). a.events ++ events_of first i) came in
     let stands : progress_of b ≡ after_events (events_of first given) (progress_of a) = progress-after a b (events_of first given) commands fetches added' in
     let acted : Shows servers (λ (next : Outcome → Next). embed (act fetching.request first (rest fetching)) next (progress_of a)) (λ next. embed (rest fetching given) next (after_events (events_of first given) (progress_of a))) a b =
-        shows-act servers fetching.request first (λ (next : Outcome → Next) (i : Input). embed (rest fetching i) next (after_events (events_of first i) (progress_of a))) a b added' last in
+    shows-act servers fetching.request first (λ (next : Outcome → Next) (i : Input). embed (rest fetching i) next (after_events (events_of first i) (progress_of a))) a b added' last in
     let before : Shows servers (λ (next : Outcome → Next). embed whole next (progress_of old)) (λ next. embed (act fetching.request first (rest fetching)) next (progress_of a)) old a =
-        subst (λ (p : Process). Shows servers (λ (next : Outcome → Next). embed whole next (progress_of old)) (λ next. embed p next (progress_of a)) old a) is.does.1 is.shown in
+    subst (λ (p : Process). Shows servers (λ (next : Outcome → Next). embed whole next (progress_of old)) (λ next. embed p next (progress_of a)) old a) is.does.1 is.shown in
     record {
       process = rest fetching input;
       does = does;
@@ -148,12 +148,13 @@ acts-ended context (Over other) outcome does = refl
 acts-finished : (context : Context) (at : Step) (request : Request) (came : Result Head NetError) → Does context at (finished request came) → acts_left at ≤ 1
 acts-finished context at request (Ok head) does =
     elim (has_null_body request head) as (λ b. has_null_body request head ≡ b → acts_left at ≤ 1) [
-      true ↦ λ is. omega (arith, acts-ended context at _ (null is))
-    | false ↦ λ is. omega (arith, acts-act context at request ReadBody (after_body request head) (read is))
+      | true ↦ λ is. omega (arith, acts-ended context at _ (null is))
+      | false ↦ λ is. omega (arith, acts-act context at request ReadBody (after_body request head) (read is))
     ] refl
   where
     null : has_null_body request head ≡ true → Does context at (handed_over request head Null)
     null is = subst (λ (p : Process). Does context at p) (rw is refl) does
+
     read : has_null_body request head ≡ false → Does context at (act request ReadBody (after_body request head))
     read is = subst (λ (p : Process). Does context at p) (rw is refl) does
 acts-finished context at request (Err error) does = omega (arith, acts-ended context at (Error error) does)
@@ -184,15 +185,15 @@ fetching-on context servers whole old a b at next fetching first input is so_far
 pub played_fetched : (servers : List Server) (whole : Process) (outcome : Outcome) (a b c : Running) → Fetched servers whole a b outcome → c.commands ≡ b.commands → c.fetches ≡ b.fetches → c.events ≡ b.events ++ event.Result outcome ∷ [] → c.last ≡ b.last → Played servers (λ next. embed whole (λ outcome. showing (event.Result outcome) next)) a c
 played_fetched servers whole outcome a b c came commands fetches added last =
     shows-then servers (λ (next : Next). embed whole (λ outcome. showing (event.Result outcome) next) (progress_of a)) (λ next. showing (event.Result outcome) next (progress_of b)) (λ next. next (progress_of c)) a b c
-        (shows-within servers (λ (next : Outcome → Next). embed whole next (progress_of a)) (λ next. next outcome (progress_of b)) a b (λ (next : Next) (o : Outcome). showing (event.Result o) next) came)
-        (played_event servers (event.Result outcome) b c commands fetches added last)
+    (shows-within servers (λ (next : Outcome → Next). embed whole next (progress_of a)) (λ next. next outcome (progress_of b)) a b (λ (next : Next) (o : Outcome). showing (event.Result o) next) came)
+    (played_event servers (event.Result outcome) b c commands fetches added last)
 
 -- a fetch has started, and goes on as the rest
 pub played_started : (servers : List Server) (rest : Next → Next) (a b c : Running) → b.commands ≡ a.commands + 1 → b.fetches ≡ a.fetches + 1 → b.events ≡ a.events ++ event.Fetch a.fetches ∷ [] → b.last ≡ a.last → Played servers rest b c → Shows servers (λ (next : Next). showing (event.Fetch a.fetches) (rest next) (started (progress_of a))) (λ next. next (progress_of c)) a c
 played_started servers rest a b c commands fetches added last played =
     shows-then servers (λ (next : Next). showing (event.Fetch a.fetches) (rest next) (started (progress_of a))) (λ next. rest next (progress_of b)) (λ next. next (progress_of c)) a b c
-        (record { made = event.Fetch a.fetches ∷ []; added = added; run = λ next. rw last (rw stands refl) })
-        played
+    (record { made = event.Fetch a.fetches ∷ []; added = added; run = λ next. rw last (rw stands refl) })
+    played
   where
     stands : progress_of b ≡ after_events (event.Fetch a.fetches ∷ []) (started (progress_of a))
     stands = rw commands (rw fetches (rw added refl))
@@ -226,8 +227,8 @@ script-limited context servers script index command ending old now within is lim
 pub script-next : (context : Context) (servers : List Server) (script : List Command) (index : ℕ) (command : Command) (old now later : Running) → index < length script → get_or script index command ≡ command → limit_before command (progress_of now) ≡ None → IsAt context servers script index old now → Played servers (command_run context command) now later → IsAt context servers script (index + 1) old later
 script-next context servers script index command old now later within is none at played =
     shows-then servers (λ (next : Next). script_run context script next (progress_of old)) (λ next. command_run context command (script_run context (drop (index + 1) script) next) (progress_of now)) (λ next. script_run context (drop (index + 1) script) next (progress_of later)) old now later
-        (subst (λ (limit : Option Ending). Shows servers (λ (next : Next). script_run context script next (progress_of old)) (λ next. unless_limit limit (command_run context command (script_run context (drop (index + 1) script) next) (progress_of now))) old now) none (at-command context servers script index command old now within is at))
-        (shows-within servers (λ (next : Next). command_run context command next (progress_of now)) (λ next. next (progress_of later)) now later (λ next. script_run context (drop (index + 1) script) next) played)
+    (subst (λ (limit : Option Ending). Shows servers (λ (next : Next). script_run context script next (progress_of old)) (λ next. unless_limit limit (command_run context command (script_run context (drop (index + 1) script) next) (progress_of now))) old now) none (at-command context servers script index command old now within is at))
+    (shows-within servers (λ (next : Next). command_run context command next (progress_of now)) (λ next. next (progress_of later)) now later (λ next. script_run context (drop (index + 1) script) next) played)
 
 -- after the last command the run is over
 pub script-over : (context : Context) (servers : List Server) (script : List Command) (index : ℕ) (old now : Running) → length script ≤ index → IsAt context servers script index old now → Ends servers (script_run context script end_of (progress_of old)) old now Finished

@@ -1,5 +1,5 @@
 -- What parts of a document's run come to over the tape that the servers give.
-use Rattle.std.specs.Prelude.{◌≡◌, ℕ, List, ◌++◌, Option, Some, IsTrue}
+use Rattle.std.specs.Prelude.{◌≡◌, List, ◌++◌, Option, Some, IsTrue}
 use Rattle.wf_types.specs.declared.mode.Mode.TheVariants.{SameOrigin}
 use Rattle.wf_types.specs.declared.request.Request.{Request}
 use Rattle.wf_types.specs.declared.response.Outcome.{Outcome}

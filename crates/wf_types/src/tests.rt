@@ -1,7 +1,7 @@
 //! Numbers and names that printed text relies on, and origins along redirects.
 use crate::{
     Credentials, Destination, Directive, Mode, NetError, RedirectMode, Referrer, ReferrerPolicy,
-    Request, ResponseKind, Tainting, TypeFault, Urls, serialized_origin,
+    Request, ResponseKind, Tainting, TypeFault, Urls, serialized_origin, url_against,
 };
 use std::alloc::Global;
 use std::test::Fail;
@@ -98,5 +98,14 @@ fn a_detour_over_another_origin_taints_the_request(rt: HostRuntime) -> Result<()
         let serialized = serialized_origin(alloc, &request)?;
         assert_eq!(rt; serialized.as_slice(), text.as_bytes());
     }
+    Ok(())
+}
+
+#[test]
+fn gives_the_url_against_a_base(rt: HostRuntime) -> Result<(), Fail> {
+    let base = Url::parse(rt.alloc(), "https://a.test/x/y")?;
+    let url = url_against(rt.alloc(), &base, b"../z")?.ok_or("no URL")?;
+    assert_eq!(rt; url.as_str(), "https://a.test/z");
+    assert!(rt; url_against(rt.alloc(), &base, b"\xff")?.is_none());
     Ok(())
 }
