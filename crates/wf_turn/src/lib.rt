@@ -4,6 +4,7 @@
 mod book;
 mod close;
 mod desk;
+mod laws;
 mod pass;
 mod steps;
 mod turn;
@@ -12,5 +13,6 @@ mod view;
 pub use book::TurnBook;
 pub use close::Closed;
 pub use desk::Desk;
+pub use laws::law_turns;
 pub use pass::{FIRST, TurnPass};
 pub use view::{Ended, View};
