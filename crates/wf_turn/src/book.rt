@@ -93,13 +93,26 @@ impl Share for TurnBook {
 
     ghost left = { λ p. left_of p };
 
+    /// As any share does an operation: it waits for its turn, works on the book and passes the turn. The
+    /// documents that the pass has made passes for stay as well.
     fn call<R: Threads + Wait + Sync>(
         &self,
         rt: &R,
         alloc: Global,
         pass: &mut TurnPass,
         op: Op,
-    ) -> Result<Reply, OutOfMemory> {
+    ) -> Result<Reply, OutOfMemory>
+        requires belongs { pass.old.seat.table_id ≡ self.now.table.shared.table_id }
+        requires left { 0 < left_of pass.old }
+        requires range { InRange op }
+        ensures belongs { pass.new.seat.table_id ≡ self.now.table.shared.table_id }
+        ensures same { (pass.new.document ≡ pass.old.document) × (opening_of pass.new ≡ opening_of pass.old) }
+        ensures made { made_of pass.new ≡ made_of pass.old }
+        ensures left { left_of pass.new ≡ left_of pass.old - 1 }
+        ensures ok { IfOk result (λ answer. Extends (opening_of pass.old) pass.old.document op answer (own_of pass.old) (own_of pass.new) (seen_of pass.old) (seen_of pass.new)) }
+        ensures kind { IfOk result (λ answer. is_answer answer ≡ is_question op) }
+        ensures err { OnErr result ((own_of pass.new ≡ own_of pass.old) × StartsWith (seen_of pass.new) (seen_of pass.old)) }
+    {
         take_turn(
             rt,
             alloc,
