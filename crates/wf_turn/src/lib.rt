@@ -7,6 +7,8 @@ mod desk;
 mod laws;
 mod pass;
 mod steps;
+#[cfg(test)]
+mod tests;
 mod turn;
 mod view;
 
