@@ -13,6 +13,7 @@ use Rattle.wf_book.specs.Book.{after}
 use Rattle.wf_book.specs.Entries.{AllTurnsBelow, Legal, LegalFrom, book_after, entries_of}
 use Rattle.wf_turn.specs.Counts.{one, total}
 use Rattle.wf_turn.specs.Laws.{TurnsArePlaces}
+use Rattle.wf_turn.proofs.Sums.{eqb-sym, sum-total, total-alike, total-plus, total-same, total-zero}
 use Rattle.wf_turn.specs.Passes.{calls_of, is_of, opening_of, own_of}
 use Rattle.wf_turn.specs.declared.pass.TurnPass.{TurnPass}
 
@@ -31,30 +32,6 @@ turns_are b t n (x ∷ xs) is legal below (suc i) e at =
     let l₀ = legal.0 in let b₀ = below.0 in let r = turns_fit (after b x.op) (x.turn + 1) n xs legal.2 below.1 (omega arith) in
     let here : x.turn ≡ t = omega arith in
     let q = turns_are (after b x.op) (x.turn + 1) n xs (omega arith) legal.2 below.1 i e at in omega arith
-
-module _ {A : Type 0} where
-  total-plus : (f g : A → ℕ) (l : List A) → total (λ x. f x + g x) l ≡ total f l + total g l
-  total-plus f g [] = refl
-  total-plus f g (x ∷ xs) = omega (arith, total-plus f g xs)
-
-  total-zero : (l : List A) → total (λ _. 0) l ≡ 0
-  total-zero [] = refl
-  total-zero (x ∷ xs) = omega (arith, total-zero xs)
-
-  total-same : (f g : A → ℕ) (l : List A) → ((x : A) → f x ≡ g x) → total f l ≡ total g l
-  total-same f g [] h = refl
-  total-same f g (x ∷ xs) h = omega (arith, h x, total-same f g xs h)
-
-  total-alike : (f g : A → ℕ) (l : List A) → All (λ x. f x ≡ g x) l → total f l ≡ total g l
-  total-alike f g [] h = refl
-  total-alike f g (x ∷ xs) h = let P : A → Type 0 = λ y. f y ≡ g y in let here : f x ≡ g x = All-head P x xs h in omega (arith, total-alike f g xs (All-tail P x xs h))
-
-  sum-total : (f : A → ℕ) (l : List A) → sum_by f l ≡ total f l
-  sum-total f [] = refl
-  sum-total f (x ∷ xs) = omega (arith, sum_by-cons f x xs, sum-total f xs)
-
-eqb-sym : (m n : ℕ) → eqb m n ≡ eqb n m
-eqb-sym m n = dite (ℕ_discrete m n) (λ (e : m ≡ n). eq-eqb m n e ∙ sym (eq-eqb n m (sym e))) (λ (ne : m ≢ n). ne_eqb m n ne ∙ sym (ne_eqb n m (λ e. ne (sym e))))
 
 one-more : (b : Bool) (e : Entry) (es : List Entry) → length (cond b (e ∷ es) es) ≡ one b + length es
 one-more true e es = omega arith
@@ -96,12 +73,12 @@ lengths ps h own =
     All-weaker P Q (λ p e. ap (λ (l : List Entry). length l) e) ps own
 
 pub turns-are-places : TurnsArePlaces
-turns-are-places passes book history whole some-first apart none-refused i e at =
+turns-are-places passes book history whole some-first none-refused i e at =
     let P : TurnPass → Type 0 = λ p. Legal (opening_of p) history × (book ≡ book_after (opening_of p) history) in
     let first = first-of P passes whole.legal some-first in
     let own = total-alike (mine history) (λ (p : TurnPass). length (own_of p)) passes (lengths passes history whole.own) in
     let made = total-alike calls_of (λ (p : TurnPass). length (own_of p)) passes none-refused in
     let calls = sum-total calls_of passes in
-    let entries = entries-counted passes history apart whole.named in
+    let entries = entries-counted passes history whole.apart whole.named in
     let n : ℕ = sum_by calls_of passes in
     let r = turns_are (opening_of first.0) 0 n history (omega arith) first.1.0 (all-below n history whole.turns) i e at in omega arith

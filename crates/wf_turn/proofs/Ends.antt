@@ -1,5 +1,5 @@
 -- The rule at the opening, and what it gives once all passes have come back.
-use Rattle.std.proofs.Common.{◌≡◌, ◌≢◌, ℕ, zero, suc, ◌<◌, true, false, eqb, List, [], ◌∷◌, get_or, sym, refl, ap, ◌∙◌, subst, ⊎_elim, arith, Some, eq-eqb, ne_eqb}
+use Rattle.std.proofs.Common.{◌≡◌, ◌≢◌, ℕ, zero, suc, ◌<◌, ◌≤◌, ◌+◌, true, false, eqb, List, [], ◌∷◌, length, get_or, sym, refl, ap, ◌∙◌, subst, ⊎_elim, arith, Some, eq-eqb, ne_eqb}
 use Rattle.std.specs.declared.option.Option.{Option}
 use mathlib.Core.Logic.{dite}
 use mathlib.Core.Option.{some, some-injective, some-ne-none}
@@ -11,7 +11,7 @@ use Rattle.wf_book.specs.declared.entry.Entry.{Entry}
 use Rattle.wf_book.specs.Entries.{book_after, Legal, entries_of, AllTurnsBelow, StartsWith}
 use Rattle.wf_book.proofs.EntryLemmas.{AllTurnsBelow-mono}
 use Rattle.wf_turn.specs.Counts.{total, one, times}
-use Rattle.wf_turn.specs.Rule.{desk, first_view, drawn, HasDocument, Fits, Keeps}
+use Rattle.wf_turn.specs.Rule.{desk, first_view, drawn, passes_of, HasDocument, Fits, Keeps}
 use Rattle.wf_turn.specs.declared.desk.Desk.{Desk}
 use Rattle.wf_turn.specs.declared.view.View.{View}
 use Rattle.wf_turn.specs.declared.view.Ended.{Ended}
@@ -71,7 +71,9 @@ pub record Closes (v : View) (xs : List (Option Desk)) : Type 0 where
   pub seen : StartsWith history v.seen
   pub turns : AllTurnsBelow (drawn v) history
   pub named : HasDocument history (4294967295 ∷ v.made)
-  pub ended : (k : ℕ) (e : Ended) → get_elem? v.ended k ≡ some e → (entries_of e.document history ≡ e.own) × StartsWith history e.seen × (v.document ≢ e.document)
+  pub once : (d : ℕ) → times d (4294967295 ∷ v.made) ≤ 1
+  pub count : passes_of v ≡ length (4294967295 ∷ v.made)
+  pub ended : (k : ℕ) (e : Ended) → get_elem? v.ended k ≡ some e → (entries_of e.document history ≡ e.own) × StartsWith history e.seen × (v.document ≢ e.document) × (0 < times e.document (4294967295 ∷ v.made))
 
 pub closes : (id : ℕ) (v : View) (ws : List ℕ) (xs : List (Option Desk)) → Final (Seen Keeps id v) ws xs → v.live ≡ true → v.document ≡ 4294967295 → v.served ≡ false
     → ((d : ℕ) → d ≢ 4294967295 → 0 < times d v.made → (k : ℕ) × (e : Ended) × (get_elem? v.ended k ≡ some e) × (e.document ≡ d)) → Closes v xs
@@ -92,6 +94,8 @@ closes id v ws xs final live first unserved whole =
     let home = o.home none-served in
     let alone : total drawn s.views ≡ drawn v = total-only drawn s.views id v me (λ j u ne e. let g = o.fits j u e in let z : one u.live ≡ 0 = ap one (dead j u ne e) in
     let none-kept : u.ended ≡ [] = g.leads (λ h. no u.live h (dead j u ne e)) in let zero-draws : total (λ e. e.draws) u.ended ≡ 0 = ap (λ (x : List Ended). total (λ e. e.draws) x) none-kept in omega (arith, g.few)) in
+    let lone : total passes_of s.views ≡ passes_of v = total-only passes_of s.views id v me (λ j u ne e. let g = o.fits j u e in let z : one u.live ≡ 0 = ap one (dead j u ne e) in
+    let none-kept : u.ended ≡ [] = g.leads (λ h. no u.live h (dead j u ne e)) in let zero-kept : length u.ended ≡ 0 = ap (λ (x : List Ended). length x) none-kept in omega arith) in
     record {
       history = o.history;
       desk_is = final.4 0 (Some (desk (book_after v.opening o.history) o.history)) (home ∙ ap (λ (b : Book). some (some (Some (desk (book_after b o.history) o.history)))) (sym l.opening_is));
@@ -100,5 +104,7 @@ closes id v ws xs final live first unserved whole =
       seen = l.seen;
       turns = AllTurnsBelow-mono n (drawn v) o.history (omega (arith, o.queue, o.sum)) o.turns;
       named = subst (HasDocument o.history) was o.named;
-      ended = λ k e at. let q = f.ended k e at in (q.own, q.seen, q.apart);
+      once = subst (λ (l : List ℕ). (d : ℕ) → times d l ≤ 1) was o.once;
+      count = sym lone ∙ (o.count ∙ ap (λ (l : List ℕ). length l) was);
+      ended = λ k e at. let q = f.ended k e at in (q.own, q.seen, q.apart, subst (λ (l : List ℕ). 0 < times e.document l) was q.known);
     }

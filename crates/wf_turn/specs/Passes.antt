@@ -1,5 +1,5 @@
 -- Passes of a book, and what is known once all have come back.
-use Rattle.std.specs.Prelude.{◌≡◌, ℕ, ◌-◌, ◌<◌, Bool, List, ◌++◌, ◌==◌, map}
+use Rattle.std.specs.Prelude.{◌≡◌, ℕ, ◌-◌, ◌<◌, ◌≤◌, Bool, List, ◌++◌, ◌==◌, map}
 use Rattle.std.specs.List.{All, count_by, sum_by}
 use Rattle.atomic_table.specs.Seated.{TableId}
 use Rattle.wf_book.specs.declared.book.Book.{Book}
@@ -42,12 +42,14 @@ pub record IsWhole (id : TableId) (passes : List TurnPass) : Type 0 where
   pub first : 0 < count_by (is_of 4294967295) passes
   pub whole : All (λ p. p.document ≡ 4294967295 → (d : ℕ) → 0 < times d (made_of p) → 0 < count_by (is_of d) passes) passes
 
--- the one history: it is legal from the opening book and leaves this book, and has just the passes' own entries
+-- one legal history from the opening book to this book: it has just the entries of the passes' own, no two
+-- passes are of one document, and each has seen a beginning of it
 pub record IsOneHistory (passes : List TurnPass) (book : Book) (history : List Entry) : Type 0 where
   pub legal : All (λ p. p.document ≡ 4294967295 → Legal (opening_of p) history × (book ≡ book_after (opening_of p) history)) passes
   pub own : All (λ p. entries_of p.document history ≡ own_of p) passes
   pub seen : All (λ p. StartsWith history (seen_of p)) passes
   pub named : All (λ e. 0 < count_by (is_of e.document) passes) history
+  pub apart : (d : ℕ) → count_by (is_of d) passes ≤ 1
   pub turns : All (λ e. e.turn < sum_by calls_of passes) history
 
 abbrev pub endings : List TurnPass → List Ended

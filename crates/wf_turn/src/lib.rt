@@ -15,6 +15,6 @@ mod view;
 pub use book::TurnBook;
 pub use close::Closed;
 pub use desk::Desk;
-pub use laws::law_turns;
+pub use laws::{law_turns, law_whole};
 pub use pass::{FIRST, TurnPass};
 pub use view::{Ended, View};
