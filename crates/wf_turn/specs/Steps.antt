@@ -1,0 +1,80 @@
+-- What each step tells: of the step, the seat before, the number found and the seat after.
+use Rattle.std.specs.Prelude.{◌≡◌, ◌≢◌, ℕ, ◌+◌, ◌^◌, ◌<◌, true, false, List, [], ◌∷◌, ◌++◌, length, drop, Some, None, Result, Ok, Err}
+use Rattle.std.specs.declared.option.Option.{Option}
+use Rattle.atomic_table.specs.Table.{Me, Step}
+use Rattle.wf_book.specs.declared.entry.Entry.{Entry}
+use Rattle.wf_book.specs.Book.{after, empty, reply}
+use Rattle.wf_book.specs.Entries.{entry, book_after, Legal, AllTurnsBelow, StartsWith}
+use Rattle.wf_book.specs.declared.op.Op.{Op}
+use Rattle.wf_book.specs.declared.op.Reply.{Reply}
+use Rattle.wf_text.specs.declared.memory.OutOfMemory.{OutOfMemory}
+use Rattle.wf_turn.specs.declared.desk.Desk.{Desk}
+use Rattle.wf_turn.specs.declared.view.View.{View}
+use Rattle.wf_turn.specs.declared.view.Ended.{Ended}
+use Rattle.wf_turn.specs.Rule.{desk}
+
+abbrev pub Sat : Type 0
+Sat = Me (Option Desk) View
+
+abbrev pub Tells : Type 1
+Tells = Step (Option Desk) → Sat → ℕ → Sat → Type 0
+
+abbrev pub drew : View → ℕ → View
+drew v n = record v { waits = true; ticket = n; draws = v.draws + 1 }
+
+-- there was room for one more ticket
+abbrev pub Draws : Tells
+Draws st m n w = (n + 1 < 2 ^ 64) × (w ≡ (drew m.0 n, m.1))
+
+-- the history when the turn came: it begins with what was seen
+pub record Served (m : Sat) (h : List Entry) (w : Sat) : Type 0 where
+  pub legal : Legal m.0.opening h
+  pub turns : AllTurnsBelow m.0.ticket h
+  pub later : StartsWith h m.0.seen
+  pub is : w ≡ (record m.0 { served = true; seen = h }, (0, Some (desk (book_after m.0.opening h) h)) ∷ m.1)
+
+abbrev pub Looks : Tells
+Looks st m n w = (n ≡ m.0.ticket → Served m w.0.seen w) × (n ≢ m.0.ticket → w ≡ m)
+
+-- the history on the desk that a seat holds
+abbrev pub held : List (ℕ × Option Desk) → List Entry
+held [] = []
+held ((k, Some d) ∷ xs) = d.history
+held ((k, None) ∷ xs) = []
+
+-- the item is what the desk has that wasn't seen: an entry, or nothing
+abbrev pub noting : View → List Entry → View
+noting v h = record v { noted = true; item = drop (length v.seen) h }
+
+abbrev pub Notes : Tells
+Notes st m n w = w ≡ (noting m.0 (held m.1), m.1)
+
+abbrev pub passed : View → View
+passed v = record v { waits = false; served = false; noted = false; item = []; seen = v.seen ++ v.item; own = v.own ++ v.item }
+
+abbrev pub Passes : Tells
+Passes st m n w = w ≡ (passed m.0, [])
+
+-- the document that the next pass is to have
+abbrev pub Names : Tells
+Names st m n w = w ≡ (record m.0 { next = st.first }, m.1)
+
+abbrev pub forked_left : View → View
+forked_left v = record v { made = v.next ∷ v.made }
+
+abbrev pub forked_right : View → View
+forked_right v = record { live = true; document = v.next; opening = v.opening; draws = 0; waits = false; ticket = 0; served = false; noted = false; item = []; own = []; seen = v.seen; made = []; ended = []; next = 0 }
+
+abbrev pub ending : View → Ended
+ending v = record { document = v.document; draws = v.draws; own = v.own; seen = v.seen }
+
+abbrev pub joined : View → View → View
+joined v w = record v { ended = ending w ∷ v.ended }
+
+abbrev pub spent : View
+spent = record { live = false; document = 0; opening = empty; draws = 0; waits = false; ticket = 0; served = false; noted = false; item = []; own = []; seen = []; made = []; ended = []; next = 0 }
+
+-- what an op does to the desk
+abbrev pub Made : ℕ → ℕ → Op → Desk → Desk → Result Reply OutOfMemory → Type 0
+Made turn document op d d' (Ok r) = (r ≡ reply d.book op) × (d' ≡ desk (after d.book op) (d.history ++ entry turn document op r ∷ []))
+Made turn document op d d' (Err e) = d' ≡ d

@@ -1,0 +1,11 @@
+ghost use Rattle.wf_turn.specs.Laws.{AreAllPasses, TurnsArePlaces};
+
+/// Where no call was refused, entry i of the history has turn number i.
+pub fn law_turns()
+    ensures { TurnsArePlaces }
+{}
+
+/// The first pass and one for each document that it has made are all passes of the book.
+pub fn law_whole()
+    ensures { AreAllPasses }
+{}

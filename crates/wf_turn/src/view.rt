@@ -1,0 +1,38 @@
+use std::collections::LinkedList;
+use wf_book::{Book, Entry};
+
+/// What a pass knows. No value of it is made: contracts alone speak of it.
+pub struct View {
+    /// It hasn't been taken in by another pass.
+    pub live: bool,
+    pub document: u32,
+    /// The book that the shared book was opened with.
+    pub opening: Book,
+    /// How many tickets it drew, one a call.
+    pub draws: u64,
+    /// It waits with this ticket, or has its turn.
+    pub waits: bool,
+    pub ticket: u64,
+    /// It has its turn.
+    pub served: bool,
+    /// It has noted what its turn adds to the history: an entry, or nothing.
+    pub noted: bool,
+    pub item: LinkedList<Entry>,
+    /// The entries of its own calls.
+    pub own: LinkedList<Entry>,
+    /// The history up to its last turn.
+    pub seen: LinkedList<Entry>,
+    /// Of the first pass alone: the documents of the others, and the passes that have ended.
+    pub made: LinkedList<u32>,
+    pub ended: LinkedList<Ended>,
+    /// The document that the next pass is to have.
+    pub next: u32,
+}
+
+/// What the first pass keeps of one that has ended.
+pub struct Ended {
+    pub document: u32,
+    pub draws: u64,
+    pub own: LinkedList<Entry>,
+    pub seen: LinkedList<Entry>,
+}
