@@ -2,6 +2,7 @@
 // calls, by turns a lesson, a question and a clear. Prints how many were answered:
 // `bench_turn THREADS PASSES CALLS`.
 #![tactic(auto)]
+
 ghost use Rattle.std.specs.Prelude.{◌≡◌, ℕ, ◌≤◌, ◌<◌, ◌^◌, [], IfOk, length};
 ghost use Rattle.std.specs.List.{All};
 ghost use Rattle.wf_book.specs.Ops.{InRange};
@@ -11,9 +12,8 @@ use std::alloc::{AllocError, Global};
 use std::process::ExitCode;
 use std::rt::Env;
 use std::sync::Wait;
-use std::thread;
 use std::thread::Threads;
-use std::{env, io};
+use std::{env, io, thread};
 use wf_book::{Book, Op, Share};
 use wf_precache::{Lesson, Question};
 use wf_text::{Bytes, BytesList, OutOfMemory};

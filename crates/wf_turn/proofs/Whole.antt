@@ -1,9 +1,8 @@
 -- The first pass and the others are all passes of the book.
 use Rattle.std.proofs.Common.{◌≡◌, ◌≢◌, ℕ, ◌<◌, cond, eqb, List, ◌∷◌, ap, arith, eq-eqb}
-use Rattle.std.specs.List.{All, count_by}
+use Rattle.std.specs.List.{count_by}
 use Rattle.std.proofs.lemmas.List.Sums.{sum_by-cons}
 use Rattle.std.proofs.lemmas.List.Elements.{All-cons, All-weaker}
-use Rattle.atomic_table.specs.Seated.{TableId}
 use Rattle.wf_turn.specs.Counts.{one, times}
 use Rattle.wf_turn.specs.Laws.{AreAllPasses}
 use Rattle.wf_turn.specs.Passes.{is_of, made_of}

@@ -1,4 +1,5 @@
 -- The rule of the turn lock. Word 0 is the ticket that is drawn next, word 1 the one that is served, and the slot has the desk.
+-- The number 4294967295 is the document of the first pass, and the most calls on a pass.
 use Rattle.std.specs.Prelude.{◌≡◌, ◌≢◌, ℕ, ◌+◌, ◌*◌, Bool, ◌<◌, ◌≤◌, true, false, List, [], ◌∷◌, length, slice_index, Some}
 use Rattle.std.specs.declared.option.Option.{Option}
 use mathlib.Core.Option.{some}
@@ -11,14 +12,6 @@ use Rattle.wf_turn.specs.Counts.{total, one, times}
 use Rattle.wf_turn.specs.declared.desk.Desk.{Desk}
 use Rattle.wf_turn.specs.declared.view.View.{View}
 use Rattle.wf_turn.specs.declared.view.Ended.{Ended}
-
--- the first pass has this document
-abbrev pub FIRST : ℕ
-FIRST = 4294967295
-
--- a pass makes at most so many calls
-abbrev pub MOST : ℕ
-MOST = 4294967295
 
 abbrev pub desk : Book → List Entry → Desk
 desk book history = record { book = book; history = history }

@@ -181,8 +181,14 @@ fn what_one_document_learnt_another_is_told(rt: HostRuntime) -> Result<(), Fail>
     let mut zero = book.pass(alloc, &mut first, 0)?;
     let mut one = book.pass(alloc, &mut first, 1)?;
     let mut passes = Vec::with_capacity(alloc, 3)?;
-    assert_eq!(rt; book.call(&rt, alloc, &mut zero, learn(alloc, 9)?)?, Reply::Done);
-    assert_eq!(rt; book.call(&rt, alloc, &mut one, covers(alloc, 9)?)?, Reply::Yes);
+    assert_eq!(rt;
+        book.call(&rt, alloc, &mut zero, learn(alloc, 9)?)?,
+        Reply::Done
+    );
+    assert_eq!(rt;
+        book.call(&rt, alloc, &mut one, covers(alloc, 9)?)?,
+        Reply::Yes
+    );
     assert_eq!(rt; FIRST, u32::MAX);
     passes.push_reserved(first);
     passes.push_reserved(zero);
