@@ -1,0 +1,10 @@
+pub mod Blocks
+pub mod Heads
+pub mod Answers
+pub mod HeadFeeding
+pub mod Framings
+pub mod Chunks
+pub mod Bodies
+pub mod BodyReading
+pub mod BodyFeeding
+pub mod Requests

@@ -1,0 +1,13 @@
+// Requests and answers as bytes (RFC 9112): the bytes of a request, and readers of the head and of the
+// body of an answer, which are fed pieces.
+#![tactic(auto)]
+
+mod body;
+mod framing;
+mod head;
+mod request;
+
+pub use body::{BodyReader, BodyStep};
+pub use framing::{Framing, framing_of};
+pub use head::{HeadReader, HeadStep};
+pub use request::write_request;
