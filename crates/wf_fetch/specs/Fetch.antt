@@ -1,14 +1,17 @@
 -- A fetch: main fetch and what it calls (Fetch, sections 4.1, 4.3 and 4.6), for requests in mode
 -- same-origin. Each rule hands what it came to on to `next`, as the standard's steps return to the step
 -- that called them.
-use Rattle.std.specs.Prelude.{ℕ, ◌==◌, ◌&&◌, ◌||◌, Bool, true, false, List, [], ◌∷◌, codes, bytes_eq, Option, Some, None, Result, Ok, Err, if◌then◌else◌}
+use Rattle.std.specs.Prelude.{ℕ, ◌==◌, ◌&&◌, ◌||◌, Bool, true, false, not, List, [], ◌∷◌, length, codes, bytes_eq, Option, Some, None, Result, Ok, Err, if◌then◌else◌}
 use Rattle.std.specs.List.{list_any}
 use Rattle.url.specs.Parts.{Parts, serialize}
+use Rattle.wf_headers.specs.declared.headers.Header.{Header}
+use Rattle.wf_headers.specs.Headers.{without}
+use Rattle.wf_headers.specs.Split.{split_values}
 use Rattle.wf_origin.specs.Origins.{origin_of}
 use Rattle.wf_types.specs.declared.client.Client.{Client}
 use Rattle.wf_types.specs.declared.client.Cookie.{Cookie}
 use Rattle.wf_types.specs.declared.error.NetError.{NetError}
-use Rattle.wf_types.specs.declared.error.NetError.TheVariants.{Scheme, SameOriginMode, BadHead}
+use Rattle.wf_types.specs.declared.error.NetError.TheVariants.{Scheme, SameOriginMode, Coding, LinkFault, BadHead, HeadTooBig}
 use Rattle.wf_types.specs.declared.hop.Head.{Head}
 use Rattle.wf_types.specs.declared.mode.ReferrerPolicy.{ReferrerPolicy}
 use Rattle.wf_types.specs.declared.mode.ReferrerPolicy.TheVariants as policy
@@ -24,7 +27,7 @@ use Rattle.wf_types.specs.Requests.{current_url, is_http_url, is_origin}
 use Rattle.wf_send.specs.Heads.{hop_of}
 use Rattle.wf_fetch.specs.declared.act.Act.TheVariants.{Send, ReadHead, ReadBody}
 use Rattle.wf_fetch.specs.declared.act.Input.{Input}
-use Rattle.wf_fetch.specs.declared.act.Input.TheVariants.{HeadIs, BodyIs}
+use Rattle.wf_fetch.specs.declared.act.Input.TheVariants.{Sent, HeadIs, HeadLong, BodyIs, Fault}
 use Rattle.wf_fetch.specs.Process.{Process, ended, act}
 
 -- What a fetch is lent: the client that fetches, and the table of cookies.
@@ -43,9 +46,16 @@ Then = Request → Result Head NetError → Process
 
 -- ---- what an input says
 
+-- the request was sent
+abbrev pub was_sent : Input → Bool
+was_sent Sent = true
+was_sent _ = false
+
 -- the head that came, or the network error in its place
 abbrev pub head_of : Input → Result Head NetError
 head_of (HeadIs head) = Ok head
+head_of HeadLong = Err HeadTooBig
+head_of Fault = Err LinkFault
 head_of _ = Err BadHead
 
 -- how the body came to its end
@@ -63,9 +73,10 @@ after_head next request input = next request (head_of input)
 abbrev pub read_head : Then → Request → Process
 read_head next request = act request ReadHead (after_head next request)
 
--- the request is on its way
+-- the request is on its way, or the link failed
 abbrev pub after_sent : Then → Request → Input → Process
-after_sent next request input = read_head next request
+after_sent next request input =
+    if was_sent input then read_head next request else next request (Err LinkFault)
 
 -- HTTP fetch: the request is sent
 abbrev pub http_fetch : Context → Then → Request → Process
@@ -120,13 +131,30 @@ is_null_body_status status = list_any (λ null. null == status) null_body_status
 abbrev pub has_null_body : Request → Head → Bool
 has_null_body request head = bytes_eq request.method (codes "HEAD") || is_null_body_status head.status
 
+-- "forbidden response-header name" (Fetch, section 2.2.2): the headers without these
+abbrev pub without_forbidden : List Header → List Header
+without_forbidden headers = without (codes "Set-Cookie2") (without (codes "Set-Cookie") headers)
+
+-- a coding that changes the body
+abbrev pub is_other_coding : List ℕ → Bool
+is_other_coding coding = not (length coding == 0) && not (bytes_eq coding (codes "identity"))
+
+-- one of the codings, where there are some, changes the body
+abbrev pub changes_body : Option (List (List ℕ)) → Bool
+changes_body None = false
+changes_body (Some codings) = list_any is_other_coding codings
+
+-- the body is coded: no coding is decoded here (RFC 9110, section 8.4)
+abbrev pub is_coded : Head → Bool
+is_coded head = changes_body (split_values (codes "Content-Encoding") head.headers)
+
 -- the basic filtered response of a head and a body
 abbrev pub basic_response : Request → Head → BodyEnd → Response
 basic_response request head body = record {
   kind = Basic;
   status = head.status;
   url = Some (without_fragment (current_url request));
-  headers = head.headers;
+  headers = without_forbidden head.headers;
   body = body;
 }
 
@@ -138,13 +166,17 @@ handed_over request head body = ended (Answer (basic_response request head body)
 abbrev pub after_body : Request → Head → Input → Process
 after_body request head input = handed_over request head (body_of input)
 
+-- the body is read, unless it is coded
+abbrev pub read_body : Request → Head → Process
+read_body request head =
+    if is_coded head then ended (Error Coding) else act request ReadBody (after_body request head)
+
 -- the end of main fetch: a network error is the outcome, and of an answer the body is read, where it
 -- is not null
 abbrev pub finished : Then
 finished request (Err error) = ended (Error error)
 finished request (Ok head) =
-    if has_null_body request head then handed_over request head Null
-    else act request ReadBody (after_body request head)
+    if has_null_body request head then handed_over request head Null else read_body request head
 
 -- main fetch
 abbrev pub main_fetch : Context → Request → Process

@@ -6,7 +6,7 @@ use Rattle.wf_types.specs.declared.response.Outcome.{Outcome}
 use Rattle.wf_fetch.specs.declared.act.Act.{Act}
 use Rattle.wf_fetch.specs.declared.act.Act.TheVariants.{Send, ReadHead, ReadBody}
 use Rattle.wf_fetch.specs.declared.act.Input.{Input}
-use Rattle.wf_fetch.specs.declared.act.Input.TheVariants.{Sent, HeadIs, HeadBad, BodyIs}
+use Rattle.wf_fetch.specs.declared.act.Input.TheVariants.{Sent, HeadIs, HeadBad, HeadLong, BodyIs, Fault}
 
 -- It has ended with an outcome, or it acts for a request as it stands and goes on from the input that
 -- comes.
@@ -17,8 +17,11 @@ pub data Process : Type 0 where
 -- the input may follow the act
 abbrev pub fits : Act → Input → Bool
 fits (Send hop) Sent = true
+fits (Send hop) Fault = true
 fits ReadHead (HeadIs head) = true
 fits ReadHead HeadBad = true
+fits ReadHead HeadLong = true
+fits ReadHead Fault = true
 fits ReadBody (BodyIs end) = true
 fits _ _ = false
 

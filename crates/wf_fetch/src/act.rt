@@ -23,18 +23,26 @@ pub enum Input {
     HeadIs(Head),
     /// What came is no head, or the answer ended before one.
     HeadBad,
+    /// The heads of the answer are longer than their limit.
+    HeadLong,
     /// The body came to its end.
     BodyIs(BodyEnd),
+    /// The link failed.
+    Fault,
 }
 
-/// Whether the input may follow the act: `Sent` follows `Send`, `HeadIs` and `HeadBad` follow
-/// `ReadHead`, `BodyIs` follows `ReadBody`, and nothing else follows anything.
+/// Whether the input may follow the act: `Sent` and `Fault` follow `Send`; `HeadIs`, `HeadBad`,
+/// `HeadLong` and `Fault` follow `ReadHead`; `BodyIs` follows `ReadBody`, and nothing else follows
+/// anything.
 pub fn fits(act: &Act, input: &Input) -> bool
     ensures { result ≡ spec.fits act.now input.now }
 {
     match (act, input) {
-        (Act::Send(_), Input::Sent) => true,
-        (Act::ReadHead, Input::HeadIs(_) | Input::HeadBad) => true,
+        (Act::Send(_), Input::Sent | Input::Fault) => true,
+        (
+            Act::ReadHead,
+            Input::HeadIs(_) | Input::HeadBad | Input::HeadLong | Input::Fault,
+        ) => true,
         (Act::ReadBody, Input::BodyIs(_)) => true,
         _ => false,
     }

@@ -1,4 +1,5 @@
 ghost use Rattle.std.specs.Prelude.{◌≡◌, ◌∷◌, IfOk, IsTrue, Ok, Err};
+ghost use Rattle.std.specs.List.{list_any};
 ghost use Rattle.wf_origin.specs.Origins.{origin_of as origin_in};
 ghost use Rattle.wf_types.specs.declared.client.Client.{Client as LentClient};
 ghost use Rattle.wf_types.specs.declared.mode.Mode.TheVariants.{SameOrigin};
@@ -12,13 +13,21 @@ use crate::act::{Act, Input};
 use crate::place::{Fetching, Place, Step};
 use std::alloc::Global;
 use url::{Position, Url};
+use wf_headers::HeaderList;
 use wf_origin::{Origin, origin_of, same_origin};
 use wf_send::hop_of;
-use wf_text::{Bytes, OutOfMemory};
+use wf_text::{Bytes, BytesList, OutOfMemory};
 use wf_types::{
     BodyEnd, Client, Cookies, Head, NetError, Outcome, ReferrerPolicy, Request, Response,
     ResponseKind, Tainting,
 };
+
+// Whether the request was sent.
+fn was_sent(input: &Input) -> bool
+    ensures { result ≡ spec.was_sent input.now }
+{
+    matches!(input, Input::Sent)
+}
 
 // The head that an input brings, or the network error in its place.
 fn head_of(input: Input) -> Result<Head, NetError>
@@ -26,6 +35,8 @@ fn head_of(input: Input) -> Result<Head, NetError>
 {
     match input {
         Input::HeadIs(head) => Ok(head),
+        Input::HeadLong => Err(NetError::HeadTooBig),
+        Input::Fault => Err(NetError::LinkFault),
         _ => Err(NetError::BadHead),
     }
 }
@@ -61,6 +72,46 @@ fn has_null_body(request: &Request, head: &Head) -> bool
     request.method.as_slice() == b"HEAD".as_slice() || is_null_body_status(head.status)
 }
 
+// Whether a coding changes the body.
+fn is_other_coding(coding: &[u8]) -> bool
+    ensures { result ≡ spec.is_other_coding coding.now }
+{
+    !coding.is_empty() && coding != b"identity".as_slice()
+}
+
+// Whether one of the codings changes the body.
+fn changes_body(codings: &BytesList) -> bool
+    ensures { result ≡ list_any spec.is_other_coding codings.now }
+{
+    for index in 0..codings.len() {
+        if is_other_coding(codings.at(index)) {
+            return true;
+        }
+    }
+    false
+}
+
+// Whether the body is coded.
+fn is_coded(alloc: Global, head: &Head) -> Result<bool, OutOfMemory>
+    ensures { IfOk result (λ coded. coded ≡ spec.is_coded head.now) }
+{
+    let codings = head.headers.split_values(alloc, b"Content-Encoding")?;
+    Ok(match codings {
+        None => false,
+        Some(codings) => changes_body(&codings),
+    })
+}
+
+// The headers without those that no script sees.
+fn without_forbidden(headers: HeaderList) -> HeaderList
+    ensures { result ≡ spec.without_forbidden headers }
+{
+    let mut headers = headers;
+    headers.delete(b"Set-Cookie");
+    headers.delete(b"Set-Cookie2");
+    headers
+}
+
 // The response of a head and a body is handed over.
 fn handed_over(
     alloc: Global,
@@ -76,9 +127,21 @@ fn handed_over(
         kind: ResponseKind::Basic,
         status: head.status,
         url: Some(url),
-        headers: head.headers,
+        headers: without_forbidden(head.headers),
         body,
     })))
+}
+
+// The body is read, unless it is coded.
+fn read_body(alloc: Global, request: Request, head: Head) -> Result<Step, OutOfMemory>
+    requires { IsRequest request }
+    ensures { (context : Context) → Leads context result (spec.read_body request head) }
+{
+    if is_coded(alloc, &head)? {
+        return Ok(Step::Over(Outcome::Error(NetError::Coding)));
+    }
+    let place = Place::BodyReading(head);
+    Ok(Step::Going(Fetching { request, place }, Act::ReadBody))
 }
 
 // The end of main fetch: a network error is the outcome, and of an answer the body is read, where it
@@ -95,10 +158,10 @@ fn finished(
         Err(error) => Ok(Step::Over(Outcome::Error(error))),
         Ok(head) => {
             if has_null_body(&request, &head) {
-                return handed_over(alloc, request, head, BodyEnd::Null);
+                handed_over(alloc, request, head, BodyEnd::Null)
+            } else {
+                read_body(alloc, request, head)
             }
-            let place = Place::BodyReading(head);
-            Ok(Step::Going(Fetching { request, place }, Act::ReadBody))
         }
     }
 }
@@ -110,6 +173,18 @@ fn read_head(request: Request) -> Step
 {
     let place = Place::HeadReading;
     Step::Going(Fetching { request, place }, Act::ReadHead)
+}
+
+// The request is on its way, or the link failed.
+fn after_sent(alloc: Global, request: Request, input: Input) -> Result<Step, OutOfMemory>
+    requires { IsRequest request }
+    ensures { (context : Context) → Leads context result (spec.after_sent spec.finished request input) }
+{
+    if was_sent(&input) {
+        Ok(read_head(request))
+    } else {
+        finished(alloc, request, Err(NetError::LinkFault))
+    }
 }
 
 // HTTP fetch: the request is sent.
@@ -222,9 +297,11 @@ impl Fetching {
     }
 
     /// Goes on from the input that followed the last act: the head of the answer is read, then its
-    /// body where it is not null, and then the fetch is over with a response of type basic (Fetch,
-    /// sections 4.1, 4.3 and 4.6). It is over with the network error `BadHead` exactly where the
-    /// input is `HeadBad`. After `OutOfMemory` the fetch is gone.
+    /// body where it is not null, and then the fetch is over with a response of type basic, which has
+    /// no Set-Cookie and no Set-Cookie2 (Fetch, sections 2.2.6, 4.1, 4.3 and 4.6). It is over with the
+    /// network error `LinkFault` exactly where the input is `Fault`, `BadHead` where it is `HeadBad`,
+    /// `HeadTooBig` where it is `HeadLong`, and `Coding` where the head has a body that is to be read
+    /// and a Content-Encoding other than empty or `identity`. After `OutOfMemory` the fetch is gone.
     pub fn resume(
         self,
         alloc: Global,
@@ -246,7 +323,7 @@ impl Fetching {
     {
         let Fetching { request, place } = self;
         match place {
-            Place::Sending => Ok(read_head(request)),
+            Place::Sending => after_sent(alloc, request, input),
             Place::HeadReading => finished(alloc, request, head_of(input)),
             Place::BodyReading(head) => handed_over(alloc, request, head, body_of(input)),
         }
