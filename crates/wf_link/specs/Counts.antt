@@ -6,6 +6,10 @@ use Rattle.std.specs.List.{list_any}
 abbrev pub one_more : ℕ → ℕ
 one_more count = min (count + 1) (2 ^ 64 - 1)
 
+-- so many more, or the greatest value
+abbrev pub grown_by : ℕ → ℕ → ℕ
+grown_by count more = min (count + more) (2 ^ 64 - 1)
+
 -- the count rose, or stands at its greatest value
 abbrev pub Rose : ℕ → ℕ → Type 0
 Rose before now = one_more before ≤ now

@@ -1,4 +1,5 @@
 pub mod Counts
+pub mod Links
 pub mod MemorySink
 pub mod MemorySource
 pub mod Sinks

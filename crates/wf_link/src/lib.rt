@@ -1,16 +1,24 @@
 // The outside: where bytes come from and where they go, with counts of its faults.
 #![tactic(auto)]
 
+mod clock;
+mod link;
+mod links;
 mod memory_sink;
 mod memory_source;
 mod sink;
 mod source;
 mod standard;
+mod target;
 #[cfg(test)]
 mod tests;
 
+pub use clock::Clock;
+pub use link::Link;
+pub use links::Links;
 pub use memory_sink::MemorySink;
 pub use memory_source::MemorySource;
 pub use sink::{Sink, WriteFault, write_whole};
 pub use source::{Failed, ReadStop, Source, read_whole};
 pub use standard::{ReaderSource, StandardError, StandardInput, StandardOutput, WriterSink};
+pub use target::{Ask, Route, Routes, Target};

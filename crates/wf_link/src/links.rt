@@ -1,0 +1,45 @@
+ghost use Rattle.std.specs.Prelude.{◌≡◌, ◌+◌, ℕ, List, Option, IfOk, OnErr};
+ghost use Rattle.wf_link.specs.Counts.{grown_by};
+ghost use Rattle.wf_link.specs.Links.{IsTold, TookBack};
+
+use crate::link::Link;
+use crate::target::Routes;
+use std::alloc::Global;
+use wf_text::OutOfMemory;
+
+/// What makes the link of each document, and takes it back at the end. It counts the faults of the
+/// links that it took back, and may tell the links that it makes and those that it took back, and
+/// so their states and counts.
+pub trait Links {
+    type Link: Link + Send + Drop;
+
+    /// The link that the next make gives, at 0, the one after it, at 1, and so on, as it opens,
+    /// where told. Where the links of documents 0, 1 and so on are made in this order, each has its
+    /// own number.
+    ghost opening: { Self → ℕ → Option Self.Link };
+
+    /// The links taken back, as they then stood, in order, where told.
+    ghost taken_back: { Self → Option (List Self.Link) };
+
+    /// How often the links that it took back had failed.
+    ghost faults: { Self → ℕ };
+
+    /// The link for a document, to servers by these routes.
+    fn make(
+        &mut self,
+        alloc: Global,
+        document: u32,
+        routes: &Routes,
+    ) -> Result<Self::Link, OutOfMemory>
+        ensures told { IfOk result (λ link. IsTold (opening self.old 0) link) }
+        ensures later { IfOk result (λ _. (k : ℕ) → opening self.new k ≡ opening self.old (k + 1)) }
+        ensures refused { OnErr result ((k : ℕ) → opening self.new k ≡ opening self.old k) }
+        ensures taken_back { taken_back self.new ≡ taken_back self.old }
+        ensures faults { faults self.new ≡ faults self.old };
+
+    /// Takes a link back, and counts its faults.
+    fn take_back(&mut self, link: Self::Link)
+        ensures took { TookBack (taken_back self.old) (taken_back self.new) link }
+        ensures opening { (k : ℕ) → opening self.new k ≡ opening self.old k }
+        ensures faults { faults self.new ≡ grown_by (faults self.old) (Self.Link.faults link) };
+}
