@@ -1,5 +1,6 @@
 pub mod Reading
+pub mod Scenarios
+pub mod Servers
 pub mod Texts
 pub mod Urls
-pub mod Scenarios
 pub mod Valid

@@ -59,10 +59,6 @@ text_that passes tree = do
 abbrev pub any : List ℕ → Bool
 any text = true
 
--- so many bytes at most
-abbrev pub at_most : ℕ → List ℕ → Bool
-at_most most text = nat_le (length text) most
-
 -- what a word stands for in a table of words
 abbrev pub meaning : {A : Type 0} → List (List ℕ × A) → List ℕ → Option A
 meaning [] text = None

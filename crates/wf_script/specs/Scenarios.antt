@@ -1,10 +1,12 @@
 -- The scenario of a text: the tables of a scenario's objects over the tree that `serde_json` reads.
 -- The keys of a table are listed and read in one order.
-use Rattle.std.specs.Prelude.{ℕ, Bool, false, List, [], ◌∷◌, codes, Option, Some, None, option_and_then, Result, Ok, Err}
+use Rattle.std.specs.Prelude.{ℕ, Bool, false, ◌==◌, ◌||◌, not, List, [], ◌∷◌, codes, Option, Some, None, option_and_then, Result, Ok, Err}
 use Rattle.serde_json.specs.Data.{Data}
 use Rattle.serde_json.specs.Find.{get, as_str}
 use Rattle.serde_json.specs.Read.{read}
 use Rattle.url.specs.Parts.{Parts}
+use Rattle.wf_text.specs.Tokens.{is_token}
+use Rattle.wf_text.specs.Values.{is_header_value}
 use Rattle.wf_types.specs.declared.client.Cookie.{Cookie}
 use Rattle.wf_types.specs.declared.init.Init.{Init}
 use Rattle.wf_types.specs.declared.init.Pair.{Pair}
@@ -21,8 +23,9 @@ use Rattle.wf_script.specs.declared.types.Command.TheVariants.{Fetch}
 use Rattle.wf_script.specs.declared.types.Document.{Document}
 use Rattle.wf_script.specs.declared.types.Scenario.{Scenario}
 use Rattle.wf_script.specs.declared.types.Place.{Place}
-use Rattle.wf_script.specs.Reading.{Read, ◌>>=◌, present, given, number_of, text_that, any, at_most, word_of, some_of, only_keys, required, optional, under, items_of, list_of, pair_of}
-use Rattle.wf_script.specs.Texts.{lacks_template, is_cookie_value}
+use Rattle.wf_script.specs.Reading.{Read, ◌>>=◌, present, given, number_of, text_that, any, word_of, some_of, only_keys, required, optional, under, items_of, list_of, pair_of}
+use Rattle.wf_script.specs.Servers.{answer_bytes}
+use Rattle.wf_script.specs.Texts.{lacks_template, is_cookie_value, is_answer_name}
 use Rattle.wf_script.specs.Urls.{is_plain_https, is_origin_text, is_fetch_url}
 
 -- ---- cookies and servers
@@ -33,26 +36,45 @@ cookie_of tree = do
   pair ← pair_of (text_that is_origin_text) (text_that is_cookie_value) tree
   Ok (record { origin = pair.0; value = pair.1 })
 
-abbrev pub rule_keys : List (List ℕ)
-rule_keys = codes "status" ∷ codes "body" ∷ []
+-- a redirect status (Fetch, section 2.2.3)
+abbrev pub is_redirect_status : ℕ → Bool
+is_redirect_status status = status == 301 || status == 302 || status == 303 || status == 307 || status == 308
 
--- an answer's status and body
+-- a status from 100 to 999 that is no redirect status
+abbrev pub status_of : Data → Read ℕ
+status_of tree = do
+  status ← number_of 100 999 tree
+  given (not (is_redirect_status status)) status
+
+-- a header of an answer: its name and its value, which are a header's
+abbrev pub answer_header_of : Data → Read Pair
+answer_header_of tree = do
+  pair ← pair_of (text_that is_answer_name) (text_that is_header_value) tree
+  Ok (record { name = pair.0; value = pair.1 })
+
+abbrev pub rule_keys : List (List ℕ)
+rule_keys = codes "method" ∷ codes "path" ∷ codes "status" ∷ codes "headers" ∷ codes "body" ∷ []
+
+-- which requests a rule is for, and the bytes of its answer
 abbrev pub rule_of : Data → Read Rule
 rule_of tree = do
   known ← only_keys rule_keys tree
-  status ← required (codes "status") (number_of 200 200) tree
-  body ← optional (codes "body") [] (text_that (at_most 262144)) tree
-  Ok (record { status = status; body = body })
+  method ← optional (codes "method") None (some_of (text_that is_token)) tree
+  path ← optional (codes "path") None (some_of (text_that any)) tree
+  status ← required (codes "status") status_of tree
+  headers ← optional (codes "headers") [] (items_of answer_header_of) tree
+  body ← optional (codes "body") [] (text_that any) tree
+  Ok (record { method = method; path = path; answer = answer_bytes status headers body })
 
 abbrev pub server_keys : List (List ℕ)
 server_keys = codes "origin" ∷ codes "rules" ∷ []
 
--- a server: its origin and at most one rule
+-- a server: its origin and its rules
 abbrev pub server_of : Data → Read Server
 server_of tree = do
   known ← only_keys server_keys tree
   origin ← required (codes "origin") (text_that is_origin_text) tree
-  rules ← required (codes "rules") (list_of 1 rule_of) tree
+  rules ← required (codes "rules") (items_of rule_of) tree
   Ok (record { origin = origin; rules = rules })
 
 -- ---- fetches
@@ -128,17 +150,18 @@ document_of tree = do
 -- ---- the whole
 
 abbrev pub scenario_keys : List (List ℕ)
-scenario_keys = codes "format" ∷ codes "cookies" ∷ codes "servers" ∷ codes "documents" ∷ []
+scenario_keys = codes "format" ∷ codes "cookies" ∷ codes "servers" ∷ codes "piece" ∷ codes "documents" ∷ []
 
--- a scenario of format 1: at most one server and one document
+-- a scenario of format 1: at most one document
 abbrev pub scenario_in : Data → Read Scenario
 scenario_in tree = do
   known ← only_keys scenario_keys tree
   format ← required (codes "format") (number_of 1 1) tree
   cookies ← optional (codes "cookies") [] (items_of cookie_of) tree
-  servers ← optional (codes "servers") [] (list_of 1 server_of) tree
+  servers ← optional (codes "servers") [] (items_of server_of) tree
+  piece ← optional (codes "piece") 4096 (number_of 1 65536) tree
   documents ← required (codes "documents") (list_of 1 document_of) tree
-  Ok (record { cookies = cookies; servers = servers; documents = documents; body_limit = 262144 })
+  Ok (record { cookies = cookies; servers = servers; piece = piece; documents = documents; body_limit = 262144 })
 
 -- a place as it is told: that of the root is `/`
 abbrev pub place_text : List ℕ → List ℕ

@@ -2,6 +2,7 @@
 use Rattle.std.specs.Prelude.{◌≡◌, ◌≤◌, Bool, true, false, [], length, IfSome, IsTrue}
 use Rattle.std.specs.List.{All}
 use Rattle.url.specs.Parts.{Parts}
+use Rattle.wf_text.specs.Tokens.{is_token}
 use Rattle.wf_types.specs.declared.client.Cookie.{Cookie}
 use Rattle.wf_types.specs.declared.init.Init.{Init}
 use Rattle.wf_types.specs.declared.init.Pair.{Pair}
@@ -24,15 +25,13 @@ pub record IsValidCookie (cookie : Cookie) : Type 0 where
   pub origin : IsTrue (is_origin_text cookie.origin)
   pub value : IsTrue (is_cookie_value cookie.value)
 
--- status 200 and a body of at most 262,144 bytes
+-- a method that is there is a token
 pub record IsValidRule (rule : Rule) : Type 0 where
-  pub status : rule.status ≡ 200
-  pub body : length rule.body ≤ 262144
+  pub method : IfSome rule.method (λ method. IsTrue (is_token method))
 
--- a serialized origin and at most one rule
+-- a serialized origin, and rules
 pub record IsValidServer (server : Server) : Type 0 where
   pub origin : IsTrue (is_origin_text server.origin)
-  pub few : length server.rules ≤ 1
   pub rules : All IsValidRule server.rules
 
 -- the mode of a request is same-origin or navigate
@@ -71,11 +70,12 @@ pub record IsValidDocument (document : Document) : Type 0 where
   pub top : IsTrue (is_plain_https document.top)
   pub script : All (IsValidCommand document.url) document.script
 
--- at most one server and at most one document
+-- a piece of 1 to 65,536 bytes, and at most one document
 pub record IsValid (scenario : Scenario) : Type 0 where
   pub cookies : All IsValidCookie scenario.cookies
-  pub few_servers : length scenario.servers ≤ 1
   pub servers : All IsValidServer scenario.servers
+  pub some_piece : 1 ≤ scenario.piece
+  pub most_piece : scenario.piece ≤ 65536
   pub few_documents : length scenario.documents ≤ 1
   pub documents : All IsValidDocument scenario.documents
   pub body_limit : scenario.body_limit ≡ 262144

@@ -1,6 +1,7 @@
 // Scenarios: documents with their scripts, the cookies that are sent, and the servers that answer.
 #![tactic(auto)]
 
+mod answers;
 mod cookies;
 mod documents;
 mod fetches;

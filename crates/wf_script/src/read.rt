@@ -11,21 +11,23 @@ use crate::form::Form;
 use crate::lists::{ItemsOf, ListOf};
 use crate::refused::Refused;
 use crate::servers::ServerTable;
-use crate::types::{Place, Scenario};
+use crate::types::{Place, Scenario, Servers};
 use serde_json::Value;
 use std::alloc::Global;
 use wf_text::{Bytes, Items, OutOfMemory};
 use wf_types::utf8_text;
 
-const KEYS: &[&str] = &["format", "cookies", "servers", "documents"];
+const KEYS: &[&str] = &["format", "cookies", "servers", "piece", "documents"];
 
 const FORMAT: Number = Number { least: 1, most: 1 };
 
 const COOKIES: ItemsOf<CookiePair> = ItemsOf { item: CookiePair };
 
-const SERVERS: ListOf<ServerTable> = ListOf {
-    most: 1,
-    item: ServerTable,
+const SERVERS: ItemsOf<ServerTable> = ItemsOf { item: ServerTable };
+
+const PIECE: Number = Number {
+    least: 1,
+    most: 65_536,
 };
 
 const DOCUMENTS: ListOf<DocumentTable> = ListOf {
@@ -46,10 +48,12 @@ impl Form for ScenarioTable {
         required(alloc, tree, "format", &FORMAT)?;
         let cookies = optional(alloc, tree, "cookies", Items::new(alloc), &COOKIES)?;
         let servers = optional(alloc, tree, "servers", Items::new(alloc), &SERVERS)?;
+        let piece = optional(alloc, tree, "piece", 4096, &PIECE)?;
         let documents = required(alloc, tree, "documents", &DOCUMENTS)?;
         Ok(Scenario {
             cookies,
-            servers,
+            servers: Servers::of(servers),
+            piece: piece as u32,
             documents,
             body_limit: 262_144,
         })

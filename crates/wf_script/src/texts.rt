@@ -1,6 +1,8 @@
 // Texts, and what a text has to be.
 ghost use Rattle.std.specs.Prelude.{◌≡◌, Bool, List, ℕ, IfOk};
-ghost use Rattle.wf_script.specs.Reading.{any, at_most, text_that};
+ghost use Rattle.wf_text.specs.Tokens.{is_token};
+ghost use Rattle.wf_text.specs.Values.{is_header_value};
+ghost use Rattle.wf_script.specs.Reading.{any, text_that};
 ghost use Rattle.wf_script.specs.Texts as spec;
 ghost use Rattle.wf_script.specs.Urls.{is_origin_text};
 
@@ -9,7 +11,7 @@ use crate::refused::Refused;
 use crate::urls;
 use serde_json::Value;
 use std::alloc::Global;
-use wf_text::{Bytes, OutOfMemory, is_value};
+use wf_text::{Bytes, OutOfMemory, eq_fold, is_token, is_value};
 
 /// What a text has to be.
 pub(crate) trait TextTest {
@@ -55,15 +57,40 @@ impl TextTest for AnyText {
     }
 }
 
-/// A text of at most so many bytes.
+/// A token, as a method is (RFC 9110, section 9.1).
 #[derive(Drop)]
-pub(crate) struct AtMost(pub(crate) usize);
+pub(crate) struct Token;
 
-impl TextTest for AtMost {
-    ghost taken = { λ most. at_most most.0 };
+impl TextTest for Token {
+    ghost taken = { λ _. is_token };
 
     fn takes(&self, _alloc: Global, text: &str) -> Result<bool, OutOfMemory> {
-        Ok(text.len() <= self.0)
+        Ok(is_token(text.as_bytes()))
+    }
+}
+
+/// The name of a header that an answer may have.
+#[derive(Drop)]
+pub(crate) struct AnswerName;
+
+impl TextTest for AnswerName {
+    ghost taken = { λ _. spec.is_answer_name };
+
+    fn takes(&self, _alloc: Global, text: &str) -> Result<bool, OutOfMemory> {
+        let name = text.as_bytes();
+        Ok(is_token(name) && !eq_fold(name, b"Strict-Transport-Security"))
+    }
+}
+
+/// A header value (Fetch, section 2.2.2).
+#[derive(Drop)]
+pub(crate) struct HeaderValue;
+
+impl TextTest for HeaderValue {
+    ghost taken = { λ _. is_header_value };
+
+    fn takes(&self, _alloc: Global, text: &str) -> Result<bool, OutOfMemory> {
+        Ok(is_value(text.as_bytes()))
     }
 }
 

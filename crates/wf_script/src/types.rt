@@ -1,15 +1,21 @@
+ghost use Rattle.std.specs.Prelude.{◌≡◌, ◌<◌, ◌++◌, ◌∷◌, [], length, slice_get, Some, OnOk, OnErr};
+
+use std::alloc::Global;
+use std::marker::Model;
 use url::Url;
-use wf_text::{Bytes, Items};
+use wf_text::{Bytes, Items, OutOfMemory};
 use wf_types::{Cookies, Init};
 
-/// What a server answers: a status and a body, without headers.
+/// What a server answers: to which method and to which request target, each where it says so, and
+/// the bytes of the answer.
 #[derive(Drop)]
 pub struct Rule {
-    pub status: u16,
-    pub body: Bytes,
+    pub method: Option<Bytes>,
+    pub path: Option<Bytes>,
+    pub answer: Bytes,
 }
 
-/// The rules of a server, in order.
+/// The rules of a server, in order. The first that fits answers.
 pub type Rules = Items<Rule>;
 
 /// A scripted server: its serialised origin and its rules.
@@ -19,8 +25,66 @@ pub struct Server {
     pub rules: Rules,
 }
 
-/// The servers of a scenario, in order. The first of an origin counts.
-pub type Servers = Items<Server>;
+/// The servers of a scenario, in order, seen as the list of them. The first of an origin counts.
+#[derive(Drop)]
+pub struct Servers {
+    items: Items<Server>,
+}
+
+impl Model for Servers {
+    ghost use Rattle.std.specs.Prelude.{List};
+    ghost use Rattle.wf_script.specs.declared.types.Server.{Server};
+
+    ghost Value = { List Server };
+
+    ghost view = { λ servers. servers.items };
+}
+
+impl Servers {
+    /// No server. It takes no memory.
+    pub fn new(alloc: Global) -> Servers
+        ensures { result ≡ [] }
+    {
+        Servers::of(Items::new(alloc))
+    }
+
+    /// The servers of a list.
+    pub(crate) fn of(items: Items<Server>) -> Servers
+        ensures { result ≡ items }
+    {
+        Servers { items }
+    }
+
+    /// Adds a server at the end. A refused one leaves the servers as they were.
+    pub fn push(&mut self, server: Server) -> Result<(), OutOfMemory>
+        ensures ok { OnOk result (self.new ≡ self.old ++ server ∷ []) }
+        ensures err { OnErr result (self.new ≡ self.old) }
+    {
+        self.items.push(server)
+    }
+
+    /// How many servers there are.
+    pub fn len(&self) -> usize
+        ensures { result ≡ length self.now }
+    {
+        self.items.len()
+    }
+
+    /// The server at an index below the length.
+    pub fn at(&self, index: usize) -> &Server
+        requires { index < length self.now }
+        ensures { slice_get self.now index ≡ Some result.now }
+    {
+        self.items.at(index)
+    }
+
+    /// The servers, in order.
+    pub fn as_slice(&self) -> &[Server]
+        ensures { result.now ≡ self.now }
+    {
+        self.items.as_slice()
+    }
+}
 
 /// One command of a script.
 #[derive(Drop)]
@@ -44,12 +108,14 @@ pub struct Document {
 /// The documents of a scenario, in order.
 pub type Documents = Items<Document>;
 
-/// A scenario: the cookies that are sent, the servers that answer, the documents that fetch, and the
-/// greatest number of bytes that a response's body may have.
+/// A scenario: the cookies that are sent, the servers that answer, the greatest number of bytes that
+/// come of an answer at once, the documents that fetch, and the greatest number of bytes that a
+/// response's body may have.
 #[derive(Drop)]
 pub struct Scenario {
     pub cookies: Cookies,
     pub servers: Servers,
+    pub piece: u32,
     pub documents: Documents,
     pub body_limit: u32,
 }
