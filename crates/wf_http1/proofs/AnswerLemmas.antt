@@ -1,8 +1,11 @@
 -- What the head of an answer comes to, where more bytes follow.
-use Rattle.std.proofs.Common.{◌≡◌, ◌≤◌, ◌<◌, ◌⊎◌, inl, inr, ℕ, zero, suc, List, [], ◌∷◌, ◌++◌, length, take, refl, ap, sym, ◌∙◌, subst, arith, length-append}
+use Rattle.std.proofs.Common.{◌≡◌, ◌<◌, ◌⊎◌, inl, inr, ℕ, List, [], ◌++◌, take, refl, sym, subst, arith, length-append}
 use Rattle.std.proofs.lemmas.List.{take-append-le}
 use Rattle.wf_types.specs.declared.hop.Head.{Head}
-use Rattle.wf_http1.specs.Answers.{Decides, HasBadBlock, IsDecidedAt, IsFinal, IsNoHead, IsTooLong, IsUndecided, most_bytes}
+use Rattle.std.proofs.lemmas.Bool.{cases_order}
+use Rattle.wf_http1.proofs.BlockLemmas.{quiet-nil}
+use Rattle.wf_http1.proofs.SkipLemmas.{final-one, skips-none, undecided}
+use Rattle.wf_http1.specs.Answers.{IsUnfinished, Decides, HasBadBlock, IsDecidedAt, IsFinal, IsTooLong, IsUndecided, most_bytes}
 use Rattle.wf_http1.specs.Heads.{EndsFinal}
 
 decided-more : (bytes more : List ℕ) (n : ℕ) → IsDecidedAt bytes n → IsDecidedAt (bytes ++ more) n
@@ -33,3 +36,26 @@ long-more bytes more is = record {
   long = omega (arith, is.long, length-append bytes more);
   undecided = subst (λ (l : List ℕ). IsUndecided l) (sym (take-append-le most_bytes bytes more (omega (arith, is.long)))) is.undecided;
 }
+
+-- nothing decides nothing
+pub nothing-unfinished : IsUnfinished []
+nothing-unfinished = record {
+  short = omega arith;
+  undecided = undecided [] [] (skips-none []) (quiet-nil [] refl);
+}
+
+-- ---- one answer
+
+decided-one : (bytes : List ℕ) (n m : ℕ) → IsDecidedAt bytes n → IsDecidedAt bytes m → n ≡ m
+decided-one bytes n m one other = by_order (cases_order n m)
+  where
+    by_order : (n ≡ m) ⊎ ((n < m) ⊎ (m < n)) → n ≡ m
+    by_order (inl same) = same
+    by_order (inr (inl less)) = absurd (other.shortest n less one.decides)
+    by_order (inr (inr less)) = absurd (one.shortest m less other.decides)
+
+-- the final head is one, and so is its end
+pub final-head-one : (bytes : List ℕ) (a b : Head) (n m : ℕ) → IsFinal bytes a n → IsFinal bytes b m → (a ≡ b) × (n ≡ m)
+final-head-one bytes a b n m one other =
+    let same : n ≡ m = decided-one bytes n m one.decided other.decided in
+    (final-one (take m bytes) a b (subst (λ (k : ℕ). EndsFinal (take k bytes) a) same one.final) other.final, same)
