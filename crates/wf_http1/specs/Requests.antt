@@ -1,5 +1,5 @@
 -- The bytes of a request (RFC 9112, section 3).
-use Rattle.std.specs.Prelude.{ℕ, List, [], ◌∷◌, ◌++◌, codes, Option, unwrap_or}
+use Rattle.std.specs.Prelude.{ℕ, List, [], ◌++◌, codes, unwrap_or}
 use Rattle.std.specs.List.{flat_map}
 use Rattle.wf_headers.specs.declared.headers.Header.{Header}
 use Rattle.wf_types.specs.declared.hop.Hop.{Hop}

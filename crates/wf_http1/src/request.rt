@@ -1,16 +1,61 @@
-ghost use Rattle.std.specs.Prelude.{◌≡◌, IfOk};
-ghost use Rattle.wf_http1.specs.Requests.{request_bytes};
+ghost use Rattle.std.specs.Prelude.{◌≡◌, ◌++◌, IfOk, OnOk, unwrap_or, []};
+ghost use Rattle.std.specs.List.{flat_map};
+ghost use Rattle.wf_http1.specs.Requests.{header_line, request_bytes, request_line};
 
 use std::alloc::Global;
+use wf_headers::Header;
 use wf_text::{Bytes, OutOfMemory};
 use wf_types::Hop;
+
+// Adds the method, the request target and the version.
+fn add_request_line(text: &mut Bytes, hop: &Hop) -> Result<(), OutOfMemory>
+    ensures { OnOk result (text.new ≡ text.old ++ request_line hop.now) }
+{
+    text.append(hop.method.as_slice())?;
+    text.append(b" ")?;
+    text.append(hop.url.as_slice())?;
+    text.append(b" HTTP/1.1\r\n")
+}
+
+// Adds a header on its line.
+fn add_header_line(text: &mut Bytes, header: &Header) -> Result<(), OutOfMemory>
+    ensures { OnOk result (text.new ≡ text.old ++ header_line header.now) }
+{
+    text.append(header.name.as_slice())?;
+    text.append(b": ")?;
+    text.append(header.value.as_slice())?;
+    text.append(b"\r\n")
+}
+
+// Adds each header on a line.
+fn add_header_lines(text: &mut Bytes, headers: &[Header]) -> Result<(), OutOfMemory>
+    ensures { OnOk result (text.new ≡ text.old ++ flat_map header_line headers.now) }
+{
+    for header in headers {
+        add_header_line(text, header)?;
+    }
+    Ok(())
+}
+
+// Adds the body, where there is one.
+fn add_body(text: &mut Bytes, body: &Option<Bytes>) -> Result<(), OutOfMemory>
+    ensures { OnOk result (text.new ≡ text.old ++ unwrap_or body.now []) }
+{
+    match body {
+        Some(body) => text.append(body.as_slice()),
+        None => Ok(()),
+    }
+}
 
 /// The bytes of a request: its request line, its headers on a line each, an empty line and its body,
 /// where it has one (RFC 9112, sections 2.1 and 3).
 pub fn write_request(alloc: Global, hop: &Hop) -> Result<Bytes, OutOfMemory>
     ensures { IfOk result (λ bytes. bytes ≡ request_bytes hop.now) }
 {
-    let _ = alloc;
-    let _ = hop;
-    Err(OutOfMemory)
+    let mut text = Bytes::new(alloc);
+    add_request_line(&mut text, hop)?;
+    add_header_lines(&mut text, hop.headers.as_slice())?;
+    text.append(b"\r\n")?;
+    add_body(&mut text, &hop.body)?;
+    Ok(text)
 }

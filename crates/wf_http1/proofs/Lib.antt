@@ -1,0 +1,5 @@
+pub mod AnswerLemmas
+pub mod BlockLemmas
+pub mod HeadLemmas
+pub mod LineLemmas
+pub mod SkipLemmas
