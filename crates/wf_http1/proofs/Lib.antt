@@ -3,3 +3,4 @@ pub mod BlockLemmas
 pub mod HeadLemmas
 pub mod LineLemmas
 pub mod SkipLemmas
+pub mod LengthLemmas

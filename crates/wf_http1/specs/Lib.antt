@@ -2,6 +2,7 @@ pub mod Blocks
 pub mod Heads
 pub mod Answers
 pub mod HeadFeeding
+pub mod Lengths
 pub mod Framings
 pub mod Chunks
 pub mod Bodies

@@ -6,6 +6,7 @@ mod body;
 mod framing;
 mod head;
 mod request;
+mod seen;
 
 pub use body::{BodyReader, BodyStep};
 pub use framing::{Framing, framing_of};
