@@ -1,7 +1,8 @@
+pub mod Wires
 pub mod Words
 pub mod Statuses
 pub mod Streams
-pub mod Servers
+pub mod Exchanges
 pub mod Runs
 pub mod Plays
 pub mod Program

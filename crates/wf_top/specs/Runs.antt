@@ -1,22 +1,25 @@
 -- What parts of a document's run come to over the tape that the servers give.
-use Rattle.std.specs.Prelude.{◌≡◌, List, ◌++◌, Option, Some, IsTrue}
+use Rattle.std.specs.Prelude.{◌≡◌, ℕ, List, ◌++◌, Some, IsTrue}
 use Rattle.wf_types.specs.declared.mode.Mode.TheVariants.{SameOrigin}
 use Rattle.wf_types.specs.declared.request.Request.{Request}
 use Rattle.wf_types.specs.declared.response.Outcome.{Outcome}
 use Rattle.wf_types.specs.Requests.{IsRequest, is_determined}
 use Rattle.wf_print.specs.declared.events.Ending.{Ending}
 use Rattle.wf_print.specs.declared.events.Event.{Event}
-use Rattle.wf_script.specs.declared.types.Rule.{Rule}
-use Rattle.wf_script.specs.declared.types.Server.{Server}
+use Rattle.wf_fetch.specs.declared.act.Input.{Input}
 use Rattle.wf_fetch.specs.Process.{Process}
 use Rattle.wf_fetch.specs.Play.{Play, PlayRun, run_play, shows}
 use Rattle.wf_fetch.specs.Runs.{Next, Progress, embed}
 use Rattle.wf_top.specs.declared.running.Running.{Running}
-use Rattle.wf_top.specs.Servers.{tape_of}
+use Rattle.wf_top.specs.Exchanges.{Exchange, IsTape}
+use Rattle.wf_top.specs.Wires.{exchange_of}
 
--- the run over the tape that the servers give, after this answer
-abbrev pub run_over : List Server → Option Rule → Play → PlayRun
-run_over servers last play = run_play play (tape_of servers last play)
+-- From where the exchange stands the run comes to this: over the tape that the servers give, with bodies
+-- of so many bytes at most.
+pub record RunsOver (limit : ℕ) (exchange : Exchange) (play : Play) (run : PlayRun) : Type 0 where
+  pub tape : List Input
+  pub is_tape : IsTape limit exchange play tape
+  pub run_is : run_play play tape ≡ run
 
 -- where a run stands
 abbrev pub progress_of : Running → Progress
@@ -26,17 +29,17 @@ progress_of running = record {
   shown = running.events;
 }
 
--- A part of a run: whatever follows it, the run of both shows what was added to the events, and then
--- what the rest shows.
-pub record Shows {A : Type 0} (servers : List Server) (part rest : A → Play) (old new : Running) : Type 0 where
+-- A part of a run: whatever follows it and whatever that comes to, both come to what was added to the
+-- events, and then that.
+pub record Shows {A : Type 0} (limit : ℕ) (part rest : A → Play) (old new : Running) : Type 0 where
   pub made : List Event
   pub added : new.events ≡ old.events ++ made
-  pub run : (next : A) → run_over servers old.last (part next) ≡ shows made (run_over servers new.last (rest next))
+  pub run : (next : A) (later : PlayRun) → RunsOver limit (exchange_of new.wire) (rest next) later → RunsOver limit (exchange_of old.wire) (part next) (shows made later)
 
 -- a part of a script was played
-abbrev pub Played : List Server → (Next → Next) → Running → Running → Type 0
-Played servers part old new =
-    Shows servers (λ (next : Next). part next (progress_of old)) (λ next. next (progress_of new)) old new
+abbrev pub Played : ℕ → (Next → Next) → Running → Running → Type 0
+Played limit part old new =
+    Shows limit (λ (next : Next). part next (progress_of old)) (λ next. next (progress_of new)) old new
 
 -- A request that a script can have made: one in mode same-origin without a referrer to be determined.
 pub record IsFetchable (request : Request) : Type 0 where
@@ -45,12 +48,12 @@ pub record IsFetchable (request : Request) : Type 0 where
   pub determined : IsTrue (is_determined request.referrer)
 
 -- a fetch came to this outcome
-abbrev pub Fetched : List Server → Process → Running → Running → Outcome → Type 0
-Fetched servers whole old new outcome =
-    Shows servers (λ (next : Outcome → Next). embed whole next (progress_of old)) (λ next. next outcome (progress_of new)) old new
+abbrev pub Fetched : ℕ → Process → Running → Running → Outcome → Type 0
+Fetched limit whole old new outcome =
+    Shows limit (λ (next : Outcome → Next). embed whole next (progress_of old)) (λ next. next outcome (progress_of new)) old new
 
 -- a run came to its end: it has shown what was added to the events, and its clock stands still
-pub record Ends (servers : List Server) (whole : Play) (old new : Running) (ending : Ending) : Type 0 where
+pub record Ends (limit : ℕ) (whole : Play) (old new : Running) (ending : Ending) : Type 0 where
   pub made : List Event
   pub added : new.events ≡ old.events ++ made
-  pub run : run_over servers old.last whole ≡ record { events = made; ending = Some (ending, 0) }
+  pub run : RunsOver limit (exchange_of old.wire) whole (record { events = made; ending = Some (ending, 0) })

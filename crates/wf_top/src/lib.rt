@@ -2,14 +2,15 @@
 #![tactic(auto)]
 
 mod complaint;
+mod exchange;
 mod limits;
 mod play;
 mod program;
 mod running;
-mod servers;
 mod status;
 #[cfg(test)]
 mod tests;
+mod wire;
 mod words;
 
 pub use program::fetchplay;

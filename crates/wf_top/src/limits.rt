@@ -12,7 +12,7 @@ const MOST_FETCHES: u32 = 1_024;
 
 const MOST_PRINTED: u64 = 8_388_608;
 
-impl Running {
+impl Running<'_> {
     /// The limit that the run has reached before a command.
     pub(crate) fn limit_before(&self, command: &Command) -> Option<Ending>
         ensures { result ≡ limit_before command.now (progress_of self.now) }

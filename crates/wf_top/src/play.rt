@@ -10,74 +10,50 @@ ghost use Rattle.wf_fetch.specs.Process.{fits};
 ghost use Rattle.wf_fetch.specs.Runs.{command_run, script_run, fetched, document_client, document_run, finished, limit_before, normalized_init as normal_init};
 ghost use Rattle.wf_top.specs.Plays.{IsPlay, IsTranscript};
 ghost use Rattle.wf_top.specs.Runs.{Ends, Fetched, IsFetchable, Played, progress_of};
-ghost use Rattle.wf_top.specs.Servers.{answer_after, body_of_answer, head_of_answer, input_for};
+ghost use Rattle.wf_top.specs.Exchanges.{Exchanges, idle};
+ghost use Rattle.wf_top.specs.Wires.{exchange_of};
 
 use crate::running::Running;
-use crate::servers::answer_to;
+use crate::wire::Wire;
 use std::alloc::Global;
 use url::Url;
 use wf_fetch::{Act, Fetching, Input, Step, normalized_init};
-use wf_headers::HeaderList;
 use wf_print::{Ending, Event, Transcript, Transcripts};
-use wf_script::{Command, Document, Rule, Scenario, Servers};
+use wf_script::{Command, Document, Scenario};
 use wf_send::new_request;
 use wf_text::OutOfMemory;
-use wf_types::{BodyEnd, Client, Cookies, Head, Init, Outcome, ReferrerPolicy, Request, TypeFault};
+use wf_types::{Client, Cookies, Init, Outcome, ReferrerPolicy, Request, TypeFault};
 
-/// What the fetches of a document are lent: the servers that answer, the document's client, and the
-/// table of cookies.
+/// What the fetches of a document are lent: the greatest number of bytes that a body may have, the
+/// document's client, and the table of cookies.
 #[derive(Drop)]
 struct Setting<'a> {
-    servers: &'a Servers,
+    limit: u32,
     client: &'a Client,
     cookies: &'a Cookies,
 }
 
-// The head of an answer: the rule's status without headers.
-fn head_input(alloc: Global, last: &Option<Rule>) -> Input
-    ensures { result ≡ head_of_answer last.now }
-{
-    match last {
-        None => Input::HeadBad,
-        Some(rule) => Input::HeadIs(Head {
-            status: rule.status,
-            headers: HeaderList::new(alloc),
-        }),
-    }
-}
-
-// The body of an answer, whole.
-fn body_input(alloc: Global, last: &Option<Rule>) -> Result<Input, OutOfMemory>
-    ensures { IfOk result (λ input. input ≡ body_of_answer last.now) }
-{
-    match last {
-        None => Ok(Input::BodyIs(BodyEnd::Null)),
-        Some(rule) => Ok(Input::BodyIs(BodyEnd::Whole(rule.body.copy(alloc)?))),
-    }
-}
-
-// Hands an act to the servers and answers what comes of it.
+// Does an act over the wire and answers what comes of it.
 fn exchange(
     alloc: Global,
-    servers: &Servers,
-    running: &mut Running,
+    limit: u32,
+    running: &mut Running<'_>,
     act: Act,
 ) -> Result<Input, OutOfMemory>
-    ensures input { IfOk result (λ input. input ≡ input_for running.old.last act) }
+    ensures came { IfOk result (λ input. Exchanges limit (exchange_of running.old.wire) act input (exchange_of running.new.wire)) }
     ensures fits { IfOk result (λ input. IsTrue (fits act input)) }
-    ensures last { OnOk result (running.new.last ≡ answer_after servers.now running.old.last act) }
     ensures events { IfOk result (λ input. running.new.events ≡ running.old.events ++ events_of act input) }
     ensures commands { running.new.commands ≡ running.old.commands }
     ensures fetches { running.new.fetches ≡ running.old.fetches }
 {
     match act {
         Act::Send(hop) => {
-            running.last = answer_to(alloc, servers, &hop)?;
+            let input = running.wire.send(alloc, &hop)?;
             running.show(Event::Sent(hop))?;
-            Ok(Input::Sent)
+            Ok(input)
         }
-        Act::ReadHead => Ok(head_input(alloc, &running.last)),
-        Act::ReadBody => body_input(alloc, &running.last),
+        Act::ReadHead => running.wire.read_head(alloc),
+        Act::ReadBody => running.wire.read_body(alloc, limit),
     }
 }
 
@@ -85,11 +61,11 @@ fn exchange(
 fn run_fetch(
     alloc: Global,
     setting: &Setting<'_>,
-    running: &mut Running,
+    running: &mut Running<'_>,
     request: Request,
 ) -> Result<Outcome, OutOfMemory>
     requires { IsFetchable request }
-    ensures { IfOk result (λ outcome. Fetched setting.now.servers.now
+    ensures { IfOk result (λ outcome. Fetched setting.now.limit
         (main_fetch (lent setting.now.client.now setting.now.cookies.now) request) running.old running.new outcome) }
 {
     let mut step = Fetching::start(alloc, request, setting.client, setting.cookies)?;
@@ -97,7 +73,7 @@ fn run_fetch(
         match step {
             Step::Over(outcome) => return Ok(outcome),
             Step::Going(fetching, act) => {
-                let input = exchange(alloc, setting.servers, running, act)?;
+                let input = exchange(alloc, setting.limit, running, act)?;
                 step = fetching.resume(alloc, setting.client, setting.cookies, input)?;
             }
         }
@@ -126,11 +102,11 @@ fn requested(
 fn run_request(
     alloc: Global,
     setting: &Setting<'_>,
-    running: &mut Running,
+    running: &mut Running<'_>,
     made: Result<Request, TypeFault>,
 ) -> Result<(), OutOfMemory>
     requires { IfOk made IsFetchable }
-    ensures { OnOk result (Played setting.now.servers.now
+    ensures { OnOk result (Played setting.now.limit
         (fetched (lent setting.now.client.now setting.now.cookies.now) made) running.old running.new) }
 {
     match made {
@@ -147,14 +123,14 @@ fn run_request(
 fn run_command(
     alloc: Global,
     setting: &Setting<'_>,
-    running: &mut Running,
+    running: &mut Running<'_>,
     document: &Url,
     command: &Command,
 ) -> Result<(), OutOfMemory>
     requires client { IsClient setting.now.client.now }
     requires valid { IsValidCommand document.now command.now }
     requires limit { limit_before command.now (progress_of running.old) ≡ None }
-    ensures { OnOk result (Played setting.now.servers.now
+    ensures { OnOk result (Played setting.now.limit
         (command_run (lent setting.now.client.now setting.now.cookies.now) command.now) running.old running.new) }
 {
     match command {
@@ -170,12 +146,12 @@ fn run_command(
 fn run_script(
     alloc: Global,
     setting: &Setting<'_>,
-    running: &mut Running,
+    running: &mut Running<'_>,
     document: &Document,
 ) -> Result<Ending, OutOfMemory>
     requires client { IsClient setting.now.client.now }
     requires valid { All (IsValidCommand document.now.url) document.now.script }
-    ensures ends { IfOk result (λ ending. Ends setting.now.servers.now
+    ensures ends { IfOk result (λ ending. Ends setting.now.limit
         (script_run (lent setting.now.client.now setting.now.cookies.now) document.now.script finished (progress_of running.old))
         running.old running.new ending) }
     ensures has_text { IfOk result (λ ending. ending ≢ Ending.Memory) }
@@ -192,23 +168,23 @@ fn run_script(
 // A document's run.
 fn run_document(
     alloc: Global,
-    servers: &Servers,
-    cookies: &Cookies,
+    scenario: &Scenario,
     number: u32,
     document: &Document,
 ) -> Result<Transcript, OutOfMemory>
-    requires { IsValidDocument document.now }
-    ensures run { IfOk result (λ transcript. IsTranscript servers.now cookies.now number document.now transcript) }
+    requires scenario { IsValid scenario.now }
+    requires valid { IsValidDocument document.now }
+    ensures run { IfOk result (λ transcript. IsTranscript scenario.now number document.now transcript) }
     ensures has_text { IfOk result (λ transcript. transcript.ending ≢ Ending.Memory) }
 {
     let policy = ReferrerPolicy::StrictOriginWhenCrossOrigin;
     let client = Client::of(alloc, &document.url, &document.top, policy)?;
     let setting = Setting {
-        servers,
+        limit: scenario.body_limit,
         client: &client,
-        cookies,
+        cookies: &scenario.cookies,
     };
-    let mut running = Running::new(alloc);
+    let mut running = Running::new(alloc, Wire::new(alloc, scenario)?);
     let ending = run_script(alloc, &setting, &mut running, document)?;
     let key = client.key.copy(alloc)?;
     Ok(Transcript {
@@ -229,13 +205,7 @@ pub fn play_all(alloc: Global, scenario: &Scenario) -> Result<Transcripts, OutOf
     let mut transcripts = Transcripts::new(alloc);
     for (index, document) in scenario.documents.as_slice().iter().enumerate() {
         let number = index as u32;
-        let transcript = run_document(
-            alloc,
-            &scenario.servers,
-            &scenario.cookies,
-            number,
-            document,
-        )?;
+        let transcript = run_document(alloc, scenario, number, document)?;
         transcripts.push(transcript)?;
     }
     Ok(transcripts)

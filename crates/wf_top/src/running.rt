@@ -1,41 +1,41 @@
-ghost use Rattle.std.specs.Prelude.{◌≡◌, ◌≤◌, ◌<◌, ◌+◌, ◌++◌, ◌∷◌, [], None, OnOk};
+ghost use Rattle.std.specs.Prelude.{◌≡◌, ◌≤◌, ◌<◌, ◌+◌, ◌++◌, ◌∷◌, [], OnOk};
 ghost use Rattle.wf_print.specs.Lengths.{capped};
 ghost use Rattle.wf_fetch.specs.Runs.{text_length};
 
+use crate::wire::Wire;
 use std::alloc::Global;
 use wf_print::{Event, Events, event_len};
-use wf_script::Rule;
 use wf_text::OutOfMemory;
 
 /// Where a document's run stands: how many commands and how many fetches have started, the events so
-/// far with the number of bytes that their lines have, as far as 64 bits tell it, and the last answer
-/// of a server.
+/// far with the number of bytes that their lines have, as far as 64 bits tell it, and the wire to the
+/// servers.
 #[derive(Drop)]
-pub(crate) struct Running {
+pub(crate) struct Running<'a> {
     pub(crate) commands: u32,
     pub(crate) fetches: u32,
     pub(crate) events: Events,
     pub(crate) printed: u64,
-    pub(crate) last: Option<Rule>,
+    pub(crate) wire: Wire<'a>,
     pub ghost measured: { printed ≡ capped (text_length events) },
     pub ghost few_commands: { commands ≤ 16384 },
     pub ghost few_fetches: { fetches ≤ 1024 },
 }
 
-impl Running {
-    /// The beginning of a run.
-    pub(crate) fn new(alloc: Global) -> Running
+impl<'a> Running<'a> {
+    /// The beginning of a run over a wire.
+    pub(crate) fn new(alloc: Global, wire: Wire<'a>) -> Running<'a>
         ensures commands { result.commands ≡ 0 }
         ensures fetches { result.fetches ≡ 0 }
         ensures events { result.events ≡ [] }
-        ensures last { result.last ≡ None }
+        ensures wire { result.wire ≡ wire }
     {
         Running {
             commands: 0,
             fetches: 0,
             events: Events::new(alloc),
             printed: 0,
-            last: None,
+            wire,
         }
     }
 
@@ -44,7 +44,7 @@ impl Running {
         ensures events { OnOk result (self.new.events ≡ self.old.events ++ event ∷ []) }
         ensures commands { self.new.commands ≡ self.old.commands }
         ensures fetches { self.new.fetches ≡ self.old.fetches }
-        ensures last { self.new.last ≡ self.old.last }
+        ensures wire { self.new.wire ≡ self.old.wire }
     {
         let printed = self.printed.saturating_add(event_len(&event));
         self.events.push(event)?;
@@ -59,7 +59,7 @@ impl Running {
         ensures events { OnOk result (self.new.events ≡ self.old.events ++ Event.Fetch self.old.fetches ∷ []) }
         ensures commands { OnOk result (self.new.commands ≡ self.old.commands + 1) }
         ensures fetches { OnOk result (self.new.fetches ≡ self.old.fetches + 1) }
-        ensures last { self.new.last ≡ self.old.last }
+        ensures wire { self.new.wire ≡ self.old.wire }
     {
         self.show(Event::Fetch(self.fetches))?;
         self.commands += 1;
