@@ -70,7 +70,8 @@ plain url = record {
 pub computes-whole : scenario_of (codes "{\"format\":1,\"servers\":[{\"origin\":\"https://a.test\",\"rules\":[{\"status\":200,\"body\":\"hi\"}]}],\"documents\":[{\"url\":\"https://a.test/\",\"script\":[{\"fetch\":{\"url\":\"/\",\"mode\":\"same-origin\",\"referrer\":\"none\"}}]}]}")
     ≡ Ok (record {
       cookies = [];
-      servers = record { origin = codes "https://a.test"; rules = record { status = 200; body = codes "hi" } ∷ [] } ∷ [];
+      servers = record { origin = codes "https://a.test"; rules = record { method = None; path = None; answer = codes "HTTP/1.1 200 Scripted\r\n\r\nhi" } ∷ [] } ∷ [];
+      piece = 4096;
       documents = record { url = page; top = page; script = Fetch (plain (codes "/")) ∷ [] } ∷ [];
       body_limit = 262144;
     })
@@ -81,6 +82,7 @@ pub computes-fetch : scenario_of (with_command (codes "{\"fetch\":{\"url\":\"/x\
     ≡ Ok (record {
       cookies = [];
       servers = [];
+      piece = 4096;
       documents = record {
         url = page;
         top = page;

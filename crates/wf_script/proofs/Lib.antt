@@ -3,3 +3,4 @@ pub mod ReadingLemmas
 pub mod KeepsLemmas
 pub mod ValidLemmas
 pub mod Computed
+pub mod AnswerLemmas

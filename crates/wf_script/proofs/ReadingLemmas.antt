@@ -51,7 +51,7 @@ items_view-drop : (items : List Value) (i : ℕ) (x : Value) → i < length item
     → items_view (drop i items) ≡ item (view x) (items_view (drop (i + 1) items))
 items_view-drop items i x lt is = rw (add-one, drop-cons items i x) (ap (λ (z : Value). item (view z) (items_view (drop (suc i) items))) is)
 
-drop-past : (items : List Value) (i : ℕ) → length items ≤ i → drop i items ≡ []
+pub drop-past : {A : Type 0} (items : List A) (i : ℕ) → length items ≤ i → drop i items ≡ []
 drop-past [] zero le = refl
 drop-past [] (suc i) le = refl
 drop-past (y ∷ items) zero le = absurd (omega arith)

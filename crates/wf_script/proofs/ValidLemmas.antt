@@ -7,13 +7,14 @@ use Rattle.std.proofs.lemmas.List.Elements.{All-nil}
 use Rattle.serde_json.specs.Data.{Data}
 use Rattle.serde_json.specs.Find.{get, as_number, as_u64, as_str}
 use Rattle.url.specs.Parts.{Parts}
+use Rattle.wf_text.specs.Tokens.{is_token}
 use Rattle.wf_types.specs.Urls.{url_of_text}
 use Rattle.wf_script.specs.declared.types.Command.TheVariants.{Fetch}
 use Rattle.wf_script.specs.declared.types.Scenario.{Scenario}
-use Rattle.wf_script.specs.Reading.{Read, present, any, at_most, only_keys, number_of, text_that, word_of, some_of, items_of, list_of}
+use Rattle.wf_script.specs.Reading.{Read, present, any, only_keys, required, optional, number_of, text_that, word_of, some_of, items_of, list_of}
 use Rattle.wf_script.specs.Texts.{lacks_template, is_cookie_value}
 use Rattle.wf_script.specs.Urls.{is_plain_https, is_origin_text, is_fetch_url}
-use Rattle.wf_script.specs.Scenarios.{cookie_of, rule_keys, rule_of, server_keys, server_of, modes, referrers, header_of, fetch_keys, fetch_of, command_of, document_url_of, document_keys, document_of, scenario_keys, scenario_in}
+use Rattle.wf_script.specs.Scenarios.{cookie_of, status_of, answer_header_of, rule_keys, rule_of, server_keys, server_of, modes, referrers, header_of, fetch_keys, fetch_of, command_of, document_url_of, document_keys, document_of, scenario_keys, scenario_in}
 use Rattle.wf_script.specs.Valid.{IsValidCookie, IsValidRule, IsValidServer, is_opened_mode, IsPlainPair, IsValidInit, IsValidCommand, IsValidDocument, IsValid}
 use Rattle.wf_script.proofs.KeepsLemmas.{Keeps, Anything, keeps-anything, keeps-then, keeps-after, keeps-under, keeps-given, keeps-required, keeps-optional, IsListOf, keeps-items, keeps-list, keeps-text_that, keeps-word, keeps-some, keeps-parts}
 
@@ -38,19 +39,26 @@ keeps-cookie tree =
     keeps-parts (That is_origin_text) (That is_cookie_value) IsValidCookie (text_that is_origin_text) (text_that is_cookie_value) tree _
     (keeps-text_that is_origin_text) (keeps-text_that is_cookie_value) (λ origin value is holds. record { origin = is; value = holds })
 
+-- the method, where there is one, is a token
+abbrev IsToken : Option (List ℕ) → Type 0
+IsToken method = IfSome method (That is_token)
+
 keeps-rule : (tree : Data) → Keeps IsValidRule (rule_of tree)
 keeps-rule tree =
     keeps-after IsValidRule (only_keys rule_keys tree) _ (λ _.
-    keeps-required (λ n. (200 ≤ n) × (n ≤ 200)) IsValidRule (codes "status") (number_of 200 200) tree _ (keeps-number 200 200) (λ status is.
-    keeps-optional (That (at_most 262144)) IsValidRule (codes "body") [] (text_that (at_most 262144)) tree _ refl (keeps-text_that (at_most 262144)) (λ body short.
-    record { status = omega (arith, is.0, is.1); body = leb-true (length body) 262144 short })))
+    keeps-optional IsToken IsValidRule (codes "method") None (some_of (text_that is_token)) tree _ tt (keeps-some (That is_token) (text_that is_token) (keeps-text_that is_token)) (λ method is.
+    keeps-after IsValidRule (optional (codes "path") None (some_of (text_that any)) tree) _ (λ path.
+    keeps-after IsValidRule (required (codes "status") status_of tree) _ (λ status.
+    keeps-after IsValidRule (optional (codes "headers") [] (items_of answer_header_of) tree) _ (λ headers.
+    keeps-after IsValidRule (optional (codes "body") [] (text_that any) tree) _ (λ body.
+    record { method = is }))))))
 
 keeps-server : (tree : Data) → Keeps IsValidServer (server_of tree)
 keeps-server tree =
     keeps-after IsValidServer (only_keys server_keys tree) _ (λ _.
     keeps-required (That is_origin_text) IsValidServer (codes "origin") (text_that is_origin_text) tree _ (keeps-text_that is_origin_text) (λ origin is.
-    keeps-required (IsListOf IsValidRule 1) IsValidServer (codes "rules") (list_of 1 rule_of) tree _ (keeps-list IsValidRule 1 rule_of keeps-rule) (λ rules each.
-    record { origin = is; few = each.few; rules = each.all })))
+    keeps-required (λ rules. All IsValidRule rules) IsValidServer (codes "rules") (items_of rule_of) tree _ (keeps-items IsValidRule rule_of keeps-rule) (λ rules each.
+    record { origin = is; rules = each })))
 
 -- ---- fetches
 
@@ -122,10 +130,10 @@ keeps-scenario tree =
     keeps-after IsValid (only_keys scenario_keys tree) _ (λ _.
     keeps-after IsValid _ _ (λ _.
     keeps-optional (λ cookies. All IsValidCookie cookies) IsValid (codes "cookies") [] (items_of cookie_of) tree _ (All-nil IsValidCookie) (keeps-items IsValidCookie cookie_of keeps-cookie) (λ cookies good.
-    keeps-optional (IsListOf IsValidServer 1) IsValid (codes "servers") [] (list_of 1 server_of) tree _ (record { few = omega arith; all = All-nil IsValidServer })
-    (keeps-list IsValidServer 1 server_of keeps-server) (λ servers each.
+    keeps-optional (λ servers. All IsValidServer servers) IsValid (codes "servers") [] (items_of server_of) tree _ (All-nil IsValidServer) (keeps-items IsValidServer server_of keeps-server) (λ servers each.
+    keeps-optional (λ n. (1 ≤ n) × (n ≤ 65536)) IsValid (codes "piece") 4096 (number_of 1 65536) tree _ (omega arith, omega arith) (keeps-number 1 65536) (λ piece within.
     keeps-required (IsListOf IsValidDocument 1) IsValid (codes "documents") (list_of 1 document_of) tree _ (keeps-list IsValidDocument 1 document_of keeps-document) (λ documents all.
-    record { cookies = good; few_servers = each.few; servers = each.all; few_documents = all.few; documents = all.all; body_limit = refl })))))
+    record { cookies = good; servers = each; some_piece = within.0; most_piece = within.1; few_documents = all.few; documents = all.all; body_limit = refl }))))))
 
 -- what is read of a tree is valid
 pub scenario_in-IsValid : (tree : Data) (scenario : Scenario) → scenario_in tree ≡ Ok scenario → IsValid scenario

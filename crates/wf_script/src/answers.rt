@@ -1,5 +1,5 @@
 // What servers answer: the bytes of an answer, and which of them a request gets.
-ghost use Rattle.std.specs.Prelude.{◌≡◌, ◌+◌, ◌-◌, ◌^◌, ◌++◌, length, min, IfOk, OnOk};
+ghost use Rattle.std.specs.Prelude.{◌≡◌, ◌+◌, ◌-◌, ◌^◌, ◌++◌, length, min, codes, IfOk, OnOk};
 ghost use Rattle.std.specs.List.{flat_map};
 ghost use Rattle.wf_script.specs.Servers as spec;
 
@@ -38,6 +38,16 @@ fn put_headers(text: &mut Vec<u8>, headers: &[Pair]) -> Result<(), OutOfMemory>
     Ok(())
 }
 
+// Adds the status line of a status in decimal.
+fn put_status_line(text: &mut Vec<u8>, status: &[u8]) -> Result<(), OutOfMemory>
+    ensures { OnOk result (text.new.items ≡ text.old.items ++ (codes "HTTP/1.1 " ++ (status.now ++ codes " Scripted\r\n"))) }
+{
+    text.extend_from_slice(b"HTTP/1.1 ")?;
+    text.extend_from_slice(status)?;
+    text.extend_from_slice(b" Scripted\r\n")?;
+    Ok(())
+}
+
 /// The bytes of an answer: the status line, each header on its line, an empty line and the body.
 pub(crate) fn answer_bytes(
     alloc: Global,
@@ -53,9 +63,7 @@ pub(crate) fn answer_bytes(
         .saturating_add(body.len())
         .saturating_add(22);
     let mut text = Vec::with_capacity(alloc, len)?;
-    text.extend_from_slice(b"HTTP/1.1 ")?;
-    text.extend_from_slice(status.as_bytes())?;
-    text.extend_from_slice(b" Scripted\r\n")?;
+    put_status_line(&mut text, status.as_bytes())?;
     put_headers(&mut text, headers)?;
     text.extend_from_slice(b"\r\n")?;
     text.extend_from_slice(body)?;

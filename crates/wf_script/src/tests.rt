@@ -1,5 +1,5 @@
 //! Scenarios that are read, and the places of texts that are refused.
-use crate::types::{Command, Scenario};
+use crate::types::{Command, Scenario, Servers};
 use std::alloc::Global;
 use std::test::Fail;
 use wf_text::OutOfMemory;
@@ -7,7 +7,7 @@ use wf_types::{Credentials, Mode, RedirectMode, ReferrerPolicy};
 
 // A scenario that has each key once.
 const WHOLE: &str =
-    r#"{"format":1,"cookies":[["https://a.test","sid=7"]],"servers":[{"origin":"https://a.test","rules":[{"status":200,"body":"hi"}]}],"documents":[{"url":"https://a.test/","script":[{"fetch":{"url":"/x","method":"PUT","mode":"navigate","headers":[["X-A","1"]],"body":"q","referrer":"none"}},{"fetch":{"url":"/","mode":"same-origin","referrer":"none"}}]}]}"#;
+    r#"{"format":1,"cookies":[["https://a.test","sid=7"]],"servers":[{"origin":"https://a.test","rules":[{"method":"GET","path":"/x","status":200,"headers":[["X-B","2"]],"body":"hi"}]}],"piece":7,"documents":[{"url":"https://a.test/","script":[{"fetch":{"url":"/x","method":"PUT","mode":"navigate","headers":[["X-A","1"]],"body":"q","referrer":"none"}},{"fetch":{"url":"/","mode":"same-origin","referrer":"none"}}]}]}"#;
 
 // The place at which a text is refused, if it is.
 fn is_refused_at(alloc: Global, text: &str, place: &str) -> Result<bool, OutOfMemory> {
@@ -52,8 +52,7 @@ fn reads_the_parts_of_a_scenario(rt: HostRuntime) -> Result<(), Fail> {
     let server = scenario.servers.at(0);
     assert_eq!(rt; server.origin.as_slice(), b"https://a.test".as_slice());
     assert_eq!(rt; server.rules.len(), 1);
-    assert_eq!(rt; server.rules.at(0).status, 200);
-    assert_eq!(rt; server.rules.at(0).body.as_slice(), b"hi".as_slice());
+    assert_eq!(rt; scenario.piece, 7);
     assert_eq!(rt; scenario.documents.len(), 1);
     let document = scenario.documents.at(0);
     assert_eq!(rt; document.url.as_str(), "https://a.test/");
@@ -117,10 +116,8 @@ fn tells_the_place_of_a_refused_text(rt: HostRuntime) -> Result<(), Fail> {
             r#"{"format":1,"cookies":[["https://a.test",""]]}"#,
             "/cookies/0/1",
         ),
-        (
-            r#"{"format":1,"servers":[{"origin":"https://a.test","rules":[{"status":404}]}]}"#,
-            "/servers/0/rules/0/status",
-        ),
+        (r#"{"format":1,"piece":0,"documents":[]}"#, "/piece"),
+        (r#"{"format":1,"piece":65537,"documents":[]}"#, "/piece"),
     ] {
         assert!(rt; is_refused_at(rt.alloc(), text, place)?, "at {text}");
     }
@@ -176,15 +173,122 @@ fn tells_the_place_within_a_fetch(rt: HostRuntime) -> Result<(), Fail> {
     Ok(())
 }
 
+// A scenario whose one server has these rules.
+fn with_rules(alloc: Global, rules: &str) -> Result<String, OutOfMemory> {
+    let text = format!(in alloc;
+        r#"{{"format":1,"servers":[{{"origin":"https://a.test","rules":[{rules}]}}],"documents":[]}}"#
+    )?;
+    Ok(text)
+}
+
 #[test]
-fn takes_a_body_of_262144_bytes_and_no_longer_one(rt: HostRuntime) -> Result<(), Fail> {
-    for (count, taken) in [(262_144, true), (262_145, false)] {
-        let body = copies(rt.alloc(), "x", count)?;
-        let text = format!(in rt.alloc();
-            r#"{{"format":1,"servers":[{{"origin":"https://a.test","rules":[{{"status":200,"body":"{body}"}}]}}],"documents":[]}}"#
-        )?;
-        assert_eq!(rt; is_read(rt.alloc(), text.as_str())?, taken, "with {count}");
+fn tells_the_place_within_a_rule(rt: HostRuntime) -> Result<(), Fail> {
+    for (rule, place) in [
+        (r#"{"status":302}"#, "/servers/0/rules/0/status"),
+        (r#"{"status":99}"#, "/servers/0/rules/0/status"),
+        (r#"{"status":1000}"#, "/servers/0/rules/0/status"),
+        (r#"{"raw":"x"}"#, "/servers/0/rules/0"),
+        (
+            r#"{"method":"a b","status":200}"#,
+            "/servers/0/rules/0/method",
+        ),
+        (r#"{"path":1,"status":200}"#, "/servers/0/rules/0/path"),
+        (
+            r#"{"status":200,"headers":[["a b","1"]]}"#,
+            "/servers/0/rules/0/headers/0/0",
+        ),
+        (
+            r#"{"status":200,"headers":[["A","1"],["B"," 1"]]}"#,
+            "/servers/0/rules/0/headers/1/1",
+        ),
+        (
+            r#"{"status":200,"headers":[["A","1","2"]]}"#,
+            "/servers/0/rules/0/headers/0",
+        ),
+        (
+            r#"{"status":200,"headers":[["strict-TRANSPORT-security","max-age=1"]]}"#,
+            "/servers/0/rules/0/headers/0/0",
+        ),
+    ] {
+        let text = with_rules(rt.alloc(), rule)?;
+        assert!(rt;
+            is_refused_at(rt.alloc(), text.as_str(), place)?,
+            "at {rule}"
+        );
     }
+    Ok(())
+}
+
+// What the servers of a scenario answer.
+fn is_answered(servers: &Servers, origin: &str, request: (&str, &str), expected: &str) -> bool {
+    let (method, target) = request;
+    servers.answer(origin.as_bytes(), method.as_bytes(), target.as_bytes()) == expected.as_bytes()
+}
+
+#[test]
+fn the_first_server_and_the_first_rule_that_fits_answer(rt: HostRuntime) -> Result<(), Fail> {
+    let text =
+        r#"{"format":1,"servers":[{"origin":"https://a.test","rules":[{"method":"PUT","status":201},{"path":"/x","status":202},{"status":203}]},{"origin":"https://a.test","rules":[{"status":299}]},{"origin":"https://b.test","rules":[{"method":"GET","path":"/","status":999}]}],"documents":[]}"#;
+    let scenario = Scenario::read(rt.alloc(), text.as_bytes())?
+        .ok()
+        .ok_or("refused")?;
+    let servers = &scenario.servers;
+    for (origin, request, expected) in [
+        (
+            "https://a.test",
+            ("PUT", "/x"),
+            "HTTP/1.1 201 Scripted\r\n\r\n",
+        ),
+        (
+            "https://a.test",
+            ("GET", "/x"),
+            "HTTP/1.1 202 Scripted\r\n\r\n",
+        ),
+        (
+            "https://a.test",
+            ("put", "/"),
+            "HTTP/1.1 203 Scripted\r\n\r\n",
+        ),
+        (
+            "https://b.test",
+            ("GET", "/"),
+            "HTTP/1.1 999 Scripted\r\n\r\n",
+        ),
+        (
+            "https://b.test",
+            ("GET", "/?"),
+            "HTTP/1.1 404 Scripted\r\n\r\n",
+        ),
+        ("https://c.test", ("GET", "/"), ""),
+    ] {
+        assert!(rt;
+            is_answered(servers, origin, request, expected),
+            "{expected:?}"
+        );
+    }
+    Ok(())
+}
+
+#[test]
+fn an_answer_has_its_headers_and_its_body(rt: HostRuntime) -> Result<(), Fail> {
+    let rule =
+        r#"{"status":200,"headers":[["Content-Type","text/plain"],["X-B",""]],"body":"hi\r\n"}"#;
+    let text = with_rules(rt.alloc(), rule)?;
+    let scenario = Scenario::read(rt.alloc(), text.as_bytes())?
+        .ok()
+        .ok_or("refused")?;
+    assert_eq!(rt; scenario.piece, 4096);
+    let expected = "HTTP/1.1 200 Scripted\r\nContent-Type: text/plain\r\nX-B: \r\n\r\nhi\r\n";
+    assert!(rt; is_answered(&scenario.servers, "https://a.test", ("GET", "/"), expected));
+    Ok(())
+}
+
+#[test]
+fn takes_a_body_of_any_length(rt: HostRuntime) -> Result<(), Fail> {
+    let body = copies(rt.alloc(), "x", 262_145)?;
+    let rule = format!(in rt.alloc(); r#"{{"status":200,"body":"{body}"}}"#)?;
+    let text = with_rules(rt.alloc(), rule.as_str())?;
+    assert!(rt; is_read(rt.alloc(), text.as_str())?);
     Ok(())
 }
 

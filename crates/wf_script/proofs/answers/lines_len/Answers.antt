@@ -1,0 +1,15 @@
+use Rattle.std.proofs.Common.{◌≡◌, ℕ, List, ap, arith, length}
+use Rattle.std.specs.List.{flat_map}
+use Rattle.wf_types.specs.declared.init.Pair.{Pair}
+use Rattle.wf_script.specs.Servers.{header_line}
+use Rattle.wf_script.proofs.ReadingLemmas.{drop-past}
+use Rattle.wf_script.proofs.answers.lines_len.Goals as goal
+
+pub returns : goal.returns
+returns c =
+    omega (
+      arith,
+      c.loop-header.invariant.0,
+      c.loop-header.invariant.1,
+      ap (λ (headers : List Pair). length (flat_map header_line headers)) (drop-past c.args.headers.now c.loop-header.header-index c.loop-header-test.false),
+    )
