@@ -1,6 +1,8 @@
 pub mod Blocks
 pub mod Heads
 pub mod Answers
+pub mod HeadReading
+pub mod HeadPushing
 pub mod HeadFeeding
 pub mod Lengths
 pub mod Framings

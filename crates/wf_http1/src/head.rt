@@ -1,27 +1,43 @@
-ghost use Rattle.std.specs.Prelude.{◌≡◌, [], length, IfOk};
-ghost use Rattle.wf_http1.specs.Answers.{IsUnfinished};
+ghost use Rattle.std.specs.Prelude.{◌≡◌, ◌≤◌, ◌<◌, ◌+◌, ◌++◌, ◌==◌, ℕ, List, [], length, take, IfOk};
+ghost use Rattle.wf_http1.specs.Answers.{IsUnfinished, most_bytes};
 ghost use Rattle.wf_http1.specs.HeadFeeding.{IsFed};
+ghost use Rattle.wf_http1.specs.HeadPushing.{IsPushed};
+ghost use Rattle.wf_http1.specs.HeadReading.{IsLine};
 
+use crate::block::{Judged, has_line_byte, is_block, judge};
+use crate::gathered::Gathered;
+use crate::past::Past;
 use std::alloc::Global;
 use std::marker::Model;
 use wf_text::OutOfMemory;
 use wf_types::Head;
 
-#[derive(Drop)]
-enum Never {}
+/// How many bytes the heads of an answer have at most.
+const MOST_BYTES: usize = 65_536;
 
 /// Reads the heads of an answer from pieces, and is seen as all bytes so far, which decide nothing yet.
 #[derive(Drop)]
 pub struct HeadReader {
-    never: Never,
+    // The skipped heads.
+    past: Past,
+    // The block that has begun behind them.
+    block: Gathered,
+    // Whether it has a byte other than CR and LF.
+    has_line_byte: bool,
+    // How many bytes came, those of skipped heads included.
+    seen_bytes: u32,
 }
 
 impl Model for HeadReader {
-    ghost use Rattle.std.specs.Prelude.{ℕ, List, []};
+    ghost use Rattle.std.specs.Prelude.{ℕ, List, ◌++◌};
 
     ghost Value = { List ℕ };
 
-    ghost view = { λ _. [] };
+    ghost use Rattle.wf_http1.specs.HeadReading.{IsReading};
+
+    ghost view = { λ reader. reader.past.bytes ++ reader.block };
+
+    ghost invariant = { IsReading };
 }
 
 /// What a piece comes to.
@@ -37,13 +53,37 @@ pub enum HeadStep {
     TooBig,
 }
 
+// What a line comes to.
+#[derive(Drop)]
+enum Pushed {
+    More(HeadReader),
+    Final(Head),
+    Bad,
+}
+
+// How many bytes the first line has: those up to LF, or all.
+fn line_length(bytes: &[u8]) -> usize
+    requires { 0 < length bytes.now }
+    ensures within { result ≤ length bytes.now }
+    ensures line { IsLine (take result bytes.now) }
+{
+    match bytes.iter().position(|byte| *byte == b'\n') {
+        Some(index) => index + 1,
+        None => bytes.len(),
+    }
+}
+
 impl HeadReader {
     /// A reader of the heads of an answer, which reserves 65,536 bytes here.
     pub fn new(alloc: Global) -> Result<HeadReader, OutOfMemory>
         ensures { IfOk result (λ reader. reader ≡ []) }
     {
-        let _ = alloc;
-        Err(OutOfMemory)
+        Ok(HeadReader {
+            past: Past::new(),
+            block: Gathered::with_room(alloc, MOST_BYTES)?,
+            has_line_byte: false,
+            seen_bytes: 0,
+        })
     }
 
     /// How many bytes of the answer were fed so far, skipped heads included. They decide nothing.
@@ -51,7 +91,7 @@ impl HeadReader {
         ensures value { result ≡ length self.now }
         ensures unfinished { IsUnfinished self.now }
     {
-        match self.never {}
+        self.seen_bytes
     }
 
     /// Takes the next piece, which may be empty. Heads with a status from 100 to 199 but 101 are
@@ -62,9 +102,63 @@ impl HeadReader {
     pub fn feed(self, alloc: Global, piece: &[u8]) -> Result<HeadStep, OutOfMemory>
         ensures { IfOk result (λ step. IsFed self piece.now step) }
     {
-        let _ = alloc;
-        let _ = piece;
-        let _ = self;
-        Err(OutOfMemory)
+        let mut reader = self;
+        let mut room = MOST_BYTES - reader.seen_bytes() as usize;
+        let mut rest = piece;
+        while !rest.is_empty() {
+            let (line, behind) = rest.split_at(line_length(rest));
+            if line.len() > room {
+                return Ok(HeadStep::TooBig);
+            }
+            match reader.push(alloc, line)? {
+                Pushed::More(next) => reader = next,
+                Pushed::Final(head) => {
+                    return Ok(HeadStep::Final(head, piece.len() - behind.len()));
+                }
+                Pushed::Bad => return Ok(HeadStep::Bad),
+            }
+            room -= line.len();
+            rest = behind;
+        }
+        Ok(HeadStep::More(reader))
+    }
+
+    // Takes one line more, or the beginning of one.
+    fn push(self, alloc: Global, line: &[u8]) -> Result<Pushed, OutOfMemory>
+        requires line { IsLine line.now }
+        requires few { length self + length line.now ≤ most_bytes }
+        ensures { IfOk result (λ pushed. IsPushed (self ++ line.now) pushed) }
+    {
+        let HeadReader {
+            past,
+            mut block,
+            has_line_byte: had_line_byte,
+            seen_bytes,
+        } = self;
+        block.append(line)?;
+        let has_line_byte = had_line_byte || has_line_byte(line);
+        let seen_bytes = seen_bytes + line.len() as u32;
+        if !is_block(block.as_slice(), has_line_byte) {
+            return Ok(Pushed::More(HeadReader {
+                past,
+                block,
+                has_line_byte,
+                seen_bytes,
+            }));
+        }
+        match judge(alloc, block.as_slice())? {
+            Judged::NoHead => Ok(Pushed::Bad),
+            Judged::Final(head) => Ok(Pushed::Final(head)),
+            Judged::Skipped => {
+                let past = Past::with(&past, &block);
+                block.clear();
+                Ok(Pushed::More(HeadReader {
+                    past,
+                    block,
+                    has_line_byte: false,
+                    seen_bytes,
+                }))
+            }
+        }
     }
 }

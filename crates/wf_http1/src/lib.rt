@@ -2,9 +2,12 @@
 // body of an answer, which are fed pieces.
 #![tactic(auto)]
 
+mod block;
 mod body;
 mod framing;
+mod gathered;
 mod head;
+mod past;
 mod request;
 mod seen;
 

@@ -1,0 +1,41 @@
+-- What a reader of heads keeps of the bytes so far, and what it finds in a block.
+use Rattle.std.specs.Prelude.{◌≡◌, ◌==◌, ℕ, ◌≤◌, Bool, false, List, [], ◌∷◌, ◌++◌, ◌+◌, take, length}
+use Rattle.std.specs.List.{list_any}
+use Rattle.httparse.specs.Grammar.{ResponseHead, print_response, status_code}
+use Rattle.wf_text.specs.Trims.{http_whitespace, trimmed}
+use Rattle.wf_headers.specs.declared.headers.Header.{Header}
+use Rattle.wf_headers.specs.Headers.{appended}
+use Rattle.wf_http1.specs.Answers.{most_bytes}
+use Rattle.wf_http1.specs.Blocks.{is_block, is_line_byte}
+use Rattle.wf_http1.specs.Heads.{head_of, is_skipped, IsHead, IsSkippedHead, Skips}
+use Rattle.wf_http1.specs.declared.block.Judged.{Judged}
+use Rattle.wf_http1.specs.declared.block.Judged.TheVariants as judged
+use Rattle.wf_http1.specs.declared.head.HeadReader.TheInside.{Inside}
+
+-- skipped heads are gone, and the block that stands behind them is not at its end
+pub record IsReading (reader : Inside) : Type 0 where
+  pub skips : Skips reader.past.bytes []
+  pub undecided : (n : ℕ) → is_block (take n reader.block) ≡ false
+  pub line_is : reader.has_line_byte ≡ list_any is_line_byte reader.block
+  pub seen_is : reader.seen_bytes ≡ length reader.past.bytes + length reader.block
+  pub short : reader.seen_bytes ≤ most_bytes
+
+-- a line: LF comes at its end, if at all
+pub record IsLine (line : List ℕ) : Type 0 where
+  pub front : List ℕ
+  pub last : ℕ
+  pub whole : line ≡ front ++ last ∷ []
+  pub no_end : list_any (λ byte. byte == 10) front ≡ false
+
+-- header lines after these headers: names, and values as they are
+abbrev pub with_pairs : List Header → List (List ℕ × List ℕ) → List Header
+with_pairs headers [] = headers
+with_pairs headers (pair ∷ pairs) = with_pairs (appended pair.0 pair.1 headers) pairs
+
+-- the block is no head, a skipped one, or a final one
+abbrev pub IsJudged : List ℕ → Judged → Type 0
+IsJudged block judged.NoHead = (printed : ResponseHead) → IsHead printed → ¬ (block ≡ print_response printed)
+IsJudged block judged.Skipped = (printed : ResponseHead) × IsSkippedHead printed × (block ≡ print_response printed)
+IsJudged block (judged.Final head) =
+    (printed : ResponseHead) × IsHead printed × (is_skipped (status_code printed) ≡ false)
+    × (block ≡ print_response printed) × (head ≡ head_of printed)

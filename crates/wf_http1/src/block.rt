@@ -1,0 +1,85 @@
+ghost use Rattle.std.specs.Prelude.{◌≡◌, ◌==◌, ◌||◌, [], length, map, All, IfOk};
+ghost use Rattle.std.specs.List.{list_any};
+ghost use Rattle.httparse.specs.Spans.{header_bytes, IsHeaderWithin};
+ghost use Rattle.wf_http1.specs.Blocks as spec;
+ghost use Rattle.wf_http1.specs.Heads as heads;
+ghost use Rattle.wf_http1.specs.HeadReading.{IsJudged, with_pairs};
+
+use httparse::Status;
+use httparse::spans::{EMPTY_HEADER_SPAN, HeaderSpan, ResponseSpans, parse_response};
+use std::alloc::Global;
+use wf_headers::HeaderList;
+use wf_text::OutOfMemory;
+use wf_types::Head;
+
+/// How many header lines a head has at most.
+const MOST_LINES: usize = 128;
+
+/// What a block is.
+#[derive(Drop)]
+pub(crate) enum Judged {
+    /// No head.
+    NoHead,
+    /// A head that is skipped.
+    Skipped,
+    /// Another head.
+    Final(Head),
+}
+
+/// Whether a byte of a line is among the bytes.
+pub(crate) fn has_line_byte(bytes: &[u8]) -> bool
+    ensures { result ≡ list_any spec.is_line_byte bytes.now }
+{
+    bytes.iter().any(|byte| !(*byte == b'\r' || *byte == b'\n'))
+}
+
+/// Whether the bytes are a block.
+pub(crate) fn is_block(bytes: &[u8], has_line_byte: bool) -> bool
+    requires { has_line_byte ≡ list_any spec.is_line_byte bytes.now }
+    ensures { result ≡ spec.is_block bytes.now }
+{
+    has_line_byte && (bytes.ends_with(b"\n\n") || bytes.ends_with(b"\n\r\n"))
+}
+
+// Whether a head with this status is skipped.
+fn is_skipped(status: u16) -> bool
+    ensures { result ≡ heads.is_skipped status }
+{
+    100 <= status && status <= 199 && status != 101
+}
+
+// The header list of header lines that stand in a block.
+fn headers_of(alloc: Global, block: &[u8], lines: &[HeaderSpan]) -> Result<HeaderList, OutOfMemory>
+    requires { All (IsHeaderWithin (length block.now)) lines.now }
+    ensures { IfOk result (λ headers. headers ≡ with_pairs [] (map (header_bytes block.now) lines.now)) }
+{
+    let mut headers = HeaderList::new(alloc);
+    for line in lines {
+        headers.append(line.name.of(block), line.value.of(block))?;
+    }
+    Ok(headers)
+}
+
+/// What a block is: it is a head where the parser reads one that has just its bytes.
+pub(crate) fn judge(alloc: Global, block: &[u8]) -> Result<Judged, OutOfMemory>
+    ensures { IfOk result (λ judged. IsJudged block.now judged) }
+{
+    let mut lines = [EMPTY_HEADER_SPAN; MOST_LINES];
+    match parse_response(block, &mut lines) {
+        Ok(Status::Complete(head)) => {
+            if head.len != block.len() {
+                Ok(Judged::NoHead)
+            } else if is_skipped(head.code) {
+                Ok(Judged::Skipped)
+            } else {
+                let headers = headers_of(alloc, block, &lines[..head.headers])?;
+                Ok(Judged::Final(Head {
+                    status: head.code,
+                    headers,
+                }))
+            }
+        }
+        Ok(Status::Partial) => Ok(Judged::NoHead),
+        Err(_) => Ok(Judged::NoHead),
+    }
+}
