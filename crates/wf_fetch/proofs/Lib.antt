@@ -1,2 +1,3 @@
+pub mod CodingLemmas
 pub mod Computed
 pub mod MachineLemmas
