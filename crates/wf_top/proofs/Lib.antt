@@ -1,4 +1,4 @@
-pub mod Computed
+
 pub mod RunLemmas
 pub mod PlayLemmas
 pub mod ProgramLemmas

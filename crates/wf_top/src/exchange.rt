@@ -1,6 +1,7 @@
 // What is done over a wire: a request goes out, and the head and the body of its answer come in.
 ghost use Rattle.std.specs.Prelude.{◌≡◌, ◌++◌, ◌<◌, [], length, true, false, IfOk, OnOk, OnErr};
 ghost use Rattle.wf_http1.specs.Bodies.{body_end};
+ghost use Rattle.wf_script.specs.Valid.{IsValid};
 ghost use Rattle.wf_top.specs.Exchanges as spec;
 ghost use Rattle.wf_top.specs.Exchanges.{idle};
 ghost use Rattle.wf_top.specs.Wires.{exchange_of, window_of};
@@ -22,7 +23,7 @@ const RECEIVED: usize = 4_096;
 fn broken_off(end: BodyEnd) -> BodyEnd {
     match end {
         BodyEnd::Cut(count) => BodyEnd::Fault(count),
-        BodyEnd::Whole(bytes) => BodyEnd::Fault(bytes.len() as u32),
+        BodyEnd::Whole(bytes) => BodyEnd::Fault(bytes.len().min(u32::MAX as usize) as u32),
         other => other,
     }
 }
@@ -30,6 +31,7 @@ fn broken_off(end: BodyEnd) -> BodyEnd {
 impl<'a> Wire<'a> {
     /// A wire to the servers of a scenario, with a buffer of 4,096 bytes. Nothing is to come.
     pub(crate) fn new(alloc: Global, scenario: &'a Scenario) -> Result<Wire<'a>, OutOfMemory>
+        requires { IsValid scenario.now }
         ensures { IfOk result (λ wire. exchange_of wire ≡ idle scenario.now.servers) }
     {
         Ok(Wire {

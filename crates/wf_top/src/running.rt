@@ -28,7 +28,7 @@ impl<'a> Running<'a> {
         ensures commands { result.commands ≡ 0 }
         ensures fetches { result.fetches ≡ 0 }
         ensures events { result.events ≡ [] }
-        ensures wire { result.wire ≡ wire }
+        ensures wire { result.wire ≡ wire.now }
     {
         Running {
             commands: 0,

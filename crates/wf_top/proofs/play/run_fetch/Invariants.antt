@@ -5,7 +5,7 @@ use Rattle.wf_top.proofs.play.run_fetch.Given as goal
 -- the fetch stands at this step, and has shown what was added to the events
 abbrev pub invariant-loop-step : goal.invariant-loop-step
 invariant-loop-step l =
-    IsFetching (lent l.setting.client.now l.setting.cookies.now) l.setting.servers.now
+    IsFetching (lent l.setting.client.now l.setting.cookies.now) l.setting.limit
     (main_fetch (lent l.setting.client.now l.setting.cookies.now) l.fn.request) l.fn.running l.running l.step
 
 abbrev pub decreases-loop-step : goal.decreases-loop-step

@@ -1,6 +1,0 @@
-// Scripted servers as a link.
-#![tactic(auto)]
-
-mod sim;
-
-pub use sim::SimLink;
