@@ -1,7 +1,7 @@
-ghost use Rattle.std.specs.Prelude.{◌≡◌, ◌<◌, ◌++◌, [], take, drop, length, Some, Ok, IfOk, OnOk, OnErr, option_map};
+ghost use Rattle.std.specs.Prelude.{◌≡◌, ◌<◌, ◌≤◌, ◌++◌, [], take, drop, length, Some, Ok, IfOk, OnOk, OnErr, option_map};
 ghost use Rattle.std.specs.Io.{ReadsAtMost};
 ghost use Rattle.std.specs.List.{concat};
-ghost use Rattle.wf_link.specs.Counts.{HasCause};
+ghost use Rattle.wf_link.specs.Counts.{HasCause, one_more};
 ghost use Rattle.wf_link.specs.Links.{Asked, MayHaveAsked};
 ghost use Rattle.wf_link.specs.MemoryLink.{LinkState, after_ask, after_receive, answer_to, ask_answer, front, receive_answer, skipped, state_after};
 ghost use Rattle.wf_link.specs.Sources.{Gave, IsAtEnd};
@@ -77,6 +77,15 @@ impl MemoryLink {
     {
         self.faults
     }
+
+    /// A failure, which is counted.
+    fn fail(&mut self) -> Failed
+        ensures counted { self.new ≡ record self.old { faults = one_more self.old.faults } }
+        ensures later { self.old.faults ≤ self.new.faults }
+    {
+        self.faults = self.faults.saturating_add(1);
+        Failed
+    }
 }
 
 impl Link for MemoryLink {
@@ -107,17 +116,15 @@ impl Link for MemoryLink {
         ensures answer { result ≡ ask_answer self.old target.now.origin request.now }
         ensures after { self.new ≡ after_ask self.old target.now.origin request.now result }
     {
+        self.hang_up();
         self.ask_calls = self.ask_calls.saturating_add(1);
         let answer = self.answers.pop_front();
         let kept = self.kept.keep(target.origin.as_slice(), request);
         if self.failing_asks.contains(&self.ask_calls) || !kept {
-            self.pieces.clear();
-            self.faults = self.faults.saturating_add(1);
-            return Err(Failed);
+            return Err(self.fail());
         }
-        match answer {
-            Some(answer) => self.pieces = Pieces::of(answer),
-            None => self.pieces.clear(),
+        if let Some(answer) = answer {
+            self.pieces = Pieces::of(answer);
         }
         Ok(())
     }
@@ -139,8 +146,7 @@ impl Link for MemoryLink {
     {
         self.receive_calls = self.receive_calls.saturating_add(1);
         if self.failing_receives.contains(&self.receive_calls) {
-            self.faults = self.faults.saturating_add(1);
-            return Err(Failed);
+            return Err(self.fail());
         }
         Ok(self.pieces.give(buf))
     }

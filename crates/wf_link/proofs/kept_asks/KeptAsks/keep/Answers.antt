@@ -1,4 +1,4 @@
-use Rattle.std.proofs.Common.{◌≡◌, ◌+◌, ◌≤◌, List, ℕ, arith, refl, ap, length, length-append, ◌∙◌}
+use Rattle.std.proofs.Common.{List, ℕ, arith, ap, length, length-append}
 use Rattle.wf_link.proofs.AskLemmas.{bytes_of-append, keep-asks}
 use Rattle.wf_link.proofs.kept_asks.KeptAsks.keep.Goals as goal
 

@@ -1,4 +1,4 @@
-use Rattle.std.proofs.Common.{arith, ◌<◌, ◌≤◌, length, sym, ◌∙◌}
+use Rattle.std.proofs.Common.{arith, ◌≤◌, length, sym, ◌∙◌}
 use Rattle.wf_link.proofs.PieceLemmas.{front-at, skip-given, skip-left}
 use Rattle.wf_link.proofs.pieces.Pieces.skip.Goals as goal
 
