@@ -1,5 +1,8 @@
 pub mod Counts
+pub mod KeptAsks
 pub mod Links
+pub mod MemoryLink
+pub mod MemoryLinks
 pub mod MemorySink
 pub mod MemorySource
 pub mod Sinks

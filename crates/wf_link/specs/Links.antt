@@ -1,5 +1,5 @@
 -- What a link was asked, and which links were made and taken back, where it is told.
-use Rattle.std.specs.Prelude.{◌≡◌, ◌⊎◌, List, [], ◌∷◌, ◌++◌, Option, Some, None}
+use Rattle.std.specs.Prelude.{◌≡◌, ◌⊎◌, ℕ, ◌+◌, ◌-◌, ◌<◌, List, [], ◌∷◌, ◌++◌, Option, Some, None}
 use Rattle.wf_link.specs.declared.target.Ask.{Ask}
 
 -- the asks grew by this one
@@ -16,7 +16,20 @@ abbrev pub IsTold : {Link : Type 0} → Option Link → Link → Type 0
 IsTold None link = Unit {0}
 IsTold (Some told) link = link ≡ told
 
--- the links taken back grew by this one
-abbrev pub TookBack : {Link : Type 0} → Option (List Link) → Option (List Link) → Link → Type 0
+-- the links taken back, and how many more are out
+pub record Lent (Link : Type 0) : Type 0 where
+  pub back : List Link
+  pub out : ℕ
+
+-- a link more is out
+abbrev pub one_out : {Link : Type 0} → Lent Link → Lent Link
+one_out lent = record lent { out = lent.out + 1 }
+
+-- of those out, this one is back
+abbrev pub one_back : {Link : Type 0} → Lent Link → Link → Lent Link
+one_back lent link = record { back = lent.back ++ link ∷ []; out = lent.out - 1 }
+
+-- a link came back: where one was out, it is this one
+abbrev pub TookBack : {Link : Type 0} → Option (Lent Link) → Option (Lent Link) → Link → Type 0
 TookBack None new link = Unit {0}
-TookBack (Some old) new link = new ≡ Some (old ++ link ∷ [])
+TookBack (Some old) new link = 0 < old.out → new ≡ Some (one_back old link)

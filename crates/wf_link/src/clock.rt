@@ -9,3 +9,31 @@ pub trait Clock {
     fn now(&mut self) -> u64
         ensures told { (time : ℕ) → next self.old ≡ Some time → result ≡ time };
 }
+
+/// A clock that stands, and tells it.
+#[derive(Drop)]
+pub struct FixedClock {
+    now: u64,
+}
+
+impl FixedClock {
+    /// A clock that always answers this number of seconds.
+    pub fn new(now: u64) -> FixedClock
+        ensures { result ≡ record { now = now } }
+    {
+        FixedClock { now }
+    }
+}
+
+impl Clock for FixedClock {
+    ghost next = { λ clock. Some clock.now };
+
+    /// The time at which it stands.
+    fn now(&mut self) -> u64
+        ensures told { (time : ℕ) → Some self.old.now ≡ Some time → result ≡ time }
+        ensures answer { result ≡ self.old.now }
+        ensures after { self.new ≡ self.old }
+    {
+        self.now
+    }
+}

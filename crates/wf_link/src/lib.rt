@@ -2,10 +2,14 @@
 #![tactic(auto)]
 
 mod clock;
+mod kept_asks;
 mod link;
 mod links;
+mod memory_link;
+mod memory_links;
 mod memory_sink;
 mod memory_source;
+mod pieces;
 mod sink;
 mod source;
 mod standard;
@@ -13,9 +17,11 @@ mod target;
 #[cfg(test)]
 mod tests;
 
-pub use clock::Clock;
+pub use clock::{Clock, FixedClock};
 pub use link::Link;
 pub use links::Links;
+pub use memory_link::MemoryLink;
+pub use memory_links::MemoryLinks;
 pub use memory_sink::MemorySink;
 pub use memory_source::MemorySource;
 pub use sink::{Sink, WriteFault, write_whole};

@@ -1,6 +1,6 @@
-ghost use Rattle.std.specs.Prelude.{◌≡◌, ◌+◌, ℕ, List, Option, IfOk, OnErr};
+ghost use Rattle.std.specs.Prelude.{◌≡◌, ◌+◌, ℕ, Option, IfOk, OnErr, option_map};
 ghost use Rattle.wf_link.specs.Counts.{grown_by};
-ghost use Rattle.wf_link.specs.Links.{IsTold, TookBack};
+ghost use Rattle.wf_link.specs.Links.{IsTold, Lent, TookBack, one_out};
 
 use crate::link::Link;
 use crate::target::Routes;
@@ -18,8 +18,8 @@ pub trait Links {
     /// own number.
     ghost opening: { Self → ℕ → Option Self.Link };
 
-    /// The links taken back, as they then stood, in order, where told.
-    ghost taken_back: { Self → Option (List Self.Link) };
+    /// The links taken back, as they then stood, in order, and how many more are out, where told.
+    ghost lent: { Self → Option (Lent Self.Link) };
 
     /// How often the links that it took back had failed.
     ghost faults: { Self → ℕ };
@@ -34,12 +34,13 @@ pub trait Links {
         ensures told { IfOk result (λ link. IsTold (opening self.old 0) link) }
         ensures later { IfOk result (λ _. (k : ℕ) → opening self.new k ≡ opening self.old (k + 1)) }
         ensures refused { OnErr result ((k : ℕ) → opening self.new k ≡ opening self.old k) }
-        ensures taken_back { taken_back self.new ≡ taken_back self.old }
+        ensures lent { IfOk result (λ _. lent self.new ≡ option_map one_out (lent self.old)) }
+        ensures kept { OnErr result (lent self.new ≡ lent self.old) }
         ensures faults { faults self.new ≡ faults self.old };
 
-    /// Takes a link back, and counts its faults.
+    /// Takes a link back that it made, and counts its faults.
     fn take_back(&mut self, link: Self::Link)
-        ensures took { TookBack (taken_back self.old) (taken_back self.new) link }
+        ensures took { TookBack (lent self.old) (lent self.new) link }
         ensures opening { (k : ℕ) → opening self.new k ≡ opening self.old k }
         ensures faults { faults self.new ≡ grown_by (faults self.old) (Self.Link.faults link) };
 }

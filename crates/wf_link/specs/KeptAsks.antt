@@ -1,0 +1,15 @@
+-- How the asks of a link in memory are kept: their bytes one after another, and how many each has.
+use Rattle.std.specs.Prelude.{ℕ, ◌+◌, List, [], ◌∷◌, take, drop}
+use Rattle.wf_link.specs.declared.kept_asks.AskSize.{AskSize}
+use Rattle.wf_link.specs.declared.target.Ask.{Ask}
+
+-- the asks of these sizes, whose bytes stand one after another
+abbrev pub asks_in : List AskSize → List ℕ → List Ask
+asks_in [] text = []
+asks_in (size ∷ sizes) text =
+    record { origin = take size.origin text; request = take size.request (drop size.origin text) } ∷ asks_in sizes (drop size.request (drop size.origin text))
+
+-- how many bytes they have together
+abbrev pub bytes_of : List AskSize → ℕ
+bytes_of [] = 0
+bytes_of (size ∷ sizes) = size.origin + (size.request + bytes_of sizes)

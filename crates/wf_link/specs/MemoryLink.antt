@@ -1,0 +1,98 @@
+-- A link in memory: what its calls answer, and what they leave.
+use Rattle.std.specs.Prelude.{ℕ, Bool, ◌||◌, not, nat_le, ◌+◌, ◌-◌, min, drop, length, List, [], ◌∷◌, ◌++◌, Result, Ok, Err, ⊤, if◌then◌else◌}
+use Rattle.std.specs.List.{concat}
+use Rattle.wf_link.specs.Counts.{is_next_in, one_more}
+use Rattle.wf_link.specs.declared.source.Failed.{Failed}
+use Rattle.wf_link.specs.declared.target.Ask.{Ask}
+
+-- the answers that are not used yet, each as its pieces, what was asked so far, and the bytes of room
+-- for more asks
+pub record LinkState : Type 0 where
+  pub answers : List (List (List ℕ))
+  pub asks : List Ask
+  pub room : ℕ
+
+-- the asks that were kept, and the bytes of room for more
+pub record KeptState : Type 0 where
+  pub asks : List Ask
+  pub room : ℕ
+
+-- its state, the pieces still to come of the current answer, of each kind of call how many there were
+-- and the numbers of those that fail, and how often it failed
+pub record MemoryLinkState : Type 0 where
+  pub state : LinkState
+  pub pieces : List (List ℕ)
+  pub ask_calls : ℕ
+  pub failing_asks : List ℕ
+  pub receive_calls : ℕ
+  pub failing_receives : List ℕ
+  pub faults : ℕ
+
+-- the first of a list of lists, or the empty one
+abbrev pub front : {A : Type 0} → List (List A) → List A
+front [] = []
+front (first ∷ rest) = first
+
+-- the bytes of the answer to any ask are those of the next answer, and none where no answer is left
+abbrev pub answer_to : LinkState → List ℕ → List ℕ → List ℕ
+answer_to state origin request = concat (front state.answers)
+
+-- an ask needs as much room as its origin and its request have bytes, and one byte more
+abbrev pub needed_room : Ask → ℕ
+needed_room ask = length ask.origin + length ask.request + 1
+
+-- whether there is as much room as an ask needs
+abbrev pub finds_room : ℕ → Ask → Bool
+finds_room room ask = nat_le (needed_room ask) room
+
+-- an ask is kept where it finds its room
+abbrev pub asks_after : ℕ → List Ask → Ask → List Ask
+asks_after room asks ask = if finds_room room ask then asks ++ ask ∷ [] else asks
+
+-- and then it uses that room
+abbrev pub room_after : ℕ → Ask → ℕ
+room_after room ask = if finds_room room ask then room - needed_room ask else room
+
+-- the state behind an ask, which uses up an answer
+abbrev pub state_after : LinkState → List ℕ → List ℕ → LinkState
+state_after state origin request =
+    let ask : Ask = record { origin = origin; request = request } in
+    record { answers = drop 1 state.answers; asks = asks_after state.room state.asks ask; room = room_after state.room ask }
+
+-- an ask fails as its number says, and where it does not find its room
+abbrev pub fails_ask : MemoryLinkState → Ask → Bool
+fails_ask link ask = is_next_in link.failing_asks link.ask_calls || not (finds_room link.state.room ask)
+
+abbrev pub ask_answer : MemoryLinkState → List ℕ → List ℕ → Result ⊤ Failed
+ask_answer link origin request =
+    if fails_ask link (record { origin = origin; request = request }) then Err (record {}) else Ok tt
+
+-- what an ask with this answer leaves: the pieces of the next answer are to come, or none after a failure
+abbrev pub after_ask : MemoryLinkState → List ℕ → List ℕ → Result ⊤ Failed → MemoryLinkState
+after_ask link origin request (Ok done) =
+    record link { state = state_after link.state origin request; pieces = front link.state.answers; ask_calls = one_more link.ask_calls }
+after_ask link origin request (Err failed) =
+    record link { state = state_after link.state origin request; pieces = []; ask_calls = one_more link.ask_calls; faults = one_more link.faults }
+
+-- the pieces from the first on that is not empty
+abbrev pub skipped : List (List ℕ) → List (List ℕ)
+skipped [] = []
+skipped ([] ∷ pieces) = skipped pieces
+skipped ((byte ∷ piece) ∷ pieces) = (byte ∷ piece) ∷ pieces
+
+-- the pieces behind so many bytes of the first
+abbrev pub behind : ℕ → List (List ℕ) → List (List ℕ)
+behind n [] = []
+behind n (piece ∷ pieces) = drop n piece ∷ pieces
+
+-- a receive into a buffer of so many bytes fails as its number says, or gives what fits of the first
+-- piece that is not empty
+abbrev pub receive_answer : MemoryLinkState → ℕ → Result ℕ Failed
+receive_answer link room =
+    if is_next_in link.failing_receives link.receive_calls then Err (record {})
+    else Ok (min (length (front (skipped link.pieces))) room)
+
+-- what a receive with this answer leaves
+abbrev pub after_receive : MemoryLinkState → Result ℕ Failed → MemoryLinkState
+after_receive link (Ok n) = record link { pieces = behind n (skipped link.pieces); receive_calls = one_more link.receive_calls }
+after_receive link (Err failed) = record link { receive_calls = one_more link.receive_calls; faults = one_more link.faults }

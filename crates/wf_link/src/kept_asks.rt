@@ -1,0 +1,94 @@
+ghost use Rattle.std.specs.Prelude.{◌≡◌, [], length, IfOk};
+ghost use Rattle.wf_link.specs.MemoryLink.{KeptState, asks_after, finds_room, room_after};
+
+use crate::target::Ask;
+use std::alloc::Global;
+use std::marker::Model;
+use wf_text::{Bytes, Items, OutOfMemory};
+
+/// How many bytes of each part of an ask were kept.
+#[derive(Clone, Copy)]
+pub struct AskSize {
+    origin: usize,
+    request: usize,
+}
+
+/// The asks that were kept, and the bytes of room left for more. Each takes its bytes and one more,
+/// so there are at most as many as there were bytes of room, and none needs more memory.
+#[derive(Drop)]
+pub struct KeptAsks {
+    text: Vec<u8>,
+    sizes: Vec<AskSize>,
+    room: usize,
+}
+
+impl Model for KeptAsks {
+    ghost use Rattle.std.specs.Prelude.{◌≡◌, ◌+◌, ◌≤◌, length, vec_capacity, vec_len};
+    ghost use Rattle.wf_link.specs.MemoryLink.{KeptState};
+
+    ghost Value = { KeptState };
+
+    ghost use Rattle.wf_link.specs.KeptAsks.{asks_in, bytes_of};
+
+    ghost view = { λ kept. record { asks = asks_in kept.sizes.items kept.text.items; room = kept.room } };
+
+    ghost invariant = { λ kept. (vec_len kept.text + kept.room ≤ vec_capacity kept.text) × (vec_len kept.sizes + kept.room ≤ vec_capacity kept.sizes) × (bytes_of kept.sizes.items ≡ length kept.text.items) };
+}
+
+impl KeptAsks {
+    /// No ask, and so many bytes of room, which are reserved here, or `OutOfMemory`.
+    pub fn new(alloc: Global, room: usize) -> Result<KeptAsks, OutOfMemory>
+        ensures { IfOk result (λ kept. kept ≡ record { asks = []; room = room }) }
+    {
+        Ok(KeptAsks {
+            text: Vec::with_capacity(alloc, room)?,
+            sizes: Vec::with_capacity(alloc, room)?,
+            room,
+        })
+    }
+
+    /// Keeps an ask where it finds its room, and answers whether it did.
+    pub fn keep(&mut self, origin: &[u8], request: &[u8]) -> bool
+        ensures kept { result ≡ finds_room self.old.room (record { origin = origin.now; request = request.now }) }
+        ensures asks { self.new.asks ≡ asks_after self.old.room self.old.asks (record { origin = origin.now; request = request.now }) }
+        ensures room { self.new.room ≡ room_after self.old.room (record { origin = origin.now; request = request.now }) }
+    {
+        let needed = origin.len() + request.len() + 1;
+        if self.room < needed {
+            return false;
+        }
+        let size = AskSize {
+            origin: origin.len(),
+            request: request.len(),
+        };
+        match (
+            self.text.extend_from_slice(origin),
+            self.text.extend_from_slice(request),
+            self.sizes.push(size),
+        ) {
+            (Ok(()), Ok(()), Ok(())) => {
+                self.room -= needed;
+                true
+            }
+            _ => unreachable!("the room was reserved"),
+        }
+    }
+
+    /// Copies of the asks.
+    pub fn copies(&self, alloc: Global) -> Result<Items<Ask>, OutOfMemory>
+        ensures { IfOk result (λ asks. asks ≡ self.now.asks) }
+    {
+        let mut asks = Items::new(alloc);
+        let mut rest = self.text.as_slice();
+        for size in self.sizes.as_slice() {
+            let (origin, behind) = rest.split_at(size.origin);
+            let (request, behind) = behind.split_at(size.request);
+            asks.push(Ask {
+                origin: Bytes::of(alloc, origin)?,
+                request: Bytes::of(alloc, request)?,
+            })?;
+            rest = behind;
+        }
+        Ok(asks)
+    }
+}
