@@ -27,10 +27,10 @@ line_text : (test : ℕ → Bool) → test 13 ≡ false → test 10 ≡ false �
 line_text test cr newline [] each = tt
 line_text test cr newline (byte ∷ text) each = (line_from test cr newline byte each.0, line_text test cr newline text each.1)
 
-line_text-all : (test : ℕ → Bool) → test 13 ≡ false → test 10 ≡ false → (text : List ℕ) → AllPass test text → IsLineText text
+pub line_text-all : (test : ℕ → Bool) → test 13 ≡ false → test 10 ≡ false → (text : List ℕ) → AllPass test text → IsLineText text
 line_text-all test cr newline text all = line_text test cr newline text (recursion_from_All (λ byte. IsTrue (test byte)) text all)
 
-line_text-append : (text more : List ℕ) → IsLineText text → IsLineText more → IsLineText (text ++ more)
+pub line_text-append : (text more : List ℕ) → IsLineText text → IsLineText more → IsLineText (text ++ more)
 line_text-append [] more each rest = rest
 line_text-append (byte ∷ text) more each rest = (each.0, line_text-append text more each.1 rest)
 
@@ -49,7 +49,7 @@ blank-none [] = refl
 blank-none (crlf ∷ ends) = blank-none ends
 blank-none (lf ∷ ends) = blank-none ends
 
-or-false : (a b : Bool) → (a || b) ≡ false → (a ≡ false) × (b ≡ false)
+pub or-false : (a b : Bool) → (a || b) ≡ false → (a ≡ false) × (b ≡ false)
 or-false true b none = absurd (true≢false none)
 or-false false b none = (refl, none)
 
