@@ -10,7 +10,7 @@ use Rattle.std.proofs.lemmas.List.Sums.{fails_before_first}
 use Rattle.std.specs.List.{flat_map, list_any, position, position_or_len}
 use Rattle.httparse.specs.Grammar.{print_response, ResponseHead}
 use Rattle.wf_types.specs.declared.hop.Head.{Head}
-use Rattle.wf_http1.specs.Answers.{Decides, IsDecidedAt, IsTooLong, IsUndecided, IsUnfinished, most_bytes}
+use Rattle.wf_http1.specs.Answers.{Decides, HasBadBlock, IsDecidedAt, IsFinal, IsTooLong, IsUndecided, IsUnfinished, most_bytes}
 use Rattle.wf_http1.specs.Blocks.{is_block, is_line_byte, IsShortestBlock}
 use Rattle.wf_http1.specs.HeadReading.{IsJudged, IsLine, IsReading}
 use Rattle.wf_http1.specs.declared.head.HeadReader.TheInside.{Inside}
@@ -254,3 +254,38 @@ long-line bytes line rest room none is full less =
       long = omega (arith, full, less, length-append (bytes ++ line) rest, length-append bytes line);
       undecided = subst IsUndecided (sym most) (undecided-more bytes (take room is.front) none (take-free room is.front is.no_end));
     }
+
+-- ---- a piece, of which a line comes next
+
+module _ (bytes piece reader rest line behind : List ℕ) (whole : bytes ++ piece ≡ reader ++ rest) (cut : rest ≡ line ++ behind) where
+  fed-whole : bytes ++ piece ≡ (reader ++ line) ++ behind
+  fed-whole = whole ∙ ap (λ (l : List ℕ). reader ++ l) cut ∙ sym (append_assoc reader line behind)
+
+  pub fed-long : (room : ℕ) → IsUndecided reader → IsLine line → room + length reader ≡ most_bytes → room < length line → IsTooLong (bytes ++ piece)
+  fed-long room none is full less = subst IsTooLong (sym fed-whole) (long-line reader line behind room none is full less)
+
+  fed-end : length behind ≤ length piece → length (reader ++ line) ≡ length bytes + (length piece - length behind)
+  fed-end within = omega (arith, within, ap length fed-whole, length-append bytes piece, length-append (reader ++ line) behind)
+
+  fed-decided : (room : ℕ) → IsUndecided reader → IsLine line → room + length reader ≡ most_bytes → length line ≤ room → length behind ≤ length piece → Decides (reader ++ line) → IsDecidedAt (bytes ++ piece) (length bytes + (length piece - length behind))
+  fed-decided room none is full few within decides =
+      subst (λ (n : ℕ). IsDecidedAt (bytes ++ piece) n) (fed-end within)
+      (subst (λ (l : List ℕ). IsDecidedAt l (length (reader ++ line))) (sym fed-whole) (decided-line reader line behind none is (omega (arith, full, few)) decides))
+
+  fed-front : length behind ≤ length piece → take (length bytes + (length piece - length behind)) (bytes ++ piece) ≡ reader ++ line
+  fed-front within = ap (λ (l : List ℕ). take (length bytes + (length piece - length behind)) l) fed-whole ∙ take_at (reader ++ line) behind (length bytes + (length piece - length behind)) (fed-end within)
+
+  pub fed-final : (room : ℕ) (head : Head) → IsUndecided reader → IsLine line → room + length reader ≡ most_bytes → length line ≤ room → length behind ≤ length piece → EndsFinal (reader ++ line) head → IsFinal (bytes ++ piece) head (length bytes + (length piece - length behind))
+  fed-final room head none is full few within ends = record {
+    decided = fed-decided room none is full few within (inl (head, ends));
+    final = subst (λ (l : List ℕ). EndsFinal l head) (sym (fed-front within)) ends;
+  }
+
+  pub fed-bad : (room : ℕ) → IsUndecided reader → IsLine line → room + length reader ≡ most_bytes → length line ≤ room → length behind ≤ length piece → EndsBlock (reader ++ line) × ((head : Head) → ¬ (EndsFinal (reader ++ line) head)) → HasBadBlock (bytes ++ piece)
+  fed-bad room none is full few within bad = (
+    length bytes + (length piece - length behind),
+    record {
+      decided = fed-decided room none is full few within (inr bad.0);
+      no_head = λ head. subst (λ (l : List ℕ). ¬ (EndsFinal l head)) (sym (fed-front within)) (bad.1 head);
+    },
+  )

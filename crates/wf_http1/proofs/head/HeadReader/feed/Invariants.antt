@@ -1,4 +1,4 @@
-use Rattle.std.proofs.Common.{◌≡◌, ◌+◌, ◌++◌, ℕ, length}
+use Rattle.std.proofs.Common.{◌≡◌, ◌≤◌, ◌+◌, ◌++◌, length}
 use Rattle.wf_http1.specs.Answers.{IsUnfinished, most_bytes}
 use Rattle.wf_http1.proofs.head.HeadReader.feed.Given as goal
 
@@ -7,6 +7,7 @@ invariant-loop-rest l = record {
   whole : l.fn.self ++ l.piece ≡ l.reader ++ l.rest;
   room_is : l.room + length l.reader ≡ most_bytes;
   unfinished : IsUnfinished l.reader;
+  within : length l.rest ≤ length l.piece;
 }
 
 abbrev pub decreases-loop-rest : goal.decreases-loop-rest
