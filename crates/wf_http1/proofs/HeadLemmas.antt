@@ -112,9 +112,31 @@ reason-line None all = tt
 reason-line (Some phrase) all = (refl, line_text-all is_value_byte refl refl phrase all)
 
 status-line : (head : ResponseHead) → IsResponseHead head → IsLineText (status_rest head)
-status-line head is =
-    (refl, (refl, (refl, (refl, (refl, (refl, (minor-line head.minor is.minor, (refl,
-      line_text-append head.digits (print_reason head.reason) (line_text-all is_ascii_digit refl refl head.digits is.digits.1) (reason-line head.reason is.reason)))))))))
+status-line head is = (
+  refl,
+  (
+    refl,
+    (
+      refl,
+      (
+        refl,
+        (
+          refl,
+          (
+            refl,
+            (
+              minor-line head.minor is.minor,
+              (
+                refl,
+                line_text-append head.digits (print_reason head.reason) (line_text-all is_ascii_digit refl refl head.digits is.digits.1) (reason-line head.reason is.reason),
+              ),
+            ),
+          ),
+        ),
+      ),
+    ),
+  ),
+)
 
 regroup : (digits reason end fields last : List ℕ) → digits ++ (reason ++ (end ++ ((fields ++ last) ++ []))) ≡ ((digits ++ reason) ++ end) ++ (fields ++ last)
 regroup digits reason end fields last = simp (append_assoc, append-nil)

@@ -1,5 +1,5 @@
 -- What a line does to the block that a reader of heads keeps, and to the bytes so far.
-use Rattle.std.proofs.Common.{◌≡◌, ◌==◌, ◌||◌, ◌≤◌, ◌<◌, ◌+◌, ◌-◌, ◌⊎◌, inl, inr, ℕ, zero, suc, Bool, true, false, true≢false, List, [], ◌∷◌, ◌++◌, length, take, drop, get_or, reverse, refl, ap, sym, ◌∙◌, subst, arith, append_assoc, length-append, length-take, Option, Some, None}
+use Rattle.std.proofs.Common.{◌≡◌, ◌==◌, ◌||◌, ◌≤◌, ◌<◌, ◌+◌, ◌-◌, ◌⊎◌, inl, inr, ℕ, zero, suc, Bool, true, false, List, [], ◌∷◌, ◌++◌, length, take, drop, get_or, reverse, refl, ap, sym, ◌∙◌, subst, arith, append_assoc, length-append, length-take, Some, None}
 use Rattle.std.proofs.lemmas.Bool.{cases_lt, eqb-false, lt-ltb}
 use Rattle.std.proofs.lemmas.List.{append-nil, reverse-append, reverse-reverse, same_from_push, take-append-drop, take-append-le, take_all, take_at, take_more}
 use Rattle.std.proofs.lemmas.Grind.{flat_map-append}
@@ -83,7 +83,7 @@ line-open block line quiet is none =
     let front = front-quiet block line quiet is in
     subst (λ (l : List ℕ). IsQuiet [] l) (sym parts)
     (quiet-append [] (block ++ is.front) (is.last ∷ []) front
-      (quiet-cons (block ++ is.front) is.last [] (quiet-end [] (block ++ is.front) front) (quiet-nil ((block ++ is.front) ++ is.last ∷ []) (ap is_block (sym parts) ∙ none))))
+    (quiet-cons (block ++ is.front) is.last [] (quiet-end [] (block ++ is.front) front) (quiet-nil ((block ++ is.front) ++ is.last ∷ []) (ap is_block (sym parts) ∙ none))))
 
 pub line-shortest : (block line : List ℕ) → IsQuiet [] block → IsLine line → is_block (block ++ line) ≡ true → IsShortestBlock (block ++ line)
 line-shortest block line quiet is whole = record {
@@ -102,6 +102,7 @@ block-lf text block = by_cases (block-ends text block).1
   where
     last : (rest : List ℕ) → reverse text ≡ 10 ∷ rest → (front : List ℕ) × (text ≡ front ++ 10 ∷ [])
     last rest same = (reverse rest, sym (reverse-reverse text) ∙ ap (λ (l : List ℕ). reverse l) same ∙ reverse-append (10 ∷ []) rest)
+
     by_cases : {rest : List ℕ} → (reverse text ≡ 10 ∷ 10 ∷ rest) ⊎ (reverse text ≡ 10 ∷ 13 ∷ 10 ∷ rest) → (front : List ℕ) × (text ≡ front ++ 10 ∷ [])
     by_cases {rest} (inl h) = last (10 ∷ rest) h
     by_cases {rest} (inr h) = last (13 ∷ 10 ∷ rest) h
@@ -227,7 +228,7 @@ decided-line bytes line rest none is few decides = record {
       let parts = line-parts bytes line is in
       subst (λ (l : List ℕ). ¬ (Decides l))
       (sym (take-append-le n (bytes ++ line) rest (omega (arith, before)) ∙ ap (λ (l : List ℕ). take n l) parts
-        ∙ take-append-le n (bytes ++ is.front) (is.last ∷ []) (omega (arith, before, ap length parts, length-append (bytes ++ is.front) (is.last ∷ [])))))
+      ∙ take-append-le n (bytes ++ is.front) (is.last ∷ []) (omega (arith, before, ap length parts, length-append (bytes ++ is.front) (is.last ∷ [])))))
       (undecided-more bytes is.front none is.no_end n);
 }
 
@@ -245,11 +246,11 @@ long-line bytes line rest room none is full less =
     let long : length (bytes ++ line) ≡ length (bytes ++ is.front) + 1 = ap length parts ∙ length-append (bytes ++ is.front) (is.last ∷ []) in
     let within : room ≤ length is.front = omega (arith, long, less, length-append bytes line, length-append bytes is.front) in
     let front : (bytes ++ take room is.front) ++ (drop room is.front ++ (is.last ∷ rest)) ≡ (bytes ++ line) ++ rest =
-        append_assoc bytes (take room is.front) (drop room is.front ++ (is.last ∷ rest))
-        ∙ ap (λ (l : List ℕ). bytes ++ l) (sym (append_assoc (take room is.front) (drop room is.front) (is.last ∷ rest)) ∙ ap (λ (l : List ℕ). l ++ (is.last ∷ rest)) (take-append-drop room is.front))
-        ∙ sym (append_assoc bytes is.front (is.last ∷ rest)) ∙ sym (append_assoc (bytes ++ is.front) (is.last ∷ []) rest) ∙ ap (λ (l : List ℕ). l ++ rest) (sym parts) in
+    append_assoc bytes (take room is.front) (drop room is.front ++ (is.last ∷ rest))
+    ∙ ap (λ (l : List ℕ). bytes ++ l) (sym (append_assoc (take room is.front) (drop room is.front) (is.last ∷ rest)) ∙ ap (λ (l : List ℕ). l ++ (is.last ∷ rest)) (take-append-drop room is.front))
+    ∙ sym (append_assoc bytes is.front (is.last ∷ rest)) ∙ sym (append_assoc (bytes ++ is.front) (is.last ∷ []) rest) ∙ ap (λ (l : List ℕ). l ++ rest) (sym parts) in
     let most : take most_bytes ((bytes ++ line) ++ rest) ≡ bytes ++ take room is.front =
-        ap (λ (l : List ℕ). take most_bytes l) (sym front) ∙ take_at (bytes ++ take room is.front) (drop room is.front ++ (is.last ∷ rest)) most_bytes (omega (arith, full, within, length-append bytes (take room is.front), length-take room is.front)) in
+    ap (λ (l : List ℕ). take most_bytes l) (sym front) ∙ take_at (bytes ++ take room is.front) (drop room is.front ++ (is.last ∷ rest)) most_bytes (omega (arith, full, within, length-append bytes (take room is.front), length-take room is.front)) in
     record {
       long = omega (arith, full, less, length-append (bytes ++ line) rest, length-append bytes line);
       undecided = subst IsUndecided (sym most) (undecided-more bytes (take room is.front) none (take-free room is.front is.no_end));

@@ -1,10 +1,10 @@
 -- Values of header lines are normalised, and the parser's spans make the header list.
-use Rattle.std.proofs.Common.{◌≡◌, ◌==◌, ◌||◌, ◌≤◌, ◌⊎◌, inl, inr, ℕ, Bool, true, false, true≢false, List, [], ◌∷◌, ◌++◌, length, take, drop, map, reverse, refl, ap, sym, ◌∙◌, subst, arith, length-append, length-take, Result, if◌then◌else◌}
+use Rattle.std.proofs.Common.{◌≡◌, ◌==◌, ℕ, Bool, true, false, true≢false, List, [], ◌∷◌, ◌++◌, length, take, map, reverse, refl, ap, sym, ◌∙◌, subst, arith, length-take, Result, if◌then◌else◌}
 use Rattle.std.proofs.lemmas.Bool.{eq-eqb, eqb-true, ne_eqb}
 use Rattle.std.proofs.lemmas.List.{append-nil, drop_all, length-map, reverse-append}
 use Rattle.std.proofs.lemmas.List.Elements.{recursion_from_All}
 use Rattle.std.specs.List.{AllByRecursion, list_any}
-use Rattle.httparse.specs.Grammar.{Field, field_value, IsField, is_ows, is_value_byte, print_response, ResponseHead, skip_ows, trim_ows}
+use Rattle.httparse.specs.Grammar.{Field, IsField, is_ows, is_value_byte, print_response, ResponseHead, skip_ows, trim_ows}
 use Rattle.httparse.specs.Spans.{FindsResponse, header_bytes, IsResponseAt, name_and_value}
 use Rattle.httparse.specs.Outcome.{IsCompleteAnd}
 use Rattle.httparse.specs.declared.Error.{Error}
@@ -28,6 +28,7 @@ blank-is byte line = by_values (byte == 9) (byte == 10) (byte == 13) (byte == 32
   where
     other : (blank : ℕ) → (byte == blank) ≡ false → (blank == byte) ≡ false
     other blank no_match = ne_eqb blank byte (λ same. true≢false (sym (eq-eqb byte blank (sym same)) ∙ no_match))
+
     by_values : (a b d e : Bool) → (byte == 9) ≡ a → (byte == 10) ≡ b → (byte == 13) ≡ d → (byte == 32) ≡ e → list_any (λ blank. blank == byte) http_whitespace ≡ is_ows byte
     by_values true b d e p q r s = ap (λ (n : ℕ). list_any (λ blank. blank == n) http_whitespace) (eqb-true byte 9 p) ∙ sym (ap is_ows (eqb-true byte 9 p))
     by_values false true d e p q r s = absurd (true≢false (sym line ∙ ap is_line_byte (eqb-true byte 10 q)))

@@ -4,6 +4,7 @@ pub mod Answers
 pub mod HeadReading
 pub mod HeadPushing
 pub mod HeadFeeding
+pub mod HeadLaws
 pub mod Framings
 pub mod Chunks
 pub mod Bodies

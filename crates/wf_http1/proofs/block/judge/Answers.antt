@@ -1,4 +1,4 @@
-use Rattle.std.proofs.Common.{◌≡◌, [], arith, ap, length, sym, ◌∙◌, Ok, Err}
+use Rattle.std.proofs.Common.{◌≡◌, [], arith, ap, length, sym, ◌∙◌, Ok}
 use Rattle.httparse.specs.declared.Status.TheVariants.{Complete, Partial}
 use Rattle.wf_http1.specs.Heads.{is_skipped, with_lines}
 use Rattle.wf_http1.proofs.ValueLemmas.{found-whole, spans-block, spans-few, spans-lines}
@@ -32,8 +32,8 @@ returns-in_ok-headers-in-Ok-Complete c =
       ap is_skipped (sym of.1.code) ∙ sym c.if-is_skipped.ensures,
       spans-block c.args.block.now c.parse_response.new.headers c.in-Ok-Complete.head of.0 of.1 c.if-head-block.false,
       (
-        let lines : c.in_ok-headers-in-Ok-Complete.headers ≡ with_lines [] of.0.fields =
-            c.in_ok-headers-in-Ok-Complete.ensures ∙ spans-lines c.args.block.now c.parse_response.new.headers c.in-Ok-Complete.head of.0 of.1 in
-        λ i. record { status = of.1.code i; headers = lines i }
-      ),
+          let lines : c.in_ok-headers-in-Ok-Complete.headers ≡ with_lines [] of.0.fields =
+          c.in_ok-headers-in-Ok-Complete.ensures ∙ spans-lines c.args.block.now c.parse_response.new.headers c.in-Ok-Complete.head of.0 of.1 in
+          λ i. record { status = of.1.code i; headers = lines i }
+          ),
     )

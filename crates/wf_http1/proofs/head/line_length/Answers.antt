@@ -1,4 +1,3 @@
-use Rattle.std.proofs.Common.{◌∙◌, sym}
 use Rattle.wf_http1.proofs.ReaderLemmas.{line-to-end, line-whole}
 use Rattle.wf_http1.proofs.head.line_length.Goals as goal
 
