@@ -25,10 +25,13 @@ final-more bytes more head n is = record {
 
 -- so does a block that is no head
 pub bad-more : (bytes more : List ℕ) → HasBadBlock bytes → HasBadBlock (bytes ++ more)
-bad-more bytes more bad = (bad.0, record {
-  decided = decided-more bytes more bad.0 bad.1.decided;
-  no_head = λ head. subst (λ (l : List ℕ). ¬ (EndsFinal l head)) (sym (take-append-le bad.0 bytes more bad.1.decided.within)) (bad.1.no_head head);
-})
+bad-more bytes more bad = (
+  bad.0,
+  record {
+    decided = decided-more bytes more bad.0 bad.1.decided;
+    no_head = λ head. subst (λ (l : List ℕ). ¬ (EndsFinal l head)) (sym (take-append-le bad.0 bytes more bad.1.decided.within)) (bad.1.no_head head);
+  },
+)
 
 -- and what is too long
 pub long-more : (bytes more : List ℕ) → IsTooLong bytes → IsTooLong (bytes ++ more)

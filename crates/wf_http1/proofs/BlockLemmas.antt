@@ -91,7 +91,7 @@ quiet-append before [] more quiet next = subst (λ (l : List ℕ). IsQuiet l mor
 quiet-append before (byte ∷ text) more quiet next =
     quiet-cons before byte (text ++ more) (ap is_block (sym (append-nil before)) ∙ quiet 0)
     (quiet-append (before ++ byte ∷ []) text more (λ n. ap is_block (append_assoc before (byte ∷ []) (take n text)) ∙ quiet (suc n))
-      (subst (λ (l : List ℕ). IsQuiet l more) (sym (append_assoc before (byte ∷ []) text)) next))
+    (subst (λ (l : List ℕ). IsQuiet l more) (sym (append_assoc before (byte ∷ []) text)) next))
 
 -- at its end no block ends either
 pub quiet-end : (before text : List ℕ) → IsQuiet before text → is_block (before ++ text) ≡ false

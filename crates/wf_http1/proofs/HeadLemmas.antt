@@ -27,10 +27,10 @@ line_text : (test : ℕ → Bool) → test 13 ≡ false → test 10 ≡ false �
 line_text test cr newline [] each = tt
 line_text test cr newline (byte ∷ text) each = (line_from test cr newline byte each.0, line_text test cr newline text each.1)
 
-line_text-all : (test : ℕ → Bool) → test 13 ≡ false → test 10 ≡ false → (text : List ℕ) → AllPass test text → IsLineText text
+pub line_text-all : (test : ℕ → Bool) → test 13 ≡ false → test 10 ≡ false → (text : List ℕ) → AllPass test text → IsLineText text
 line_text-all test cr newline text all = line_text test cr newline text (recursion_from_All (λ byte. IsTrue (test byte)) text all)
 
-line_text-append : (text more : List ℕ) → IsLineText text → IsLineText more → IsLineText (text ++ more)
+pub line_text-append : (text more : List ℕ) → IsLineText text → IsLineText more → IsLineText (text ++ more)
 line_text-append [] more each rest = rest
 line_text-append (byte ∷ text) more each rest = (each.0, line_text-append text more each.1 rest)
 
@@ -49,7 +49,7 @@ blank-none [] = refl
 blank-none (crlf ∷ ends) = blank-none ends
 blank-none (lf ∷ ends) = blank-none ends
 
-or-false : (a b : Bool) → (a || b) ≡ false → (a ≡ false) × (b ≡ false)
+pub or-false : (a b : Bool) → (a || b) ≡ false → (a ≡ false) × (b ≡ false)
 or-false true b none = absurd (true≢false none)
 or-false false b none = (refl, none)
 
@@ -112,9 +112,31 @@ reason-line None all = tt
 reason-line (Some phrase) all = (refl, line_text-all is_value_byte refl refl phrase all)
 
 status-line : (head : ResponseHead) → IsResponseHead head → IsLineText (status_rest head)
-status-line head is =
-    (refl, (refl, (refl, (refl, (refl, (refl, (minor-line head.minor is.minor, (refl,
-      line_text-append head.digits (print_reason head.reason) (line_text-all is_ascii_digit refl refl head.digits is.digits.1) (reason-line head.reason is.reason)))))))))
+status-line head is = (
+  refl,
+  (
+    refl,
+    (
+      refl,
+      (
+        refl,
+        (
+          refl,
+          (
+            refl,
+            (
+              minor-line head.minor is.minor,
+              (
+                refl,
+                line_text-append head.digits (print_reason head.reason) (line_text-all is_ascii_digit refl refl head.digits is.digits.1) (reason-line head.reason is.reason),
+              ),
+            ),
+          ),
+        ),
+      ),
+    ),
+  ),
+)
 
 regroup : (digits reason end fields last : List ℕ) → digits ++ (reason ++ (end ++ ((fields ++ last) ++ []))) ≡ ((digits ++ reason) ++ end) ++ (fields ++ last)
 regroup digits reason end fields last = simp (append_assoc, append-nil)

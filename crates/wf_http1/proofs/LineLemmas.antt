@@ -45,7 +45,7 @@ end-quiet before byte lf line =
 end-quiet before byte crlf line =
     quiet-cons (before ++ byte ∷ []) 13 (10 ∷ []) (no-block-line before byte line)
     (quiet-cons ((before ++ byte ∷ []) ++ 13 ∷ []) 10 [] (no-block-push (before ++ byte ∷ []) 13 (differs 13 refl))
-      (quiet-nil (((before ++ byte ∷ []) ++ 13 ∷ []) ++ 10 ∷ []) (no-block-crlf before byte line)))
+    (quiet-nil (((before ++ byte ∷ []) ++ 13 ∷ []) ++ 10 ∷ []) (no-block-crlf before byte line)))
 
 -- ---- a line
 

@@ -67,6 +67,7 @@ undecided bytes part skips quiet n (inl (head, ends)) = by_meeting (skips-meet b
   where
     all : Skips bytes (print_response ends.printed ++ drop n bytes)
     all = subst (λ (l : List ℕ). Skips l (print_response ends.printed ++ drop n bytes)) (take-append-drop n bytes) (skips-more (take n bytes) (print_response ends.printed) (drop n bytes) ends.skips)
+
     by_meeting : (part ≡ print_response ends.printed ++ drop n bytes) ⊎ (BeginsSkipped part ⊎ BeginsSkipped (print_response ends.printed ++ drop n bytes)) → ⊥
     by_meeting (inl same) = block-front part (print_response ends.printed) (drop n bytes) quiet same (head-shortest ends.printed ends.valid.head).block
     by_meeting (inr (inl begins)) = begins-block part quiet begins
@@ -75,6 +76,7 @@ undecided bytes part skips quiet n (inr ends) = by_meeting (skips-meet bytes par
   where
     all : Skips bytes (ends.block ++ drop n bytes)
     all = subst (λ (l : List ℕ). Skips l (ends.block ++ drop n bytes)) (take-append-drop n bytes) (skips-more (take n bytes) ends.block (drop n bytes) ends.skips)
+
     by_meeting : (part ≡ ends.block ++ drop n bytes) ⊎ (BeginsSkipped part ⊎ BeginsSkipped (ends.block ++ drop n bytes)) → ⊥
     by_meeting (inl same) = block-front part ends.block (drop n bytes) quiet same ends.shortest.block
     by_meeting (inr (inl begins)) = begins-block part quiet begins

@@ -1,8 +1,7 @@
 -- What a reader of heads keeps of the bytes so far, and what it finds in a block.
-use Rattle.std.specs.Prelude.{◌≡◌, ◌==◌, ℕ, ◌≤◌, Bool, false, List, [], ◌∷◌, ◌++◌, ◌+◌, take, length}
+use Rattle.std.specs.Prelude.{◌≡◌, ◌==◌, ℕ, ◌≤◌, false, List, [], ◌∷◌, ◌++◌, ◌+◌, take, length}
 use Rattle.std.specs.List.{list_any}
 use Rattle.httparse.specs.Grammar.{ResponseHead, print_response, status_code}
-use Rattle.wf_text.specs.Trims.{http_whitespace, trimmed}
 use Rattle.wf_headers.specs.declared.headers.Header.{Header}
 use Rattle.wf_headers.specs.Headers.{appended}
 use Rattle.wf_http1.specs.Answers.{most_bytes}

@@ -5,6 +5,7 @@ pub mod HeadReading
 pub mod HeadPushing
 pub mod HeadFeeding
 pub mod Lengths
+pub mod HeadLaws
 pub mod Framings
 pub mod Chunks
 pub mod Bodies

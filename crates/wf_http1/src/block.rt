@@ -26,11 +26,18 @@ pub(crate) enum Judged {
     Final(Head),
 }
 
-/// Whether a byte of a line is among the bytes.
-pub(crate) fn has_line_byte(bytes: &[u8]) -> bool
+// Whether a byte of a line is among the bytes.
+fn has_line_byte(bytes: &[u8]) -> bool
     ensures { result ≡ list_any spec.is_line_byte bytes.now }
 {
     bytes.iter().any(|byte| !(*byte == b'\r' || *byte == b'\n'))
+}
+
+/// Whether there was a byte of a line, or one is among the bytes that follow.
+pub(crate) fn had_or_has_line_byte(had: bool, bytes: &[u8]) -> bool
+    ensures { result ≡ (had || list_any spec.is_line_byte bytes.now) }
+{
+    had || has_line_byte(bytes)
 }
 
 /// Whether the bytes are a block.

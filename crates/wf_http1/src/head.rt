@@ -1,10 +1,11 @@
 ghost use Rattle.std.specs.Prelude.{◌≡◌, ◌≤◌, ◌<◌, ◌+◌, ◌++◌, ◌==◌, ℕ, List, [], length, take, IfOk};
+ghost use Rattle.std.specs.List.{position};
 ghost use Rattle.wf_http1.specs.Answers.{IsUnfinished, most_bytes};
 ghost use Rattle.wf_http1.specs.HeadFeeding.{IsFed};
 ghost use Rattle.wf_http1.specs.HeadPushing.{IsPushed};
 ghost use Rattle.wf_http1.specs.HeadReading.{IsLine};
 
-use crate::block::{Judged, has_line_byte, is_block, judge};
+use crate::block::{Judged, had_or_has_line_byte, is_block, judge};
 use crate::gathered::Gathered;
 use crate::past::Past;
 use std::alloc::Global;
@@ -61,13 +62,21 @@ enum Pushed {
     Bad,
 }
 
+// Where the first LF is.
+fn line_end(bytes: &[u8]) -> Option<usize>
+    ensures { result ≡ position (λ byte. byte == 10) bytes.now }
+{
+    bytes.iter().position(|byte| *byte == b'\n')
+}
+
 // How many bytes the first line has: those up to LF, or all.
 fn line_length(bytes: &[u8]) -> usize
     requires { 0 < length bytes.now }
+    ensures some { 0 < result }
     ensures within { result ≤ length bytes.now }
     ensures line { IsLine (take result bytes.now) }
 {
-    match bytes.iter().position(|byte| *byte == b'\n') {
+    match line_end(bytes) {
         Some(index) => index + 1,
         None => bytes.len(),
     }
@@ -132,11 +141,11 @@ impl HeadReader {
         let HeadReader {
             past,
             mut block,
-            has_line_byte: had_line_byte,
+            has_line_byte: had,
             seen_bytes,
         } = self;
         block.append(line)?;
-        let has_line_byte = had_line_byte || has_line_byte(line);
+        let has_line_byte = had_or_has_line_byte(had, line);
         let seen_bytes = seen_bytes + line.len() as u32;
         if !is_block(block.as_slice(), has_line_byte) {
             return Ok(Pushed::More(HeadReader {

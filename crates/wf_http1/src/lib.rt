@@ -7,6 +7,9 @@ mod body;
 mod framing;
 mod gathered;
 mod head;
+#[cfg(test)]
+mod head_tests;
+mod laws;
 mod past;
 mod request;
 mod seen;
@@ -14,4 +17,5 @@ mod seen;
 pub use body::{BodyReader, BodyStep};
 pub use framing::{Framing, framing_of};
 pub use head::{HeadReader, HeadStep};
+pub use laws::{law_heads_are_blocks, law_one_head};
 pub use request::write_request;

@@ -1,0 +1,14 @@
+-- Laws of heads: a head is read in one way (RFC 9112, section 2.1).
+use Rattle.std.specs.Prelude.{◌≡◌, ℕ, List}
+use Rattle.httparse.specs.Grammar.{IsResponseHead, print_response, ResponseHead}
+use Rattle.wf_types.specs.declared.hop.Head.{Head}
+use Rattle.wf_http1.specs.Answers.{IsFinal}
+use Rattle.wf_http1.specs.Blocks.{IsShortestBlock}
+
+-- a head is a block, and no beginning of it is one
+abbrev pub HeadsAreBlocks : Type 0
+HeadsAreBlocks = (head : ResponseHead) → IsResponseHead head → IsShortestBlock (print_response head)
+
+-- the bytes have one final head at most, and one place where it ends
+abbrev pub HasOneHead : Type 0
+HasOneHead = (bytes : List ℕ) (a b : Head) (n m : ℕ) → IsFinal bytes a n → IsFinal bytes b m → (a ≡ b) × (n ≡ m)

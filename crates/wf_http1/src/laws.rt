@@ -1,0 +1,11 @@
+ghost use Rattle.wf_http1.specs.HeadLaws.{HasOneHead, HeadsAreBlocks};
+
+/// A head is a block, and no beginning of it is one.
+pub fn law_heads_are_blocks()
+    ensures { HeadsAreBlocks }
+{}
+
+/// The bytes of an answer have one final head at most, and one place where it ends.
+pub fn law_one_head()
+    ensures { HasOneHead }
+{}
