@@ -5,6 +5,7 @@ pub mod HeadFeeding
 pub mod Lengths
 pub mod Framings
 pub mod Chunks
+pub mod Places
 pub mod Bodies
 pub mod BodyReading
 pub mod BodyFeeding

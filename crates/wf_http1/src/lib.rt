@@ -5,6 +5,7 @@
 mod body;
 mod framing;
 mod head;
+mod place;
 mod request;
 mod seen;
 
