@@ -1,5 +1,5 @@
 -- The places of a reader of chunks decode what the chunked coding says.
-use Rattle.std.proofs.Common.{arith, inl, inr, ◌≡◌, ◌≢◌, ◌≤◌, ◌<◌, ◌+◌, ◌*◌, ◌-◌, ◌==◌, ◌&&◌, ◌||◌, ℕ, zero, suc, List, [], ◌∷◌, ◌++◌, take, drop, length, refl, sym, ap, subst, ◌∙◌, Bool, true, false, not, nat_le, Option, Some, None, option_map, if◌then◌else◌}
+use Rattle.std.proofs.Common.{arith, inl, inr, ◌≡◌, ◌≢◌, ◌≤◌, ◌<◌, ◌⊎◌, ◌+◌, ◌*◌, ◌-◌, ◌==◌, ◌&&◌, ◌||◌, ℕ, zero, suc, List, [], ◌∷◌, ◌++◌, take, drop, length, refl, sym, ap, subst, ◌∙◌, Bool, true, false, not, nat_le, Option, Some, None, option_map, length-drop, if◌then◌else◌}
 use Rattle.std.specs.Option.{option_and_then}
 use Rattle.std.proofs.lemmas.Bool.Decides.{eqb_tells, leb_tells, nat_tests}
 use Rattle.std.proofs.lemmas.Grind.{common_steps}
@@ -366,3 +366,260 @@ extension-decoded (byte ∷ rest) size line within =
                 ]
           ]
     ]
+
+-- ---- blanks
+
+abbrev is_blank : ℕ → Bool
+is_blank byte = byte == 9 || byte == 32
+
+-- a blank in front is trimmed
+trimmed-blank : (byte : ℕ) (text : List ℕ) → (byte ≡ 9) ⊎ (byte ≡ 32) → trimmed_start tab_or_space (byte ∷ text) ≡ trimmed_start tab_or_space text
+trimmed-blank byte text (inl tab) = rw tab refl
+trimmed-blank byte text (inr space) = rw space refl
+
+trimmed-other : (byte : ℕ) (text : List ℕ) → byte ≢ 9 → byte ≢ 32 → trimmed_start tab_or_space (byte ∷ text) ≡ byte ∷ text
+trimmed-other byte text no_tab no_space = rw (fails_eq 9 byte (λ e. no_tab (sym e)), fails_eq 32 byte (λ e. no_space (sym e))) refl
+
+-- whether what follows a size fits
+abbrev fits_behind : ℕ → List ℕ → Bool
+fits_behind line text = is_extension (trimmed_start tab_or_space text) && nat_le (line + length text + 2) 4096
+
+abbrev given : ℕ → List ℕ → Bool → Option (ℕ × List ℕ)
+given size r test = if test then Some (size, r) else None
+
+blanks-blank : (size line byte : ℕ) (text r : List ℕ) → (byte ≡ 9) ⊎ (byte ≡ 32) → in_blanks size line (byte ∷ text, r) ≡ in_blanks size (line + 1) (text, r)
+blanks-blank size line byte text r blank =
+    ap (given size r) (ap (λ t. is_extension t && nat_le (line + length (byte ∷ text) + 2) 4096) (trimmed-blank byte text blank)
+    ∙ ap (λ b. is_extension (trimmed_start tab_or_space text) && b) (room-more line byte text))
+
+blanks-semicolon : (size line : ℕ) (text r : List ℕ) → in_blanks size line (59 ∷ text, r) ≡ in_line size (line + 1) (text, r)
+blanks-semicolon size line text r =
+    ap (given size r) (room-more line 59 text)
+
+blanks-other : (size line byte : ℕ) (text r : List ℕ) → byte ≢ 9 → byte ≢ 32 → byte ≢ 59 → in_blanks size line (byte ∷ text, r) ≡ None
+blanks-other size line byte text r no_tab no_space no_semicolon =
+    ap (given size r) (ap (λ t. is_extension t && nat_le (line + length (byte ∷ text) + 2) 4096) (trimmed-other byte text no_tab no_space)
+    ∙ ap (λ b. b && nat_le (line + length (byte ∷ text) + 2) 4096) (fails_eq byte 59 no_semicolon))
+
+blanks-none : (size line byte : ℕ) (text r : List ℕ) → 4094 ≤ line → in_blanks size line (byte ∷ text, r) ≡ None
+blanks-none size line byte text r full =
+    ap (given size r) (ap (λ b. is_extension (trimmed_start tab_or_space (byte ∷ text)) && b) (room-none line byte text full) ∙ false-right (is_extension (trimmed_start tab_or_space (byte ∷ text))))
+
+digits-full : (size line byte : ℕ) → byte ≢ 13 → 4094 ≤ line → behind_digits size line byte ≡ Broken
+digits-full size line byte no_cr full = rw (fails_eq byte 13 no_cr, holds_le 4094 line full) refl
+
+digits-blank : (size line byte : ℕ) → byte ≢ 13 → line < 4094 → (byte ≡ 9) ⊎ (byte ≡ 32) → behind_digits size line byte ≡ To (Blanks size (line + 1))
+digits-blank size line byte no_cr free (inl tab) = rw (tab, fails_le 4094 line free) refl
+digits-blank size line byte no_cr free (inr space) = rw (space, fails_le 4094 line free) refl
+
+digits-semicolon : (size line : ℕ) → line < 4094 → behind_digits size line 59 ≡ To (Extension size (line + 1))
+digits-semicolon size line free = rw (fails_le 4094 line free) refl
+
+digits-other : (size line byte : ℕ) → byte ≢ 13 → byte ≢ 9 → byte ≢ 32 → byte ≢ 59 → behind_digits size line byte ≡ Broken
+digits-other size line byte no_cr no_tab no_space no_semicolon =
+    elim (leb_tells 4094 line) [
+      | inl full ↦ digits-full size line byte no_cr full.1
+      | inr free ↦ rw (fails_eq byte 13 no_cr, fails_le 4094 line free.1, fails_eq byte 9 no_tab, fails_eq byte 32 no_space, fails_eq byte 59 no_semicolon) refl
+    ]
+
+-- behind the digits, or behind blanks
+blanks-decoded : (bytes : List ℕ) (size line : ℕ) → line ≤ 4094 → decoded_at (Blanks size line) bytes ≡ behind_size chunks (option_and_then (in_blanks size line) (cut_line bytes))
+blanks-decoded [] size line within = refl
+blanks-decoded (byte ∷ rest) size line within =
+    let f : List ℕ × List ℕ → Option (ℕ × List ℕ) = in_blanks size line in
+    elim (eqb_tells byte 13) [
+      | inl cr ↦ rw cr.1 (ends f size rest (λ r. ap (given size r) (room-end line within)))
+      | inr no_cr ↦
+          elim (eqb_tells byte 10) [
+            | inl lf ↦ rw lf.1 (ap (behind rest) (digits-other size line 10 (λ e. omega (arith, e)) (λ e. omega (arith, e)) (λ e. omega (arith, e)) (λ e. omega (arith, e))) ∙ line-feed f rest)
+            | inr no_lf ↦
+                elim (leb_tells 4094 line) [
+                  | inl full ↦ ap (behind rest) (digits-full size line byte no_cr.1 full.1) ∙ misfits f byte rest no_cr.1 no_lf.1 (λ r. blanks-none size line byte (line_of rest) r full.1)
+                  | inr free ↦
+                      let blank : (byte ≡ 9) ⊎ (byte ≡ 32) → decoded_at (Blanks size line) (byte ∷ rest) ≡ behind_size chunks (option_and_then f (cut_line (byte ∷ rest))) =
+                          λ b. ap (behind rest) (digits-blank size line byte no_cr.1 free.1 b)
+                          ∙ blanks-decoded rest size (line + 1) (omega (arith, free.1))
+                          ∙ goes-on f (in_blanks size (line + 1)) byte rest no_cr.1 no_lf.1 (λ r. blanks-blank size line byte (line_of rest) r b) in
+                      elim (eqb_tells byte 9) [
+                        | inl tab ↦ blank (inl tab.1)
+                        | inr no_tab ↦
+                            elim (eqb_tells byte 32) [
+                              | inl space ↦ blank (inr space.1)
+                              | inr no_space ↦
+                                  elim (eqb_tells byte 59) [
+                                    | inl semicolon ↦
+                                        rw semicolon.1 (ap (behind rest) (digits-semicolon size line free.1)
+                                        ∙ extension-decoded rest size (line + 1) (omega (arith, free.1))
+                                        ∙ goes-on f (in_line size (line + 1)) 59 rest (λ e. omega (arith, e)) (λ e. omega (arith, e)) (λ r. blanks-semicolon size line (line_of rest) r))
+                                    | inr no_semicolon ↦
+                                        ap (behind rest) (digits-other size line byte no_cr.1 no_tab.1 no_space.1 no_semicolon.1)
+                                        ∙ misfits f byte rest no_cr.1 no_lf.1 (λ r. blanks-other size line byte (line_of rest) r no_tab.1 no_space.1 no_semicolon.1)
+                                  ]
+                            ]
+                      ]
+                ]
+          ]
+    ]
+
+-- ---- digits
+
+size_digits-more : (byte : ℕ) (text : List ℕ) → is_ascii_hexdigit byte ≡ true → size_digits (byte ∷ text) ≡ byte ∷ size_digits text
+size_digits-more byte text digit = take_while-cons is_ascii_hexdigit byte text ∙ rw digit refl
+
+size_digits-end : (byte : ℕ) (text : List ℕ) → is_ascii_hexdigit byte ≡ false → size_digits (byte ∷ text) ≡ []
+size_digits-end byte text other = take_while-cons is_ascii_hexdigit byte text ∙ rw other refl
+
+-- the same with the digits at hand
+abbrev with_digits : ℕ → ℕ → List ℕ → List ℕ × List ℕ → Option (ℕ × List ℕ)
+with_digits digits value front cut =
+    if nat_le 1 (digits + length front) && nat_le (digits + length front) 16
+        && is_extension (trimmed_start tab_or_space (drop (length front) cut.0)) && nat_le (digits + length cut.0 + 2) 4096
+    then Some (digits_value_after 16 value front, cut.1) else None
+
+digit-more : (digits value byte : ℕ) (text r : List ℕ) → is_ascii_hexdigit byte ≡ true → in_digits digits value (byte ∷ text, r) ≡ in_digits (digits + 1) (value * 16 + digit_value byte) (text, r)
+digit-more digits value byte text r digit =
+    let front : List ℕ = size_digits text in
+    let count : digits + length (byte ∷ front) ≡ digits + 1 + length front = omega arith in
+    let test : Bool = is_extension (trimmed_start tab_or_space (drop (length front) text)) in
+    ap (λ d. with_digits digits value d (byte ∷ text, r)) (size_digits-more byte text digit)
+    ∙ ap (given (digits_value_after 16 (value * 16 + digit_value byte) front) r)
+      (ap (λ n. nat_le 1 n && nat_le n 16 && test && nat_le (digits + length (byte ∷ text) + 2) 4096) count
+      ∙ ap (λ b. nat_le 1 (digits + 1 + length front) && nat_le (digits + 1 + length front) 16 && test && b) (room-more digits byte text))
+
+digit-none : (value byte : ℕ) (text r : List ℕ) → is_ascii_hexdigit byte ≡ true → in_digits 16 value (byte ∷ text, r) ≡ None
+digit-none value byte text r digit =
+    let front : List ℕ = size_digits text in
+    let test : Bool = is_extension (trimmed_start tab_or_space (drop (length front) text)) in
+    let more : Bool = nat_le (16 + length (byte ∷ text) + 2) 4096 in
+    let full : nat_le (16 + length (byte ∷ front)) 16 ≡ false = fails_le (16 + length (byte ∷ front)) 16 (omega arith) in
+    ap (λ d. with_digits 16 value d (byte ∷ text, r)) (size_digits-more byte text digit)
+    ∙ ap (given (digits_value_after 16 (value * 16 + digit_value byte) front) r)
+      (ap (λ b. nat_le 1 (16 + length (byte ∷ front)) && b && test && more) full ∙ ap (λ b. b && test && more) (false-right (nat_le 1 (16 + length (byte ∷ front)))))
+
+-- behind one digit or more what follows stands as behind blanks
+no-digit : (digits value : ℕ) (text r : List ℕ) → 1 ≤ digits → digits ≤ 16 → size_digits text ≡ [] → in_digits digits value (text, r) ≡ in_blanks value digits (text, r)
+no-digit digits value text r some few none =
+    let first : nat_le 1 (digits + 0) ≡ true = holds_le 1 (digits + 0) (omega (arith, some)) in
+    let second : nat_le (digits + 0) 16 ≡ true = holds_le (digits + 0) 16 (omega (arith, few)) in
+    ap (λ d. with_digits digits value d (text, r)) none
+    ∙ ap (given value r) (ap (λ b. b && nat_le (digits + 0) 16 && is_extension (trimmed_start tab_or_space text) && nat_le (digits + length text + 2) 4096) first
+      ∙ ap (λ b. b && is_extension (trimmed_start tab_or_space text) && nat_le (digits + length text + 2) 4096) second)
+
+-- and without a digit nothing fits
+first-no-digit : (value : ℕ) (text r : List ℕ) → size_digits text ≡ [] → in_digits 0 value (text, r) ≡ None
+first-no-digit value text r none = ap (λ d. with_digits 0 value d (text, r)) none
+
+-- a line behind a byte that is no digit has none in front
+front-none : (byte : ℕ) (rest : List ℕ) → is_ascii_hexdigit byte ≡ false → size_digits (line_of (byte ∷ rest)) ≡ []
+front-none byte rest other =
+    elim (eqb_tells byte 13) [
+      | inl cr ↦ rw cr.1 refl
+      | inr no_cr ↦
+          elim (eqb_tells byte 10) [
+            | inl lf ↦ rw lf.1 refl
+            | inr no_lf ↦ ap size_digits (line_of-more byte rest no_cr.1 no_lf.1) ∙ size_digits-end byte (line_of rest) other
+          ]
+    ]
+
+digit-no-end : (byte : ℕ) → is_ascii_hexdigit byte ≡ true → (byte ≢ 13) × (byte ≢ 10)
+digit-no-end byte digit = ((λ e. grind (arith, common_steps)), (λ e. grind (arith, common_steps)))
+
+in_size-digit : (digits value byte : ℕ) → is_ascii_hexdigit byte ≡ true → digits ≢ 16 → in_size digits value byte ≡ To (Size (digits + 1) (value * 16 + digit_value byte))
+in_size-digit digits value byte digit fewer = rw (digit, fails_eq digits 16 fewer) refl
+
+in_size-full : (value byte : ℕ) → is_ascii_hexdigit byte ≡ true → in_size 16 value byte ≡ Broken
+in_size-full value byte digit = rw digit refl
+
+in_size-first : (value byte : ℕ) → is_ascii_hexdigit byte ≡ false → in_size 0 value byte ≡ Broken
+in_size-first value byte other = rw other refl
+
+in_size-behind : (digits value byte : ℕ) → is_ascii_hexdigit byte ≡ false → digits ≢ 0 → in_size digits value byte ≡ behind_digits value digits byte
+in_size-behind digits value byte other some = rw (other, fails_eq digits 0 some) refl
+
+-- what is to be shown in the digits
+abbrev InDigits : ℕ → ℕ → List ℕ → Type 0
+InDigits digits value bytes = decoded_at (Size digits value) bytes ≡ behind_size chunks (option_and_then (in_digits digits value) (cut_line bytes))
+
+size-cases : (digits value byte : ℕ) (rest : List ℕ) → digits ≤ 16 → ((d v : ℕ) → d ≤ 16 → InDigits d v rest) → (test : Bool) → is_ascii_hexdigit byte ≡ test → InDigits digits value (byte ∷ rest)
+size-cases digits value byte rest few later true digit =
+    let f : List ℕ × List ℕ → Option (ℕ × List ℕ) = in_digits digits value in
+    let no_end = digit-no-end byte digit in
+    elim (eqb_tells digits 16) [
+      | inl full ↦
+          let same : digits ≡ 16 = full.1 in
+          ap (λ d. behind rest (in_size d value byte)) same ∙ ap (behind rest) (in_size-full value byte digit)
+          ∙ misfits f byte rest no_end.0 no_end.1 (λ r. ap (λ d. in_digits d value (byte ∷ line_of rest, r)) same ∙ digit-none value byte (line_of rest) r digit)
+      | inr fewer ↦
+          ap (behind rest) (in_size-digit digits value byte digit fewer.1)
+          ∙ later (digits + 1) (value * 16 + digit_value byte) (omega (arith, few, fewer.1))
+          ∙ goes-on f (in_digits (digits + 1) (value * 16 + digit_value byte)) byte rest no_end.0 no_end.1 (λ r. digit-more digits value byte (line_of rest) r digit)
+    ]
+size-cases digits value byte rest few later false other =
+    let f : List ℕ × List ℕ → Option (ℕ × List ℕ) = in_digits digits value in
+    let front = front-none byte rest other in
+    elim (eqb_tells digits 0) [
+      | inl none ↦
+          let same : digits ≡ 0 = none.1 in
+          ap (λ d. behind rest (in_size d value byte)) same ∙ ap (behind rest) (in_size-first value byte other)
+          ∙ ap (behind_size chunks) (sym (nothing f (line_of (byte ∷ rest)) (tail_of (byte ∷ rest)) (λ r. ap (λ d. in_digits d value (line_of (byte ∷ rest), r)) same ∙ first-no-digit value (line_of (byte ∷ rest)) r front)))
+      | inr some ↦
+          ap (behind rest) (in_size-behind digits value byte other some.1)
+          ∙ blanks-decoded (byte ∷ rest) value digits (omega (arith, few))
+          ∙ ap (behind_size chunks) (sym (through f (in_blanks value digits) (line_of (byte ∷ rest)) (line_of (byte ∷ rest)) (tail_of (byte ∷ rest)) (λ r. no-digit digits value (line_of (byte ∷ rest)) r (omega (arith, some.1)) few front)))
+    ]
+
+size-decoded : (bytes : List ℕ) (digits value : ℕ) → digits ≤ 16 → InDigits digits value bytes
+size-decoded [] digits value few = refl
+size-decoded (byte ∷ rest) digits value few = size-cases digits value byte rest few (λ d v h. size-decoded rest d v h) (is_ascii_hexdigit byte) refl
+
+-- ---- the whole
+
+-- without digits so far the line is a whole one
+first-line : (cut : List ℕ × List ℕ) → in_digits 0 0 cut ≡ size_and_rest cut
+first-line cut =
+    let count : 0 + length (size_digits cut.0) ≡ length (size_digits cut.0) = omega arith in
+    let whole : 0 + length cut.0 ≡ length cut.0 = omega arith in
+    ap (given (digits_value_after 16 0 (size_digits cut.0)) cut.1)
+    (ap (λ n. nat_le 1 n && nat_le n 16 && is_extension (trimmed_start tab_or_space (drop (length (size_digits cut.0)) cut.0)) && nat_le (0 + length cut.0 + 2) 4096) count
+    ∙ ap (λ n. nat_le 1 (length (size_digits cut.0)) && nat_le (length (size_digits cut.0)) 16 && is_extension (trimmed_start tab_or_space (drop (length (size_digits cut.0)) cut.0)) && nat_le (n + 2) 4096) whole)
+
+chunks-step : (bytes : List ℕ) → chunks bytes ≡ behind_size chunks (cut_size bytes)
+chunks-step bytes =
+    size-decoded bytes 0 0 (omega arith)
+    ∙ ap (behind_size chunks) (through (in_digits 0 0) size_and_rest (line_of bytes) (line_of bytes) (tail_of bytes) (λ r. first-line (line_of bytes, r)))
+
+-- two ways to go on that agree on what is shorter
+module _ (f g : List ℕ → Decoded) (most : ℕ) (same : (rest : List ℕ) → length rest ≤ most → f rest ≡ g rest) where
+  same-behind-data : (bytes : List ℕ) → length bytes ≤ most → behind_data f (behind_crlf bytes) ≡ behind_data g (behind_crlf bytes)
+  same-behind-data [] room = refl
+  same-behind-data (byte ∷ []) room = refl
+  same-behind-data (byte ∷ next ∷ rest) room =
+      choice (λ o. behind_data f o ≡ behind_data g o) (byte == 13 && next == 10) (Some rest) None (λ _. same rest (omega (arith, room))) (λ _. refl)
+
+  same-behind-size : (size : ℕ) (rest : List ℕ) → length rest ≤ most → behind_size f (Some (size, rest)) ≡ behind_size g (Some (size, rest))
+  same-behind-size size rest room =
+      let shorter : length (drop size rest) ≤ most = omega (arith, room, length-drop size rest) in
+      ap (λ d. if size == 0 then record { data_is = []; complete = has_trailers rest } else onto (take size rest) d) (same-behind-data (drop size rest) shorter)
+
+  same-behind-line : (line bytes : List ℕ) → length bytes ≤ suc most
+      → behind_size f (option_and_then size_and_rest (option_map (λ r. (line, r)) (behind_crlf bytes))) ≡ behind_size g (option_and_then size_and_rest (option_map (λ r. (line, r)) (behind_crlf bytes)))
+  same-behind-line line [] room = refl
+  same-behind-line line (byte ∷ []) room = refl
+  same-behind-line line (byte ∷ next ∷ rest) room =
+      choice (λ o. behind_size f (option_and_then size_and_rest (option_map (λ r. (line, r)) o)) ≡ behind_size g (option_and_then size_and_rest (option_map (λ r. (line, r)) o)))
+      (byte == 13 && next == 10) (Some rest) None
+      (λ _. choice (λ o. behind_size f o ≡ behind_size g o) (is_size_line line) _ None (λ _. same-behind-size _ rest (omega (arith, room))) (λ _. refl)) (λ _. refl)
+
+  same-step : (bytes : List ℕ) → length bytes ≤ suc most → behind_size f (cut_size bytes) ≡ behind_size g (cut_size bytes)
+  same-step bytes room =
+      same-behind-line (line_of bytes) (drop (length (line_of bytes)) bytes) (omega (arith, room, length-drop (length (line_of bytes)) bytes))
+
+decoded_from-chunks : (most : ℕ) (bytes : List ℕ) → length bytes ≤ most → decoded_from most bytes ≡ chunks bytes
+decoded_from-chunks zero [] room = refl
+decoded_from-chunks zero (byte ∷ bytes) room = absurd (omega (arith, room))
+decoded_from-chunks (suc most) bytes room =
+    same-step (decoded_from most) chunks most (λ rest h. decoded_from-chunks most rest h) bytes room ∙ sym (chunks-step bytes)
+
+-- The bytes of a chunked body decode to what the reader's places make of them.
+pub decoded-chunks : (bytes : List ℕ) → decoded bytes ≡ decoded_at (Size 0 0) bytes
+decoded-chunks bytes = decoded_from-chunks (length bytes) bytes (omega arith)
