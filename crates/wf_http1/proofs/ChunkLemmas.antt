@@ -291,7 +291,7 @@ in_blanks size line cut =
 abbrev in_digits : ℕ → ℕ → List ℕ × List ℕ → Option (ℕ × List ℕ)
 in_digits digits value cut =
     if nat_le 1 (digits + length (size_digits cut.0)) && nat_le (digits + length (size_digits cut.0)) 16
-        && is_extension (trimmed_start tab_or_space (drop (length (size_digits cut.0)) cut.0)) && nat_le (digits + length cut.0 + 2) 4096
+    && is_extension (trimmed_start tab_or_space (drop (length (size_digits cut.0)) cut.0)) && nat_le (digits + length cut.0 + 2) 4096
     then Some (digits_value_after 16 value (size_digits cut.0), cut.1) else None
 
 -- at the end of the line
@@ -437,9 +437,9 @@ blanks-decoded (byte ∷ rest) size line within =
                   | inl full ↦ ap (behind rest) (digits-full size line byte no_cr.1 full.1) ∙ misfits f byte rest no_cr.1 no_lf.1 (λ r. blanks-none size line byte (line_of rest) r full.1)
                   | inr free ↦
                       let blank : (byte ≡ 9) ⊎ (byte ≡ 32) → decoded_at (Blanks size line) (byte ∷ rest) ≡ behind_size chunks (option_and_then f (cut_line (byte ∷ rest))) =
-                          λ b. ap (behind rest) (digits-blank size line byte no_cr.1 free.1 b)
-                          ∙ blanks-decoded rest size (line + 1) (omega (arith, free.1))
-                          ∙ goes-on f (in_blanks size (line + 1)) byte rest no_cr.1 no_lf.1 (λ r. blanks-blank size line byte (line_of rest) r b) in
+                      λ b. ap (behind rest) (digits-blank size line byte no_cr.1 free.1 b)
+                      ∙ blanks-decoded rest size (line + 1) (omega (arith, free.1))
+                      ∙ goes-on f (in_blanks size (line + 1)) byte rest no_cr.1 no_lf.1 (λ r. blanks-blank size line byte (line_of rest) r b) in
                       elim (eqb_tells byte 9) [
                         | inl tab ↦ blank (inl tab.1)
                         | inr no_tab ↦
@@ -473,7 +473,7 @@ size_digits-end byte text other = take_while-cons is_ascii_hexdigit byte text �
 abbrev with_digits : ℕ → ℕ → List ℕ → List ℕ × List ℕ → Option (ℕ × List ℕ)
 with_digits digits value front cut =
     if nat_le 1 (digits + length front) && nat_le (digits + length front) 16
-        && is_extension (trimmed_start tab_or_space (drop (length front) cut.0)) && nat_le (digits + length cut.0 + 2) 4096
+    && is_extension (trimmed_start tab_or_space (drop (length front) cut.0)) && nat_le (digits + length cut.0 + 2) 4096
     then Some (digits_value_after 16 value front, cut.1) else None
 
 digit-more : (digits value byte : ℕ) (text r : List ℕ) → is_ascii_hexdigit byte ≡ true → in_digits digits value (byte ∷ text, r) ≡ in_digits (digits + 1) (value * 16 + digit_value byte) (text, r)
@@ -483,8 +483,8 @@ digit-more digits value byte text r digit =
     let test : Bool = is_extension (trimmed_start tab_or_space (drop (length front) text)) in
     ap (λ d. with_digits digits value d (byte ∷ text, r)) (size_digits-more byte text digit)
     ∙ ap (given (digits_value_after 16 (value * 16 + digit_value byte) front) r)
-      (ap (λ n. nat_le 1 n && nat_le n 16 && test && nat_le (digits + length (byte ∷ text) + 2) 4096) count
-      ∙ ap (λ b. nat_le 1 (digits + 1 + length front) && nat_le (digits + 1 + length front) 16 && test && b) (room-more digits byte text))
+    (ap (λ n. nat_le 1 n && nat_le n 16 && test && nat_le (digits + length (byte ∷ text) + 2) 4096) count
+    ∙ ap (λ b. nat_le 1 (digits + 1 + length front) && nat_le (digits + 1 + length front) 16 && test && b) (room-more digits byte text))
 
 digit-none : (value byte : ℕ) (text r : List ℕ) → is_ascii_hexdigit byte ≡ true → in_digits 16 value (byte ∷ text, r) ≡ None
 digit-none value byte text r digit =
@@ -494,7 +494,7 @@ digit-none value byte text r digit =
     let full : nat_le (16 + length (byte ∷ front)) 16 ≡ false = fails_le (16 + length (byte ∷ front)) 16 (omega arith) in
     ap (λ d. with_digits 16 value d (byte ∷ text, r)) (size_digits-more byte text digit)
     ∙ ap (given (digits_value_after 16 (value * 16 + digit_value byte) front) r)
-      (ap (λ b. nat_le 1 (16 + length (byte ∷ front)) && b && test && more) full ∙ ap (λ b. b && test && more) (false-right (nat_le 1 (16 + length (byte ∷ front)))))
+    (ap (λ b. nat_le 1 (16 + length (byte ∷ front)) && b && test && more) full ∙ ap (λ b. b && test && more) (false-right (nat_le 1 (16 + length (byte ∷ front)))))
 
 -- behind one digit or more what follows stands as behind blanks
 no-digit : (digits value : ℕ) (text r : List ℕ) → 1 ≤ digits → digits ≤ 16 → size_digits text ≡ [] → in_digits digits value (text, r) ≡ in_blanks value digits (text, r)
@@ -503,7 +503,7 @@ no-digit digits value text r some few none =
     let second : nat_le (digits + 0) 16 ≡ true = holds_le (digits + 0) 16 (omega (arith, few)) in
     ap (λ d. with_digits digits value d (text, r)) none
     ∙ ap (given value r) (ap (λ b. b && nat_le (digits + 0) 16 && is_extension (trimmed_start tab_or_space text) && nat_le (digits + length text + 2) 4096) first
-      ∙ ap (λ b. b && is_extension (trimmed_start tab_or_space text) && nat_le (digits + length text + 2) 4096) second)
+    ∙ ap (λ b. b && is_extension (trimmed_start tab_or_space text) && nat_le (digits + length text + 2) 4096) second)
 
 -- and without a digit nothing fits
 first-no-digit : (value : ℕ) (text r : List ℕ) → size_digits text ≡ [] → in_digits 0 value (text, r) ≡ None

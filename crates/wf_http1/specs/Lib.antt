@@ -7,6 +7,7 @@ pub mod Framings
 pub mod Chunks
 pub mod Places
 pub mod Bodies
+pub mod BodyPlaces
 pub mod BodyReading
 pub mod BodyFeeding
 pub mod Requests

@@ -8,6 +8,7 @@ mod head;
 mod place;
 mod request;
 mod seen;
+mod taking;
 
 pub use body::{BodyReader, BodyStep};
 pub use framing::{Framing, framing_of};
