@@ -39,9 +39,10 @@ pub record IsReading (how : Framing) (limit : ℕ) (bytes held : List ℕ) (room
   pub reserved : limit ≤ room
   pub kept : IsKept how held place
 
--- The body stays open, and its bytes from now on come to the same end as they do after a piece.
-pub record IsOn (how : Framing) (limit : ℕ) (after : List ℕ → BodyEnd) (held : List ℕ) (room : ℕ) (place : Place) : Type 0 where
-  pub meaning : (more : List ℕ) → after more ≡ rest_end how limit held place more
+-- The body stays open, and what is left of a piece and the bytes that follow come to the same end as they
+-- do after the piece.
+pub record IsOn (how : Framing) (limit : ℕ) (after : List ℕ → BodyEnd) (held : List ℕ) (room : ℕ) (place : Place) (left : List ℕ) : Type 0 where
+  pub meaning : (more : List ℕ) → after more ≡ rest_end how limit held place (left ++ more)
   pub within : length held ≤ limit
   pub reserved : limit ≤ room
   pub waiting : IsWaiting how held place
@@ -53,7 +54,7 @@ pub record IsAtEnd (limit : ℕ) (after : List ℕ → BodyEnd) (held : List ℕ
 
 -- what a piece comes to, after which the bytes that follow come to this end
 abbrev pub Comes : Framing → ℕ → (List ℕ → BodyEnd) → List ℕ → ℕ → Place → Found → Type 0
-Comes how limit after held room place found.Open = IsOn how limit after held room place
+Comes how limit after held room place found.Open = IsOn how limit after held room place []
 Comes how limit after held room place found.Absent = (more : List ℕ) → after more ≡ end.Null
 Comes how limit after held room place found.Whole = IsAtEnd limit after held (end.Whole held)
 Comes how limit after held room place found.Cut = IsAtEnd limit after held (end.Cut (length held))
