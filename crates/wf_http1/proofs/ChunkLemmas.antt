@@ -21,7 +21,7 @@ use Rattle.wf_http1.proofs.PlaceLemmas.{choice, differs, exceeds}
 holds_eq : (m n : ℕ) → m ≡ n → (m == n) ≡ true
 holds_eq m n same = elim (eqb_tells m n) [ inl h ↦ h.0 | inr other ↦ absurd (other.1 same) ]
 
-fails_eq : (m n : ℕ) → m ≢ n → (m == n) ≡ false
+pub fails_eq : (m n : ℕ) → m ≢ n → (m == n) ≡ false
 fails_eq m n other = elim (eqb_tells m n) [ inl h ↦ absurd (other h.1) | inr h ↦ h.0 ]
 
 holds_le : (m n : ℕ) → m ≤ n → nat_le m n ≡ true

@@ -90,7 +90,7 @@ front-decoded limit count after held rest room place on some within short more =
     let d : Decoded = decoded_at (Data (data_left place - count)) behind in
     on.meaning more
     ∙ ap (chunks_end limit held) (ap (λ p. decoded_at p (rest ++ more)) (is-data place some) ∙ ap (decoded_at (Data (data_left place))) whole
-      ∙ data-bytes bytes behind (data_left place) (omega (arith, many, within)) ∙ ap (λ n. onto bytes (decoded_at (Data (data_left place - n)) behind)) many)
+    ∙ data-bytes bytes behind (data_left place) (omega (arith, many, within)) ∙ ap (λ n. onto bytes (decoded_at (Data (data_left place - n)) behind)) many)
     ∙ ap (ended limit d.complete) (sym (append_assoc held bytes d.data_is))
 
 pub goes-data : (limit count : ℕ) (after : List ℕ → BodyEnd) (held rest : List ℕ) (room room' : ℕ) (place : Place) → IsOn Chunked limit after held room place rest
