@@ -5,13 +5,16 @@ use Rattle.std.proofs.lemmas.List.{append-nil}
 use Rattle.wf_types.specs.declared.response.BodyEnd.{BodyEnd}
 use Rattle.wf_types.specs.declared.response.BodyEnd.TheVariants.{Null, Whole, Cut, Fault, TooBig}
 use Rattle.wf_http1.specs.Bodies.{ended, body_end, IsDecided, IsOpen}
-use Rattle.wf_http1.specs.BodyPlaces.{IsOn, IsReading, IsWaiting, rest_end}
+use Rattle.wf_http1.specs.BodyPlaces.{Comes, IsKept, IsOn, IsReading, IsWaiting, rest_end}
+use Rattle.wf_http1.specs.BodyReading.{BodyReading}
 use Rattle.wf_http1.specs.Chunks.{Decoded, onto}
 use Rattle.wf_http1.specs.Places.{decoded_at}
 use Rattle.wf_http1.specs.declared.framing.Framing.{Framing}
 use Rattle.wf_http1.specs.declared.framing.Framing.TheVariants.{Nothing, Chunked, Length, ToEnd, Broken}
 use Rattle.wf_http1.specs.declared.place.Place.{Place}
 use Rattle.wf_http1.specs.declared.place.Place.TheVariants.{Size, Blanks, Extension, LineEnd, Data, DataEnd, Trailers, Trailer, TrailerEnd, LastEnd}
+use Rattle.wf_http1.specs.declared.taking.Found.{Found}
+use Rattle.wf_http1.specs.declared.taking.Found.TheVariants.{Open}
 use Rattle.wf_http1.proofs.ChunkLemmas.{data-byte, decoded-chunks, fails_eq}
 
 -- ---- for those who drive a reader
@@ -153,7 +156,63 @@ stays-open how limit bytes held room place reading waiting end decides =
 
 -- ---- a piece more
 
+-- what is held keeps to the framing while it waits
+kept-waiting : (how : Framing) (held : List ℕ) (place : Place) → IsWaiting how held place → IsKept how held place
+kept-waiting Nothing held place waiting = absurd waiting
+kept-waiting Broken held place waiting = absurd waiting
+kept-waiting ToEnd held place waiting = tt
+kept-waiting (Length total) held place waiting = omega (arith, waiting)
+kept-waiting Chunked held place waiting = waiting
+
+pub read-on : (how : Framing) (limit : ℕ) (bytes piece held held' : List ℕ) (room room' : ℕ) (place place' : Place) → IsReading how limit bytes held room place
+    → IsOn how limit (λ more. rest_end how limit held place (piece ++ more)) held' room' place' [] → IsReading how limit (bytes ++ piece) held' room' place'
+read-on how limit bytes piece held held' room room' place place' reading on = record {
+  meaning = λ more. ap (body_end how limit) (append_assoc bytes piece more) ∙ reading.meaning (piece ++ more) ∙ on.meaning more;
+  within = on.within;
+  reserved = on.reserved;
+  kept = kept-waiting how held' place' on.waiting;
+}
+
 pub decides-piece : (how : Framing) (limit : ℕ) (bytes piece held : List ℕ) (room : ℕ) (place : Place) (end : BodyEnd) → IsReading how limit bytes held room place
     → ((more : List ℕ) → rest_end how limit held place (piece ++ more) ≡ end) → IsDecided how limit (bytes ++ piece) end
 decides-piece how limit bytes piece held room place end reading comes more =
     ap (body_end how limit) (append_assoc bytes piece more) ∙ reading.meaning (piece ++ more) ∙ comes more
+
+-- a reader that begins
+pub begins : (how : Framing) (limit : ℕ) (bytes held : List ℕ) (room : ℕ) → bytes ≡ [] → held ≡ [] → limit ≤ room → IsReading how limit bytes held room (Size 0 0)
+begins how limit bytes held room no_bytes none reserved = rw (no_bytes, none) record {
+  meaning = meaning how;
+  within = omega arith;
+  reserved = reserved;
+  kept = kept how;
+}
+  where
+    meaning : (f : Framing) (more : List ℕ) → body_end f limit ([] ++ more) ≡ rest_end f limit [] (Size 0 0) more
+    meaning Nothing more = refl
+    meaning Broken more = refl
+    meaning ToEnd more = refl
+    meaning (Length total) more = refl
+    meaning Chunked more = ap (λ (d : Decoded). ended limit d.complete d.data_is) (decoded-chunks more)
+
+    kept : (f : Framing) → IsKept f [] (Size 0 0)
+    kept Nothing = refl
+    kept Broken = refl
+    kept ToEnd = tt
+    kept (Length total) = omega arith
+    kept Chunked = (omega arith, omega arith)
+
+-- a piece that leaves the body open
+pub open-behind : (how : Framing) (limit : ℕ) (bytes piece held held' : List ℕ) (room room' : ℕ) (place place' : Place) (found : Found) → IsReading how limit bytes held room place
+    → Comes how limit (λ more. rest_end how limit held place (piece ++ more)) held' room' place' found → found ≡ Open → IsOpen how limit (bytes ++ piece)
+open-behind how limit bytes piece held held' room room' place place' found reading comes same =
+    let on : IsOn how limit (λ more. rest_end how limit held place (piece ++ more)) held' room' place' [] = subst (Comes how limit (λ more. rest_end how limit held place (piece ++ more)) held' room' place') same comes in
+    stays-open how limit (bytes ++ piece) held' room' place' (read-on how limit bytes piece held held' room room' place place' reading on) on.waiting
+
+-- and the reader then
+pub opened : (self : BodyReading) (how : Framing) (limit : ℕ) (bytes bytes' piece held held' : List ℕ) (room room' : ℕ) (place place' : Place) (found : Found)
+    → record { framing = how; limit = limit; bytes = bytes } ≡ self → bytes' ≡ bytes ++ piece → IsReading how limit bytes held room place
+    → Comes how limit (λ more. rest_end how limit held place (piece ++ more)) held' room' place' found → found ≡ Open
+    → (record { framing = how; limit = limit; bytes = bytes' } ≡ record self { bytes = self.bytes ++ piece }) × IsOpen self.framing self.limit (self.bytes ++ piece)
+opened self how limit bytes bytes' piece held held' room room' place place' found seen now reading comes same =
+    let P : BodyReading → Type 0 = λ s. (record { framing = how; limit = limit; bytes = bytes' } ≡ record s { bytes = s.bytes ++ piece }) × IsOpen s.framing s.limit (s.bytes ++ piece) in
+    subst P seen (ap (λ b. record { framing = how; limit = limit; bytes = b }) now, open-behind how limit bytes piece held held' room room' place place' found reading comes same)
