@@ -3,6 +3,8 @@
 #![tactic(auto)]
 
 mod body;
+#[cfg(test)]
+mod body_tests;
 mod framing;
 mod head;
 mod place;
