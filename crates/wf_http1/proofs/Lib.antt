@@ -6,3 +6,7 @@ pub mod ReaderLemmas
 pub mod SkipLemmas
 pub mod LengthLemmas
 pub mod ValueLemmas
+pub mod PlaceLemmas
+pub mod ChunkLemmas
+pub mod TakingLemmas
+pub mod BodyLemmas

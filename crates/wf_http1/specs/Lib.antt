@@ -8,7 +8,9 @@ pub mod Lengths
 pub mod HeadLaws
 pub mod Framings
 pub mod Chunks
+pub mod Places
 pub mod Bodies
+pub mod BodyPlaces
 pub mod BodyReading
 pub mod BodyFeeding
 pub mod Requests
