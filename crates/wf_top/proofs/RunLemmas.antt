@@ -6,11 +6,13 @@ use Rattle.wf_types.specs.declared.error.NetError.{NetError}
 use Rattle.wf_types.specs.declared.error.NetError.TheVariants.{Coding, LinkFault}
 use Rattle.wf_text.specs.declared.memory.OutOfMemory.{OutOfMemory}
 use Rattle.wf_types.specs.declared.fault.TypeFault.{TypeFault}
+use Rattle.wf_types.specs.declared.init.Init.{Init}
 use Rattle.wf_types.specs.declared.hop.Head.{Head}
 use Rattle.wf_types.specs.declared.request.Request.{Request}
 use Rattle.wf_types.specs.declared.response.BodyEnd.TheVariants.{Null}
 use Rattle.wf_types.specs.declared.response.Outcome.{Outcome}
 use Rattle.wf_types.specs.declared.response.Outcome.TheVariants.{Error}
+use Rattle.wf_send.specs.Making.{new_request}
 use Rattle.wf_print.specs.declared.events.Ending.{Ending}
 use Rattle.wf_print.specs.declared.events.Ending.TheVariants.{Finished, Memory}
 use Rattle.wf_print.specs.declared.events.Event.{Event}
@@ -29,7 +31,7 @@ use Rattle.wf_fetch.specs.Fetch.{Context, handed_over, finished, has_null_body, 
 use Rattle.wf_fetch.specs.Machine.{Does, rest, from_place, act_at, last_act}
 use Rattle.wf_fetch.specs.Process.{Process, ended, act, fits}
 use Rattle.wf_fetch.specs.Play.{Play, PlayRun, emit, over, step, run_play, shows, events_of}
-use Rattle.wf_fetch.specs.Runs.{Next, Progress, after_events, command_run, embed, fetched, finished as end_of, limit_before, script_run, showing, started, unless_limit}
+use Rattle.wf_fetch.specs.Runs.{Next, Progress, after_events, command_run, embed, fetched, finished as end_of, limit_before, normalized_init, script_run, showing, started, unless_limit}
 use Rattle.wf_top.specs.declared.running.Running.{Running}
 use Rattle.wf_top.specs.declared.wire.Wire.{Wire}
 use Rattle.wf_top.specs.Runs.{Ends, Shows, Played, Fetched, RunsOver, progress_of}
@@ -136,9 +138,14 @@ fetching-next context limit whole old a b fetching first input at is came fit ad
       shown = subst (λ (p : Progress). Shows limit (λ (next : Outcome → Next). embed whole next (progress_of old)) (λ next. embed (rest fetching input) next p) old b) (sym stands) joined;
     }
 
-pub fetching-end : (context : Context) (limit : ℕ) (whole : Process) (old now : Running) (outcome : Outcome) → IsFetching context limit whole old now (Over outcome) → Fetched limit whole old now outcome
+fetching-end : (context : Context) (limit : ℕ) (whole : Process) (old now : Running) (outcome : Outcome) → IsFetching context limit whole old now (Over outcome) → Fetched limit whole old now outcome
 fetching-end context limit whole old now outcome is =
     subst (λ (p : Process). Shows limit (λ (next : Outcome → Next). embed whole next (progress_of old)) (λ next. embed p next (progress_of now)) old now) is.does is.shown
+
+-- the same at a step that is over
+pub fetching-over : (context : Context) (limit : ℕ) (whole : Process) (old now : Running) (at : Step) (outcome : Outcome) → at ≡ Over outcome → IsFetching context limit whole old now at → Fetched limit whole old now outcome
+fetching-over context limit whole old now at outcome is fetching =
+    fetching-end context limit whole old now outcome (subst (λ (s : Step). IsFetching context limit whole old now s) is fetching)
 
 -- how many acts are left to a fetch at a step
 abbrev pub acts_at : Act → ℕ
@@ -234,7 +241,7 @@ played_fetched limit whole outcome a b c came commands fetches added last =
     (played_event limit (event.Result outcome) b c commands fetches added last)
 
 -- a fetch has started, and goes on as the rest
-pub played_started : (limit : ℕ) (rest : Next → Next) (a b c : Running) → b.commands ≡ a.commands + 1 → b.fetches ≡ a.fetches + 1 → b.events ≡ a.events ++ event.Fetch a.fetches ∷ [] → b.wire ≡ a.wire → Played limit rest b c → Shows limit (λ (next : Next). showing (event.Fetch a.fetches) (rest next) (started (progress_of a))) (λ next. next (progress_of c)) a c
+played_started : (limit : ℕ) (rest : Next → Next) (a b c : Running) → b.commands ≡ a.commands + 1 → b.fetches ≡ a.fetches + 1 → b.events ≡ a.events ++ event.Fetch a.fetches ∷ [] → b.wire ≡ a.wire → Played limit rest b c → Shows limit (λ (next : Next). showing (event.Fetch a.fetches) (rest next) (started (progress_of a))) (λ next. next (progress_of c)) a c
 played_started limit rest a b c commands fetches added last played =
     shows-then limit (λ (next : Next). showing (event.Fetch a.fetches) (rest next) (started (progress_of a))) (λ next. rest next (progress_of b)) (λ next. next (progress_of c)) a b c
     (record {
@@ -247,6 +254,13 @@ played_started limit rest a b c commands fetches added last played =
   where
     stands : progress_of b ≡ after_events (event.Fetch a.fetches ∷ []) (started (progress_of a))
     stands = rw commands (rw fetches (rw added refl))
+
+-- a command `fetch` was played
+pub played_command : (limit : ℕ) (context : Context) (init : Init) (made : Result Request TypeFault) (a b c : Running) (result : Result ⊤ OutOfMemory) → b.commands ≡ a.commands + 1 → b.fetches ≡ a.fetches + 1 → b.events ≡ a.events ++ event.Fetch a.fetches ∷ [] → b.wire ≡ a.wire → made ≡ new_request context.client (normalized_init init) → OnOk result (Played limit (fetched context made) b c) → OnOk result (Played limit (command_run context (command.Fetch init)) a c)
+played_command limit context init made a b c (Ok done) commands fetches added wire is played =
+    subst (λ (m : Result Request TypeFault). Shows limit (λ (next : Next). showing (event.Fetch a.fetches) (fetched context m next) (started (progress_of a))) (λ next. next (progress_of c)) a c) is
+    (played_started limit (fetched context made) a b c commands fetches added wire played)
+played_command limit context init made a b c (Err refused) commands fetches added wire is played = tt
 
 -- ---- scripts
 
@@ -273,8 +287,8 @@ ended-with limit exchange play made ending runs =
     subst (λ (l : List Event). RunsOver limit exchange play (record { events = l; ending = Some (ending, 0) })) (append-nil made) runs
 
 -- a limit ends the run before the command
-pub script-limited : (context : Context) (most : ℕ) (script : List Command) (index : ℕ) (command : Command) (ending : Ending) (old now : Running) → index < length script → get_or script index command ≡ command → limit_before command (progress_of now) ≡ Some ending → IsAt context most script index old now → Ends most (script_run context script end_of (progress_of old)) old now ending
-script-limited context most script index command ending old now within is limit at =
+script-limited-here : (context : Context) (most : ℕ) (script : List Command) (index : ℕ) (command : Command) (ending : Ending) (old now : Running) → index < length script → get_or script index command ≡ command → limit_before command (progress_of now) ≡ Some ending → IsAt context most script index old now → Ends most (script_run context script end_of (progress_of old)) old now ending
+script-limited-here context most script index command ending old now within is limit at =
     let shown = at-command context most script index command old now within is at in
     record {
       made = shown.made;
@@ -283,19 +297,32 @@ script-limited context most script index command ending old now within is limit 
     }
 
 -- the command was played
-pub script-next : (context : Context) (limit : ℕ) (script : List Command) (index : ℕ) (command : Command) (old now later : Running) → index < length script → get_or script index command ≡ command → limit_before command (progress_of now) ≡ None → IsAt context limit script index old now → Played limit (command_run context command) now later → IsAt context limit script (index + 1) old later
-script-next context limit script index command old now later within is none at played =
+script-next-here : (context : Context) (limit : ℕ) (script : List Command) (index : ℕ) (command : Command) (old now later : Running) → index < length script → get_or script index command ≡ command → limit_before command (progress_of now) ≡ None → IsAt context limit script index old now → Played limit (command_run context command) now later → IsAt context limit script (index + 1) old later
+script-next-here context limit script index command old now later within is none at played =
     shows-then limit (λ (next : Next). script_run context script next (progress_of old)) (λ next. command_run context command (script_run context (drop (index + 1) script) next) (progress_of now)) (λ next. script_run context (drop (index + 1) script) next (progress_of later)) old now later
     (subst (λ (reached : Option Ending). Shows limit (λ (next : Next). script_run context script next (progress_of old)) (λ next. unless_limit reached (command_run context command (script_run context (drop (index + 1) script) next) (progress_of now))) old now) none (at-command context limit script index command old now within is at))
     (shows-within limit (λ (next : Next). command_run context command next (progress_of now)) (λ next. next (progress_of later)) now later (λ next. script_run context (drop (index + 1) script) next) played)
 
 -- after the last command the run is over
-pub script-over : (context : Context) (limit : ℕ) (script : List Command) (index : ℕ) (old now : Running) → length script ≤ index → IsAt context limit script index old now → Ends limit (script_run context script end_of (progress_of old)) old now Finished
-script-over context limit script index old now past at = record {
+script-over-here : (context : Context) (limit : ℕ) (script : List Command) (index : ℕ) (old now : Running) → length script ≤ index → IsAt context limit script index old now → Ends limit (script_run context script end_of (progress_of old)) old now Finished
+script-over-here context limit script index old now past at = record {
   made = at.made;
   added = at.added;
   run = ended-with limit (exchange_of old.wire) (script_run context script end_of (progress_of old)) at.made Finished (at.run end_of (record { events = []; ending = Some (Finished, 0) }) (subst (λ (l : List Command). RunsOver limit (exchange_of now.wire) (script_run context l end_of (progress_of now)) (record { events = []; ending = Some (Finished, 0) })) (sym (drop_all index script past)) (over-now limit (exchange_of now.wire) Finished)));
 }
+
+-- the same with the commands as the loop has them
+pub script-limited : (context : Context) (most : ℕ) (script items : List Command) (index : ℕ) (command : Command) (reached : Option Ending) (ending : Ending) (old now : Running) → items ≡ script → index < length items → command ≡ get_or items index command → reached ≡ limit_before command (progress_of now) → reached ≡ Some ending → IsAt context most script index old now → Ends most (script_run context script end_of (progress_of old)) old now ending
+script-limited context most script items index command reached ending old now same within is limit ends at =
+    script-limited-here context most script index command ending old now (subst (λ (l : List Command). index < length l) same within) (sym (subst (λ (l : List Command). command ≡ get_or l index command) same is)) (sym limit ∙ ends) at
+
+pub script-next : (context : Context) (most : ℕ) (script items : List Command) (index : ℕ) (command : Command) (reached : Option Ending) (old now later : Running) → items ≡ script → index < length items → command ≡ get_or items index command → reached ≡ limit_before command (progress_of now) → reached ≡ None → IsAt context most script index old now → Played most (command_run context command) now later → IsAt context most script (index + 1) old later
+script-next context most script items index command reached old now later same within is limit none at played =
+    script-next-here context most script index command old now later (subst (λ (l : List Command). index < length l) same within) (sym (subst (λ (l : List Command). command ≡ get_or l index command) same is)) (sym limit ∙ none) at played
+
+pub script-over : (context : Context) (most : ℕ) (script items : List Command) (index : ℕ) (old now : Running) → items ≡ script → length items ≤ index → IsAt context most script index old now → Ends most (script_run context script end_of (progress_of old)) old now Finished
+script-over context most script items index old now same past at =
+    script-over-here context most script index old now (subst (λ (l : List Command). length l ≤ index) same past) at
 
 -- no limit is want of memory
 pub limit-told : (command : Command) (progress : Progress) (ending : Ending) → limit_before command progress ≡ Some ending → ending ≢ Memory

@@ -1,5 +1,5 @@
 // What is done over a wire: a request goes out, and the head and the body of its answer come in.
-ghost use Rattle.std.specs.Prelude.{◌≡◌, ◌++◌, ◌<◌, [], length, true, false, IfOk, OnOk, OnErr};
+ghost use Rattle.std.specs.Prelude.{◌≡◌, ◌++◌, ◌<◌, ◌≤◌, [], length, drop, true, false, IfOk, OnOk, OnErr};
 ghost use Rattle.wf_http1.specs.Bodies.{body_end};
 ghost use Rattle.wf_script.specs.Valid.{IsValid};
 ghost use Rattle.wf_top.specs.Exchanges as spec;
@@ -98,8 +98,8 @@ impl<'a> Wire<'a> {
         loop {
             match reader.feed(alloc, self.window())? {
                 HeadStep::Final(head, count) => {
-                    self.framing = framing_of(alloc, &head)?;
-                    self.from += count;
+                    let framing = framing_of(alloc, &head)?;
+                    self.begin_body(count, framing);
                     return Ok(Input::HeadIs(head));
                 }
                 HeadStep::Bad => return Ok(self.without_head(Input::HeadBad)),
@@ -112,6 +112,16 @@ impl<'a> Wire<'a> {
                 Err(Failed) => return Ok(self.without_head(Input::Fault)),
             }
         }
+    }
+
+    // The head has ended so many bytes into the window, and a body of this framing follows.
+    fn begin_body(&mut self, count: usize, framing: Framing)
+        requires { count ≤ length (window_of self.old) }
+        ensures { exchange_of self.new ≡ record (exchange_of self.old) {
+            coming = drop count (window_of self.old) ++ self.old.link.left; framing = framing } }
+    {
+        self.from += count;
+        self.framing = framing;
     }
 
     // The wire is closed, since no head came.

@@ -11,6 +11,8 @@ mod status;
 #[cfg(test)]
 mod tests;
 mod wire;
+#[cfg(test)]
+mod wire_tests;
 mod words;
 
 pub use program::fetchplay;

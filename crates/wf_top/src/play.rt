@@ -1,6 +1,7 @@
 ghost use Rattle.std.specs.Prelude.{◌≡◌, ◌≢◌, ◌++◌, None, IfOk, OnOk, IsTrue};
 ghost use Rattle.std.specs.List.{All};
 ghost use Rattle.wf_print.specs.Text.{HasText};
+ghost use Rattle.wf_script.specs.declared.types.Command.TheVariants.{Fetch};
 ghost use Rattle.wf_script.specs.Valid.{IsValid, IsValidDocument, IsValidCommand, IsValidInit};
 ghost use Rattle.wf_types.specs.Requests.{IsClient};
 ghost use Rattle.wf_send.specs.Making.{new_request as request_of};
@@ -14,7 +15,6 @@ ghost use Rattle.wf_top.specs.Exchanges.{Exchanges, idle};
 ghost use Rattle.wf_top.specs.Wires.{exchange_of};
 
 use crate::running::Running;
-use crate::wire::Wire;
 use std::alloc::Global;
 use url::Url;
 use wf_fetch::{Act, Fetching, Input, Step, normalized_init};
@@ -118,8 +118,26 @@ fn run_request(
     }
 }
 
+// A command `fetch`: its request is made and fetched.
+fn run_fetch_command(
+    alloc: Global,
+    setting: &Setting<'_>,
+    running: &mut Running<'_>,
+    document: &Url,
+    init: &Init,
+) -> Result<(), OutOfMemory>
+    requires client { IsClient setting.now.client.now }
+    requires valid { IsValidInit document.now init.now }
+    requires limit { limit_before (Fetch init.now) (progress_of running.old) ≡ None }
+    ensures { OnOk result (Played setting.now.limit
+        (command_run (lent setting.now.client.now setting.now.cookies.now) (Fetch init.now)) running.old running.new) }
+{
+    running.start_fetch()?;
+    let made = requested(alloc, setting.client, document, init)?;
+    run_request(alloc, setting, running, made)
+}
+
 // One command.
-#[tactic(auto, using(crate::proofs::RunLemmas::played_started))]
 fn run_command(
     alloc: Global,
     setting: &Setting<'_>,
@@ -134,11 +152,7 @@ fn run_command(
         (command_run (lent setting.now.client.now setting.now.cookies.now) command.now) running.old running.new) }
 {
     match command {
-        Command::Fetch(init) => {
-            running.start_fetch()?;
-            let made = requested(alloc, setting.client, document, init)?;
-            run_request(alloc, setting, running, made)
-        }
+        Command::Fetch(init) => run_fetch_command(alloc, setting, running, document, init),
     }
 }
 
@@ -184,7 +198,7 @@ fn run_document(
         client: &client,
         cookies: &scenario.cookies,
     };
-    let mut running = Running::new(alloc, Wire::new(alloc, scenario)?);
+    let mut running = Running::new(alloc, scenario)?;
     let ending = run_script(alloc, &setting, &mut running, document)?;
     let key = client.key.copy(alloc)?;
     Ok(Transcript {

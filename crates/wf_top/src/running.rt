@@ -1,10 +1,14 @@
-ghost use Rattle.std.specs.Prelude.{◌≡◌, ◌≤◌, ◌<◌, ◌+◌, ◌++◌, ◌∷◌, [], OnOk};
+ghost use Rattle.std.specs.Prelude.{◌≡◌, ◌≤◌, ◌<◌, ◌+◌, ◌++◌, ◌∷◌, [], IfOk, OnOk};
 ghost use Rattle.wf_print.specs.Lengths.{capped};
+ghost use Rattle.wf_script.specs.Valid.{IsValid};
 ghost use Rattle.wf_fetch.specs.Runs.{text_length};
+ghost use Rattle.wf_top.specs.Exchanges.{idle};
+ghost use Rattle.wf_top.specs.Wires.{exchange_of};
 
 use crate::wire::Wire;
 use std::alloc::Global;
 use wf_print::{Event, Events, event_len};
+use wf_script::Scenario;
 use wf_text::OutOfMemory;
 
 /// Where a document's run stands: how many commands and how many fetches have started, the events so
@@ -23,20 +27,21 @@ pub(crate) struct Running<'a> {
 }
 
 impl<'a> Running<'a> {
-    /// The beginning of a run over a wire.
-    pub(crate) fn new(alloc: Global, wire: Wire<'a>) -> Running<'a>
-        ensures commands { result.commands ≡ 0 }
-        ensures fetches { result.fetches ≡ 0 }
-        ensures events { result.events ≡ [] }
-        ensures wire { result.wire ≡ wire.now }
+    /// The beginning of a run over a new wire to the servers of a scenario.
+    pub(crate) fn new(alloc: Global, scenario: &'a Scenario) -> Result<Running<'a>, OutOfMemory>
+        requires { IsValid scenario.now }
+        ensures commands { IfOk result (λ running. running.commands ≡ 0) }
+        ensures fetches { IfOk result (λ running. running.fetches ≡ 0) }
+        ensures events { IfOk result (λ running. running.events ≡ []) }
+        ensures wire { IfOk result (λ running. exchange_of running.wire ≡ idle scenario.now.servers) }
     {
-        Running {
+        Ok(Running {
             commands: 0,
             fetches: 0,
             events: Events::new(alloc),
             printed: 0,
-            wire,
-        }
+            wire: Wire::new(alloc, scenario)?,
+        })
     }
 
     /// Adds an event.

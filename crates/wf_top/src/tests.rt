@@ -9,7 +9,7 @@ use wf_text::{Bytes, OutOfMemory};
 
 /// What a run came to: its status, and what the output and the complaints have taken.
 #[derive(Drop)]
-struct Ran {
+pub(crate) struct Ran {
     status: Status,
     output: MemorySink,
     complaints: MemorySink,
@@ -17,14 +17,14 @@ struct Ran {
 
 /// The calls that fail, or take nothing, in a run.
 #[derive(Clone, Copy)]
-struct Faults<'a> {
+pub(crate) struct Faults<'a> {
     reads: &'a [u64],
     writes: &'a [u64],
     zeros: &'a [u64],
     complaints: &'a [u64],
 }
 
-const NONE: Faults<'static> = Faults {
+pub(crate) const NONE: Faults<'static> = Faults {
     reads: &[],
     writes: &[],
     zeros: &[],
@@ -63,7 +63,7 @@ fn run<R: Threads + Wait + Sync + AllocGlobal>(
     })
 }
 
-fn play<R: Threads + Wait + Sync + AllocGlobal>(
+pub(crate) fn play<R: Threads + Wait + Sync + AllocGlobal>(
     rt: &R,
     text: &[u8],
     faults: Faults<'_>,
@@ -74,7 +74,7 @@ fn play<R: Threads + Wait + Sync + AllocGlobal>(
 }
 
 // The run came to this status, output and complaints.
-fn check(rt: &impl Abort, ran: &Ran, status: u8, output: &[u8], complaints: &[u8]) {
+pub(crate) fn check(rt: &impl Abort, ran: &Ran, status: u8, output: &[u8], complaints: &[u8]) {
     assert_eq!(rt; ran.status.number(), status);
     assert_eq!(rt; ran.output.taken(), output);
     assert_eq!(rt; ran.complaints.taken(), complaints);
@@ -130,7 +130,7 @@ fn another_origin_is_refused_and_nothing_is_sent(rt: HostRuntime) -> Result<(), 
 }
 
 // The text of a play whose one fetch, of `/`, ends by these lines.
-fn sent_and(alloc: Global, lines: &[u8]) -> Result<Bytes, OutOfMemory> {
+pub(crate) fn sent_and(alloc: Global, lines: &[u8]) -> Result<Bytes, OutOfMemory> {
     let mut text = Bytes::of(
         alloc,
         b"fetchplay 1\ndocument 0 https://a.test\nfetch 0\nsend https://a.test\n  GET / HTTP/1.1\n  Host: a.test\n  Accept: */*\n  User-Agent: fetchplay/1\n  Accept-Encoding: identity\n  Connection: close\n",
