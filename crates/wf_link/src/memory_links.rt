@@ -74,9 +74,9 @@ impl Links for MemoryLinks {
     /// The next link, or `OutOfMemory` where none is left.
     fn make(
         &mut self,
-        alloc: Global,
-        document: u32,
-        routes: &Routes,
+        _alloc: Global,
+        _document: u32,
+        _routes: &Routes,
     ) -> Result<MemoryLink, OutOfMemory>
         ensures told { IfOk result (λ link. IsTold (slice_get self.old.waiting 0) link) }
         ensures later { IfOk result (λ _. (k : ℕ) → slice_get self.new.waiting k ≡ slice_get self.old.waiting (k + 1)) }
