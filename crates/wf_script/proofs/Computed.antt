@@ -103,7 +103,7 @@ computes-fetch = refl
 -- two headers and a body
 pub computes-answer_bytes : answer_bytes 200 (record { name = codes "A"; value = codes "1" } ∷ record { name = codes "B"; value = [] } ∷ []) (codes "hi")
     ≡ codes "HTTP/1.1 200 Scripted\r\nA: 1\r\nB: \r\n\r\nhi"
-unfolding serde_json_on_literals
+unfolding url_on_literals
 computes-answer_bytes = refl
 
 -- two servers of one origin: the first has a rule for one method, and one for one path
