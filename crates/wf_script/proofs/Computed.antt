@@ -13,7 +13,9 @@ use Rattle.wf_types.specs.declared.mode.ReferrerPolicy.TheVariants as policy
 use Rattle.wf_script.specs.declared.types.Command.TheVariants.{Fetch}
 use Rattle.wf_script.specs.declared.types.Scenario.{Scenario}
 use Rattle.wf_script.specs.declared.types.Place.{Place}
+use Rattle.wf_script.specs.declared.types.Server.{Server}
 use Rattle.wf_script.specs.Scenarios.{scenario_of}
+use Rattle.wf_script.specs.Servers.{answer, answer_bytes}
 
 abbrev refused : List ℕ → Result Scenario Place
 refused place = Err (record { text = place })
@@ -97,3 +99,24 @@ pub computes-fetch : scenario_of (with_command (codes "{\"fetch\":{\"url\":\"/x\
     })
 unfolding url_on_literals serde_json_on_literals is_utf8 chars
 computes-fetch = refl
+
+-- two headers and a body
+pub computes-answer_bytes : answer_bytes 200 (record { name = codes "A"; value = codes "1" } ∷ record { name = codes "B"; value = [] } ∷ []) (codes "hi")
+    ≡ codes "HTTP/1.1 200 Scripted\r\nA: 1\r\nB: \r\n\r\nhi"
+unfolding url_on_literals
+computes-answer_bytes = refl
+
+-- two servers of one origin: the first has a rule for one method, and one for one path
+abbrev servers : List Server
+servers =
+    record {
+      origin = codes "https://a.test";
+      rules = record { method = Some (codes "PUT"); path = None; answer = codes "1" } ∷ record { method = None; path = Some (codes "/x"); answer = codes "2" } ∷ [];
+    }
+    ∷ record { origin = codes "https://a.test"; rules = record { method = None; path = None; answer = codes "3" } ∷ [] } ∷ []
+
+pub computes-answer : (answer servers (codes "https://a.test") (codes "PUT") (codes "/x") ≡ codes "1")
+    × (answer servers (codes "https://a.test") (codes "GET") (codes "/x") ≡ codes "2")
+    × (answer servers (codes "https://a.test") (codes "put") (codes "/") ≡ codes "HTTP/1.1 404 Scripted\r\n\r\n")
+    × (answer servers (codes "https://b.test") (codes "PUT") (codes "/x") ≡ [])
+computes-answer = (refl, refl, refl, refl)

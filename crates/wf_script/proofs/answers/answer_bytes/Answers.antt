@@ -1,4 +1,4 @@
-use Rattle.std.proofs.Common.{◌≡◌, ◌∙◌, ◌++◌, ℕ, List, ap, codes}
+use Rattle.std.proofs.Common.{◌∙◌, ◌++◌, ℕ, List, ap, codes}
 use Rattle.std.specs.List.{flat_map}
 use Rattle.wf_script.specs.Servers.{header_line}
 use Rattle.wf_script.proofs.AnswerLemmas.{added-four}

@@ -1,4 +1,4 @@
-use Rattle.std.proofs.Common.{◌≡◌, ℕ, List, ap, arith, length}
+use Rattle.std.proofs.Common.{List, ap, arith, length}
 use Rattle.std.specs.List.{flat_map}
 use Rattle.wf_types.specs.declared.init.Pair.{Pair}
 use Rattle.wf_script.specs.Servers.{header_line}

@@ -1,4 +1,4 @@
-use Rattle.std.proofs.Common.{◌≡◌, codes}
+use Rattle.std.proofs.Common.{codes}
 use Rattle.wf_script.proofs.AnswerLemmas.{added-three}
 use Rattle.wf_script.proofs.answers.put_status_line.Goals as goal
 
