@@ -1,13 +1,13 @@
 -- What decides a body, and what does not.
-use Rattle.std.proofs.Common.{arith, inl, inr, ◌≡◌, ◌≢◌, ◌≤◌, ◌<◌, ◌⊎◌, ◌+◌, ◌*◌, ◌==◌, ℕ, zero, suc, List, [], ◌∷◌, ◌++◌, take, length, refl, sym, ap, subst, ◌∙◌, Bool, true, false, nat_le, append_assoc, length-append, if◌then◌else◌}
-use Rattle.std.proofs.lemmas.Bool.Decides.{eqb_tells, leb_tells}
+use Rattle.std.proofs.Common.{arith, inl, inr, ◌≡◌, ◌≢◌, ◌≤◌, ◌<◌, ◌⊎◌, ◌+◌, ◌*◌, ℕ, zero, suc, List, [], ◌∷◌, ◌++◌, take, length, refl, sym, ap, subst, ◌∙◌, Bool, true, false, nat_le, append_assoc, length-append, if◌then◌else◌}
+use Rattle.std.proofs.lemmas.Bool.Decides.{leb_tells}
 use Rattle.std.proofs.lemmas.List.{append-nil}
 use Rattle.wf_types.specs.declared.response.BodyEnd.{BodyEnd}
-use Rattle.wf_types.specs.declared.response.BodyEnd.TheVariants.{Null, Whole, Cut, Fault, TooBig}
+use Rattle.wf_types.specs.declared.response.BodyEnd.TheVariants.{Whole, Cut, TooBig}
 use Rattle.wf_http1.specs.Bodies.{ended, body_end, IsDecided, IsOpen}
 use Rattle.wf_http1.specs.BodyPlaces.{Comes, IsKept, IsOn, IsReading, IsWaiting, rest_end}
 use Rattle.wf_http1.specs.BodyReading.{BodyReading}
-use Rattle.wf_http1.specs.Chunks.{Decoded, onto}
+use Rattle.wf_http1.specs.Chunks.{Decoded}
 use Rattle.wf_http1.specs.Places.{decoded_at}
 use Rattle.wf_http1.specs.declared.framing.Framing.{Framing}
 use Rattle.wf_http1.specs.declared.framing.Framing.TheVariants.{Nothing, Chunked, Length, ToEnd, Broken}

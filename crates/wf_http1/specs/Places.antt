@@ -1,6 +1,6 @@
 -- What the places of a reader of a chunked body mean: what the bytes that follow come to there (RFC
 -- 9112, section 7.1). The coding itself stands in `Chunks`.
-use Rattle.std.specs.Prelude.{ℕ, zero, suc, ◌+◌, ◌-◌, ◌*◌, ◌^◌, ◌≤◌, ◌<◌, Bool, true, false, ◌||◌, ◌==◌, nat_le, List, [], ◌∷◌, if◌then◌else◌}
+use Rattle.std.specs.Prelude.{ℕ, ◌+◌, ◌-◌, ◌*◌, ◌^◌, ◌≤◌, ◌<◌, true, ◌||◌, ◌==◌, nat_le, List, [], ◌∷◌, if◌then◌else◌}
 use Rattle.std.specs.Char.{digit_value, is_ascii_hexdigit}
 use Rattle.wf_http1.specs.Chunks.{Decoded, broken, onto}
 use Rattle.wf_http1.specs.declared.place.Place.{Place}
