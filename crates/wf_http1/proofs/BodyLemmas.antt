@@ -173,11 +173,6 @@ read-on how limit bytes piece held held' room room' place place' reading on = re
   kept = kept-waiting how held' place' on.waiting;
 }
 
-pub decides-piece : (how : Framing) (limit : ℕ) (bytes piece held : List ℕ) (room : ℕ) (place : Place) (end : BodyEnd) → IsReading how limit bytes held room place
-    → ((more : List ℕ) → rest_end how limit held place (piece ++ more) ≡ end) → IsDecided how limit (bytes ++ piece) end
-decides-piece how limit bytes piece held room place end reading comes more =
-    ap (body_end how limit) (append_assoc bytes piece more) ∙ reading.meaning (piece ++ more) ∙ comes more
-
 -- a reader that begins
 pub begins : (how : Framing) (limit : ℕ) (bytes held : List ℕ) (room : ℕ) → bytes ≡ [] → held ≡ [] → limit ≤ room → IsReading how limit bytes held room (Size 0 0)
 begins how limit bytes held room no_bytes none reserved = rw (no_bytes, none) record {

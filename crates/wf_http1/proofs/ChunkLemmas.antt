@@ -17,9 +17,6 @@ use Rattle.wf_http1.proofs.PlaceLemmas.{choice}
 
 -- ---- tests
 
-holds_eq : (m n : ℕ) → m ≡ n → (m == n) ≡ true
-holds_eq m n same = elim (eqb_tells m n) [ inl h ↦ h.0 | inr other ↦ absurd (other.1 same) ]
-
 pub fails_eq : (m n : ℕ) → m ≢ n → (m == n) ≡ false
 fails_eq m n other = elim (eqb_tells m n) [ inl h ↦ absurd (other h.1) | inr h ↦ h.0 ]
 
@@ -368,9 +365,6 @@ extension-decoded (byte ∷ rest) size line within =
 
 -- ---- blanks
 
-abbrev is_blank : ℕ → Bool
-is_blank byte = byte == 9 || byte == 32
-
 -- a blank in front is trimmed
 trimmed-blank : (byte : ℕ) (text : List ℕ) → (byte ≡ 9) ⊎ (byte ≡ 32) → trimmed_start tab_or_space (byte ∷ text) ≡ trimmed_start tab_or_space text
 trimmed-blank byte text (inl tab) = rw tab refl
@@ -379,10 +373,7 @@ trimmed-blank byte text (inr space) = rw space refl
 trimmed-other : (byte : ℕ) (text : List ℕ) → byte ≢ 9 → byte ≢ 32 → trimmed_start tab_or_space (byte ∷ text) ≡ byte ∷ text
 trimmed-other byte text no_tab no_space = rw (fails_eq 9 byte (λ e. no_tab (sym e)), fails_eq 32 byte (λ e. no_space (sym e))) refl
 
--- whether what follows a size fits
-abbrev fits_behind : ℕ → List ℕ → Bool
-fits_behind line text = is_extension (trimmed_start tab_or_space text) && nat_le (line + length text + 2) 4096
-
+-- the size and the rest, where a test holds
 abbrev given : ℕ → List ℕ → Bool → Option (ℕ × List ℕ)
 given size r test = if test then Some (size, r) else None
 

@@ -4,7 +4,7 @@ use Rattle.std.proofs.lemmas.Bool.Decides.{eqb_tells, leb_tells}
 use Rattle.std.proofs.lemmas.List.{length-take-le, take-append-drop}
 use Rattle.std.proofs.Math.Seq.{take-length}
 use Rattle.wf_types.specs.declared.response.BodyEnd.{BodyEnd}
-use Rattle.wf_types.specs.declared.response.BodyEnd.TheVariants.{Whole, Cut, TooBig}
+use Rattle.wf_types.specs.declared.response.BodyEnd.TheVariants.{TooBig}
 use Rattle.wf_http1.specs.Bodies.{ended}
 use Rattle.wf_http1.specs.BodyPlaces.{IsOn}
 use Rattle.wf_http1.specs.Chunks.{Decoded, onto}
@@ -18,11 +18,6 @@ use Rattle.wf_http1.proofs.ChunkLemmas.{data-byte}
 use Rattle.wf_http1.proofs.PlaceLemmas.{IsTurnLive, exceeds, turn-live}
 
 -- ---- ends
-
--- within the limit
-pub ended-within : (limit : ℕ) (complete : Bool) (held : List ℕ) → length held ≤ limit → ended limit complete held ≡ (if complete then Whole held else Cut (length held))
-ended-within limit complete held within =
-    elim (leb_tells (suc limit) (length held)) [ inl beyond ↦ absurd (omega (arith, beyond.1, within)) | inr below ↦ rw below.0 refl ]
 
 -- beyond it, whatever follows
 pub ended-beyond : (limit : ℕ) (complete : Bool) (held more : List ℕ) → limit < length held → ended limit complete (held ++ more) ≡ TooBig
