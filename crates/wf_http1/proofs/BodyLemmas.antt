@@ -1,13 +1,13 @@
 -- What decides a body, and what does not.
-use Rattle.std.proofs.Common.{arith, inl, inr, ◌≡◌, ◌≢◌, ◌≤◌, ◌<◌, ◌⊎◌, ◌+◌, ◌*◌, ◌==◌, ℕ, zero, suc, List, [], ◌∷◌, ◌++◌, take, length, refl, sym, ap, subst, ◌∙◌, Bool, true, false, nat_le, append_assoc, length-append, if◌then◌else◌}
-use Rattle.std.proofs.lemmas.Bool.Decides.{eqb_tells, leb_tells}
+use Rattle.std.proofs.Common.{arith, inl, inr, ◌≡◌, ◌≢◌, ◌≤◌, ◌<◌, ◌⊎◌, ◌+◌, ◌*◌, ℕ, zero, suc, List, [], ◌∷◌, ◌++◌, take, length, refl, sym, ap, subst, ◌∙◌, Bool, true, false, nat_le, append_assoc, length-append, if◌then◌else◌}
+use Rattle.std.proofs.lemmas.Bool.Decides.{leb_tells}
 use Rattle.std.proofs.lemmas.List.{append-nil}
 use Rattle.wf_types.specs.declared.response.BodyEnd.{BodyEnd}
-use Rattle.wf_types.specs.declared.response.BodyEnd.TheVariants.{Null, Whole, Cut, Fault, TooBig}
+use Rattle.wf_types.specs.declared.response.BodyEnd.TheVariants.{Whole, Cut, TooBig}
 use Rattle.wf_http1.specs.Bodies.{ended, body_end, IsDecided, IsOpen}
 use Rattle.wf_http1.specs.BodyPlaces.{Comes, IsKept, IsOn, IsReading, IsWaiting, rest_end}
 use Rattle.wf_http1.specs.BodyReading.{BodyReading}
-use Rattle.wf_http1.specs.Chunks.{Decoded, onto}
+use Rattle.wf_http1.specs.Chunks.{Decoded}
 use Rattle.wf_http1.specs.Places.{decoded_at}
 use Rattle.wf_http1.specs.declared.framing.Framing.{Framing}
 use Rattle.wf_http1.specs.declared.framing.Framing.TheVariants.{Nothing, Chunked, Length, ToEnd, Broken}
@@ -172,11 +172,6 @@ read-on how limit bytes piece held held' room room' place place' reading on = re
   reserved = on.reserved;
   kept = kept-waiting how held' place' on.waiting;
 }
-
-pub decides-piece : (how : Framing) (limit : ℕ) (bytes piece held : List ℕ) (room : ℕ) (place : Place) (end : BodyEnd) → IsReading how limit bytes held room place
-    → ((more : List ℕ) → rest_end how limit held place (piece ++ more) ≡ end) → IsDecided how limit (bytes ++ piece) end
-decides-piece how limit bytes piece held room place end reading comes more =
-    ap (body_end how limit) (append_assoc bytes piece more) ∙ reading.meaning (piece ++ more) ∙ comes more
 
 -- a reader that begins
 pub begins : (how : Framing) (limit : ℕ) (bytes held : List ℕ) (room : ℕ) → bytes ≡ [] → held ≡ [] → limit ≤ room → IsReading how limit bytes held room (Size 0 0)

@@ -1,25 +1,21 @@
 -- The places of a reader of chunks decode what the chunked coding says.
-use Rattle.std.proofs.Common.{arith, inl, inr, ◌≡◌, ◌≢◌, ◌≤◌, ◌<◌, ◌⊎◌, ◌+◌, ◌*◌, ◌-◌, ◌==◌, ◌&&◌, ◌||◌, ℕ, zero, suc, List, [], ◌∷◌, ◌++◌, take, drop, length, refl, sym, ap, subst, ◌∙◌, Bool, true, false, not, nat_le, Option, Some, None, option_map, length-drop, if◌then◌else◌}
+use Rattle.std.proofs.Common.{arith, inl, inr, ◌≡◌, ◌≢◌, ◌≤◌, ◌<◌, ◌⊎◌, ◌+◌, ◌*◌, ◌-◌, ◌==◌, ◌&&◌, ◌||◌, ℕ, zero, suc, List, [], ◌∷◌, take, drop, length, refl, sym, ap, ◌∙◌, Bool, true, false, not, nat_le, Option, Some, None, option_map, length-drop, if◌then◌else◌}
 use Rattle.std.specs.Option.{option_and_then}
-use Rattle.std.proofs.lemmas.Bool.Decides.{eqb_tells, leb_tells, nat_tests}
+use Rattle.std.proofs.lemmas.Bool.Decides.{eqb_tells, leb_tells}
 use Rattle.std.proofs.lemmas.Grind.{common_steps}
 use Rattle.std.proofs.lemmas.List.Sums.{take_while-cons}
 use Rattle.std.specs.Char.{digit_value, is_ascii_hexdigit}
-use Rattle.std.specs.List.{take_while}
 use Rattle.std.specs.Str.Parse.{digits_value_after}
 use Rattle.wf_text.specs.Trims.{tab_or_space, trimmed_start}
 use Rattle.wf_http1.specs.Chunks.{Decoded, behind_crlf, line_of, cut_line, size_digits, is_extension, is_size_line, size_and_rest, cut_size, behind_trailer, trailers_length, are_short, has_trailers, broken, onto, behind_data, behind_size, decoded_from, decoded}
 use Rattle.wf_http1.specs.declared.place.Place.{Place}
-use Rattle.wf_http1.specs.declared.place.Place.TheVariants.{Size, Blanks, Extension, LineEnd, Data, DataEnd, Trailers, Trailer, TrailerEnd, LastEnd}
+use Rattle.wf_http1.specs.declared.place.Place.TheVariants.{Size, Blanks, Extension, LineEnd, Data, Trailers, Trailer, TrailerEnd, LastEnd}
 use Rattle.wf_http1.specs.declared.place.Turn.{Turn}
-use Rattle.wf_http1.specs.declared.place.Turn.TheVariants.{To, Ended, Broken}
-use Rattle.wf_http1.specs.Places.{decoded_at, behind_turn, behind_line, behind_digits, in_size, in_extension, at_trailer, IsLive}
-use Rattle.wf_http1.proofs.PlaceLemmas.{choice, differs, exceeds}
+use Rattle.wf_http1.specs.declared.place.Turn.TheVariants.{To, Broken}
+use Rattle.wf_http1.specs.Places.{decoded_at, behind_turn, behind_line, behind_digits, in_size, in_extension, at_trailer}
+use Rattle.wf_http1.proofs.PlaceLemmas.{choice}
 
 -- ---- tests
-
-holds_eq : (m n : ℕ) → m ≡ n → (m == n) ≡ true
-holds_eq m n same = elim (eqb_tells m n) [ inl h ↦ h.0 | inr other ↦ absurd (other.1 same) ]
 
 pub fails_eq : (m n : ℕ) → m ≢ n → (m == n) ≡ false
 fails_eq m n other = elim (eqb_tells m n) [ inl h ↦ absurd (other h.1) | inr h ↦ h.0 ]
@@ -369,9 +365,6 @@ extension-decoded (byte ∷ rest) size line within =
 
 -- ---- blanks
 
-abbrev is_blank : ℕ → Bool
-is_blank byte = byte == 9 || byte == 32
-
 -- a blank in front is trimmed
 trimmed-blank : (byte : ℕ) (text : List ℕ) → (byte ≡ 9) ⊎ (byte ≡ 32) → trimmed_start tab_or_space (byte ∷ text) ≡ trimmed_start tab_or_space text
 trimmed-blank byte text (inl tab) = rw tab refl
@@ -380,10 +373,7 @@ trimmed-blank byte text (inr space) = rw space refl
 trimmed-other : (byte : ℕ) (text : List ℕ) → byte ≢ 9 → byte ≢ 32 → trimmed_start tab_or_space (byte ∷ text) ≡ byte ∷ text
 trimmed-other byte text no_tab no_space = rw (fails_eq 9 byte (λ e. no_tab (sym e)), fails_eq 32 byte (λ e. no_space (sym e))) refl
 
--- whether what follows a size fits
-abbrev fits_behind : ℕ → List ℕ → Bool
-fits_behind line text = is_extension (trimmed_start tab_or_space text) && nat_le (line + length text + 2) 4096
-
+-- the size and the rest, where a test holds
 abbrev given : ℕ → List ℕ → Bool → Option (ℕ × List ℕ)
 given size r test = if test then Some (size, r) else None
 

@@ -1,5 +1,5 @@
 -- Digits write one number exactly where they are equal without the zeros in front.
-use Rattle.std.proofs.Common.{arith, inl, inr, ◌≡◌, ◌≤◌, ◌<◌, ◌+◌, ◌*◌, ◌-◌, ◌==◌, ◌&&◌, ◌∷◌, [], ℕ, zero, suc, List, length, refl, sym, ap, subst, ◌∙◌, Bool, true, false, drop, Some, IsTrue}
+use Rattle.std.proofs.Common.{arith, inl, inr, ◌≡◌, ◌≤◌, ◌<◌, ◌+◌, ◌*◌, ◌-◌, ◌==◌, ◌&&◌, ◌∷◌, [], ℕ, zero, suc, List, length, refl, sym, ap, subst, ◌∙◌, Bool, true, false, drop, Some}
 use Rattle.std.specs.Bool.{Decides}
 use Rattle.std.proofs.lemmas.Bool.Decides.{eqb_tells, leb_tells, Decides-eqb, same_from_decides}
 use Rattle.std.proofs.lemmas.Slice.Eq.{bytes_eq-Decides}

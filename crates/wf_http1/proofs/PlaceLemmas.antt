@@ -8,7 +8,7 @@ use Rattle.wf_http1.specs.declared.place.Place.{Place}
 use Rattle.wf_http1.specs.declared.place.Place.TheVariants.{Size, Blanks, Extension, LineEnd, Data, DataEnd, Trailers, Trailer, TrailerEnd, LastEnd}
 use Rattle.wf_http1.specs.declared.place.Turn.{Turn}
 use Rattle.wf_http1.specs.declared.place.Turn.TheVariants.{To}
-use Rattle.wf_http1.specs.Places.{IsLive, turn, in_size, in_extension, behind_digits, behind_line, at_trailer, line_feed, carriage_return}
+use Rattle.wf_http1.specs.Places.{IsLive, turn, in_size, in_extension, behind_digits, behind_line, at_trailer, line_feed}
 
 pub digit-most : (byte : ℕ) → is_ascii_hexdigit byte ≡ true → digit_value byte ≤ 15
 digit-most byte digit = grind (arith, common_steps)

@@ -1,29 +1,23 @@
 -- What is left of a piece comes to the same end behind a byte, or behind data, as before it.
-use Rattle.std.proofs.Common.{arith, inl, inr, ◌≡◌, ◌≢◌, ◌≤◌, ◌<◌, ◌+◌, ◌-◌, ◌==◌, ℕ, zero, suc, List, [], ◌∷◌, ◌++◌, take, drop, length, refl, sym, ap, subst, ◌∙◌, Bool, true, false, nat_le, min, get_or, true≢false, append_assoc, length-append, if◌then◌else◌}
-use Rattle.std.proofs.lemmas.Bool.Decides.{eqb_tells, leb_tells, nat_tests}
-use Rattle.std.proofs.lemmas.Grind.{common_steps}
-use Rattle.std.proofs.lemmas.List.{append-nil, length-take-le, take-append-drop}
+use Rattle.std.proofs.Common.{arith, inl, inr, ◌≡◌, ◌≤◌, ◌<◌, ◌+◌, ◌-◌, ◌==◌, ℕ, zero, suc, List, [], ◌∷◌, ◌++◌, take, drop, length, refl, sym, ap, subst, ◌∙◌, Bool, true, false, nat_le, min, get_or, true≢false, append_assoc, length-append, if◌then◌else◌}
+use Rattle.std.proofs.lemmas.Bool.Decides.{eqb_tells, leb_tells}
+use Rattle.std.proofs.lemmas.List.{length-take-le, take-append-drop}
 use Rattle.std.proofs.Math.Seq.{take-length}
 use Rattle.wf_types.specs.declared.response.BodyEnd.{BodyEnd}
-use Rattle.wf_types.specs.declared.response.BodyEnd.TheVariants.{Whole, Cut, TooBig}
+use Rattle.wf_types.specs.declared.response.BodyEnd.TheVariants.{TooBig}
 use Rattle.wf_http1.specs.Bodies.{ended}
 use Rattle.wf_http1.specs.BodyPlaces.{IsOn}
-use Rattle.wf_http1.specs.Chunks.{Decoded, broken, onto}
-use Rattle.wf_http1.specs.Places.{decoded_at, behind_byte, behind_turn, data_left, turn, IsLive}
+use Rattle.wf_http1.specs.Chunks.{Decoded, onto}
+use Rattle.wf_http1.specs.Places.{decoded_at, behind_turn, data_left, turn}
 use Rattle.wf_http1.specs.declared.framing.Framing.TheVariants.{Chunked}
 use Rattle.wf_http1.specs.declared.place.Place.{Place}
 use Rattle.wf_http1.specs.declared.place.Place.TheVariants.{Size, Blanks, Extension, LineEnd, Data, DataEnd, Trailers, Trailer, TrailerEnd, LastEnd}
 use Rattle.wf_http1.specs.declared.place.Turn.{Turn}
-use Rattle.wf_http1.specs.declared.place.Turn.TheVariants.{To, Ended, Broken}
+use Rattle.wf_http1.specs.declared.place.Turn.TheVariants.{To}
 use Rattle.wf_http1.proofs.ChunkLemmas.{data-byte}
 use Rattle.wf_http1.proofs.PlaceLemmas.{IsTurnLive, exceeds, turn-live}
 
 -- ---- ends
-
--- within the limit
-pub ended-within : (limit : ℕ) (complete : Bool) (held : List ℕ) → length held ≤ limit → ended limit complete held ≡ (if complete then Whole held else Cut (length held))
-ended-within limit complete held within =
-    elim (leb_tells (suc limit) (length held)) [ inl beyond ↦ absurd (omega (arith, beyond.1, within)) | inr below ↦ rw below.0 refl ]
 
 -- beyond it, whatever follows
 pub ended-beyond : (limit : ℕ) (complete : Bool) (held more : List ℕ) → limit < length held → ended limit complete (held ++ more) ≡ TooBig

@@ -1,6 +1,6 @@
 -- What the places of a reader of a chunked body mean: what the bytes that follow come to there (RFC
 -- 9112, section 7.1). The coding itself stands in `Chunks`.
-use Rattle.std.specs.Prelude.{ℕ, zero, suc, ◌+◌, ◌-◌, ◌*◌, ◌^◌, ◌≤◌, ◌<◌, Bool, true, false, ◌||◌, ◌==◌, nat_le, List, [], ◌∷◌, if◌then◌else◌}
+use Rattle.std.specs.Prelude.{ℕ, ◌+◌, ◌-◌, ◌*◌, ◌^◌, ◌≤◌, ◌<◌, true, ◌||◌, ◌==◌, nat_le, List, [], ◌∷◌, if◌then◌else◌}
 use Rattle.std.specs.Char.{digit_value, is_ascii_hexdigit}
 use Rattle.wf_http1.specs.Chunks.{Decoded, broken, onto}
 use Rattle.wf_http1.specs.declared.place.Place.{Place}
@@ -16,7 +16,7 @@ line_feed byte turn = if byte == 10 then turn else Broken
 abbrev pub carriage_return : ℕ → Turn → Turn
 carriage_return byte turn = if byte == 13 then turn else Broken
 
--- a blank, a semicolon, or the end of the line
+-- a blank, a semicolon, or the end of the line; 4,094 bytes leave room for its CRLF alone
 abbrev pub behind_digits : ℕ → ℕ → ℕ → Turn
 behind_digits size line byte =
     if byte == 13 then To (LineEnd size)
@@ -32,7 +32,7 @@ in_size digits value byte =
     else if digits == 0 then Broken
     else behind_digits value digits byte
 
--- a byte of an extension, or the end of the line
+-- a byte of an extension, or the end of the line; 4,094 bytes leave room for its CRLF alone
 abbrev pub in_extension : ℕ → ℕ → ℕ → Turn
 in_extension size line byte =
     if byte == 13 then To (LineEnd size)
@@ -44,7 +44,8 @@ in_extension size line byte =
 abbrev pub behind_line : ℕ → Place
 behind_line size = if size == 0 then Trailers 0 else Data size
 
--- a byte of a line of the trailers, or the CR that leads to this place
+-- a byte of a line of the trailers, or the CR that leads to this place; 8,188 bytes leave room for the CRLF of
+-- the line and that of the empty line alone
 abbrev pub at_trailer : ℕ → ℕ → Place → Turn
 at_trailer byte bytes end =
     if byte == 13 then To end
