@@ -1,8 +1,8 @@
 //! Scenarios that are read, and the places of texts that are refused.
-use crate::types::{Command, Scenario, Servers};
+use crate::types::{Command, Scenario, Server, Servers};
 use std::alloc::Global;
 use std::test::Fail;
-use wf_text::OutOfMemory;
+use wf_text::{Bytes, Items, OutOfMemory};
 use wf_types::{Credentials, Mode, RedirectMode, ReferrerPolicy};
 
 // A scenario that has each key once.
@@ -266,6 +266,22 @@ fn the_first_server_and_the_first_rule_that_fits_answer(rt: HostRuntime) -> Resu
             "{expected:?}"
         );
     }
+    Ok(())
+}
+
+#[test]
+fn servers_keep_what_is_pushed(rt: HostRuntime) -> Result<(), Fail> {
+    let mut servers = Servers::new(rt.alloc());
+    servers.push(Server {
+        origin: Bytes::of(rt.alloc(), b"https://a.test")?,
+        rules: Items::new(rt.alloc()),
+    })?;
+    assert_eq!(rt; servers.len(), 1);
+    assert_eq!(rt;
+        servers.at(0).origin.as_slice(),
+        b"https://a.test".as_slice()
+    );
+    assert_eq!(rt; servers.as_slice().len(), 1);
     Ok(())
 }
 
