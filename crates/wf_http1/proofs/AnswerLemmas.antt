@@ -1,11 +1,11 @@
 -- What the head of an answer comes to, where more bytes follow.
 use Rattle.std.proofs.Common.{◌≡◌, ◌<◌, ◌⊎◌, inl, inr, ℕ, List, [], ◌++◌, take, refl, sym, subst, arith, length-append}
-use Rattle.std.proofs.lemmas.List.{take-append-le}
+use Rattle.std.proofs.lemmas.List.{take-append-le, take-take}
 use Rattle.wf_types.specs.declared.hop.Head.{Head}
 use Rattle.std.proofs.lemmas.Bool.{cases_order}
 use Rattle.wf_http1.proofs.BlockLemmas.{quiet-nil}
 use Rattle.wf_http1.proofs.SkipLemmas.{final-one, skips-none, undecided}
-use Rattle.wf_http1.specs.Answers.{IsUnfinished, Decides, HasBadBlock, IsDecidedAt, IsFinal, IsTooLong, IsUndecided, most_bytes}
+use Rattle.wf_http1.specs.Answers.{bad, final, HeadEnd, IsHeadEnd, long, IsUnfinished, Decides, HasBadBlock, IsDecidedAt, IsFinal, IsTooLong, IsUndecided, most_bytes}
 use Rattle.wf_http1.specs.Heads.{EndsFinal}
 
 decided-more : (bytes more : List ℕ) (n : ℕ) → IsDecidedAt bytes n → IsDecidedAt (bytes ++ more) n
@@ -25,11 +25,11 @@ final-more bytes more head n is = record {
 
 -- so does a block that is no head
 pub bad-more : (bytes more : List ℕ) → HasBadBlock bytes → HasBadBlock (bytes ++ more)
-bad-more bytes more bad = (
-  bad.0,
+bad-more bytes more there = (
+  there.0,
   record {
-    decided = decided-more bytes more bad.0 bad.1.decided;
-    no_head = λ head. subst (λ (l : List ℕ). ¬ (EndsFinal l head)) (sym (take-append-le bad.0 bytes more bad.1.decided.within)) (bad.1.no_head head);
+    decided = decided-more bytes more there.0 there.1.decided;
+    no_head = λ head. subst (λ (l : List ℕ). ¬ (EndsFinal l head)) (sym (take-append-le there.0 bytes more there.1.decided.within)) (there.1.no_head head);
   },
 )
 
@@ -62,3 +62,35 @@ pub final-head-one : (bytes : List ℕ) (a b : Head) (n m : ℕ) → IsFinal byt
 final-head-one bytes a b n m one other =
     let same : n ≡ m = decided-one bytes n m one.decided other.decided in
     (final-one (take m bytes) a b (subst (λ (k : ℕ). EndsFinal (take k bytes) a) same one.final) other.final, same)
+
+-- ---- the end of the head is one
+
+decided-early : (bytes : List ℕ) (n : ℕ) → IsDecidedAt bytes n → IsUndecided bytes → ⊥
+decided-early bytes n at none = none n at.decides
+
+decided-long : (bytes : List ℕ) (n : ℕ) → IsDecidedAt bytes n → IsTooLong bytes → ⊥
+decided-long bytes n at is = is.undecided n (subst (λ (l : List ℕ). Decides l) (sym (take-take n most_bytes bytes at.few)) at.decides)
+
+final-not-bad : (bytes : List ℕ) (head : Head) (n : ℕ) → IsFinal bytes head n → HasBadBlock bytes → ⊥
+final-not-bad bytes head n is other =
+    let same : n ≡ other.0 = decided-one bytes n other.0 is.decided other.1.decided in
+    other.1.no_head head (subst (λ (k : ℕ). EndsFinal (take k bytes) head) same is.final)
+
+long-not-short : (bytes : List ℕ) → IsTooLong bytes → IsUnfinished bytes → ⊥
+long-not-short bytes is none = absurd (omega (arith, is.long, none.short))
+
+-- what the head of an answer comes to is one
+pub head-end-one : (bytes : List ℕ) (a b : HeadEnd) → IsHeadEnd bytes a → IsHeadEnd bytes b → a ≡ b
+head-end-one bytes (final a n) (final b m) is also = let same = final-head-one bytes a b n m is also in λ i. final (same.0 i) (same.1 i)
+head-end-one bytes (final a n) bad is (inl also) = absurd (final-not-bad bytes a n is also)
+head-end-one bytes (final a n) bad is (inr also) = absurd (decided-early bytes n is.decided also.undecided)
+head-end-one bytes (final a n) long is also = absurd (decided-long bytes n is.decided also)
+head-end-one bytes bad (final b m) (inl is) also = absurd (final-not-bad bytes b m also is)
+head-end-one bytes bad (final b m) (inr is) also = absurd (decided-early bytes m also.decided is.undecided)
+head-end-one bytes bad bad is also = refl
+head-end-one bytes bad long (inl is) also = absurd (decided-long bytes is.0 is.1.decided also)
+head-end-one bytes bad long (inr is) also = absurd (long-not-short bytes also is)
+head-end-one bytes long (final b m) is also = absurd (decided-long bytes m also.decided is)
+head-end-one bytes long bad is (inl also) = absurd (decided-long bytes also.0 also.1.decided is)
+head-end-one bytes long bad is (inr also) = absurd (long-not-short bytes is also)
+head-end-one bytes long long is also = refl

@@ -2,7 +2,7 @@
 use Rattle.std.specs.Prelude.{◌≡◌, ℕ, List}
 use Rattle.httparse.specs.Grammar.{IsResponseHead, print_response, ResponseHead}
 use Rattle.wf_types.specs.declared.hop.Head.{Head}
-use Rattle.wf_http1.specs.Answers.{IsFinal}
+use Rattle.wf_http1.specs.Answers.{HeadEnd, IsFinal, IsHeadEnd}
 use Rattle.wf_http1.specs.Blocks.{IsShortestBlock}
 
 -- a head is a block, and no beginning of it is one
@@ -12,3 +12,7 @@ HeadsAreBlocks = (head : ResponseHead) → IsResponseHead head → IsShortestBlo
 -- the bytes have one final head at most, and one place where it ends
 abbrev pub HasOneHead : Type 0
 HasOneHead = (bytes : List ℕ) (a b : Head) (n m : ℕ) → IsFinal bytes a n → IsFinal bytes b m → (a ≡ b) × (n ≡ m)
+
+-- what the head of an answer of these bytes comes to is one thing
+abbrev pub HasOneEnd : Type 0
+HasOneEnd = (bytes : List ℕ) (a b : HeadEnd) → IsHeadEnd bytes a → IsHeadEnd bytes b → a ≡ b

@@ -1,4 +1,4 @@
-ghost use Rattle.std.specs.Prelude.{◌≡◌, ◌==◌, ◌||◌, [], length, map, All, IfOk};
+ghost use Rattle.std.specs.Prelude.{◌≡◌, ◌||◌, [], length, map, All, IfOk};
 ghost use Rattle.std.specs.List.{list_any};
 ghost use Rattle.httparse.specs.Spans.{header_bytes, IsHeaderWithin};
 ghost use Rattle.wf_http1.specs.Blocks as spec;
@@ -6,7 +6,7 @@ ghost use Rattle.wf_http1.specs.Heads as heads;
 ghost use Rattle.wf_http1.specs.HeadReading.{IsJudged, with_pairs};
 
 use httparse::Status;
-use httparse::spans::{EMPTY_HEADER_SPAN, HeaderSpan, ResponseSpans, parse_response};
+use httparse::spans::{EMPTY_HEADER_SPAN, HeaderSpan, parse_response};
 use std::alloc::Global;
 use wf_headers::HeaderList;
 use wf_text::OutOfMemory;

@@ -1,4 +1,4 @@
-ghost use Rattle.std.specs.Prelude.{◌≡◌, ◌≤◌, ◌<◌, ◌+◌, ◌++◌, ◌==◌, ℕ, List, [], length, take, IfOk};
+ghost use Rattle.std.specs.Prelude.{◌≡◌, ◌≤◌, ◌<◌, ◌+◌, ◌++◌, ◌==◌, [], length, take, IfOk};
 ghost use Rattle.std.specs.List.{position};
 ghost use Rattle.wf_http1.specs.Answers.{IsUnfinished, most_bytes};
 ghost use Rattle.wf_http1.specs.HeadFeeding.{IsFed};

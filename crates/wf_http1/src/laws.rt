@@ -1,4 +1,4 @@
-ghost use Rattle.wf_http1.specs.HeadLaws.{HasOneHead, HeadsAreBlocks};
+ghost use Rattle.wf_http1.specs.HeadLaws.{HasOneEnd, HasOneHead, HeadsAreBlocks};
 
 /// A head is a block, and no beginning of it is one.
 pub fn law_heads_are_blocks()
@@ -8,4 +8,9 @@ pub fn law_heads_are_blocks()
 /// The bytes of an answer have one final head at most, and one place where it ends.
 pub fn law_one_head()
     ensures { HasOneHead }
+{}
+
+/// The head of an answer comes to one thing: a final head and its end, no head, or too long a one.
+pub fn law_one_end()
+    ensures { HasOneEnd }
 {}

@@ -21,5 +21,5 @@ mod taking;
 pub use body::{BodyReader, BodyStep};
 pub use framing::{Framing, framing_of};
 pub use head::{HeadReader, HeadStep};
-pub use laws::{law_heads_are_blocks, law_one_head};
+pub use laws::{law_heads_are_blocks, law_one_end, law_one_head};
 pub use request::write_request;
