@@ -30,7 +30,7 @@ servers =
     } ∷ []
 
 -- the second rule answers the document's request, by its bytes
-pub second_rule : answer_to servers hop.origin (request_bytes hop) ≡ codes "HTTP/1.1 200 Scripted\r\n\r\nhi"
+pub second_rule : answer_to servers hop.origin (request_bytes hop) ≡ answer_bytes 200 [] (codes "hi")
 second_rule = refl
 
 -- without a rule the status is 404, and without a server the answer is empty
