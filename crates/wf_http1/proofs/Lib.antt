@@ -5,3 +5,8 @@ pub mod LineLemmas
 pub mod ReaderLemmas
 pub mod SkipLemmas
 pub mod ValueLemmas
+pub mod LengthLemmas
+pub mod PlaceLemmas
+pub mod ChunkLemmas
+pub mod TakingLemmas
+pub mod BodyLemmas

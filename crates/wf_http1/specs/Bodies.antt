@@ -1,13 +1,13 @@
 -- The body of an answer, over all bytes behind its head, and what decides it (RFC 9112, sections 6.3 and
 -- 8; the limit is the caller's).
-use Rattle.std.specs.Prelude.{◌≡◌, ℕ, Bool, true, false, ◌&&◌, nat_lt, nat_le, List, ◌++◌, take, length, if◌then◌else◌}
+use Rattle.std.specs.Prelude.{◌≡◌, ℕ, Bool, true, nat_lt, nat_le, List, ◌++◌, take, length, if◌then◌else◌}
 use Rattle.wf_types.specs.declared.response.BodyEnd.{BodyEnd}
 use Rattle.wf_types.specs.declared.response.BodyEnd.TheVariants.{Null, Whole, Cut, TooBig}
 use Rattle.wf_types.specs.declared.hop.Head.{Head}
 use Rattle.wf_http1.specs.declared.framing.Framing.{Framing}
 use Rattle.wf_http1.specs.declared.framing.Framing.TheVariants as framing
 use Rattle.wf_http1.specs.Framings.{framing_of}
-use Rattle.wf_http1.specs.Chunks.{Decoded, decoded}
+use Rattle.wf_http1.specs.Chunks.{decoded}
 
 -- data that came so far: too big where they exceed the limit, else all of the body or a part of it
 abbrev pub ended : ℕ → Bool → List ℕ → BodyEnd

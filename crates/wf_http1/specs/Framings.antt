@@ -1,5 +1,5 @@
 -- How the body of an answer is framed (RFC 9112, section 6.3; codings other than chunked are refused).
-use Rattle.std.specs.Prelude.{ℕ, ◌^◌, ◌-◌, Bool, true, false, ◌&&◌, ◌||◌, ◌==◌, min, List, [], ◌∷◌, codes, Option, Some, None, if◌then◌else◌}
+use Rattle.std.specs.Prelude.{ℕ, ◌^◌, ◌-◌, Bool, ◌&&◌, ◌||◌, ◌==◌, min, List, [], ◌∷◌, codes, Option, Some, None, if◌then◌else◌}
 use Rattle.std.specs.List.{list_all}
 use Rattle.std.specs.Str.{str_eq_ignore_ascii_case}
 use Rattle.std.specs.Str.Parse.{digits_value}
@@ -32,11 +32,18 @@ abbrev pub by_length : Option (List (List ℕ)) → Framing
 by_length None = framing.ToEnd
 by_length (Some texts) = by_lengths texts
 
--- by Transfer-Encoding, where it is there: chunked alone is taken
+-- by the values of Content-Length of a header list
+abbrev pub of_content_length : List Header → Framing
+of_content_length headers = by_length (split_values (codes "Content-Length") headers)
+
+-- by the value of Transfer-Encoding: chunked alone is taken
+abbrev pub of_coding : List ℕ → Framing
+of_coding coding = if str_eq_ignore_ascii_case (trimmed tab_or_space coding) (codes "chunked") then framing.Chunked else framing.Broken
+
+-- by Transfer-Encoding where it is there, and else by Content-Length
 abbrev pub by_coding : Option (List ℕ) → List Header → Framing
-by_coding None headers = by_length (split_values (codes "Content-Length") headers)
-by_coding (Some coding) headers =
-    if str_eq_ignore_ascii_case (trimmed tab_or_space coding) (codes "chunked") then framing.Chunked else framing.Broken
+by_coding None headers = of_content_length headers
+by_coding (Some coding) headers = of_coding coding
 
 -- the framing that a head tells
 abbrev pub framing_of : Head → Framing

@@ -5,9 +5,12 @@ pub mod HeadReading
 pub mod HeadPushing
 pub mod HeadFeeding
 pub mod HeadLaws
+pub mod Lengths
 pub mod Framings
 pub mod Chunks
+pub mod Places
 pub mod Bodies
+pub mod BodyPlaces
 pub mod BodyReading
 pub mod BodyFeeding
 pub mod Requests

@@ -1,32 +1,43 @@
-ghost use Rattle.std.specs.Prelude.{◌≡◌, [], IfOk};
+ghost use Rattle.std.specs.Prelude.{◌≡◌, ◌≤◌, [], length, IfOk};
 ghost use Rattle.wf_http1.specs.Bodies.{body_end};
 ghost use Rattle.wf_http1.specs.BodyFeeding.{IsFed};
+ghost use Rattle.wf_http1.specs.BodyPlaces.{IsKept, rest_end};
 ghost use Rattle.wf_http1.specs.Framings as spec;
+ghost use Rattle.wf_http1.specs.declared.place.Place.{Place};
 
-use crate::framing::Framing;
+use crate::framing::{Framing, framing_of};
+use crate::place::Place;
+use crate::seen::Seen;
+use crate::taking::{Found, take_piece};
 use std::alloc::Global;
 use std::marker::Model;
-use wf_text::OutOfMemory;
+use wf_text::{Bytes, OutOfMemory};
 use wf_types::{BodyEnd, Head};
-
-#[derive(Drop)]
-enum Never {}
 
 /// Reads the body of an answer from pieces, and is seen as its framing, its limit and all bytes so far,
 /// which do not decide the body.
 #[derive(Drop)]
 pub struct BodyReader {
-    never: Never,
+    framing: Framing,
+    limit: u32,
+    /// The decoded bytes so far, with room for the limit.
+    held: Vec<u8>,
+    /// Where a body in chunks stands.
+    place: Place,
+    seen: Seen,
 }
 
 impl Model for BodyReader {
-    ghost use Rattle.std.specs.Prelude.{[]};
+    ghost use Rattle.std.specs.Prelude.{vec_capacity};
     ghost use Rattle.wf_http1.specs.BodyReading.{BodyReading};
-    ghost use Rattle.wf_http1.specs.declared.framing.Framing.TheVariants.{ToEnd};
 
     ghost Value = { BodyReading };
 
-    ghost view = { λ _. record { framing = ToEnd; limit = 0; bytes = [] } };
+    ghost use Rattle.wf_http1.specs.BodyPlaces.{IsReading};
+
+    ghost view = { λ reader. record { framing = reader.framing; limit = reader.limit; bytes = reader.seen.bytes } };
+
+    ghost invariant = { λ reader. IsReading reader.framing reader.limit reader.seen.bytes reader.held.items (vec_capacity reader.held) reader.place };
 }
 
 /// What a piece comes to.
@@ -43,20 +54,22 @@ impl BodyReader {
     pub fn new(alloc: Global, head: &Head, limit: u32) -> Result<BodyReader, OutOfMemory>
         ensures { IfOk result (λ reader. reader ≡ record { framing = spec.framing_of head.now; limit = limit; bytes = [] }) }
     {
-        let _ = alloc;
-        let _ = head;
-        let _ = limit;
-        Err(OutOfMemory)
+        let framing = framing_of(alloc, head)?;
+        BodyReader::framed(alloc, framing, limit)
     }
 
     /// A reader of a body with this framing, whose limit in bytes is reserved here.
     pub fn framed(alloc: Global, framing: Framing, limit: u32) -> Result<BodyReader, OutOfMemory>
         ensures { IfOk result (λ reader. reader ≡ record { framing = framing; limit = limit; bytes = [] }) }
     {
-        let _ = alloc;
-        let _ = framing;
-        let _ = limit;
-        Err(OutOfMemory)
+        let held = Vec::with_capacity(alloc, limit as usize)?;
+        Ok(BodyReader {
+            framing,
+            limit,
+            held,
+            place: Place::Size(0, 0),
+            seen: Seen::new(),
+        })
     }
 
     /// Takes the next piece, which may be empty, and takes no memory. `Over` comes exactly where the
@@ -66,14 +79,52 @@ impl BodyReader {
     pub fn feed(self, piece: &[u8]) -> BodyStep
         ensures { IsFed self piece.now result }
     {
-        let _ = piece;
-        match self.never {}
+        let BodyReader {
+            framing,
+            limit,
+            mut held,
+            mut place,
+            mut seen,
+        } = self;
+        seen.note(piece);
+        match take_piece(framing, &mut held, &mut place, limit, piece) {
+            Found::Open => BodyStep::More(BodyReader {
+                framing,
+                limit,
+                held,
+                place,
+                seen,
+            }),
+            Found::Absent => BodyStep::Over(BodyEnd::Null),
+            Found::Whole => BodyStep::Over(BodyEnd::Whole(Bytes::from_vec(held))),
+            Found::Cut => BodyStep::Over(BodyEnd::Cut(held.len() as u32)),
+            Found::TooBig => BodyStep::Over(BodyEnd::TooBig),
+        }
     }
 
     /// How the body comes to its end where the answer ends here.
     pub fn finish(self) -> BodyEnd
         ensures { result ≡ body_end self.framing self.limit self.bytes }
     {
-        match self.never {}
+        end_here(self.framing, self.limit, self.held, self.place)
+    }
+}
+
+/// How a body comes to its end behind the bytes that are held.
+fn end_here(framing: Framing, limit: u32, held: Vec<u8>, place: Place) -> BodyEnd
+    requires within { length held.items ≤ limit }
+    requires kept { IsKept framing held.items place }
+    ensures { result ≡ rest_end framing limit held.items place [] }
+{
+    let _ = limit;
+    let _ = place;
+    let count = held.len() as u32;
+    match framing {
+        Framing::Nothing => BodyEnd::Null,
+        Framing::ToEnd => BodyEnd::Whole(Bytes::from_vec(held)),
+        Framing::Length(total) if u64::from(count) == total => {
+            BodyEnd::Whole(Bytes::from_vec(held))
+        }
+        Framing::Broken | Framing::Length(_) | Framing::Chunked => BodyEnd::Cut(count),
     }
 }

@@ -1,8 +1,13 @@
-ghost use Rattle.std.specs.Prelude.{◌≡◌, IfOk};
+ghost use Rattle.std.specs.Prelude.{◌≡◌, ◌==◌, IfOk, IsTrue};
+ghost use Rattle.std.specs.List.{list_all};
+ghost use Rattle.std.specs.Str.Parse.{digits_value};
+ghost use Rattle.wf_text.specs.Digits.{is_digits};
 ghost use Rattle.wf_http1.specs.Framings as spec;
+ghost use Rattle.wf_http1.specs.Lengths as lengths;
 
 use std::alloc::Global;
-use wf_text::OutOfMemory;
+use wf_headers::HeaderList;
+use wf_text::{BytesList, OutOfMemory, eq_fold, parse_digits, trim_tab_or_space};
 use wf_types::Head;
 
 /// How the body of an answer is framed (RFC 9112, section 6.3).
@@ -25,7 +30,94 @@ pub enum Framing {
 pub fn framing_of(alloc: Global, head: &Head) -> Result<Framing, OutOfMemory>
     ensures { IfOk result (λ framing. framing ≡ spec.framing_of head.now) }
 {
-    let _ = alloc;
-    let _ = head;
-    Err(OutOfMemory)
+    if has_no_body(head.status) {
+        return Ok(Framing::Nothing);
+    }
+    match head.headers.get(alloc, b"Transfer-Encoding")? {
+        Some(coding) => Ok(of_coding(coding.as_slice())),
+        None => of_content_length(alloc, &head.headers),
+    }
+}
+
+/// Whether an answer with this status has no body on the wire: No Content and Not Modified.
+fn has_no_body(status: u16) -> bool
+    ensures { result ≡ spec.has_no_body status }
+{
+    status == 204 || status == 304
+}
+
+/// By the value of Transfer-Encoding, of which chunked alone is taken.
+fn of_coding(coding: &[u8]) -> Framing
+    ensures { result ≡ spec.of_coding coding.now }
+{
+    if eq_fold(trim_tab_or_space(coding), b"chunked") {
+        Framing::Chunked
+    } else {
+        Framing::Broken
+    }
+}
+
+/// By the values of Content-Length, and to the end where there are none.
+fn of_content_length(alloc: Global, headers: &HeaderList) -> Result<Framing, OutOfMemory>
+    ensures { IfOk result (λ framing. framing ≡ spec.of_content_length headers.now) }
+{
+    match headers.split_values(alloc, b"Content-Length")? {
+        Some(texts) => Ok(of_lengths(&texts)),
+        None => Ok(Framing::ToEnd),
+    }
+}
+
+/// So many bytes, where all texts are digits of one number.
+fn of_lengths(texts: &BytesList) -> Framing
+    ensures { result ≡ spec.by_lengths texts.now }
+{
+    if texts.len() == 0 {
+        return Framing::Broken;
+    }
+    let first = texts.at(0);
+    match parse_digits(first, u64::MAX) {
+        Some(length) if all_write(texts, first) => Framing::Length(length),
+        _ => Framing::Broken,
+    }
+}
+
+/// Whether all texts are digits of the number that these digits write.
+fn all_write(texts: &BytesList, digits: &[u8]) -> bool
+    requires { IsTrue (is_digits digits.now) }
+    ensures { result ≡ list_all (spec.writes (digits_value 10 digits.now)) texts.now }
+{
+    for index in 0..texts.len() {
+        if !writes_same(texts.at(index), digits) {
+            return false;
+        }
+    }
+    true
+}
+
+/// Whether the text is digits of the number that these digits write.
+fn writes_same(text: &[u8], digits: &[u8]) -> bool
+    requires { IsTrue (is_digits digits.now) }
+    ensures { result ≡ spec.writes (digits_value 10 digits.now) text.now }
+{
+    parse_digits(text, 0).is_some() && are_equal(text, digits)
+}
+
+/// Whether two texts of digits write one number, however many digits there are.
+fn are_equal(text: &[u8], digits: &[u8]) -> bool
+    requires text { IsTrue (is_digits text.now) }
+    requires digits { IsTrue (is_digits digits.now) }
+    ensures { result ≡ (digits_value 10 text.now == digits_value 10 digits.now) }
+{
+    without_zeros(text) == without_zeros(digits)
+}
+
+/// The digits from the first that is no zero on.
+fn without_zeros(digits: &[u8]) -> &[u8]
+    ensures { result.now ≡ lengths.without_zeros digits.now }
+{
+    let mut rest = digits;
+    while let [b'0', after @ ..] = rest {
+        rest = after;
+    }
+    rest
 }

@@ -4,6 +4,8 @@
 
 mod block;
 mod body;
+#[cfg(test)]
+mod body_tests;
 mod framing;
 mod gathered;
 mod head;
@@ -11,7 +13,10 @@ mod head;
 mod head_tests;
 mod laws;
 mod past;
+mod place;
 mod request;
+mod seen;
+mod taking;
 
 pub use body::{BodyReader, BodyStep};
 pub use framing::{Framing, framing_of};

@@ -1,0 +1,61 @@
+-- What a reader of a body holds, what the bytes that follow come to there, and what a piece comes to.
+use Rattle.std.specs.Prelude.{◌≡◌, ℕ, ◌≤◌, ◌<◌, List, [], ◌++◌, length}
+use Rattle.wf_types.specs.declared.response.BodyEnd.{BodyEnd}
+use Rattle.wf_types.specs.declared.response.BodyEnd.TheVariants as end
+use Rattle.wf_http1.specs.declared.framing.Framing.{Framing}
+use Rattle.wf_http1.specs.declared.framing.Framing.TheVariants as framing
+use Rattle.wf_http1.specs.declared.place.Place.{Place}
+use Rattle.wf_http1.specs.declared.taking.Found.{Found}
+use Rattle.wf_http1.specs.declared.taking.Found.TheVariants as found
+use Rattle.wf_http1.specs.Bodies.{body_end, ended}
+use Rattle.wf_http1.specs.Places.{decoded_at, IsLive}
+
+-- what the bytes that follow come to, behind the bytes that are held and at a place
+abbrev pub rest_end : Framing → ℕ → List ℕ → Place → List ℕ → BodyEnd
+rest_end framing.Chunked limit held place more = ended limit (decoded_at place more).complete (held ++ (decoded_at place more).data_is)
+rest_end how limit held place more = body_end how limit (held ++ more)
+
+-- what is held stays within the framing
+abbrev pub IsKept : Framing → List ℕ → Place → Type 0
+IsKept framing.Nothing held place = length held ≡ 0
+IsKept framing.Broken held place = length held ≡ 0
+IsKept framing.ToEnd held place = Unit {0}
+IsKept (framing.Length total) held place = length held ≤ total
+IsKept framing.Chunked held place = IsLive place
+
+-- and does not decide the body
+abbrev pub IsWaiting : Framing → List ℕ → Place → Type 0
+IsWaiting framing.Nothing held place = ⊥
+IsWaiting framing.Broken held place = ⊥
+IsWaiting framing.ToEnd held place = Unit {0}
+IsWaiting (framing.Length total) held place = length held < total
+IsWaiting framing.Chunked held place = IsLive place
+
+-- A reader of a body with this framing and limit, after these bytes, holds bytes with room for the limit
+-- and stands at a place.
+pub record IsReading (how : Framing) (limit : ℕ) (bytes held : List ℕ) (room : ℕ) (place : Place) : Type 0 where
+  pub meaning : (more : List ℕ) → body_end how limit (bytes ++ more) ≡ rest_end how limit held place more
+  pub within : length held ≤ limit
+  pub reserved : limit ≤ room
+  pub kept : IsKept how held place
+
+-- The body stays open, and what is left of a piece and the bytes that follow come to the same end as they
+-- do after the piece.
+pub record IsOn (how : Framing) (limit : ℕ) (after : List ℕ → BodyEnd) (held : List ℕ) (room : ℕ) (place : Place) (left : List ℕ) : Type 0 where
+  pub meaning : (more : List ℕ) → after more ≡ rest_end how limit held place (left ++ more)
+  pub within : length held ≤ limit
+  pub reserved : limit ≤ room
+  pub waiting : IsWaiting how held place
+
+-- The body is decided behind a piece, and these bytes are held.
+pub record IsAtEnd (limit : ℕ) (after : List ℕ → BodyEnd) (held : List ℕ) (end : BodyEnd) : Type 0 where
+  pub meaning : (more : List ℕ) → after more ≡ end
+  pub within : length held ≤ limit
+
+-- what a piece comes to, after which the bytes that follow come to this end
+abbrev pub Comes : Framing → ℕ → (List ℕ → BodyEnd) → List ℕ → ℕ → Place → Found → Type 0
+Comes how limit after held room place found.Open = IsOn how limit after held room place []
+Comes how limit after held room place found.Absent = (more : List ℕ) → after more ≡ end.Null
+Comes how limit after held room place found.Whole = IsAtEnd limit after held (end.Whole held)
+Comes how limit after held room place found.Cut = IsAtEnd limit after held (end.Cut (length held))
+Comes how limit after held room place found.TooBig = (more : List ℕ) → after more ≡ end.TooBig
