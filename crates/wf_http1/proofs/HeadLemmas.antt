@@ -64,7 +64,7 @@ take-none (suc n) (byte ∷ text) none =
 blank-quiet : (ends : List LineEnd) → IsQuiet [] (print_blank ends)
 blank-quiet ends n = no-line-byte (take n (print_blank ends)) (take-none n (print_blank ends) (blank-none ends))
 
-field-parts : (field : Field) → print_field field ≡ field.name ++ (58 ∷ (field.raw ++ print_end field.end))
+pub field-parts : (field : Field) → print_field field ≡ field.name ++ (58 ∷ (field.raw ++ print_end field.end))
 field-parts field = simp append_assoc
 
 -- the line of a field
@@ -99,7 +99,7 @@ fields-quiet before (field ∷ fields) line each =
 -- ---- the status line
 
 -- what stands between the first byte of a status line and its end
-abbrev status_rest : ResponseHead → List ℕ
+abbrev pub status_rest : ResponseHead → List ℕ
 status_rest head = codes "TTP/1." ++ ((48 + head.minor) ∷ 32 ∷ (head.digits ++ print_reason head.reason))
 
 minor-line : (minor : ℕ) → minor ≤ 1 → is_line_byte (48 + minor) ≡ true
@@ -142,7 +142,7 @@ regroup : (digits reason end fields last : List ℕ) → digits ++ (reason ++ (e
 regroup digits reason end fields last = simp (append_assoc, append-nil)
 
 -- the empty lines, the status line, the fields and the last empty line
-printed-parts : (head : ResponseHead) → print_response head
+pub printed-parts : (head : ResponseHead) → print_response head
     ≡ (print_blank head.blank ++ ((72 ∷ (status_rest head ++ print_end head.line_end)) ++ flat_map print_field head.fields)) ++ print_end head.last
 printed-parts head =
     let rest : List ℕ = status_rest head ++ print_end head.line_end in

@@ -1,5 +1,6 @@
 pub mod AnswerLemmas
 pub mod BlockLemmas
+pub mod CountLemmas
 pub mod HeadLemmas
 pub mod LineLemmas
 pub mod ReaderLemmas

@@ -1,5 +1,5 @@
 -- Values of header lines are normalised, and the parser's spans make the header list.
-use Rattle.std.proofs.Common.{◌≡◌, ◌==◌, ℕ, Bool, true, false, true≢false, List, [], ◌∷◌, ◌++◌, length, take, map, reverse, refl, ap, sym, ◌∙◌, subst, arith, length-take, Result, if◌then◌else◌}
+use Rattle.std.proofs.Common.{◌≡◌, ◌==◌, ◌≤◌, ℕ, Bool, true, false, true≢false, List, [], ◌∷◌, ◌++◌, length, take, map, reverse, refl, ap, sym, ◌∙◌, subst, arith, length-take, Result, if◌then◌else◌}
 use Rattle.std.proofs.lemmas.Bool.{eq-eqb, eqb-true, ne_eqb}
 use Rattle.std.proofs.lemmas.List.{append-nil, drop_all, length-map, reverse-append}
 use Rattle.std.proofs.lemmas.List.Elements.{recursion_from_All}
@@ -15,7 +15,7 @@ use Rattle.wf_headers.specs.Headers.{appended}
 use Rattle.wf_headers.specs.declared.headers.Header.{Header}
 use Rattle.wf_text.specs.Trims.{http_whitespace, trimmed, trimmed_start}
 use Rattle.wf_http1.specs.Blocks.{is_line_byte}
-use Rattle.wf_http1.specs.HeadReading.{with_pairs}
+use Rattle.wf_http1.specs.HeadReading.{HasRoom, with_pairs}
 use Rattle.wf_http1.specs.Heads.{IsHead, most_lines, with_lines}
 use Rattle.wf_http1.proofs.LineLemmas.{IsLineText}
 use Rattle.wf_http1.proofs.HeadLemmas.{line_text-all, line_text-append}
@@ -78,12 +78,12 @@ spans-block block headers spans head at long =
     at.reads.1 ∙ ap (λ (l : List ℕ). print_response head ++ l) (drop_all spans.len block (omega (arith, long))) ∙ append-nil (print_response head)
 
 -- and it has no more lines than there is room
-pub spans-few : (block : List ℕ) (headers : List HeaderSpan) (spans : ResponseSpans) (head : ResponseHead) → IsResponseAt block headers spans head → length headers ≡ most_lines → IsHead head
+pub spans-few : (block : List ℕ) (headers : List HeaderSpan) (spans : ResponseSpans) (head : ResponseHead) → IsResponseAt block headers spans head → length headers ≤ most_lines → IsHead head
 spans-few block headers spans head at room = record {
   head = at.reads.0;
   few = omega (arith, room, ap length at.fields, length-map (take spans.headers headers) (header_bytes block), length-map head.fields name_and_value, length-take spans.headers headers);
 }
 
 -- a head that is the whole block is found
-pub found-whole : (block : List ℕ) (headers : List HeaderSpan) (answer : Result (Status ResponseSpans) Error) (head : ResponseHead) → FindsResponse block most_lines headers answer → IsHead head → block ≡ print_response head → IsCompleteAnd answer (λ spans. IsResponseAt block headers spans head)
-found-whole block headers answer head found is printed = found head [] (is.head, printed ∙ sym (append-nil (print_response head))) is.few
+pub found-whole : (block : List ℕ) (room : ℕ) (headers : List HeaderSpan) (answer : Result (Status ResponseSpans) Error) (head : ResponseHead) → HasRoom block room → FindsResponse block room headers answer → IsHead head → block ≡ print_response head → IsCompleteAnd answer (λ spans. IsResponseAt block headers spans head)
+found-whole block room headers answer head fits found is printed = found head [] (is.head, printed ∙ sym (append-nil (print_response head))) (fits head is printed)

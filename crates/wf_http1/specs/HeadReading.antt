@@ -1,6 +1,6 @@
 -- What a reader of heads keeps of the bytes so far, and what it finds in a block.
 use Rattle.std.specs.Prelude.{◌≡◌, ◌==◌, ℕ, ◌≤◌, false, List, [], ◌∷◌, ◌++◌, ◌+◌, take, length}
-use Rattle.std.specs.List.{list_any}
+use Rattle.std.specs.List.{count_by, list_any}
 use Rattle.httparse.specs.Grammar.{ResponseHead, print_response, status_code}
 use Rattle.wf_headers.specs.declared.headers.Header.{Header}
 use Rattle.wf_headers.specs.Headers.{appended}
@@ -30,6 +30,14 @@ pub record IsLine (line : List ℕ) : Type 0 where
 abbrev pub with_pairs : List Header → List (List ℕ × List ℕ) → List Header
 with_pairs headers [] = headers
 with_pairs headers (pair ∷ pairs) = with_pairs (appended pair.0 pair.1 headers) pairs
+
+-- how many line ends there are
+abbrev pub line_ends : List ℕ → ℕ
+line_ends bytes = count_by (λ byte. byte == 10) bytes
+
+-- a head that the block is has so many header lines at most
+abbrev pub HasRoom : List ℕ → ℕ → Type 0
+HasRoom block room = (printed : ResponseHead) → IsHead printed → block ≡ print_response printed → length printed.fields ≤ room
 
 -- the block is no head, a skipped one, or a final one
 abbrev pub IsJudged : List ℕ → Judged → Type 0

@@ -1,9 +1,9 @@
-ghost use Rattle.std.specs.Prelude.{◌≡◌, ◌||◌, [], length, map, All, IfOk};
+ghost use Rattle.std.specs.Prelude.{◌≡◌, ◌≤◌, ◌==◌, ◌||◌, [], length, map, All, IfOk};
 ghost use Rattle.std.specs.List.{list_any};
 ghost use Rattle.httparse.specs.Spans.{header_bytes, IsHeaderWithin};
 ghost use Rattle.wf_http1.specs.Blocks as spec;
 ghost use Rattle.wf_http1.specs.Heads as heads;
-ghost use Rattle.wf_http1.specs.HeadReading.{IsJudged, with_pairs};
+ghost use Rattle.wf_http1.specs.HeadReading.{HasRoom, IsJudged, line_ends as spec_line_ends, with_pairs};
 
 use httparse::Status;
 use httparse::spans::{EMPTY_HEADER_SPAN, HeaderSpan, parse_response};
@@ -14,6 +14,10 @@ use wf_types::Head;
 
 /// How many header lines a head has at most.
 const MOST_LINES: usize = 128;
+
+/// How many header lines most heads have at most: where a block has no more line ends, room for so many
+/// is made.
+const FEW_LINES: usize = 16;
 
 /// What a block is.
 #[derive(Drop)]
@@ -67,12 +71,24 @@ fn headers_of(alloc: Global, block: &[u8], lines: &[HeaderSpan]) -> Result<Heade
     Ok(headers)
 }
 
-/// What a block is: it is a head where the parser reads one that has just its bytes.
-pub(crate) fn judge(alloc: Global, block: &[u8]) -> Result<Judged, OutOfMemory>
+// How many line ends there are.
+fn line_ends(block: &[u8]) -> usize
+    ensures { result ≡ spec_line_ends block.now }
+{
+    block.iter().filter(|byte| **byte == b'\n').count()
+}
+
+// What a block is, whose header lines find room.
+fn judge_within(
+    alloc: Global,
+    block: &[u8],
+    lines: &mut [HeaderSpan],
+) -> Result<Judged, OutOfMemory>
+    requires room { HasRoom block.now (length lines.old) }
+    requires most { length lines.old ≤ MOST_LINES }
     ensures { IfOk result (λ judged. IsJudged block.now judged) }
 {
-    let mut lines = [EMPTY_HEADER_SPAN; MOST_LINES];
-    match parse_response(block, &mut lines) {
+    match parse_response(block, lines) {
         Ok(Status::Complete(head)) => {
             if head.len != block.len() {
                 Ok(Judged::NoHead)
@@ -88,5 +104,16 @@ pub(crate) fn judge(alloc: Global, block: &[u8]) -> Result<Judged, OutOfMemory>
         }
         Ok(Status::Partial) => Ok(Judged::NoHead),
         Err(_) => Ok(Judged::NoHead),
+    }
+}
+
+/// What a block is: it is a head where the parser reads one that has just its bytes.
+pub(crate) fn judge(alloc: Global, block: &[u8]) -> Result<Judged, OutOfMemory>
+    ensures { IfOk result (λ judged. IsJudged block.now judged) }
+{
+    if line_ends(block) <= FEW_LINES {
+        judge_within(alloc, block, &mut [EMPTY_HEADER_SPAN; FEW_LINES])
+    } else {
+        judge_within(alloc, block, &mut [EMPTY_HEADER_SPAN; MOST_LINES])
     }
 }
