@@ -7,7 +7,7 @@ ghost use Rattle.wf_http1.specs.HeadReading.{IsLine};
 
 use crate::block::{Judged, had_or_has_line_byte, is_block, judge};
 use crate::gathered::Gathered;
-use crate::past::Past;
+use crate::seen::Seen;
 use std::alloc::Global;
 use std::marker::Model;
 use wf_text::OutOfMemory;
@@ -20,7 +20,7 @@ const MOST_BYTES: usize = 65_536;
 #[derive(Drop)]
 pub struct HeadReader {
     // The skipped heads.
-    past: Past,
+    past: Seen,
     // The block that has begun behind them.
     block: Gathered,
     // Whether it has a byte other than CR and LF.
@@ -88,7 +88,7 @@ impl HeadReader {
         ensures { IfOk result (λ reader. reader ≡ []) }
     {
         Ok(HeadReader {
-            past: Past::new(),
+            past: Seen::new(),
             block: Gathered::with_room(alloc, MOST_BYTES)?,
             has_line_byte: false,
             seen_bytes: 0,
@@ -139,7 +139,7 @@ impl HeadReader {
         ensures { IfOk result (λ pushed. IsPushed (self ++ line.now) pushed) }
     {
         let HeadReader {
-            past,
+            mut past,
             mut block,
             has_line_byte: had,
             seen_bytes,
@@ -159,7 +159,7 @@ impl HeadReader {
             Judged::NoHead => Ok(Pushed::Bad),
             Judged::Final(head) => Ok(Pushed::Final(head)),
             Judged::Skipped => {
-                let past = Past::with(&past, &block);
+                past.note(block.as_slice());
                 block.clear();
                 Ok(Pushed::More(HeadReader {
                     past,

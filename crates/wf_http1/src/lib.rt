@@ -12,7 +12,6 @@ mod head;
 #[cfg(test)]
 mod head_tests;
 mod laws;
-mod past;
 mod place;
 mod request;
 mod seen;

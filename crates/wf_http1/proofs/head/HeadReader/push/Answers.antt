@@ -46,7 +46,7 @@ returns-in-Skipped c =
     let at : IsAdded c.self.inside c.args.self c.args.line.now c.append.new.self =
     record { reading = c.self.invariant; whole = c.self.view_is; line_is = c.requires.line; few = c.requires.few; new_is = c.in_ok-append.ensures } in
     let judged : IsJudged c.append.new.self Skipped = judged-at c.as_slice-2.result.now c.append.new.self c.in_ok-judge.field-0 Skipped c.as_slice-2.ensures c.in-Skipped.is c.in_ok-judge.ensures in
-    (ap (λ (l : List ℕ). c.with-past.result.bytes ++ l) c.clear.ensures ∙ append-nil c.with-past.result.bytes ∙ c.with-past.ensures ∙ added-whole at, added-gone at judged)
+    (ap (λ (l : List ℕ). c.note.new.self.bytes ++ l) c.clear.ensures ∙ append-nil c.note.new.self.bytes ∙ (c.note.ensures ∙ ap (λ (l : List ℕ). c.self.inside.past.bytes ++ l) c.as_slice-in-Skipped.ensures) ∙ added-whole at, added-gone at judged)
 
 pub invariant_of-result-in-Skipped : goal.invariant_of-result-in-Skipped
 invariant_of-result-in-Skipped c =
@@ -54,9 +54,9 @@ invariant_of-result-in-Skipped c =
     record { reading = c.self.invariant; whole = c.self.view_is; line_is = c.requires.line; few = c.requires.few; new_is = c.in_ok-append.ensures } in
     let judged : IsJudged c.append.new.self Skipped = judged-at c.as_slice-2.result.now c.append.new.self c.in_ok-judge.field-0 Skipped c.as_slice-2.ensures c.in-Skipped.is c.in_ok-judge.ensures in
     record {
-      skips = subst (λ (l : List ℕ). Skips l []) (sym c.with-past.ensures) (added-past at judged);
+      skips = subst (λ (l : List ℕ). Skips l []) (sym (c.note.ensures ∙ ap (λ (l : List ℕ). c.self.inside.past.bytes ++ l) c.as_slice-in-Skipped.ensures)) (added-past at judged);
       undecided = subst (λ (l : List ℕ). IsQuiet [] l) (sym c.clear.ensures) (quiet-nil [] refl);
       line_is = ap (λ (l : List ℕ). list_any is_line_byte l) (sym c.clear.ensures);
-      seen_is = omega (arith, added-seen at, ap length c.with-past.ensures, ap length c.clear.ensures, length-append c.self.inside.past.bytes c.append.new.self);
+      seen_is = omega (arith, added-seen at, ap length (c.note.ensures ∙ ap (λ (l : List ℕ). c.self.inside.past.bytes ++ l) c.as_slice-in-Skipped.ensures), ap length c.clear.ensures, length-append c.self.inside.past.bytes c.append.new.self);
       short = added-few at;
     }
