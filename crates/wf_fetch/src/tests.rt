@@ -15,7 +15,7 @@ use wf_headers::HeaderList;
 use wf_origin::tuple_origin;
 use wf_text::{Bytes, Items, OutOfMemory};
 use wf_types::{
-    BodyEnd, Client, Cookies, Credentials, Destination, Head, Hop, Mode, NetError, Outcome,
+    BodyEnd, Client, Cookies, Credentials, Destination, Head, Hop, Mode, Outcome,
     RedirectMode, Referrer, ReferrerPolicy, Request, Response, ResponseKind, Tainting, Urls,
 };
 
@@ -156,18 +156,36 @@ fn see(rt: &impl Abort, alloc: Global, response: &Response) -> Result<(), Fail> 
     Ok(())
 }
 
-#[test]
-fn an_answer_is_read_and_handed_over(rt: HostRuntime) -> Result<(), Fail> {
-    let alloc = rt.alloc();
+// What a fetch comes to whose answer has this head and the body `hi`.
+fn answered(alloc: Global, method: &[u8], address: &str, head: Input) -> Result<Outcome, Fail> {
     let (client, cookies) = (client(alloc)?, Cookies::new(alloc));
-    let (fetching, act) = sent(alloc, &client, &cookies, b"GET", "https://a.test/cart#top")?;
-    let head = not_found(alloc)?;
-    assert!(rt; fits(&act, &head));
+    let (fetching, act) = sent(alloc, &client, &cookies, method, address)?;
+    if !fits(&act, &head) {
+        return Err(Fail::new("a head may not follow"));
+    }
     let (fetching, act) = gone_on(alloc, &client, &cookies, fetching, head)?;
     let body = Input::BodyIs(BodyEnd::Whole(Bytes::of(alloc, b"hi")?));
-    assert!(rt; fits(&act, &body));
-    match ended(alloc, &client, &cookies, fetching, body)? {
-        Outcome::Answer(response) => see(&rt, alloc, &response),
+    if !fits(&act, &body) {
+        return Err(Fail::new("a body may not follow"));
+    }
+    ended(alloc, &client, &cookies, fetching, body)
+}
+
+// What a fetch comes to that is over where its head came, or an input in its place.
+fn over_at_head(alloc: Global, method: &[u8], input: Input) -> Result<Outcome, Fail> {
+    let (client, cookies) = (client(alloc)?, Cookies::new(alloc));
+    let (fetching, act) = sent(alloc, &client, &cookies, method, "https://a.test/cart")?;
+    if !fits(&act, &input) {
+        return Err(Fail::new("the input may not follow"));
+    }
+    ended(alloc, &client, &cookies, fetching, input)
+}
+
+#[test]
+fn an_answer_is_read_and_handed_over(rt: HostRuntime) -> Result<(), Fail> {
+    let head = not_found(rt.alloc())?;
+    match answered(rt.alloc(), b"GET", "https://a.test/cart#top", head)? {
+        Outcome::Answer(response) => see(&rt, rt.alloc(), &response),
         _ => Err(Fail::new("there was no response")),
     }
 }
@@ -182,24 +200,39 @@ fn has_no_body(outcome: &Outcome) -> bool {
 
 #[test]
 fn the_response_to_head_has_no_body(rt: HostRuntime) -> Result<(), Fail> {
-    let alloc = rt.alloc();
-    let (client, cookies) = (client(alloc)?, Cookies::new(alloc));
-    let (fetching, act) = sent(alloc, &client, &cookies, b"HEAD", "https://a.test/cart")?;
-    let head = not_found(alloc)?;
-    assert!(rt; fits(&act, &head));
-    let outcome = ended(alloc, &client, &cookies, fetching, head)?;
+    let head = not_found(rt.alloc())?;
+    let outcome = over_at_head(rt.alloc(), b"HEAD", head)?;
     assert!(rt; has_no_body(&outcome));
     Ok(())
 }
 
+// The number of the network error that comes where this input stands in place of a head.
+fn error_at_head(alloc: Global, input: Input) -> Result<u32, Fail> {
+    match over_at_head(alloc, b"GET", input)? {
+        Outcome::Error(error) => Ok(error.number()),
+        _ => Err(Fail::new("there was a response")),
+    }
+}
+
 #[test]
-fn a_bad_head_is_a_network_error(rt: HostRuntime) -> Result<(), Fail> {
-    let alloc = rt.alloc();
-    let (client, cookies) = (client(alloc)?, Cookies::new(alloc));
-    let (fetching, act) = sent(alloc, &client, &cookies, b"GET", "https://a.test/")?;
-    assert!(rt; fits(&act, &Input::HeadBad) && !fits(&act, &Input::Sent));
-    let outcome = ended(alloc, &client, &cookies, fetching, Input::HeadBad)?;
-    assert!(rt; matches!(outcome, Outcome::Error(NetError::BadHead)));
+fn what_is_no_head_is_a_network_error(rt: HostRuntime) -> Result<(), Fail> {
+    assert_eq!(rt; error_at_head(rt.alloc(), Input::HeadBad)?, 25);
+    assert_eq!(rt; error_at_head(rt.alloc(), Input::HeadLong)?, 26);
+    assert_eq!(rt; error_at_head(rt.alloc(), Input::Fault)?, 24);
+    Ok(())
+}
+
+fn coded(alloc: Global) -> Result<Input, Fail> {
+    let mut headers = HeaderList::new(alloc);
+    headers.append(b"Content-Encoding", b"identity, gzip")?;
+    let status = 200;
+    Ok(Input::HeadIs(Head { status, headers }))
+}
+
+#[test]
+fn a_coded_body_is_not_read(rt: HostRuntime) -> Result<(), Fail> {
+    let head = coded(rt.alloc())?;
+    assert_eq!(rt; error_at_head(rt.alloc(), head)?, 23);
     Ok(())
 }
 

@@ -107,13 +107,28 @@ fn judge_within(
     }
 }
 
+// What a block is that has few header lines. A function of its own, so that no other makes its room.
+fn judge_few(alloc: Global, block: &[u8]) -> Result<Judged, OutOfMemory>
+    requires { HasRoom block.now FEW_LINES }
+    ensures { IfOk result (λ judged. IsJudged block.now judged) }
+{
+    judge_within(alloc, block, &mut [EMPTY_HEADER_SPAN; FEW_LINES])
+}
+
+// What a block is that may have as many header lines as a head has at most.
+fn judge_many(alloc: Global, block: &[u8]) -> Result<Judged, OutOfMemory>
+    ensures { IfOk result (λ judged. IsJudged block.now judged) }
+{
+    judge_within(alloc, block, &mut [EMPTY_HEADER_SPAN; MOST_LINES])
+}
+
 /// What a block is: it is a head where the parser reads one that has just its bytes.
 pub(crate) fn judge(alloc: Global, block: &[u8]) -> Result<Judged, OutOfMemory>
     ensures { IfOk result (λ judged. IsJudged block.now judged) }
 {
     if line_ends(block) <= FEW_LINES {
-        judge_within(alloc, block, &mut [EMPTY_HEADER_SPAN; FEW_LINES])
+        judge_few(alloc, block)
     } else {
-        judge_within(alloc, block, &mut [EMPTY_HEADER_SPAN; MOST_LINES])
+        judge_many(alloc, block)
     }
 }
