@@ -1,12 +1,10 @@
 -- The definitions computed on worked examples: a document that fetches its own root and is answered,
 -- requests that are refused, and the limits of a run.
-use Rattle.std.proofs.Common.{◌≡◌, refl, true, false, ℕ, List, [], ◌∷◌, codes, Option, Some, None, Result, Ok, Err}
+use Rattle.std.proofs.Common.{◌≡◌, refl, true, false, List, [], ◌∷◌, codes, Some, None, Ok, Err}
 use Rattle.url.proofs.OnLiterals.{url_on_literals}
 use Rattle.url.specs.declared.host.Host.TheVariants.{Domain}
 use Rattle.url.specs.Parts.{Parts}
 use Rattle.wf_origin.specs.Origins.{tuple_origin}
-use Rattle.wf_headers.specs.declared.headers.Header.{Header}
-use Rattle.wf_types.specs.declared.client.Client.{Client}
 use Rattle.wf_types.specs.declared.error.NetError.TheVariants.{Scheme, SameOriginMode}
 use Rattle.wf_types.specs.declared.fault.TypeFault.TheVariants.{ForbiddenMethod, NavigateMode}
 use Rattle.wf_types.specs.declared.hop.Hop.{Hop}
@@ -34,7 +32,7 @@ use Rattle.wf_fetch.specs.declared.act.Input.TheVariants.{Sent, HeadIs, BodyIs}
 use Rattle.wf_fetch.specs.Fetch.{Context, lent, main_fetch}
 use Rattle.wf_fetch.specs.Play.{run_play}
 use Rattle.wf_fetch.specs.Process.{ended, run}
-use Rattle.wf_fetch.specs.Runs.{document_client, document_run, limit_before, normalized_init}
+use Rattle.wf_fetch.specs.Runs.{document_client, document_run, limit_before}
 
 -- https://a.test/
 abbrev pub root : Parts

@@ -8,7 +8,7 @@ use Rattle.wf_fetch.specs.declared.place.Step.{Step}
 use Rattle.wf_fetch.specs.declared.place.Step.TheVariants.{Going, Over}
 use Rattle.wf_fetch.specs.Fetch.{Context}
 use Rattle.wf_fetch.specs.Machine.{Does, Leads, RunsAs, last_act, rest, rest_of}
-use Rattle.wf_fetch.specs.Process.{Process, Run, fits, run, began, followed}
+use Rattle.wf_fetch.specs.Process.{Process, fits, run, began, followed}
 
 -- a step that is what a process does first runs as the process does
 runs-as : (context : Context) (at : Step) (process : Process) → Does context at process → RunsAs context at (run process)

@@ -1,6 +1,6 @@
 -- A document's run: its script's commands in order, each fetch with what it shows and what it came to
 -- (Fetch, section 5.6, for each `fetch` of a script), and the limits at which a run ends early.
-use Rattle.std.specs.Prelude.{ℕ, ◌+◌, ◌&&◌, Bool, true, nat_le, nat_lt, List, [], ◌∷◌, ◌++◌, map, sum_by, length, Option, Some, None, Result, Ok, Err, if◌then◌else◌}
+use Rattle.std.specs.Prelude.{ℕ, ◌+◌, nat_le, nat_lt, List, [], ◌∷◌, ◌++◌, map, sum_by, length, Option, Some, None, Result, Ok, Err, if◌then◌else◌}
 use Rattle.wf_text.specs.Trims.{http_whitespace, trimmed}
 use Rattle.wf_types.specs.declared.client.Client.{Client}
 use Rattle.wf_types.specs.declared.client.Cookie.{Cookie}

@@ -39,10 +39,7 @@ pub fn fits(act: &Act, input: &Input) -> bool
 {
     match (act, input) {
         (Act::Send(_), Input::Sent | Input::Fault) => true,
-        (
-            Act::ReadHead,
-            Input::HeadIs(_) | Input::HeadBad | Input::HeadLong | Input::Fault,
-        ) => true,
+        (Act::ReadHead, Input::HeadIs(_) | Input::HeadBad | Input::HeadLong | Input::Fault) => true,
         (Act::ReadBody, Input::BodyIs(_)) => true,
         _ => false,
     }

@@ -15,8 +15,8 @@ use wf_headers::HeaderList;
 use wf_origin::tuple_origin;
 use wf_text::{Bytes, Items, OutOfMemory};
 use wf_types::{
-    BodyEnd, Client, Cookies, Credentials, Destination, Head, Hop, Mode, Outcome,
-    RedirectMode, Referrer, ReferrerPolicy, Request, Response, ResponseKind, Tainting, Urls,
+    BodyEnd, Client, Cookies, Credentials, Destination, Head, Mode, Outcome, RedirectMode,
+    Referrer, ReferrerPolicy, Request, Response, ResponseKind, Tainting, Urls,
 };
 
 // The client of the document at https://a.test/.

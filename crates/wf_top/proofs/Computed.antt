@@ -1,6 +1,6 @@
 -- The definitions computed on worked examples: what scripted servers answer to a document that fetches its
 -- own root, and the run where there is no server.
-use Rattle.std.proofs.Common.{◌≡◌, refl, true, false, inr, List, [], ◌∷◌, ◌++◌, codes, Some, None}
+use Rattle.std.proofs.Common.{◌≡◌, refl, true, false, inr, List, [], ◌∷◌, codes, Some, None}
 use Rattle.url.proofs.OnLiterals.{url_on_literals}
 use Rattle.wf_types.specs.declared.response.Outcome.TheVariants.{Error}
 use Rattle.wf_types.specs.declared.error.NetError.TheVariants.{BadHead}

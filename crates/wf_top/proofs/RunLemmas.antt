@@ -30,12 +30,12 @@ use Rattle.wf_fetch.specs.declared.place.Step.TheVariants.{Going, Over}
 use Rattle.wf_fetch.specs.Fetch.{Context, handed_over, finished, has_null_body, head_of, is_coded, after_head, after_body, main_fetch, read_body, read_head, was_sent}
 use Rattle.wf_fetch.specs.Machine.{Does, rest, from_place, act_at, last_act}
 use Rattle.wf_fetch.specs.Process.{Process, ended, act, fits}
-use Rattle.wf_fetch.specs.Play.{Play, PlayRun, emit, over, step, run_play, shows, events_of}
+use Rattle.wf_fetch.specs.Play.{Play, PlayRun, emit, over, step, shows, events_of}
 use Rattle.wf_fetch.specs.Runs.{Next, Progress, after_events, command_run, embed, fetched, finished as end_of, limit_before, normalized_init, script_run, showing, started, unless_limit}
 use Rattle.wf_top.specs.declared.running.Running.{Running}
 use Rattle.wf_top.specs.declared.wire.Wire.{Wire}
 use Rattle.wf_top.specs.Runs.{Ends, Shows, Played, Fetched, RunsOver, progress_of}
-use Rattle.wf_top.specs.Exchanges.{Exchange, Exchanges, IsTape}
+use Rattle.wf_top.specs.Exchanges.{Exchange, Exchanges}
 use Rattle.wf_top.specs.Wires.{exchange_of}
 
 -- the events of two parts, and then the rest

@@ -1,5 +1,5 @@
 -- What readers that are fed a wire's window come to, of all that is to come.
-use Rattle.std.proofs.Common.{◌≡◌, ℕ, suc, ◌+◌, ◌-◌, ◌≤◌, List, [], ◌∷◌, ◌++◌, take, drop, length, inl, inr, refl, ap, sym, subst, ◌∙◌, arith, append_assoc, length-append}
+use Rattle.std.proofs.Common.{◌≡◌, ℕ, ◌+◌, ◌-◌, ◌≤◌, List, [], ◌++◌, take, drop, length, inl, inr, refl, ap, sym, subst, ◌∙◌, arith, append_assoc}
 use Rattle.std.specs.Prelude.{slice_range}
 use Rattle.std.proofs.lemmas.List.{append-nil, drop-append-le, drop-drop, drop-take, length-take}
 use Rattle.std.proofs.Math.Seq.{drop-append-add}
@@ -72,9 +72,11 @@ pub read-final : (old new : Exchange) (servers : List Server) (reader window pie
 read-final old new servers reader window piece left step head n framing is same_servers same fed found framed stands =
     let final_fed : (n ≤ length piece) × IsFinal (reader ++ piece) head (length reader + n) = subst (λ (s : HeadStep). HeadFed reader piece s) found fed in
     let within : n ≤ length window = subst (λ (p : List ℕ). n ≤ length p) same final_fed.0 in
-    let here : IsFinal (reader ++ window) head (length reader + n) = subst (λ (p : List ℕ). IsFinal (reader ++ p) head (length reader + n)) same final_fed.1 in
-    (length reader + n, head-final old.coming reader window left head n is here,
-    stands ∙ rw same_servers (rw framed (rw (behind-head old.coming reader window left n is within) refl)))
+    let here : IsFinal (reader ++ window) head (length reader + n) = subst (λ (p : List ℕ). IsFinal (reader ++ p) head (length reader + n)) same final_fed.1 in (
+      length reader + n,
+      head-final old.coming reader window left head n is here,
+      stands ∙ rw same_servers (rw framed (rw (behind-head old.coming reader window left n is within) refl)),
+    )
 
 -- no head was read
 pub read-bad : (old new : Exchange) (closed : List Server) (reader window piece left : List ℕ) (step : HeadStep) (input : Input) → reader ++ (window ++ left) ≡ old.coming → closed ≡ old.servers → piece ≡ window → HeadFed reader piece step → step ≡ heads.Bad → input ≡ HeadBad → new ≡ idle closed → IsHeadRead old input new

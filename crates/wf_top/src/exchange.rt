@@ -118,7 +118,9 @@ impl<'a> Wire<'a> {
     fn begin_body(&mut self, count: usize, framing: Framing)
         requires { count ≤ length (window_of self.old) }
         ensures { exchange_of self.new ≡ record (exchange_of self.old) {
-            coming = drop count (window_of self.old) ++ self.old.link.left; framing = framing } }
+          coming = drop count (window_of self.old) ++ self.old.link.left;
+          framing = framing;
+        } }
     {
         self.from += count;
         self.framing = framing;

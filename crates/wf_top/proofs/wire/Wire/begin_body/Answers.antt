@@ -1,4 +1,4 @@
-use Rattle.std.proofs.Common.{◌≡◌, ◌++◌, List, ℕ, ap}
+use Rattle.std.proofs.Common.{◌++◌, List, ℕ, ap}
 use Rattle.wf_top.specs.Exchanges.{Exchange}
 use Rattle.wf_top.proofs.WireLemmas.{window-behind}
 use Rattle.wf_top.proofs.wire.Wire.begin_body.Goals as goal
