@@ -3,9 +3,8 @@
 # threads with a pass each, and prints the calls a second, the best of three runs. Threads do nothing between
 # two calls, so that all of them wait all the time.
 set -eu
-root=$(cd "$(dirname "${BASH_SOURCE[0]}")/.." && pwd)
-(cd "$root/crates/bench_turn" && rt run -- 1 1 1 >/dev/null)
-program=$root/crates/bench_turn/out/bench_turn
+source "$(dirname "${BASH_SOURCE[0]}")/common.bash"
+build_bench bench_turn 1 1 1
 
 # The calls a second of so many threads and passes, each of which makes so many calls.
 measure() {

@@ -1,0 +1,44 @@
+# What the benches share; each sources it. A folder for what they write, and counting by callgrind, whose
+# instructions no busy machine blurs.
+root=$(cd "$(dirname "${BASH_SOURCE[0]}")/.." && pwd)
+work=$(mktemp -d)
+trap 'rm -rf "$work"' EXIT
+
+# The instructions of a run of a program with its words; its input is handed on, and its status is not looked at.
+counted() {
+    valgrind --tool=callgrind --callgrind-out-file="$work/out" "$@" >/dev/null 2>"$work/log" || true
+    sed -n 's/.*Collected : //p' "$work/log"
+}
+
+# Makes `program` the path of the proved program, built where it is not new.
+build_fetchplay() {
+    program=$root/crates/fetchplay/out/fetchplay
+    "$root/bin/fetchplay" play <"$root/examples/same-origin.json" >/dev/null
+}
+
+# Makes `program` the path of a bench's own program, built by a run with these words.
+build_bench() {
+    local name=$1
+    shift
+    program=$root/crates/$name/out/$name
+    (cd "$root/crates/$name" && rt run -- "$@" >/dev/null 2>&1)
+}
+
+# A scenario whose one server answers by this rule, in pieces of so many bytes, and whose script has so many
+# fetches.
+scenario() {
+    local rule=$1 piece=$2 count=$3
+    printf '{"format":1,"servers":[{"origin":"https://a.test","rules":[%s]}],"piece":%d,' "$rule" "$piece"
+    printf '"documents":[{"url":"https://a.test/","script":['
+    for ((i = 0; i < count; i++)); do
+        ((i == 0)) || printf ','
+        printf '{"fetch":{"url":"/","mode":"same-origin","referrer":"none"}}'
+    done
+    printf ']}]}'
+}
+
+# The instructions of a play of such a scenario.
+played() {
+    scenario "$@" >"$work/scenario"
+    counted "$program" play <"$work/scenario"
+}
