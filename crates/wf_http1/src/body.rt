@@ -96,7 +96,7 @@ impl BodyReader {
                 seen,
             }),
             Found::Absent => BodyStep::Over(BodyEnd::Null),
-            Found::Whole => BodyStep::Over(BodyEnd::Whole(Bytes::from_vec(held))),
+            Found::Whole => BodyStep::Over(whole(held)),
             Found::Cut => BodyStep::Over(BodyEnd::Cut(held.len() as u32)),
             Found::TooBig => BodyStep::Over(BodyEnd::TooBig),
         }
@@ -110,6 +110,15 @@ impl BodyReader {
     }
 }
 
+/// A whole body. The room that was reserved for the limit and not used is given back.
+fn whole(held: Vec<u8>) -> BodyEnd
+    ensures { result ≡ BodyEnd.Whole held.items }
+{
+    let mut held = held;
+    held.shrink_to_fit();
+    BodyEnd::Whole(Bytes::from_vec(held))
+}
+
 /// How a body comes to its end behind the bytes that are held.
 fn end_here(framing: Framing, limit: u32, held: Vec<u8>, place: Place) -> BodyEnd
     requires within { length held.items ≤ limit }
@@ -121,10 +130,8 @@ fn end_here(framing: Framing, limit: u32, held: Vec<u8>, place: Place) -> BodyEn
     let count = held.len() as u32;
     match framing {
         Framing::Nothing => BodyEnd::Null,
-        Framing::ToEnd => BodyEnd::Whole(Bytes::from_vec(held)),
-        Framing::Length(total) if u64::from(count) == total => {
-            BodyEnd::Whole(Bytes::from_vec(held))
-        }
+        Framing::ToEnd => whole(held),
+        Framing::Length(total) if u64::from(count) == total => whole(held),
         Framing::Broken | Framing::Length(_) | Framing::Chunked => BodyEnd::Cut(count),
     }
 }
