@@ -2,6 +2,8 @@
 // body of an answer, which are fed pieces.
 #![tactic(auto)]
 
+#[cfg(test)]
+mod answer_tests;
 mod block;
 mod body;
 #[cfg(test)]
