@@ -132,7 +132,8 @@ unfolding url_on_literals
 request_of_example = refl
 
 -- a script that asks for a forbidden method, and one that navigates
-pub faults_of_examples : (new_request (document_client document) (record init { method = codes "TRACE" }) ≡ Err ForbiddenMethod)
+pub faults_of_examples : (new_request (document_client document) (record init { method = codes "TRACE" })
+    ≡ Err ForbiddenMethod)
     × (new_request (document_client document) (record init { mode = mode.Navigate }) ≡ Err NavigateMode)
 unfolding url_on_literals
 faults_of_examples = (refl, refl)
@@ -147,7 +148,8 @@ at_url url = record request { urls = url ∷ [] }
 
 -- another scheme, host or port is another origin, and then nothing is sent; ftp is no scheme to fetch
 pub refused : (main_fetch context (at_url (record root { scheme = codes "http" })) ≡ ended (Error SameOriginMode))
-    × (main_fetch context (at_url (record root { host = Some (Domain (codes "b.test")) })) ≡ ended (Error SameOriginMode))
+    × (main_fetch context (at_url (record root { host = Some (Domain (codes "b.test")) }))
+        ≡ ended (Error SameOriginMode))
     × (main_fetch context (at_url (record root { port = Some 444 })) ≡ ended (Error SameOriginMode))
     × (main_fetch context (at_url (record root { scheme = codes "ftp" })) ≡ ended (Error Scheme))
 unfolding url_on_literals
@@ -155,12 +157,14 @@ refused = (refl, refl, refl, refl)
 
 -- the response to HEAD has no body, and none is read
 pub head_is_read_alone : (run (main_fetch context (record request { method = codes "HEAD" })) tape).outcome
-    ≡ Some (Answer (record { kind = Basic; status = 200; url = Some (codes "https://a.test/"); headers = []; body = Null }))
+    ≡ Some (Answer (record { kind = Basic; status = 200; url = Some (codes "https://a.test/"); headers = []; body =
+        Null }))
 unfolding url_on_literals
 head_is_read_alone = refl
 
 -- the limits before a fetch, that of commands first
-pub limits : (limit_before (command.Fetch init) (record { commands = 16384; fetches = 1024; shown = [] }) ≡ Some Commands)
+pub limits : (limit_before (command.Fetch init) (record { commands = 16384; fetches = 1024; shown = [] })
+    ≡ Some Commands)
     × (limit_before (command.Fetch init) (record { commands = 1024; fetches = 1024; shown = [] }) ≡ Some Fetches)
     × (limit_before (command.Fetch init) (record { commands = 1023; fetches = 1023; shown = [] }) ≡ None)
 limits = (refl, refl, refl)

@@ -1,5 +1,6 @@
 -- What the loops over header lists come to.
-use Rattle.std.proofs.Common.{arith, ◌≡◌, ◌<◌, ◌≤◌, ◌++◌, ◌∷◌, [], ℕ, zero, suc, Bool, true, false, List, length, slice_index_or, ap, cond, refl, Option, Some, codes, append_assoc}
+use Rattle.std.proofs.Common.{arith, ◌≡◌, ◌<◌, ◌≤◌, ◌++◌, ◌∷◌, [], ℕ, zero, suc, Bool, true, false, List, length}
+use Rattle.std.proofs.Common.{slice_index_or, ap, cond, refl, Option, Some, codes, append_assoc}
 use Rattle.std.specs.List.{insert, remove}
 use Rattle.std.proofs.lemmas.Grind.{common_steps}
 use Rattle.wf_headers.specs.Headers.{joined, after_comma, first_of, without, with_only}
@@ -11,22 +12,32 @@ onto false text values = joined values
 onto true text values = Some (text ++ after_comma values)
 
 -- one value more is joined
-pub onto-added : (found : Bool) (text value : List ℕ) (values : List (List ℕ)) → (found ≡ false → text ≡ []) → onto true (cond found (text ++ (codes ", " ++ value)) (text ++ value)) values ≡ onto found text (value ∷ values)
-onto-added true text value values nothing = ap (λ (l : List ℕ). let o : Option (List ℕ) = Some l in o) (append_assoc text (codes ", " ++ value) (after_comma values))
-onto-added false text value values nothing = ap (λ (l : List ℕ). let o : Option (List ℕ) = Some ((l ++ value) ++ after_comma values) in o) (nothing refl)
+pub onto-added : (found : Bool) (text value : List ℕ) (values : List (List ℕ)) → (found ≡ false → text ≡ [])
+    → onto true (cond found (text ++ (codes ", " ++ value)) (text ++ value)) values ≡ onto found text (value ∷ values)
+onto-added true text value values nothing =
+    ap (λ (l : List ℕ). let o : Option (List ℕ) = Some l in
+    o) (append_assoc text (codes ", " ++ value) (after_comma values))
+onto-added false text value values nothing =
+    ap (λ (l : List ℕ). let o : Option (List ℕ) = Some ((l ++ value) ++ after_comma values) in o) (nothing refl)
 
 -- deleting a name keeps as many headers as stand before its first
-pub without-room : (name : List ℕ) (headers : List Header) (at : ℕ) → at ≡ first_of name headers → at < length headers → at ≤ length (without name (remove headers at))
+pub without-room : (name : List ℕ) (headers : List Header) (at : ℕ) → at ≡ first_of name headers → at < length headers
+    → at ≤ length (without name (remove headers at))
 without-room name [] at e lt = omega (arith, lt)
 without-room name (header ∷ headers) zero e lt = grind (arith, common_steps)
 without-room name (header ∷ headers) (suc at) e lt = grind (arith, common_steps, without-room name headers at)
 
 -- the first header with its new value, among what deleting the name leaves of the others
-pub with_only-found : (name value : List ℕ) (headers : List Header) (at : ℕ) (first : Header) → at ≡ first_of name headers → at < length headers → first ≡ slice_index_or headers at first → insert (without name (remove headers at)) at (record { name = first.name; value = value }) ≡ with_only name value headers
+pub with_only-found : (name value : List ℕ) (headers : List Header) (at : ℕ) (first : Header) → at
+    ≡ first_of name headers → at < length headers → first ≡ slice_index_or headers at first
+    → insert (without name (remove headers at)) at (record { name = first.name; value = value })
+    ≡ with_only name value headers
 with_only-found name value [] at first e lt is = grind arith
 with_only-found name value (header ∷ headers) zero first e lt is = grind (arith, common_steps)
-with_only-found name value (header ∷ headers) (suc at) first e lt is = grind (arith, common_steps, with_only-found name value headers at first)
+with_only-found name value (header ∷ headers) (suc at) first e lt is =
+    grind (arith, common_steps, with_only-found name value headers at first)
 
-pub with_only-missing : (name value : List ℕ) (headers : List Header) → length headers ≤ first_of name headers → with_only name value headers ≡ headers ++ record { name = name; value = value } ∷ []
+pub with_only-missing : (name value : List ℕ) (headers : List Header) → length headers ≤ first_of name headers
+    → with_only name value headers ≡ headers ++ record { name = name; value = value } ∷ []
 with_only-missing name value [] e = refl
 with_only-missing name value (header ∷ headers) e = grind (arith, common_steps, with_only-missing name value headers)

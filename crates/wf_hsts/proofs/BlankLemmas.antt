@@ -1,5 +1,6 @@
 -- Blanks round a text.
-use Rattle.std.proofs.Common.{◌≡◌, ◌==◌, ◌&&◌, not, ℕ, Bool, true, false, List, [], ◌∷◌, ◌++◌, length, reverse, refl, ap, sym, subst, ◌∙◌, if◌then◌else◌}
+use Rattle.std.proofs.Common.{◌≡◌, ◌==◌, ◌&&◌, not, ℕ, Bool, true, false, List, [], ◌∷◌, ◌++◌, length, reverse, refl}
+use Rattle.std.proofs.Common.{ap, sym, subst, ◌∙◌, if◌then◌else◌}
 use Rattle.std.proofs.lemmas.Bool.{eqb-true}
 use Rattle.std.proofs.lemmas.List.{reverse-append, reverse-reverse}
 use Rattle.std.proofs.lemmas.List.Folds.{list_all-append}
@@ -24,12 +25,16 @@ pub tchar-solid : (byte : ℕ) → is_tchar byte ≡ true → is_blank byte ≡ 
 tchar-solid byte taken = rw (apart is_tchar 9 byte refl taken, apart is_tchar 32 byte refl taken) refl
 
 -- blanks at the front go
-start-blank : (front text : List ℕ) → IsBlank front → trimmed_start tab_or_space (front ++ text) ≡ trimmed_start tab_or_space text
+start-blank : (front text : List ℕ) → IsBlank front → trimmed_start tab_or_space (front ++ text)
+    ≡ trimmed_start tab_or_space text
 start-blank [] text blank = refl
-start-blank (byte ∷ front) text blank = rw (first_so (is_blank byte) (list_all is_blank front) blank) (start-blank front text (second_so (is_blank byte) (list_all is_blank front) blank))
+start-blank (byte ∷ front) text blank =
+    rw (first_so (is_blank byte) (list_all is_blank front) blank)
+    (start-blank front text (second_so (is_blank byte) (list_all is_blank front) blank))
 
 -- a text that begins with another byte stays
-start-solid : (byte : ℕ) (text : List ℕ) → is_blank byte ≡ false → trimmed_start tab_or_space (byte ∷ text) ≡ byte ∷ text
+start-solid : (byte : ℕ) (text : List ℕ) → is_blank byte ≡ false → trimmed_start tab_or_space (byte ∷ text) ≡ byte
+    ∷ text
 start-solid byte text solid = rw solid refl
 
 -- what goes at the front is blank
@@ -38,8 +43,11 @@ record IsFront (text rest : List ℕ) : Type 0 where
   blank : IsBlank front
   text_is : text ≡ front ++ rest
 
-front-step : (byte : ℕ) (text : List ℕ) (here : Bool) → is_blank byte ≡ here → IsFront text (trimmed_start tab_or_space text) → IsFront (byte ∷ text) (if here then trimmed_start tab_or_space text else byte ∷ text)
-front-step byte text true e f = record { front = byte ∷ f.front; blank = rw e f.blank; text_is = ap (λ l. byte ∷ l) f.text_is }
+front-step : (byte : ℕ) (text : List ℕ) (here : Bool) → is_blank byte ≡ here
+    → IsFront text (trimmed_start tab_or_space text)
+    → IsFront (byte ∷ text) (if here then trimmed_start tab_or_space text else byte ∷ text)
+front-step byte text true e f =
+    record { front = byte ∷ f.front; blank = rw e f.blank; text_is = ap (λ l. byte ∷ l) f.text_is }
 front-step byte text false e f = record { front = []; blank = refl; text_is = refl }
 
 start-front : (text : List ℕ) → IsFront text (trimmed_start tab_or_space text)
@@ -68,7 +76,8 @@ trimmed-padded text =
     let f = start-front text in
     let g = start-front (reverse start) in
     let back : start ≡ trimmed tab_or_space text ++ reverse g.front =
-    sym (reverse-reverse start) ∙ ap (λ l. reverse l) g.text_is ∙ reverse-append g.front (trimmed_start tab_or_space (reverse start)) in
+    sym (reverse-reverse start) ∙ ap (λ l. reverse l) g.text_is
+        ∙ reverse-append g.front (trimmed_start tab_or_space (reverse start)) in
     record {
       before = f.front;
       behind = reverse g.front;
@@ -93,11 +102,13 @@ pub padded-trimmed : (inner text : List ℕ) → IsPadded inner text → IsSolid
 padded-trimmed inner text p s =
     let start : trimmed_start tab_or_space text ≡ inner ++ p.behind =
     ap (λ l. trimmed_start tab_or_space l) p.text_is ∙ start-blank p.before (inner ++ p.behind) p.blank_before
-    ∙ ap (λ l. trimmed_start tab_or_space (l ++ p.behind)) s.first_is ∙ start-solid s.first (s.rest ++ p.behind) s.first_solid ∙ ap (λ l. l ++ p.behind) (sym s.first_is) in
+    ∙ ap (λ l. trimmed_start tab_or_space (l ++ p.behind)) s.first_is
+        ∙ start-solid s.first (s.rest ++ p.behind) s.first_solid ∙ ap (λ l. l ++ p.behind) (sym s.first_is) in
     let turn : reverse inner ≡ s.last ∷ reverse s.front =
     ap (λ l. reverse l) s.last_is ∙ reverse-append s.front (s.last ∷ []) in
     let back : trimmed_start tab_or_space (reverse (inner ++ p.behind)) ≡ reverse inner =
-    ap (λ l. trimmed_start tab_or_space l) (reverse-append inner p.behind) ∙ start-blank (reverse p.behind) (reverse inner) (blank-reverse p.behind ∙ p.blank_behind)
+    ap (λ l. trimmed_start tab_or_space l) (reverse-append inner p.behind)
+        ∙ start-blank (reverse p.behind) (reverse inner) (blank-reverse p.behind ∙ p.blank_behind)
     ∙ ap (λ l. trimmed_start tab_or_space l) turn ∙ start-solid s.last (reverse s.front) s.last_solid ∙ sym turn in
     ap (λ l. trimmed_end tab_or_space l) start ∙ ap (λ l. reverse l) back ∙ reverse-reverse inner
 
@@ -113,13 +124,16 @@ ends byte (next ∷ text) =
     record { front = byte ∷ e.front; last = e.last; text_is = ap (λ l. byte ∷ l) e.text_is }
 
 all-last : (p : ℕ → Bool) (front : List ℕ) (last : ℕ) → list_all p (front ++ last ∷ []) ≡ true → p last ≡ true
-all-last p front last h = first_so (p last) true (second_so (list_all p front) (p last && true) (sym (list_all-append p front (last ∷ [])) ∙ h))
+all-last p front last h =
+    first_so (p last) true (second_so (list_all p front) (p last && true) (sym (list_all-append p front (last ∷ []))
+    ∙ h))
 
 -- a token is such a text
 pub token-solid : (text : List ℕ) → is_token text ≡ true → IsSolid text
 token-solid [] token = cc
 token-solid (byte ∷ text) token =
-    let all : list_all is_tchar (byte ∷ text) ≡ true = second_so (not (length (byte ∷ text) == 0)) (list_all is_tchar (byte ∷ text)) token in
+    let all : list_all is_tchar (byte ∷ text) ≡ true =
+        second_so (not (length (byte ∷ text) == 0)) (list_all is_tchar (byte ∷ text)) token in
     let e = ends byte text in
     record {
       first = byte;
@@ -129,7 +143,8 @@ token-solid (byte ∷ text) token =
       last = e.last;
       front = e.front;
       last_is = e.text_is;
-      last_solid = tchar-solid e.last (all-last is_tchar e.front e.last (ap (λ l. list_all is_tchar l) (sym e.text_is) ∙ all));
+      last_solid =
+          tchar-solid e.last (all-last is_tchar e.front e.last (ap (λ l. list_all is_tchar l) (sym e.text_is) ∙ all));
     }
 
 record ClosedBy (written : List ℕ) : Type 0 where

@@ -52,8 +52,10 @@ undotted = refl
 first : without_first_to_end two ≡ known_host (codes "b.test") false 50 ∷ []
 first = refl
 
-replaced : noted (codes "b.test") (record { age = 7; subdomains = true }) 3 two ≡ known_host (codes "a.test") true 50 ∷ known_host (codes "b.test") true 10 ∷ []
+replaced : noted (codes "b.test") (record { age = 7; subdomains = true }) 3 two ≡ known_host (codes "a.test") true 50
+    ∷ known_host (codes "b.test") true 10 ∷ []
 replaced = refl
 
-forgotten : noted (codes "a.test") (record { age = 0; subdomains = true }) 3 two ≡ known_host (codes "b.test") false 50 ∷ []
+forgotten : noted (codes "a.test") (record { age = 0; subdomains = true }) 3 two
+    ≡ known_host (codes "b.test") false 50 ∷ []
 forgotten = refl

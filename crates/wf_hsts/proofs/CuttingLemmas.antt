@@ -1,19 +1,24 @@
 -- The first piece of a text, and the others.
-use Rattle.std.proofs.Common.{◌≡◌, ◌≤◌, ◌+◌, ℕ, List, [], ◌∷◌, length, take, drop, Option, Some, None, refl, ap, sym, ◌∙◌, arith, append_assoc, append-nil, ◌<◌, ◌-◌}
+use Rattle.std.proofs.Common.{◌≡◌, ◌≤◌, ◌+◌, ℕ, List, [], ◌∷◌, length, take, drop, Option, Some, None, refl, ap, sym}
+use Rattle.std.proofs.Common.{◌∙◌, arith, append_assoc, append-nil, ◌<◌, ◌-◌}
 use Rattle.std.proofs.lemmas.List.{take_rest}
-use Rattle.wf_hsts.specs.Reading.{directives_in, directives_of, next_place, one_more, piece_end, piece_in, pieces, pieces_from, with_front, with_more}
+use Rattle.wf_hsts.specs.Reading.{directives_in, directives_of, next_place, one_more, piece_end, piece_in, pieces}
+use Rattle.wf_hsts.specs.Reading.{pieces_from, with_front, with_more}
 use Rattle.wf_hsts.specs.declared.directives.Directive.{Directive}
 use Rattle.wf_hsts.specs.declared.pieces.Place.{Place}
 use Rattle.wf_hsts.specs.declared.pieces.Place.TheVariants.{Outside}
 
-end-within : (n : ℕ) (next : Option Place) (end : Place → ℕ) → ((place : Place) → end place ≤ n) → one_more next end ≤ n + 1
+end-within : (n : ℕ) (next : Option Place) (end : Place → ℕ) → ((place : Place) → end place ≤ n)
+    → one_more next end ≤ n + 1
 end-within n None end h = omega arith
 end-within n (Some next) end h = omega (arith, h next)
 
 -- the first piece ends within the text
 pub piece_end-within : (place : Place) (text : List ℕ) → piece_end place text ≤ length text
 piece_end-within place [] = omega arith
-piece_end-within place (byte ∷ text) = omega (arith, end-within (length text) (next_place place byte) (λ next. piece_end next text) (λ next. piece_end-within next text))
+piece_end-within place (byte ∷ text) =
+    omega (arith, end-within (length text) (next_place place byte) (λ next. piece_end next text)
+    (λ next. piece_end-within next text))
 
 -- the pieces behind the first one
 abbrev pub pieces_behind : List ℕ → List (List ℕ)
@@ -21,14 +26,17 @@ pieces_behind [] = []
 pieces_behind (semicolon ∷ text) = pieces Outside text
 
 cut-there : (byte : ℕ) (text : List ℕ) (next : Option Place)
-    → ((place : Place) → pieces place text ≡ take (piece_end place text) text ∷ pieces_behind (drop (piece_end place text) text))
+    → ((place : Place) → pieces place text ≡ take (piece_end place text) text
+        ∷ pieces_behind (drop (piece_end place text) text))
     → pieces_from byte next (λ place. pieces place text)
-    ≡ take (one_more next (λ place. piece_end place text)) (byte ∷ text) ∷ pieces_behind (drop (one_more next (λ place. piece_end place text)) (byte ∷ text))
+    ≡ take (one_more next (λ place. piece_end place text)) (byte ∷ text)
+        ∷ pieces_behind (drop (one_more next (λ place. piece_end place text)) (byte ∷ text))
 cut-there byte text None h = refl
 cut-there byte text (Some next) h = ap (with_front byte) (h next)
 
 -- the pieces are the first one, and the ones behind its semicolon
-pub pieces-cut : (place : Place) (text : List ℕ) → pieces place text ≡ take (piece_end place text) text ∷ pieces_behind (drop (piece_end place text) text)
+pub pieces-cut : (place : Place) (text : List ℕ) → pieces place text ≡ take (piece_end place text) text
+    ∷ pieces_behind (drop (piece_end place text) text)
 pieces-cut place [] = refl
 pieces-cut place (byte ∷ text) = cut-there byte text (next_place place byte) (λ next. pieces-cut next text)
 
@@ -44,22 +52,27 @@ with_more-assoc (Some x) (Some y) None = refl
 with_more-assoc (Some x) (Some y) (Some z) = ap (λ (l : List Directive). Some l) (sym (append_assoc x y z))
 
 -- the directives after one piece more
-pub field-step : (rest : List ℕ) (old : List Directive) (whole added : Option (List Directive)) (piece behind : List ℕ) (end : ℕ) → end ≡ piece_end Outside rest
-    → piece ≡ take end rest → behind ≡ drop end rest → whole ≡ with_more (Some old) (directives_of rest) → added ≡ with_more (Some old) (piece_in piece)
+pub field-step : (rest : List ℕ) (old : List Directive) (whole added : Option (List Directive))
+    (piece behind : List ℕ) (end : ℕ) → end ≡ piece_end Outside rest
+    → piece ≡ take end rest → behind ≡ drop end rest → whole ≡ with_more (Some old) (directives_of rest) → added
+        ≡ with_more (Some old) (piece_in piece)
     → whole ≡ with_more added (directives_in (pieces_behind behind))
 field-step rest old whole added piece behind end e front back before now =
     let cut : directives_of rest ≡ with_more (piece_in piece) (directives_in (pieces_behind behind)) =
     rw (pieces-cut Outside rest, front, back, e) refl in
-    before ∙ ap (λ found. with_more (Some old) found) cut ∙ with_more-assoc (Some old) (piece_in piece) (directives_in (pieces_behind behind))
+    before ∙ ap (λ found. with_more (Some old) found) cut
+        ∙ with_more-assoc (Some old) (piece_in piece) (directives_in (pieces_behind behind))
     ∙ ap (λ found. with_more found (directives_in (pieces_behind behind))) (sym now)
 
 -- where it is the last
-pub field-last : (whole : Option (List Directive)) (new : List Directive) (behind : List ℕ) → length behind < 1 → whole ≡ with_more (Some new) (directives_in (pieces_behind behind)) → Some new ≡ whole
+pub field-last : (whole : Option (List Directive)) (new : List Directive) (behind : List ℕ) → length behind < 1
+    → whole ≡ with_more (Some new) (directives_in (pieces_behind behind)) → Some new ≡ whole
 field-last whole new [] h e = sym (e ∙ with_more-nothing (Some new))
 field-last whole new (byte ∷ behind) h e = absurd (omega arith)
 
 -- where there are others
-pub field-others : (whole : Option (List Directive)) (new : List Directive) (behind : List ℕ) → 1 ≤ length behind → whole ≡ with_more (Some new) (directives_in (pieces_behind behind))
+pub field-others : (whole : Option (List Directive)) (new : List Directive) (behind : List ℕ) → 1 ≤ length behind
+    → whole ≡ with_more (Some new) (directives_in (pieces_behind behind))
     → whole ≡ with_more (Some new) (directives_of (take (length behind - 1) (drop 1 behind)))
 field-others whole new [] h e = absurd (omega arith)
 field-others whole new (byte ∷ behind) h e =

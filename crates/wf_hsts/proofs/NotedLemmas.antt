@@ -1,5 +1,7 @@
 -- A field noted: how many hosts there are, and which of them goes.
-use Rattle.std.proofs.Common.{◌≡◌, ◌==◌, ◌||◌, ◌<◌, ◌≤◌, ◌+◌, not, ℕ, Bool, true, false, cond, List, [], ◌∷◌, ◌++◌, filter, length, Option, Some, None, is_some, nat_lt, refl, ap, sym, subst, ◌∙◌, if◌then◌else◌, arith, length-append}
+use Rattle.std.proofs.Common.{◌≡◌, ◌==◌, ◌||◌, ◌<◌, ◌≤◌, ◌+◌, not, ℕ, Bool, true, false, cond, List, [], ◌∷◌, ◌++◌}
+use Rattle.std.proofs.Common.{filter, length, Option, Some, None, is_some, nat_lt, refl, ap, sym, subst, ◌∙◌}
+use Rattle.std.proofs.Common.{if◌then◌else◌, arith, length-append}
 use Rattle.std.proofs.lemmas.Bool.{le-ltb, lt-ltb, ltb-false, ltb-true}
 use Rattle.std.proofs.lemmas.List.Filters.{length-filter_both}
 use Rattle.std.specs.Ordering.{is_eq, is_gt, is_lt}
@@ -19,24 +21,31 @@ use Rattle.wf_hsts.proofs.QuotedLemmas.{unequal}
 
 pub without-length : (host : List ℕ) (hosts : List KnownHost) → length (without host hosts) ≤ length hosts
 without-length host hosts =
-    omega (arith, length-filter_both (λ known. not (bytes_eq known.host host)) (λ known. not (not (bytes_eq known.host host))) (λ known. refl) hosts)
+    omega (arith, length-filter_both (λ known. not (bytes_eq known.host host))
+        (λ known. not (not (bytes_eq known.host host))) (λ known. refl) hosts)
 
 -- a host that is there is one less
-fewer-by : (known : KnownHost) (kept all : List KnownHost) (here there : Bool) → (here || there) ≡ true → length kept ≤ length all → (there ≡ true → length kept < length all)
+fewer-by : (known : KnownHost) (kept all : List KnownHost) (here there : Bool) → (here || there) ≡ true
+    → length kept ≤ length all → (there ≡ true → length kept < length all)
     → length (cond (not here) (known ∷ kept) kept) < length (known ∷ all)
 fewer-by known kept all true there e le lt = omega arith
 fewer-by known kept all false there e le lt = omega (arith, lt e)
 
-pub holds-fewer : (host : List ℕ) (hosts : List KnownHost) → holds host hosts ≡ true → length (without host hosts) < length hosts
+pub holds-fewer : (host : List ℕ) (hosts : List KnownHost) → holds host hosts ≡ true
+    → length (without host hosts) < length hosts
 holds-fewer host [] e = cc
-holds-fewer host (known ∷ hosts) e = fewer-by known (without host hosts) hosts (bytes_eq known.host host) (holds host hosts) e (without-length host hosts) (λ f. holds-fewer host hosts f)
+holds-fewer host (known ∷ hosts) e =
+    fewer-by known (without host hosts) hosts (bytes_eq known.host host) (holds host hosts) e
+    (without-length host hosts) (λ f. holds-fewer host hosts f)
 
 -- a host that is not there does not go
 pub absent-without : (host : List ℕ) (hosts : List KnownHost) → term_in host hosts ≡ None → without host hosts ≡ hosts
 absent-without host [] e = refl
 absent-without host (known ∷ hosts) e = by-here (bytes_eq known.host host) (λ f. absent-without host hosts f) e
   where
-    by-here : (here : Bool) → (term_in host hosts ≡ None → without host hosts ≡ hosts) → (if here then Some (record { subdomains = known.subdomains; until = known.until }) else term_in host hosts) ≡ None
+    by-here : (here : Bool) → (term_in host hosts ≡ None → without host hosts ≡ hosts)
+        → (if here then Some (record { subdomains = known.subdomains; until = known.until }) else term_in host hosts)
+        ≡ None
         → cond (not here) (known ∷ without host hosts) (without host hosts) ≡ known ∷ hosts
     by-here true h f = cc
     by-here false h f = ap (λ l. known ∷ l) (h f)
@@ -47,29 +56,40 @@ below-true a b h = lt-ltb a b h
 below-false : (a b : ℕ) → b ≤ a → nat_lt a b ≡ false
 below-false a b h = le-ltb a b h
 
-room-by : (host : List ℕ) (hosts : List KnownHost) (found : Option Term) → term_in host hosts ≡ found → length hosts ≡ 4096 → is_some found ≡ nat_lt (length (without host hosts)) 4096
-room-by host hosts None e full = sym (ap (λ l. nat_lt (length l) 4096) (absent-without host hosts e) ∙ below-false (length hosts) 4096 (omega arith))
-room-by host hosts (Some term) e full = sym (below-true (length (without host hosts)) 4096 (omega (arith, holds-fewer host hosts (term-holds host hosts term e))))
+room-by : (host : List ℕ) (hosts : List KnownHost) (found : Option Term) → term_in host hosts ≡ found → length hosts
+    ≡ 4096 → is_some found ≡ nat_lt (length (without host hosts)) 4096
+room-by host hosts None e full =
+    sym (ap (λ l. nat_lt (length l) 4096) (absent-without host hosts e) ∙ below-false (length hosts) 4096 (omega arith))
+room-by host hosts (Some term) e full =
+    sym (below-true (length (without host hosts)) 4096
+    (omega (arith, holds-fewer host hosts (term-holds host hosts term e))))
 
 -- with fewer hosts there is room
-pub room-few : (host : List ℕ) (hosts : List KnownHost) → length hosts < 4096 → nat_lt (length (without host hosts)) 4096 ≡ true
+pub room-few : (host : List ℕ) (hosts : List KnownHost) → length hosts < 4096
+    → nat_lt (length (without host hosts)) 4096 ≡ true
 room-few host hosts few = below-true (length (without host hosts)) 4096 (omega (arith, without-length host hosts))
 
 -- with as many there is room for a host that is there
-pub room-full : (host : List ℕ) (hosts : List KnownHost) → length hosts ≤ 4096 → 4096 ≤ length hosts → is_some (term_in host hosts) ≡ nat_lt (length (without host hosts)) 4096
+pub room-full : (host : List ℕ) (hosts : List KnownHost) → length hosts ≤ 4096 → 4096 ≤ length hosts
+    → is_some (term_in host hosts) ≡ nat_lt (length (without host hosts)) 4096
 room-full host hosts few many = room-by host hosts (term_in host hosts) refl (omega arith)
 
 -- ---- the list
 
 -- a filter that refuses a host keeps the same without it
-kept-by : (p : KnownHost → Bool) (host : List ℕ) (known : KnownHost) (others hosts : List KnownHost) (here passed : Bool) → p known ≡ passed → (here ≡ true → passed ≡ false) → filter p others ≡ filter p hosts
+kept-by : (p : KnownHost → Bool) (host : List ℕ) (known : KnownHost) (others hosts : List KnownHost)
+    (here passed : Bool) → p known ≡ passed → (here ≡ true → passed ≡ false) → filter p others ≡ filter p hosts
     → filter p (cond (not here) (known ∷ others) others) ≡ cond passed (known ∷ filter p hosts) (filter p hosts)
 kept-by p host known others hosts true passed e refused h = rw (refused refl) h
 kept-by p host known others hosts false passed e refused h = rw (e, h) refl
 
-kept-same : (p : KnownHost → Bool) (host : List ℕ) → ((known : KnownHost) → bytes_eq known.host host ≡ true → p known ≡ false) → (hosts : List KnownHost) → filter p (without host hosts) ≡ filter p hosts
+kept-same : (p : KnownHost → Bool) (host : List ℕ)
+    → ((known : KnownHost) → bytes_eq known.host host ≡ true → p known ≡ false) → (hosts : List KnownHost)
+    → filter p (without host hosts) ≡ filter p hosts
 kept-same p host refused [] = refl
-kept-same p host refused (known ∷ hosts) = kept-by p host known (without host hosts) hosts (bytes_eq known.host host) (p known) refl (refused known) (kept-same p host refused hosts)
+kept-same p host refused (known ∷ hosts) =
+    kept-by p host known (without host hosts) hosts (bytes_eq known.host host) (p known) refl (refused known)
+    (kept-same p host refused hosts)
 
 equal-lt : (o : Ordering) → is_eq o ≡ true → is_lt o ≡ false
 equal-lt Less e = sym e
@@ -84,15 +104,20 @@ equal-gt Greater e = sym e
 -- a host comes in the place of what there is of it
 with-without : (new : KnownHost) (hosts : List KnownHost) → with_host new (without new.host hosts) ≡ with_host new hosts
 with-without new hosts =
-    let front : filter (λ known. is_lt (text_cmp known.host new.host)) (without new.host hosts) ≡ filter (λ known. is_lt (text_cmp known.host new.host)) hosts =
-    kept-same (λ known. is_lt (text_cmp known.host new.host)) new.host (λ known e. equal-lt (text_cmp known.host new.host) (sym (bytes-order known.host new.host) ∙ e)) hosts in
-    let back : filter (λ known. is_gt (text_cmp known.host new.host)) (without new.host hosts) ≡ filter (λ known. is_gt (text_cmp known.host new.host)) hosts =
-    kept-same (λ known. is_gt (text_cmp known.host new.host)) new.host (λ known e. equal-gt (text_cmp known.host new.host) (sym (bytes-order known.host new.host) ∙ e)) hosts in
+    let front : filter (λ known. is_lt (text_cmp known.host new.host)) (without new.host hosts)
+        ≡ filter (λ known. is_lt (text_cmp known.host new.host)) hosts =
+    kept-same (λ known. is_lt (text_cmp known.host new.host)) new.host
+        (λ known e. equal-lt (text_cmp known.host new.host) (sym (bytes-order known.host new.host) ∙ e)) hosts in
+    let back : filter (λ known. is_gt (text_cmp known.host new.host)) (without new.host hosts)
+        ≡ filter (λ known. is_gt (text_cmp known.host new.host)) hosts =
+    kept-same (λ known. is_gt (text_cmp known.host new.host)) new.host
+        (λ known e. equal-gt (text_cmp known.host new.host) (sym (bytes-order known.host new.host) ∙ e)) hosts in
     ap (λ l. l ++ (new ∷ filter (λ known. is_gt (text_cmp known.host new.host)) (without new.host hosts))) front
     ∙ ap (λ l. filter (λ known. is_lt (text_cmp known.host new.host)) hosts ++ (new ∷ l)) back
 
 -- two filters in either order
-twice-by : (p q : KnownHost → Bool) (known : KnownHost) (a b : List KnownHost) (x y : Bool) → p known ≡ x → q known ≡ y → filter p a ≡ filter q b → filter p (cond y (known ∷ a) a) ≡ filter q (cond x (known ∷ b) b)
+twice-by : (p q : KnownHost → Bool) (known : KnownHost) (a b : List KnownHost) (x y : Bool) → p known ≡ x → q known
+    ≡ y → filter p a ≡ filter q b → filter p (cond y (known ∷ a) a) ≡ filter q (cond x (known ∷ b) b)
 twice-by p q known a b true true e f h = rw (e, f) (ap (λ l. known ∷ l) h)
 twice-by p q known a b true false e f h = rw f h
 twice-by p q known a b false true e f h = rw e h
@@ -100,9 +125,11 @@ twice-by p q known a b false false e f h = h
 
 either-order : (p q : KnownHost → Bool) (hosts : List KnownHost) → filter p (filter q hosts) ≡ filter q (filter p hosts)
 either-order p q [] = refl
-either-order p q (known ∷ hosts) = twice-by p q known (filter q hosts) (filter p hosts) (p known) (q known) refl refl (either-order p q hosts)
+either-order p q (known ∷ hosts) =
+    twice-by p q known (filter q hosts) (filter p hosts) (p known) (q known) refl refl (either-order p q hosts)
 
-append-by : (known : KnownHost) (a b : List KnownHost) (x : Bool) → cond x (known ∷ (a ++ b)) (a ++ b) ≡ cond x (known ∷ a) a ++ b
+append-by : (known : KnownHost) (a b : List KnownHost) (x : Bool) → cond x (known ∷ (a ++ b)) (a ++ b)
+    ≡ cond x (known ∷ a) a ++ b
 append-by known a b true = refl
 append-by known a b false = refl
 
@@ -111,7 +138,8 @@ filter-append p [] b = refl
 filter-append p (known ∷ a) b = rw (filter-append p a b) (append-by known (filter p a) (filter p b) (p known))
 
 -- another host goes before or behind
-pub with-less : (new : KnownHost) (name : List ℕ) (hosts : List KnownHost) → bytes_eq new.host name ≡ false → without name (with_host new hosts) ≡ with_host new (without name hosts)
+pub with-less : (new : KnownHost) (name : List ℕ) (hosts : List KnownHost) → bytes_eq new.host name ≡ false
+    → without name (with_host new hosts) ≡ with_host new (without name hosts)
 with-less new name hosts other =
     let lt : KnownHost → Bool = λ known. is_lt (text_cmp known.host new.host) in
     let gt : KnownHost → Bool = λ known. is_gt (text_cmp known.host new.host) in
@@ -123,88 +151,114 @@ with-less new name hosts other =
     ∙ ap (λ l. filter lt (filter kept hosts) ++ (new ∷ l)) (either-order kept gt hosts)
 
 -- one host more at most
-one-by : (known : KnownHost) (a b hosts : List KnownHost) (o : Ordering) → length a + length b ≤ length hosts → length (cond (is_lt o) (known ∷ a) a) + length (cond (is_gt o) (known ∷ b) b) ≤ length (known ∷ hosts)
+one-by : (known : KnownHost) (a b hosts : List KnownHost) (o : Ordering) → length a + length b ≤ length hosts
+    → length (cond (is_lt o) (known ∷ a) a) + length (cond (is_gt o) (known ∷ b) b) ≤ length (known ∷ hosts)
 one-by known a b hosts Less h = omega (arith, h)
 one-by known a b hosts Equal h = omega (arith, h)
 one-by known a b hosts Greater h = omega (arith, h)
 
-parts-length : (new : KnownHost) (hosts : List KnownHost) → length (filter (λ known. is_lt (text_cmp known.host new.host)) hosts) + length (filter (λ known. is_gt (text_cmp known.host new.host)) hosts) ≤ length hosts
+parts-length : (new : KnownHost) (hosts : List KnownHost)
+    → length (filter (λ known. is_lt (text_cmp known.host new.host)) hosts) + length
+    (filter (λ known. is_gt (text_cmp known.host new.host)) hosts) ≤ length hosts
 parts-length new [] = omega arith
 parts-length new (known ∷ hosts) = one-by known _ _ hosts (text_cmp known.host new.host) (parts-length new hosts)
 
 pub with-length : (new : KnownHost) (hosts : List KnownHost) → length (with_host new hosts) ≤ length hosts + 1
 with-length new hosts =
-    omega (arith, parts-length new hosts, length-append (filter (λ known. is_lt (text_cmp known.host new.host)) hosts) (new ∷ filter (λ known. is_gt (text_cmp known.host new.host)) hosts))
+    omega (arith, parts-length new hosts,
+        length-append (filter (λ known. is_lt (text_cmp known.host new.host)) hosts) (new
+        ∷ filter (λ known. is_gt (text_cmp known.host new.host)) hosts))
 
 -- ---- what a field does
 
 room-true : (others : List KnownHost) → nat_lt (length others) 4096 ≡ true → with_room others ≡ others
 room-true others e = rw e refl
 
-room-false : (others : List KnownHost) → nat_lt (length others) 4096 ≡ false → with_room others ≡ without_first_to_end others
+room-false : (others : List KnownHost) → nat_lt (length others) 4096 ≡ false → with_room others
+    ≡ without_first_to_end others
 room-false others e = rw e refl
 
-aged : (host : List ℕ) (sts : Sts) (now : ℕ) (hosts : List KnownHost) → (sts.age == 0) ≡ false → noted host sts now hosts ≡ with_host (known_host host sts.subdomains (now + sts.age)) (with_room (without host hosts))
+aged : (host : List ℕ) (sts : Sts) (now : ℕ) (hosts : List KnownHost) → (sts.age == 0) ≡ false
+    → noted host sts now hosts
+    ≡ with_host (known_host host sts.subdomains (now + sts.age)) (with_room (without host hosts))
 aged host sts now hosts e = rw e refl
 
 -- with room
-pub noted-kept : (host : List ℕ) (sts : Sts) (now : ℕ) (hosts : List KnownHost) → (sts.age == 0) ≡ false → nat_lt (length (without host hosts)) 4096 ≡ true
+pub noted-kept : (host : List ℕ) (sts : Sts) (now : ℕ) (hosts : List KnownHost) → (sts.age == 0) ≡ false
+    → nat_lt (length (without host hosts)) 4096 ≡ true
     → noted host sts now hosts ≡ with_host (known_host host sts.subdomains (now + sts.age)) hosts
 noted-kept host sts now hosts e room =
-    aged host sts now hosts e ∙ ap (with_host (known_host host sts.subdomains (now + sts.age))) (room-true (without host hosts) room) ∙ with-without (known_host host sts.subdomains (now + sts.age)) hosts
+    aged host sts now hosts e
+        ∙ ap (with_host (known_host host sts.subdomains (now + sts.age))) (room-true (without host hosts) room)
+        ∙ with-without (known_host host sts.subdomains (now + sts.age)) hosts
 
 not-held : (host : List ℕ) (hosts : List KnownHost) → holds host hosts ≡ false → without host hosts ≡ hosts
 not-held host [] e = refl
 not-held host (known ∷ hosts) e = by-here (bytes_eq known.host host) (λ f. not-held host hosts f) e
   where
-    by-here : (here : Bool) → (holds host hosts ≡ false → without host hosts ≡ hosts) → (here || holds host hosts) ≡ false → cond (not here) (known ∷ without host hosts) (without host hosts) ≡ known ∷ hosts
+    by-here : (here : Bool) → (holds host hosts ≡ false → without host hosts ≡ hosts) → (here || holds host hosts)
+        ≡ false → cond (not here) (known ∷ without host hosts) (without host hosts) ≡ known ∷ hosts
     by-here true h f = cc
     by-here false h f = ap (λ l. known ∷ l) (h f)
 
-full-absent : (host : List ℕ) (hosts : List KnownHost) (held : Bool) → holds host hosts ≡ held → length hosts ≤ 4096 → nat_lt (length (without host hosts)) 4096 ≡ false → held ≡ false
+full-absent : (host : List ℕ) (hosts : List KnownHost) (held : Bool) → holds host hosts ≡ held → length hosts ≤ 4096
+    → nat_lt (length (without host hosts)) 4096 ≡ false → held ≡ false
 full-absent host hosts false e few full = refl
-full-absent host hosts true e few full = absurd (omega (arith, holds-fewer host hosts e, ltb-false (length (without host hosts)) 4096 full))
+full-absent host hosts true e few full =
+    absurd (omega (arith, holds-fewer host hosts e, ltb-false (length (without host hosts)) 4096 full))
 
-other-name : (host name : List ℕ) (hosts : List KnownHost) (same : Bool) → bytes_eq host name ≡ same → holds host hosts ≡ false → holds name hosts ≡ true → same ≡ false
+other-name : (host name : List ℕ) (hosts : List KnownHost) (same : Bool) → bytes_eq host name ≡ same
+    → holds host hosts ≡ false → holds name hosts ≡ true → same ≡ false
 other-name host name hosts false e absent there = refl
 other-name host name hosts true e absent there =
     let held : holds name hosts ≡ false = subst (λ text. holds text hosts ≡ false) (bytes-equal host name e) absent in
     sym there ∙ held
 
 -- without room
-pub noted-left : (host name : List ℕ) (sts : Sts) (now : ℕ) (hosts : List KnownHost) → (sts.age == 0) ≡ false → length hosts ≤ 4096 → nat_lt (length (without host hosts)) 4096 ≡ false
+pub noted-left : (host name : List ℕ) (sts : Sts) (now : ℕ) (hosts : List KnownHost) → (sts.age == 0) ≡ false
+    → length hosts ≤ 4096 → nat_lt (length (without host hosts)) 4096 ≡ false
     → holds name hosts ≡ true → without_first_to_end hosts ≡ without name hosts
-    → (noted host sts now hosts ≡ without name (with_host (known_host host sts.subdomains (now + sts.age)) hosts)) × (length (without name (with_host (known_host host sts.subdomains (now + sts.age)) hosts)) ≤ 4096)
+    → (noted host sts now hosts ≡ without name (with_host (known_host host sts.subdomains (now + sts.age)) hosts))
+        × (length (without name (with_host (known_host host sts.subdomains (now + sts.age)) hosts)) ≤ 4096)
 noted-left host name sts now hosts e few full there first =
     let new = known_host host sts.subdomains (now + sts.age) in
     let absent = full-absent host hosts (holds host hosts) refl few full in
     let alone = not-held host hosts absent in
-    let left : with_room (without host hosts) ≡ without name hosts = room-false (without host hosts) full ∙ ap (λ l. without_first_to_end l) alone ∙ first in
+    let left : with_room (without host hosts) ≡ without name hosts = room-false (without host hosts) full
+        ∙ ap (λ l. without_first_to_end l) alone ∙ first in
     let less = with-less new name hosts (other-name host name hosts (bytes_eq host name) refl absent there) in (
       aged host sts now hosts e ∙ ap (with_host new) left ∙ sym less,
-      subst (λ l. length l ≤ 4096) (sym less) (omega (arith, with-length new (without name hosts), holds-fewer name hosts there)),
+      subst (λ l. length l ≤ 4096) (sym less)
+          (omega (arith, with-length new (without name hosts), holds-fewer name hosts there)),
     )
 
 -- and how many hosts there are then
-pub kept-few : (host : List ℕ) (subdomains : Bool) (until : ℕ) (hosts : List KnownHost) → nat_lt (length (without host hosts)) 4096 ≡ true → length (with_host (known_host host subdomains until) hosts) ≤ 4096
+pub kept-few : (host : List ℕ) (subdomains : Bool) (until : ℕ) (hosts : List KnownHost)
+    → nat_lt (length (without host hosts)) 4096 ≡ true
+    → length (with_host (known_host host subdomains until) hosts) ≤ 4096
 kept-few host subdomains until hosts room =
     subst (λ l. length l ≤ 4096) (with-without (known_host host subdomains until) hosts)
-    (omega (arith, with-length (known_host host subdomains until) (without host hosts), ltb-true (length (without host hosts)) 4096 room))
+    (omega (arith, with-length (known_host host subdomains until) (without host hosts),
+        ltb-true (length (without host hosts)) 4096 room))
 
 -- ---- the same of a host that is put in, and of one that is taken out then
 
 -- with room
-pub put-kept : (host : List ℕ) (sts : Sts) (now : ℕ) (hosts new : List KnownHost) → (sts.age ≡ 0 → ⊥) → IsLeaving None host hosts
+pub put-kept : (host : List ℕ) (sts : Sts) (now : ℕ) (hosts new : List KnownHost) → (sts.age ≡ 0 → ⊥)
+    → IsLeaving None host hosts
     → new ≡ with_host (known_host host sts.subdomains (now + sts.age)) hosts
     → (new ≡ noted host sts now hosts) × (length new ≤ 4096)
 put-kept host sts now hosts new aged_some room e =
-    (e ∙ sym (noted-kept host sts now hosts (unequal sts.age 0 aged_some) room), subst (λ l. length l ≤ 4096) (sym e) (kept-few host sts.subdomains (now + sts.age) hosts room))
+    (e ∙ sym (noted-kept host sts now hosts (unequal sts.age 0 aged_some) room),
+        subst (λ l. length l ≤ 4096) (sym e) (kept-few host sts.subdomains (now + sts.age) hosts room))
 
 -- and without
-pub put-left : (host name : List ℕ) (sts : Sts) (now : ℕ) (hosts put new : List KnownHost) → (sts.age ≡ 0 → ⊥) → length hosts ≤ 4096 → IsLeaving (Some name) host hosts
+pub put-left : (host name : List ℕ) (sts : Sts) (now : ℕ) (hosts put new : List KnownHost) → (sts.age ≡ 0 → ⊥)
+    → length hosts ≤ 4096 → IsLeaving (Some name) host hosts
     → put ≡ with_host (known_host host sts.subdomains (now + sts.age)) hosts → new ≡ without name put
     → (new ≡ noted host sts now hosts) × (length new ≤ 4096)
 put-left host name sts now hosts put new aged_some few leaving e f =
     let left = noted-left host name sts now hosts (unequal sts.age 0 aged_some) few leaving.0 leaving.1 leaving.2 in
-    let same : new ≡ without name (with_host (known_host host sts.subdomains (now + sts.age)) hosts) = f ∙ ap (without name) e in
+    let same : new ≡ without name (with_host (known_host host sts.subdomains (now + sts.age)) hosts) = f
+        ∙ ap (without name) e in
     (same ∙ sym left.0, subst (λ l. length l ≤ 4096) (sym same) left.1)

@@ -5,7 +5,8 @@ use Rattle.wf_types.specs.declared.hop.Head.{Head}
 use Rattle.std.proofs.lemmas.Bool.{cases_order}
 use Rattle.wf_http1.proofs.BlockLemmas.{quiet-nil}
 use Rattle.wf_http1.proofs.SkipLemmas.{final-one, skips-none, undecided}
-use Rattle.wf_http1.specs.Answers.{bad, final, HeadEnd, IsHeadEnd, long, IsUnfinished, Decides, HasBadBlock, IsDecidedAt, IsFinal, IsTooLong, IsUndecided, most_bytes}
+use Rattle.wf_http1.specs.Answers.{bad, final, HeadEnd, IsHeadEnd, long, IsUnfinished, Decides, HasBadBlock}
+use Rattle.wf_http1.specs.Answers.{IsDecidedAt, IsFinal, IsTooLong, IsUndecided, most_bytes}
 use Rattle.wf_http1.specs.Heads.{EndsFinal}
 
 decided-more : (bytes more : List ℕ) (n : ℕ) → IsDecidedAt bytes n → IsDecidedAt (bytes ++ more) n
@@ -13,7 +14,8 @@ decided-more bytes more n at = record {
   within = omega (arith, at.within, length-append bytes more);
   few = at.few;
   decides = subst (λ (l : List ℕ). Decides l) (sym (take-append-le n bytes more at.within)) at.decides;
-  shortest = λ m before. subst (λ (l : List ℕ). ¬ (Decides l)) (sym (take-append-le m bytes more (omega (arith, before, at.within)))) (at.shortest m before);
+  shortest = λ m before. subst (λ (l : List ℕ). ¬ (Decides l))
+      (sym (take-append-le m bytes more (omega (arith, before, at.within)))) (at.shortest m before);
 }
 
 -- a final head stays
@@ -29,7 +31,8 @@ bad-more bytes more there = (
   there.0,
   record {
     decided = decided-more bytes more there.0 there.1.decided;
-    no_head = λ head. subst (λ (l : List ℕ). ¬ (EndsFinal l head)) (sym (take-append-le there.0 bytes more there.1.decided.within)) (there.1.no_head head);
+    no_head = λ head. subst (λ (l : List ℕ). ¬ (EndsFinal l head))
+        (sym (take-append-le there.0 bytes more there.1.decided.within)) (there.1.no_head head);
   },
 )
 
@@ -37,7 +40,8 @@ bad-more bytes more there = (
 pub long-more : (bytes more : List ℕ) → IsTooLong bytes → IsTooLong (bytes ++ more)
 long-more bytes more is = record {
   long = omega (arith, is.long, length-append bytes more);
-  undecided = subst (λ (l : List ℕ). IsUndecided l) (sym (take-append-le most_bytes bytes more (omega (arith, is.long)))) is.undecided;
+  undecided = subst (λ (l : List ℕ). IsUndecided l)
+      (sym (take-append-le most_bytes bytes more (omega (arith, is.long)))) is.undecided;
 }
 
 -- nothing decides nothing
@@ -69,7 +73,8 @@ decided-early : (bytes : List ℕ) (n : ℕ) → IsDecidedAt bytes n → IsUndec
 decided-early bytes n at none = none n at.decides
 
 decided-long : (bytes : List ℕ) (n : ℕ) → IsDecidedAt bytes n → IsTooLong bytes → ⊥
-decided-long bytes n at is = is.undecided n (subst (λ (l : List ℕ). Decides l) (sym (take-take n most_bytes bytes at.few)) at.decides)
+decided-long bytes n at is =
+    is.undecided n (subst (λ (l : List ℕ). Decides l) (sym (take-take n most_bytes bytes at.few)) at.decides)
 
 final-not-bad : (bytes : List ℕ) (head : Head) (n : ℕ) → IsFinal bytes head n → HasBadBlock bytes → ⊥
 final-not-bad bytes head n is other =
@@ -81,7 +86,8 @@ long-not-short bytes is none = absurd (omega (arith, is.long, none.short))
 
 -- what the head of an answer comes to is one
 pub head-end-one : (bytes : List ℕ) (a b : HeadEnd) → IsHeadEnd bytes a → IsHeadEnd bytes b → a ≡ b
-head-end-one bytes (final a n) (final b m) is also = let same = final-head-one bytes a b n m is also in λ i. final (same.0 i) (same.1 i)
+head-end-one bytes (final a n) (final b m) is also = let same = final-head-one bytes a b n m is also in
+    λ i. final (same.0 i) (same.1 i)
 head-end-one bytes (final a n) bad is (inl also) = absurd (final-not-bad bytes a n is also)
 head-end-one bytes (final a n) bad is (inr also) = absurd (decided-early bytes n is.decided also.undecided)
 head-end-one bytes (final a n) long is also = absurd (decided-long bytes n is.decided also)

@@ -1,5 +1,6 @@
 -- What ends in an empty line, and lines that do not.
-use Rattle.std.proofs.Common.{◌≡◌, ◌||◌, ◌⊎◌, inl, inr, ℕ, zero, suc, Bool, true, false, true≢false, List, [], ◌∷◌, ◌++◌, length, take, reverse, refl, ap, sym, ◌∙◌, subst, arith, append_assoc}
+use Rattle.std.proofs.Common.{◌≡◌, ◌||◌, ◌⊎◌, inl, inr, ℕ, zero, suc, Bool, true, false, true≢false, List, [], ◌∷◌}
+use Rattle.std.proofs.Common.{◌++◌, length, take, reverse, refl, ap, sym, ◌∙◌, subst, arith, append_assoc}
 use Rattle.std.proofs.lemmas.Bool.Decides.{Decides-eqb}
 use Rattle.std.proofs.lemmas.List.{append-nil, reverse-append, take_all}
 use Rattle.std.proofs.lemmas.List.Folds.{list_any-append}
@@ -29,23 +30,31 @@ pub or-right : (a b : Bool) → b ≡ true → (a || b) ≡ true
 or-right true b h = refl
 or-right false b h = h
 
-ends : (text end : List ℕ) → (ends_with nat_eq text end ≡ true → (front : List ℕ) × (text ≡ front ++ end)) × ((front : List ℕ) → text ≡ front ++ end → ends_with nat_eq text end ≡ true)
+ends : (text end : List ℕ) → (ends_with nat_eq text end ≡ true → (front : List ℕ) × (text ≡ front ++ end))
+    × ((front : List ℕ) → text ≡ front ++ end → ends_with nat_eq text end ≡ true)
 ends text end = let is = ends_is Decides-eqb text end (ends_with nat_eq text end) refl in ((λ h. (_, is.0 h)), is.1)
 
 -- a block ends in an empty line
 pub block-ends : (text : List ℕ) → is_block text ≡ true → EndsEmpty (reverse text)
 block-ends text block = by_cases (or-true _ _ (and-true _ _ block).1)
   where
-    by_cases : (ends_with nat_eq text (codes "\n\n") ≡ true) ⊎ (ends_with nat_eq text (codes "\n\r\n") ≡ true) → EndsEmpty (reverse text)
-    by_cases (inl h) = let it = (ends text (codes "\n\n")).0 h in (reverse it.0, inl (ap (λ (l : List ℕ). reverse l) it.1 ∙ reverse-append it.0 (codes "\n\n")))
-    by_cases (inr h) = let it = (ends text (codes "\n\r\n")).0 h in (reverse it.0, inr (ap (λ (l : List ℕ). reverse l) it.1 ∙ reverse-append it.0 (codes "\n\r\n")))
+    by_cases : (ends_with nat_eq text (codes "\n\n") ≡ true) ⊎ (ends_with nat_eq text (codes "\n\r\n") ≡ true)
+        → EndsEmpty (reverse text)
+    by_cases (inl h) = let it = (ends text (codes "\n\n")).0 h in
+        (reverse it.0, inl (ap (λ (l : List ℕ). reverse l) it.1 ∙ reverse-append it.0 (codes "\n\n")))
+    by_cases (inr h) = let it = (ends text (codes "\n\r\n")).0 h in
+        (reverse it.0, inr (ap (λ (l : List ℕ). reverse l) it.1 ∙ reverse-append it.0 (codes "\n\r\n")))
 
 -- what holds a byte of a line and ends so is a block
 pub is-block-lf : (front : List ℕ) → list_any is_line_byte front ≡ true → is_block (front ++ codes "\n\n") ≡ true
-is-block-lf front some = rw (list_any-append is_line_byte front (codes "\n\n"), some, (ends (front ++ codes "\n\n") (codes "\n\n")).1 front refl) refl
+is-block-lf front some = rw (list_any-append is_line_byte front (codes "\n\n"), some,
+    (ends (front ++ codes "\n\n") (codes "\n\n")).1 front refl) refl
 
 pub is-block-crlf : (front : List ℕ) → list_any is_line_byte front ≡ true → is_block (front ++ codes "\n\r\n") ≡ true
-is-block-crlf front some = rw (list_any-append is_line_byte front (codes "\n\r\n"), some, or-right (ends_with nat_eq (front ++ codes "\n\r\n") (codes "\n\n")) (ends_with nat_eq (front ++ codes "\n\r\n") (codes "\n\r\n")) ((ends (front ++ codes "\n\r\n") (codes "\n\r\n")).1 front refl)) refl
+is-block-crlf front some = rw (list_any-append is_line_byte front (codes "\n\r\n"), some,
+    or-right (ends_with nat_eq (front ++ codes "\n\r\n") (codes "\n\n"))
+    (ends_with nat_eq (front ++ codes "\n\r\n") (codes "\n\r\n"))
+    ((ends (front ++ codes "\n\r\n") (codes "\n\r\n")).1 front refl)) refl
 
 -- what does not end so is none
 pub no-block : (text : List ℕ) → (EndsEmpty (reverse text) → ⊥) → is_block text ≡ false
@@ -62,7 +71,8 @@ back-push text byte = reverse-append text (byte ∷ [])
 pub no-block-push : (text : List ℕ) (byte : ℕ) → ¬ (byte ≡ 10) → is_block (text ++ byte ∷ []) ≡ false
 no-block-push text byte other = no-block (text ++ byte ∷ []) (λ end. by_cases end.1)
   where
-    by_cases : {rest : List ℕ} → (reverse (text ++ byte ∷ []) ≡ 10 ∷ 10 ∷ rest) ⊎ (reverse (text ++ byte ∷ []) ≡ 10 ∷ 13 ∷ 10 ∷ rest) → ⊥
+    by_cases : {rest : List ℕ} → (reverse (text ++ byte ∷ []) ≡ 10 ∷ 10 ∷ rest)
+        ⊎ (reverse (text ++ byte ∷ []) ≡ 10 ∷ 13 ∷ 10 ∷ rest) → ⊥
     by_cases {rest} (inl h) = let b = back-push text byte in other (cc)
     by_cases {rest} (inr h) = let b = back-push text byte in other (cc)
 
@@ -82,20 +92,25 @@ pub quiet-nil : (before : List ℕ) → is_block before ≡ false → IsQuiet be
 quiet-nil before none zero = ap is_block (append-nil before) ∙ none
 quiet-nil before none (suc n) = ap is_block (append-nil before) ∙ none
 
-pub quiet-cons : (before : List ℕ) (byte : ℕ) (text : List ℕ) → is_block before ≡ false → IsQuiet (before ++ byte ∷ []) text → IsQuiet before (byte ∷ text)
+pub quiet-cons : (before : List ℕ) (byte : ℕ) (text : List ℕ) → is_block before ≡ false
+    → IsQuiet (before ++ byte ∷ []) text → IsQuiet before (byte ∷ text)
 quiet-cons before byte text none more zero = ap is_block (append-nil before) ∙ none
-quiet-cons before byte text none more (suc n) = ap is_block (sym (append_assoc before (byte ∷ []) (take n text))) ∙ more n
+quiet-cons before byte text none more (suc n) = ap is_block (sym (append_assoc before (byte ∷ []) (take n text)))
+    ∙ more n
 
-pub quiet-append : (before text more : List ℕ) → IsQuiet before text → IsQuiet (before ++ text) more → IsQuiet before (text ++ more)
+pub quiet-append : (before text more : List ℕ) → IsQuiet before text → IsQuiet (before ++ text) more
+    → IsQuiet before (text ++ more)
 quiet-append before [] more quiet next = subst (λ (l : List ℕ). IsQuiet l more) (append-nil before) next
 quiet-append before (byte ∷ text) more quiet next =
     quiet-cons before byte (text ++ more) (ap is_block (sym (append-nil before)) ∙ quiet 0)
-    (quiet-append (before ++ byte ∷ []) text more (λ n. ap is_block (append_assoc before (byte ∷ []) (take n text)) ∙ quiet (suc n))
+    (quiet-append (before ++ byte ∷ []) text more (λ n. ap is_block (append_assoc before (byte ∷ []) (take n text))
+        ∙ quiet (suc n))
     (subst (λ (l : List ℕ). IsQuiet l more) (sym (append_assoc before (byte ∷ []) text)) next))
 
 -- at its end no block ends either
 pub quiet-end : (before text : List ℕ) → IsQuiet before text → is_block (before ++ text) ≡ false
-quiet-end before text quiet = ap (λ (l : List ℕ). is_block (before ++ l)) (sym (take_all (length text) text (omega arith))) ∙ quiet (length text)
+quiet-end before text quiet =
+    ap (λ (l : List ℕ). is_block (before ++ l)) (sym (take_all (length text) text (omega arith))) ∙ quiet (length text)
 
 -- a text without a byte of a line is no block
 pub no-line-byte : (text : List ℕ) → list_any is_line_byte text ≡ false → is_block text ≡ false

@@ -1,5 +1,7 @@
 -- What decides a body, and what does not.
-use Rattle.std.proofs.Common.{arith, inl, inr, ◌≡◌, ◌≢◌, ◌≤◌, ◌<◌, ◌⊎◌, ◌+◌, ◌*◌, ℕ, zero, suc, List, [], ◌∷◌, ◌++◌, take, length, refl, sym, ap, subst, ◌∙◌, Bool, true, false, nat_le, append_assoc, length-append, if◌then◌else◌}
+use Rattle.std.proofs.Common.{arith, inl, inr, ◌≡◌, ◌≢◌, ◌≤◌, ◌<◌, ◌⊎◌, ◌+◌, ◌*◌, ℕ, zero, suc, List, [], ◌∷◌, ◌++◌}
+use Rattle.std.proofs.Common.{take, length, refl, sym, ap, subst, ◌∙◌, Bool, true, false, nat_le, append_assoc}
+use Rattle.std.proofs.Common.{length-append, if◌then◌else◌}
 use Rattle.std.proofs.lemmas.Bool.Decides.{leb_tells}
 use Rattle.std.proofs.lemmas.List.{append-nil}
 use Rattle.wf_types.specs.declared.response.BodyEnd.{BodyEnd}
@@ -12,7 +14,8 @@ use Rattle.wf_http1.specs.Places.{decoded_at}
 use Rattle.wf_http1.specs.declared.framing.Framing.{Framing}
 use Rattle.wf_http1.specs.declared.framing.Framing.TheVariants.{Nothing, Chunked, Length, ToEnd, Broken}
 use Rattle.wf_http1.specs.declared.place.Place.{Place}
-use Rattle.wf_http1.specs.declared.place.Place.TheVariants.{Size, Blanks, Extension, LineEnd, Data, DataEnd, Trailers, Trailer, TrailerEnd, LastEnd}
+use Rattle.wf_http1.specs.declared.place.Place.TheVariants.{Size, Blanks, Extension, LineEnd, Data, DataEnd, Trailers}
+use Rattle.wf_http1.specs.declared.place.Place.TheVariants.{Trailer, TrailerEnd, LastEnd}
 use Rattle.wf_http1.specs.declared.taking.Found.{Found}
 use Rattle.wf_http1.specs.declared.taking.Found.TheVariants.{Open}
 use Rattle.wf_http1.proofs.ChunkLemmas.{data-byte, decoded-chunks, fails_eq}
@@ -20,16 +23,20 @@ use Rattle.wf_http1.proofs.ChunkLemmas.{data-byte, decoded-chunks, fails_eq}
 -- ---- for those who drive a reader
 
 -- bytes that decide the body do so whatever follows
-pub decided : (how : Framing) (limit : ℕ) (bytes : List ℕ) (end : BodyEnd) → IsDecided how limit bytes end → (more : List ℕ) → body_end how limit (bytes ++ more) ≡ end
+pub decided : (how : Framing) (limit : ℕ) (bytes : List ℕ) (end : BodyEnd) → IsDecided how limit bytes end
+    → (more : List ℕ) → body_end how limit (bytes ++ more) ≡ end
 decided how limit bytes end decides more = decides more
 
 -- and they are decided themselves
-pub decided-here : (how : Framing) (limit : ℕ) (bytes : List ℕ) (end : BodyEnd) → IsDecided how limit bytes end → body_end how limit bytes ≡ end
+pub decided-here : (how : Framing) (limit : ℕ) (bytes : List ℕ) (end : BodyEnd) → IsDecided how limit bytes end
+    → body_end how limit bytes ≡ end
 decided-here how limit bytes end decides = ap (body_end how limit) (sym (append-nil bytes)) ∙ decides []
 
 -- more bytes decide it too, with the same end
-pub decided-on : (how : Framing) (limit : ℕ) (bytes more : List ℕ) (end : BodyEnd) → IsDecided how limit bytes end → IsDecided how limit (bytes ++ more) end
-decided-on how limit bytes more end decides rest = ap (body_end how limit) (append_assoc bytes more rest) ∙ decides (more ++ rest)
+pub decided-on : (how : Framing) (limit : ℕ) (bytes more : List ℕ) (end : BodyEnd) → IsDecided how limit bytes end
+    → IsDecided how limit (bytes ++ more) end
+decided-on how limit bytes more end decides rest = ap (body_end how limit) (append_assoc bytes more rest)
+    ∙ decides (more ++ rest)
 
 -- ---- ends are told apart
 
@@ -42,20 +49,24 @@ reach limit _ = 0
 
 reach-cut : (limit : ℕ) (held : List ℕ) → length held ≤ limit → reach limit (ended limit false held) ≡ 2 * length held
 reach-cut limit held within =
-    elim (leb_tells (suc limit) (length held)) [ inl beyond ↦ absurd (omega (arith, beyond.1, within)) | inr below ↦ rw below.0 refl ]
+    elim (leb_tells (suc limit) (length held)) [ inl beyond ↦ absurd (omega (arith, beyond.1, within)) | inr below ↦
+        rw below.0 refl ]
 
-reach-more : (limit : ℕ) (held data_ : List ℕ) → length held ≤ limit → 0 < length data_ → (complete : Bool) → 2 * length held + 2 ≤ reach limit (ended limit complete (held ++ data_))
+reach-more : (limit : ℕ) (held data_ : List ℕ) → length held ≤ limit → 0 < length data_ → (complete : Bool)
+    → 2 * length held + 2 ≤ reach limit (ended limit complete (held ++ data_))
 reach-more limit held data_ within some complete =
     elim (leb_tells (suc limit) (length (held ++ data_))) [
       | inl beyond ↦ rw beyond.0 (omega (arith, within))
       | inr below ↦ rw below.0 (shown complete)
     ]
   where
-    shown : (b : Bool) → 2 * length held + 2 ≤ reach limit (if b then Whole (held ++ data_) else Cut (length (held ++ data_)))
+    shown : (b : Bool) → 2 * length held + 2 ≤ reach limit (if b then Whole (held ++ data_)
+        else Cut (length (held ++ data_)))
     shown true = omega (arith, some, length-append held data_)
     shown false = omega (arith, some, length-append held data_)
 
-reach-whole : (limit : ℕ) (held data_ : List ℕ) → length held ≤ limit → 2 * length held + 1 ≤ reach limit (ended limit true (held ++ data_))
+reach-whole : (limit : ℕ) (held data_ : List ℕ) → length held ≤ limit
+    → 2 * length held + 1 ≤ reach limit (ended limit true (held ++ data_))
 reach-whole limit held data_ within =
     elim (leb_tells (suc limit) (length (held ++ data_))) [
       | inl beyond ↦ rw beyond.0 (omega (arith, within))
@@ -81,7 +92,8 @@ line_end-leads (suc n) = (10 ∷ 0 ∷ [], rw (fails_eq (suc n) 0 (λ e. omega (
 
 size-leads : (digits value : ℕ) → LeadsOn (Size digits value)
 size-leads zero value = let on = line_end-leads (value * 16 + 0) in (48 ∷ 13 ∷ on.0, on.1)
-size-leads (suc n) value = let on = line_end-leads value in (13 ∷ on.0, rw (fails_eq (suc n) 0 (λ e. omega (arith, e))) on.1)
+size-leads (suc n) value = let on = line_end-leads value in
+    (13 ∷ on.0, rw (fails_eq (suc n) 0 (λ e. omega (arith, e))) on.1)
 
 leads-on : (place : Place) → LeadsOn place
 leads-on (Size digits value) = size-leads digits value
@@ -102,9 +114,11 @@ leads-on LastEnd = (10 ∷ [], inr refl)
 abbrev Differ : Framing → ℕ → List ℕ → Place → Type 0
 Differ how limit held place = (more : List ℕ) × (rest_end how limit held place [] ≢ rest_end how limit held place more)
 
-progress-differs : (limit : ℕ) (held : List ℕ) (decoded : Decoded) → length held ≤ limit → IsProgress decoded → ended limit false (held ++ []) ≢ ended limit decoded.complete (held ++ decoded.data_is)
+progress-differs : (limit : ℕ) (held : List ℕ) (decoded : Decoded) → length held ≤ limit → IsProgress decoded
+    → ended limit false (held ++ []) ≢ ended limit decoded.complete (held ++ decoded.data_is)
 progress-differs limit held decoded within (inl some) same =
-    omega (arith, ap (reach limit) same, ap (λ l. reach limit (ended limit false l)) (append-nil held), reach-cut limit held within, reach-more limit held decoded.data_is within some decoded.complete)
+    omega (arith, ap (reach limit) same, ap (λ l. reach limit (ended limit false l)) (append-nil held),
+        reach-cut limit held within, reach-more limit held decoded.data_is within some decoded.complete)
 progress-differs limit held decoded within (inr whole) same =
     omega (
       arith,
@@ -121,23 +135,30 @@ take-short zero (x ∷ l) h = absurd (omega (arith, h))
 take-short (suc n) [] h = refl
 take-short (suc n) (x ∷ l) h = ap (λ r. x ∷ r) (take-short n l (omega (arith, h)))
 
-differ : (how : Framing) (limit : ℕ) (held : List ℕ) (place : Place) → length held ≤ limit → IsWaiting how held place → Differ how limit held place
+differ : (how : Framing) (limit : ℕ) (held : List ℕ) (place : Place) → length held ≤ limit → IsWaiting how held place
+    → Differ how limit held place
 differ Nothing limit held place within waiting = absurd waiting
 differ Broken limit held place within waiting = absurd waiting
 differ ToEnd limit held place within waiting =
-    (0 ∷ [], λ same. omega (arith, ap (reach limit) same, ap (λ l. reach limit (ended limit true l)) (append-nil held), reach-here, reach-more limit held (0 ∷ []) within (omega arith) true))
+    (0 ∷ [], λ same. omega (arith, ap (reach limit) same,
+        ap (λ l. reach limit (ended limit true l)) (append-nil held), reach-here,
+        reach-more limit held (0 ∷ []) within (omega arith) true))
   where
     reach-here : reach limit (ended limit true held) ≡ 2 * length held + 1
-    reach-here = elim (leb_tells (suc limit) (length held)) [ inl beyond ↦ absurd (omega (arith, beyond.1, within)) | inr below ↦ rw below.0 refl ]
+    reach-here = elim (leb_tells (suc limit) (length held)) [ inl beyond ↦ absurd (omega (arith, beyond.1, within))
+        | inr below ↦ rw below.0 refl ]
 differ (Length total) limit held place within waiting =
-    let none : take total (held ++ []) ≡ held = ap (take total) (append-nil held) ∙ take-short total held (omega (arith, waiting)) in
-    let one : take total (held ++ 0 ∷ []) ≡ held ++ 0 ∷ [] = take-short total (held ++ 0 ∷ []) (omega (arith, waiting, length-append held (0 ∷ []))) in
+    let none : take total (held ++ []) ≡ held = ap (take total) (append-nil held)
+        ∙ take-short total held (omega (arith, waiting)) in
+    let one : take total (held ++ 0 ∷ []) ≡ held ++ 0 ∷ [] =
+        take-short total (held ++ 0 ∷ []) (omega (arith, waiting, length-append held (0 ∷ []))) in
     let complete : Bool = nat_le total (length (held ++ 0 ∷ [])) in (
       0 ∷ [],
       λ same.
           omega (
             arith,
-            ap (reach limit) (sym (ap (ended limit (nat_le total (length (held ++ [])))) none) ∙ same ∙ ap (ended limit complete) one),
+            ap (reach limit) (sym (ap (ended limit (nat_le total (length (held ++ [])))) none) ∙ same
+                ∙ ap (ended limit complete) one),
             ap (λ b. reach limit (ended limit b held)) open_here,
             reach-cut limit held within,
             reach-more limit held (0 ∷ []) within (omega arith) complete,
@@ -145,11 +166,13 @@ differ (Length total) limit held place within waiting =
     )
   where
     open_here : nat_le total (length (held ++ [])) ≡ false
-    open_here = elim (leb_tells total (length (held ++ []))) [ inl h ↦ absurd (omega (arith, h.1, waiting, ap length (append-nil held))) | inr h ↦ h.0 ]
+    open_here = elim (leb_tells total (length (held ++ []))) [ inl h ↦
+        absurd (omega (arith, h.1, waiting, ap length (append-nil held))) | inr h ↦ h.0 ]
 differ Chunked limit held place within waiting =
     let on = leads-on place in (on.0, progress-differs limit held (decoded_at place on.0) within on.1)
 
-pub stays-open : (how : Framing) (limit : ℕ) (bytes held : List ℕ) (room : ℕ) (place : Place) → IsReading how limit bytes held room place → IsWaiting how held place → IsOpen how limit bytes
+pub stays-open : (how : Framing) (limit : ℕ) (bytes held : List ℕ) (room : ℕ) (place : Place)
+    → IsReading how limit bytes held room place → IsWaiting how held place → IsOpen how limit bytes
 stays-open how limit bytes held room place reading waiting end decides =
     let two = differ how limit held place reading.within waiting in
     two.1 (sym (reading.meaning []) ∙ decides [] ∙ sym (decides two.0) ∙ reading.meaning two.0)
@@ -164,17 +187,21 @@ kept-waiting ToEnd held place waiting = tt
 kept-waiting (Length total) held place waiting = omega (arith, waiting)
 kept-waiting Chunked held place waiting = waiting
 
-pub read-on : (how : Framing) (limit : ℕ) (bytes piece held held' : List ℕ) (room room' : ℕ) (place place' : Place) → IsReading how limit bytes held room place
-    → IsOn how limit (λ more. rest_end how limit held place (piece ++ more)) held' room' place' [] → IsReading how limit (bytes ++ piece) held' room' place'
+pub read-on : (how : Framing) (limit : ℕ) (bytes piece held held' : List ℕ) (room room' : ℕ) (place place' : Place)
+    → IsReading how limit bytes held room place
+    → IsOn how limit (λ more. rest_end how limit held place (piece ++ more)) held' room' place' []
+        → IsReading how limit (bytes ++ piece) held' room' place'
 read-on how limit bytes piece held held' room room' place place' reading on = record {
-  meaning = λ more. ap (body_end how limit) (append_assoc bytes piece more) ∙ reading.meaning (piece ++ more) ∙ on.meaning more;
+  meaning = λ more. ap (body_end how limit) (append_assoc bytes piece more) ∙ reading.meaning (piece ++ more)
+      ∙ on.meaning more;
   within = on.within;
   reserved = on.reserved;
   kept = kept-waiting how held' place' on.waiting;
 }
 
 -- a reader that begins
-pub begins : (how : Framing) (limit : ℕ) (bytes held : List ℕ) (room : ℕ) → bytes ≡ [] → held ≡ [] → limit ≤ room → IsReading how limit bytes held room (Size 0 0)
+pub begins : (how : Framing) (limit : ℕ) (bytes held : List ℕ) (room : ℕ) → bytes ≡ [] → held ≡ [] → limit ≤ room
+    → IsReading how limit bytes held room (Size 0 0)
 begins how limit bytes held room no_bytes none reserved = rw (no_bytes, none) record {
   meaning = meaning how;
   within = omega arith;
@@ -197,17 +224,27 @@ begins how limit bytes held room no_bytes none reserved = rw (no_bytes, none) re
     kept Chunked = (omega arith, omega arith)
 
 -- a piece that leaves the body open
-pub open-behind : (how : Framing) (limit : ℕ) (bytes piece held held' : List ℕ) (room room' : ℕ) (place place' : Place) (found : Found) → IsReading how limit bytes held room place
-    → Comes how limit (λ more. rest_end how limit held place (piece ++ more)) held' room' place' found → found ≡ Open → IsOpen how limit (bytes ++ piece)
+pub open-behind : (how : Framing) (limit : ℕ) (bytes piece held held' : List ℕ) (room room' : ℕ)
+    (place place' : Place) (found : Found) → IsReading how limit bytes held room place
+    → Comes how limit (λ more. rest_end how limit held place (piece ++ more)) held' room' place' found → found ≡ Open
+        → IsOpen how limit (bytes ++ piece)
 open-behind how limit bytes piece held held' room room' place place' found reading comes same =
-    let on : IsOn how limit (λ more. rest_end how limit held place (piece ++ more)) held' room' place' [] = subst (Comes how limit (λ more. rest_end how limit held place (piece ++ more)) held' room' place') same comes in
-    stays-open how limit (bytes ++ piece) held' room' place' (read-on how limit bytes piece held held' room room' place place' reading on) on.waiting
+    let on : IsOn how limit (λ more. rest_end how limit held place (piece ++ more)) held' room' place' [] =
+        subst (Comes how limit (λ more. rest_end how limit held place (piece ++ more)) held' room' place') same comes in
+    stays-open how limit (bytes ++ piece) held' room' place'
+        (read-on how limit bytes piece held held' room room' place place' reading on) on.waiting
 
 -- and the reader then
-pub opened : (self : BodyReading) (how : Framing) (limit : ℕ) (bytes bytes' piece held held' : List ℕ) (room room' : ℕ) (place place' : Place) (found : Found)
-    → record { framing = how; limit = limit; bytes = bytes } ≡ self → bytes' ≡ bytes ++ piece → IsReading how limit bytes held room place
+pub opened : (self : BodyReading) (how : Framing) (limit : ℕ) (bytes bytes' piece held held' : List ℕ)
+    (room room' : ℕ) (place place' : Place) (found : Found)
+    → record { framing = how; limit = limit; bytes = bytes } ≡ self → bytes' ≡ bytes ++ piece
+        → IsReading how limit bytes held room place
     → Comes how limit (λ more. rest_end how limit held place (piece ++ more)) held' room' place' found → found ≡ Open
-    → (record { framing = how; limit = limit; bytes = bytes' } ≡ record self { bytes = self.bytes ++ piece }) × IsOpen self.framing self.limit (self.bytes ++ piece)
+    → (record { framing = how; limit = limit; bytes = bytes' } ≡ record self { bytes = self.bytes ++ piece })
+        × IsOpen self.framing self.limit (self.bytes ++ piece)
 opened self how limit bytes bytes' piece held held' room room' place place' found seen now reading comes same =
-    let P : BodyReading → Type 0 = λ s. (record { framing = how; limit = limit; bytes = bytes' } ≡ record s { bytes = s.bytes ++ piece }) × IsOpen s.framing s.limit (s.bytes ++ piece) in
-    subst P seen (ap (λ b. record { framing = how; limit = limit; bytes = b }) now, open-behind how limit bytes piece held held' room room' place place' found reading comes same)
+    let P : BodyReading → Type 0 =
+        λ s. (record { framing = how; limit = limit; bytes = bytes' } ≡ record s { bytes = s.bytes ++ piece })
+        × IsOpen s.framing s.limit (s.bytes ++ piece) in
+    subst P seen (ap (λ b. record { framing = how; limit = limit; bytes = b }) now,
+        open-behind how limit bytes piece held held' room room' place place' found reading comes same)

@@ -1,5 +1,7 @@
 -- The places of a reader of chunks decode what the chunked coding says.
-use Rattle.std.proofs.Common.{arith, inl, inr, ◌≡◌, ◌≢◌, ◌≤◌, ◌<◌, ◌⊎◌, ◌+◌, ◌*◌, ◌-◌, ◌==◌, ◌&&◌, ◌||◌, ℕ, zero, suc, List, [], ◌∷◌, take, drop, length, refl, sym, ap, ◌∙◌, Bool, true, false, not, nat_le, Option, Some, None, option_map, length-drop, if◌then◌else◌}
+use Rattle.std.proofs.Common.{arith, inl, inr, ◌≡◌, ◌≢◌, ◌≤◌, ◌<◌, ◌⊎◌, ◌+◌, ◌*◌, ◌-◌, ◌==◌, ◌&&◌, ◌||◌, ℕ, zero, suc}
+use Rattle.std.proofs.Common.{List, [], ◌∷◌, take, drop, length, refl, sym, ap, ◌∙◌, Bool, true, false, not, nat_le}
+use Rattle.std.proofs.Common.{Option, Some, None, option_map, length-drop, if◌then◌else◌}
 use Rattle.std.specs.Option.{option_and_then}
 use Rattle.std.proofs.lemmas.Bool.Decides.{eqb_tells, leb_tells}
 use Rattle.std.proofs.lemmas.Grind.{common_steps}
@@ -7,12 +9,16 @@ use Rattle.std.proofs.lemmas.List.Sums.{take_while-cons}
 use Rattle.std.specs.Char.{digit_value, is_ascii_hexdigit}
 use Rattle.std.specs.Str.Parse.{digits_value_after}
 use Rattle.wf_text.specs.Trims.{tab_or_space, trimmed_start}
-use Rattle.wf_http1.specs.Chunks.{Decoded, behind_crlf, line_of, cut_line, size_digits, is_extension, is_size_line, size_and_rest, cut_size, behind_trailer, trailers_length, are_short, has_trailers, broken, onto, behind_data, behind_size, decoded_from, decoded}
+use Rattle.wf_http1.specs.Chunks.{Decoded, behind_crlf, line_of, cut_line, size_digits, is_extension, is_size_line}
+use Rattle.wf_http1.specs.Chunks.{size_and_rest, cut_size, behind_trailer, trailers_length, are_short, has_trailers}
+use Rattle.wf_http1.specs.Chunks.{broken, onto, behind_data, behind_size, decoded_from, decoded}
 use Rattle.wf_http1.specs.declared.place.Place.{Place}
-use Rattle.wf_http1.specs.declared.place.Place.TheVariants.{Size, Blanks, Extension, LineEnd, Data, Trailers, Trailer, TrailerEnd, LastEnd}
+use Rattle.wf_http1.specs.declared.place.Place.TheVariants.{Size, Blanks, Extension, LineEnd, Data, Trailers, Trailer}
+use Rattle.wf_http1.specs.declared.place.Place.TheVariants.{TrailerEnd, LastEnd}
 use Rattle.wf_http1.specs.declared.place.Turn.{Turn}
 use Rattle.wf_http1.specs.declared.place.Turn.TheVariants.{To, Broken}
-use Rattle.wf_http1.specs.Places.{decoded_at, behind_turn, behind_line, behind_digits, in_size, in_extension, at_trailer}
+use Rattle.wf_http1.specs.Places.{decoded_at, behind_turn, behind_line, behind_digits, in_size, in_extension}
+use Rattle.wf_http1.specs.Places.{at_trailer}
 use Rattle.wf_http1.proofs.PlaceLemmas.{choice}
 
 -- ---- tests
@@ -47,10 +53,12 @@ tail_of bytes = behind_crlf (drop (length (line_of bytes)) bytes)
 
 line_of-more : (byte : ℕ) (bytes : List ℕ) → byte ≢ 13 → byte ≢ 10 → line_of (byte ∷ bytes) ≡ byte ∷ line_of bytes
 line_of-more byte bytes no_cr no_lf =
-    take_while-cons (λ b. not (b == 13 || b == 10)) byte bytes ∙ rw (fails_eq byte 13 no_cr, fails_eq byte 10 no_lf) refl
+    take_while-cons (λ b. not (b == 13 || b == 10)) byte bytes
+        ∙ rw (fails_eq byte 13 no_cr, fails_eq byte 10 no_lf) refl
 
 -- a byte that ends no line is the first of its line
-cut_line-more : (byte : ℕ) (bytes : List ℕ) → byte ≢ 13 → byte ≢ 10 → cut_line (byte ∷ bytes) ≡ option_map (λ rest. (byte ∷ line_of bytes, rest)) (tail_of bytes)
+cut_line-more : (byte : ℕ) (bytes : List ℕ) → byte ≢ 13 → byte ≢ 10 → cut_line (byte ∷ bytes)
+    ≡ option_map (λ rest. (byte ∷ line_of bytes, rest)) (tail_of bytes)
 cut_line-more byte bytes no_cr no_lf = rw (line_of-more byte bytes no_cr no_lf) refl
 
 cut_line-cr : (rest : List ℕ) → cut_line (13 ∷ rest) ≡ option_map (λ r. ([], r)) (behind_lf rest)
@@ -62,12 +70,14 @@ cut_line-lf [] = refl
 cut_line-lf (byte ∷ rest) = refl
 
 -- two readings of what follows two lines agree
-through : {A : Type 0} (f g : List ℕ × List ℕ → Option A) (l m : List ℕ) (o : Option (List ℕ)) → ((rest : List ℕ) → f (l, rest) ≡ g (m, rest))
+through : {A : Type 0} (f g : List ℕ × List ℕ → Option A) (l m : List ℕ) (o : Option (List ℕ))
+    → ((rest : List ℕ) → f (l, rest) ≡ g (m, rest))
     → option_and_then f (option_map (λ rest. (l, rest)) o) ≡ option_and_then g (option_map (λ rest. (m, rest)) o)
 through f g l m None same = refl
 through f g l m (Some rest) same = same rest
 
-nothing : {A : Type 0} (f : List ℕ × List ℕ → Option A) (l : List ℕ) (o : Option (List ℕ)) → ((rest : List ℕ) → f (l, rest) ≡ None)
+nothing : {A : Type 0} (f : List ℕ × List ℕ → Option A) (l : List ℕ) (o : Option (List ℕ))
+    → ((rest : List ℕ) → f (l, rest) ≡ None)
     → option_and_then f (option_map (λ rest. (l, rest)) o) ≡ None
 nothing f l None none = refl
 nothing f l (Some rest) none = none rest
@@ -77,7 +87,8 @@ nothing f l (Some rest) none = none rest
 abbrev chunks : List ℕ → Decoded
 chunks bytes = decoded_at (Size 0 0) bytes
 
-pub data-byte : (n byte : ℕ) (bytes : List ℕ) → decoded_at (Data (suc n)) (byte ∷ bytes) ≡ onto (byte ∷ []) (decoded_at (Data n) bytes)
+pub data-byte : (n byte : ℕ) (bytes : List ℕ) → decoded_at (Data (suc n)) (byte ∷ bytes)
+    ≡ onto (byte ∷ []) (decoded_at (Data n) bytes)
 data-byte n byte bytes =
     let test : (suc n == 0) ≡ false = fails_eq (suc n) 0 (λ e. omega (arith, e)) in
     let less : suc n - 1 ≡ n = omega arith in
@@ -92,7 +103,8 @@ behind-data (byte ∷ next ∷ rest) =
       | inr other ↦ rw other.0 refl
     ]
 
-data-decoded : (n : ℕ) (bytes : List ℕ) → decoded_at (Data n) bytes ≡ onto (take n bytes) (behind_data chunks (behind_crlf (drop n bytes)))
+data-decoded : (n : ℕ) (bytes : List ℕ) → decoded_at (Data n) bytes
+    ≡ onto (take n bytes) (behind_data chunks (behind_crlf (drop n bytes)))
 data-decoded zero bytes = behind-data bytes
 data-decoded (suc n) [] = refl
 data-decoded (suc n) (byte ∷ bytes) = data-byte n byte bytes ∙ ap (onto (byte ∷ [])) (data-decoded n bytes)
@@ -114,10 +126,12 @@ line_and_more n most None = None
 line_and_more n most (Some cut) = plus (n + length cut.0 + 2) (trailers_length most cut.1)
 
 -- the empty line has two bytes
-at_least_two : (most : ℕ) (cut : Option (List ℕ × List ℕ)) (m : ℕ) → behind_trailer (trailers_length most) cut ≡ Some m → 2 ≤ m
+at_least_two : (most : ℕ) (cut : Option (List ℕ × List ℕ)) (m : ℕ) → behind_trailer (trailers_length most) cut
+    ≡ Some m → 2 ≤ m
 at_least_two most None m e = absurd (grind arith)
 at_least_two most (Some cut) m e =
-    choice (λ o. o ≡ Some m → 2 ≤ m) (length cut.0 == 0) (Some 2) (option_map (λ n. length cut.0 + 2 + n) (trailers_length most cut.1))
+    choice (λ o. o ≡ Some m → 2 ≤ m) (length cut.0 == 0) (Some 2)
+        (option_map (λ n. length cut.0 + 2 + n) (trailers_length most cut.1))
     (λ _ h. grind arith) (λ _. longer (trailers_length most cut.1)) e
   where
     longer : (o : Option ℕ) → option_map (λ n. length cut.0 + 2 + n) o ≡ Some m → 2 ≤ m
@@ -143,7 +157,8 @@ too-long n most byte line (Some rest) full = from (trailers_length most rest) re
 
 -- a byte of a line counts as one before it
 one-more : (n most : ℕ) (byte : ℕ) (line : List ℕ) (o : Option (List ℕ))
-    → line_and_more n most (option_map (λ rest. (byte ∷ line, rest)) o) ≡ line_and_more (n + 1) most (option_map (λ rest. (line, rest)) o)
+    → line_and_more n most (option_map (λ rest. (byte ∷ line, rest)) o)
+        ≡ line_and_more (n + 1) most (option_map (λ rest. (line, rest)) o)
 one-more n most byte line None = refl
 one-more n most byte line (Some rest) =
     let same : n + length (byte ∷ line) + 2 ≡ n + 1 + length line + 2 = omega arith in
@@ -151,32 +166,40 @@ one-more n most byte line (Some rest) =
 
 -- a line that is not empty, and more lines
 longer-line : (n most : ℕ) (byte : ℕ) (line : List ℕ) (o : Option (List ℕ))
-    → plus n (behind_trailer (trailers_length most) (option_map (λ rest. (byte ∷ line, rest)) o)) ≡ line_and_more n most (option_map (λ rest. (byte ∷ line, rest)) o)
+    → plus n (behind_trailer (trailers_length most) (option_map (λ rest. (byte ∷ line, rest)) o))
+        ≡ line_and_more n most (option_map (λ rest. (byte ∷ line, rest)) o)
 longer-line n most byte line None = refl
 longer-line n most byte line (Some rest) =
     let test : (length (byte ∷ line) == 0) ≡ false = fails_eq (length (byte ∷ line)) 0 (λ e. omega (arith, e)) in
     rw test (from (trailers_length most rest))
   where
-    from : (o : Option ℕ) → plus n (option_map (λ m. length (byte ∷ line) + 2 + m) o) ≡ plus (n + length (byte ∷ line) + 2) o
+    from : (o : Option ℕ) → plus n (option_map (λ m. length (byte ∷ line) + 2 + m) o)
+        ≡ plus (n + length (byte ∷ line) + 2) o
     from None = refl
-    from (Some m) = let same : n + (length (byte ∷ line) + 2 + m) ≡ n + length (byte ∷ line) + 2 + m = omega arith in ap Some same
+    from (Some m) = let same : n + (length (byte ∷ line) + 2 + m) ≡ n + length (byte ∷ line) + 2 + m = omega arith in
+        ap Some same
 
 -- behind the CR of the empty line
 last-decoded : (n most : ℕ) (rest : List ℕ) → n ≤ 8190
-    → decoded_at LastEnd rest ≡ trailers_end (plus n (behind_trailer (trailers_length most) (option_map (λ r. ([], r)) (behind_lf rest))))
+    → decoded_at LastEnd rest
+        ≡ trailers_end (plus n (behind_trailer (trailers_length most) (option_map (λ r. ([], r)) (behind_lf rest))))
 last-decoded n most [] within = refl
 last-decoded n most (byte ∷ rest) within =
     elim (eqb_tells byte 10) [
-      | inl lf ↦ let short : nat_le (n + 2) 8192 ≡ true = holds_le (n + 2) 8192 (omega (arith, within)) in rw (lf.0, short) refl
+      | inl lf ↦ let short : nat_le (n + 2) 8192 ≡ true = holds_le (n + 2) 8192 (omega (arith, within)) in
+          rw (lf.0, short) refl
       | inr other ↦ rw other.0 refl
     ]
 
 -- a byte of a line
-trailer-goes : (byte n : ℕ) (end : Place) → byte ≢ 13 → byte ≢ 10 → n < 8188 → at_trailer byte n end ≡ To (Trailer (n + 1))
-trailer-goes byte n end no_cr no_lf free = rw (fails_eq byte 13 no_cr, fails_eq byte 10 no_lf, fails_le 8188 n free) refl
+trailer-goes : (byte n : ℕ) (end : Place) → byte ≢ 13 → byte ≢ 10 → n < 8188 → at_trailer byte n end
+    ≡ To (Trailer (n + 1))
+trailer-goes byte n end no_cr no_lf free =
+    rw (fails_eq byte 13 no_cr, fails_eq byte 10 no_lf, fails_le 8188 n free) refl
 
 trailer-full : (byte n : ℕ) (end : Place) → byte ≢ 13 → byte ≢ 10 → 8188 ≤ n → at_trailer byte n end ≡ Broken
-trailer-full byte n end no_cr no_lf full = rw (fails_eq byte 13 no_cr, fails_eq byte 10 no_lf, holds_le 8188 n full) refl
+trailer-full byte n end no_cr no_lf full =
+    rw (fails_eq byte 13 no_cr, fails_eq byte 10 no_lf, holds_le 8188 n full) refl
 
 -- what is decoded behind a turn, before these bytes
 abbrev behind : List ℕ → Turn → Decoded
@@ -187,7 +210,8 @@ empty-line n = omega arith
 
 mutual
   -- before a line
-  trailers-decoded : (bytes : List ℕ) (n most : ℕ) → length bytes ≤ most → n ≤ 8190 → decoded_at (Trailers n) bytes ≡ trailers_end (plus n (trailers_length most bytes))
+  trailers-decoded : (bytes : List ℕ) (n most : ℕ) → length bytes ≤ most → n ≤ 8190 → decoded_at (Trailers n) bytes
+      ≡ trailers_end (plus n (trailers_length most bytes))
   trailers-decoded [] n zero room within = refl
   trailers-decoded [] n (suc most) room within = refl
   trailers-decoded (byte ∷ bytes) n zero room within = absurd (omega (arith, room))
@@ -199,20 +223,27 @@ mutual
             elim (eqb_tells byte 10) [
               | inl lf ↦ rw (lf.1, cut_line-lf bytes) refl
               | inr no_lf ↦
-                  let whole = ap trailers_end (ap (λ o. plus n (behind_trailer (trailers_length most) o)) (cut_line-more byte bytes no_cr.1 no_lf.1) ∙ longer-line n most byte (line_of bytes) (tail_of bytes)) in
+                  let whole =
+                      ap trailers_end
+                      (ap (λ o. plus n (behind_trailer (trailers_length most) o))
+                      (cut_line-more byte bytes no_cr.1 no_lf.1)
+                      ∙ longer-line n most byte (line_of bytes) (tail_of bytes)) in
                   elim (leb_tells 8188 n) [
                     | inl full ↦
                         let none = too-long n most byte (line_of bytes) (tail_of bytes) full.1 in
-                        ap (behind bytes) (trailer-full byte n LastEnd no_cr.1 no_lf.1 full.1) ∙ sym (whole ∙ ap ended_as none)
+                        ap (behind bytes) (trailer-full byte n LastEnd no_cr.1 no_lf.1 full.1)
+                            ∙ sym (whole ∙ ap ended_as none)
                     | inr free ↦
                         ap (behind bytes) (trailer-goes byte n LastEnd no_cr.1 no_lf.1 free.1)
-                        ∙ (trailer-decoded bytes (n + 1) most room' (omega (arith, free.1)) ∙ sym (whole ∙ ap trailers_end (one-more n most byte (line_of bytes) (tail_of bytes))))
+                        ∙ (trailer-decoded bytes (n + 1) most room' (omega (arith, free.1))
+                            ∙ sym (whole ∙ ap trailers_end (one-more n most byte (line_of bytes) (tail_of bytes))))
                   ]
             ]
       ]
 
   -- in a line
-  trailer-decoded : (bytes : List ℕ) (n most : ℕ) → length bytes ≤ most → n ≤ 8188 → decoded_at (Trailer n) bytes ≡ trailers_end (line_and_more n most (cut_line bytes))
+  trailer-decoded : (bytes : List ℕ) (n most : ℕ) → length bytes ≤ most → n ≤ 8188 → decoded_at (Trailer n) bytes
+      ≡ trailers_end (line_and_more n most (cut_line bytes))
   trailer-decoded [] n most room within = refl
   trailer-decoded (byte ∷ []) n most room within =
       elim (eqb_tells byte 13) [
@@ -222,8 +253,10 @@ mutual
               | inl lf ↦ rw (lf.1) refl
               | inr no_lf ↦
                   elim (leb_tells 8188 n) [
-                    | inl full ↦ ap (behind []) (trailer-full byte n (TrailerEnd n) no_cr.1 no_lf.1 full.1) ∙ sym (ap (λ o. trailers_end (line_and_more n most o)) (cut_line-more byte [] no_cr.1 no_lf.1))
-                    | inr free ↦ ap (behind []) (trailer-goes byte n (TrailerEnd n) no_cr.1 no_lf.1 free.1) ∙ sym (ap (λ o. trailers_end (line_and_more n most o)) (cut_line-more byte [] no_cr.1 no_lf.1))
+                    | inl full ↦ ap (behind []) (trailer-full byte n (TrailerEnd n) no_cr.1 no_lf.1 full.1)
+                        ∙ sym (ap (λ o. trailers_end (line_and_more n most o)) (cut_line-more byte [] no_cr.1 no_lf.1))
+                    | inr free ↦ ap (behind []) (trailer-goes byte n (TrailerEnd n) no_cr.1 no_lf.1 free.1)
+                        ∙ sym (ap (λ o. trailers_end (line_and_more n most o)) (cut_line-more byte [] no_cr.1 no_lf.1))
                   ]
             ]
       ]
@@ -232,27 +265,35 @@ mutual
         | inl cr ↦
             elim (eqb_tells next 10) [
               | inl lf ↦
-                  rw (cr.1, lf.1) (trailers-decoded rest (n + 2) most (omega (arith, room)) (omega (arith, within)) ∙ ap (λ k. trailers_end (plus k (trailers_length most rest))) (empty-line n))
+                  rw (cr.1, lf.1) (trailers-decoded rest (n + 2) most (omega (arith, room)) (omega (arith, within))
+                      ∙ ap (λ k. trailers_end (plus k (trailers_length most rest))) (empty-line n))
               | inr other ↦ rw (cr.1, cut_line-cr (next ∷ rest), other.0) refl
             ]
         | inr no_cr ↦
             elim (eqb_tells byte 10) [
               | inl lf ↦ rw (lf.1) refl
               | inr no_lf ↦
-                  let whole = ap (λ o. trailers_end (line_and_more n most o)) (cut_line-more byte (next ∷ rest) no_cr.1 no_lf.1) in
+                  let whole =
+                      ap (λ o. trailers_end (line_and_more n most o))
+                      (cut_line-more byte (next ∷ rest) no_cr.1 no_lf.1) in
                   elim (leb_tells 8188 n) [
                     | inl full ↦
                         let none = too-long n most byte (line_of (next ∷ rest)) (tail_of (next ∷ rest)) full.1 in
-                        ap (behind (next ∷ rest)) (trailer-full byte n (TrailerEnd n) no_cr.1 no_lf.1 full.1) ∙ sym (whole ∙ ap ended_as none)
+                        ap (behind (next ∷ rest)) (trailer-full byte n (TrailerEnd n) no_cr.1 no_lf.1 full.1)
+                            ∙ sym (whole ∙ ap ended_as none)
                     | inr free ↦
                         ap (behind (next ∷ rest)) (trailer-goes byte n (TrailerEnd n) no_cr.1 no_lf.1 free.1)
-                        ∙ (trailer-decoded (next ∷ rest) (n + 1) most (omega (arith, room)) (omega (arith, free.1)) ∙ sym (whole ∙ ap trailers_end (one-more n most byte (line_of (next ∷ rest)) (tail_of (next ∷ rest)))))
+                        ∙ (trailer-decoded (next ∷ rest) (n + 1) most (omega (arith, room)) (omega (arith, free.1))
+                            ∙ sym (whole
+                            ∙ ap trailers_end (one-more n most byte (line_of (next ∷ rest)) (tail_of (next ∷ rest)))))
                   ]
             ]
       ]
 
-trailers-whole : (bytes : List ℕ) → decoded_at (Trailers 0) bytes ≡ record { data_is = []; complete = has_trailers bytes }
-trailers-whole bytes = trailers-decoded bytes 0 (length bytes) (omega arith) (omega arith) ∙ ap trailers_end (none-more (trailers_length (length bytes) bytes))
+trailers-whole : (bytes : List ℕ) → decoded_at (Trailers 0) bytes
+    ≡ record { data_is = []; complete = has_trailers bytes }
+trailers-whole bytes = trailers-decoded bytes 0 (length bytes) (omega arith) (omega arith)
+    ∙ ap trailers_end (none-more (trailers_length (length bytes) bytes))
   where
     none-more : (o : Option ℕ) → plus 0 o ≡ o
     none-more None = refl
@@ -268,7 +309,8 @@ behind-line size rest =
       | inr some ↦ let data_ = data-decoded size rest in rw some.0 data_
     ]
 
-line_end-decoded : (size : ℕ) (rest : List ℕ) → decoded_at (LineEnd size) rest ≡ behind_size chunks (option_map (λ r. (size, r)) (behind_lf rest))
+line_end-decoded : (size : ℕ) (rest : List ℕ) → decoded_at (LineEnd size) rest
+    ≡ behind_size chunks (option_map (λ r. (size, r)) (behind_lf rest))
 line_end-decoded size [] = refl
 line_end-decoded size (byte ∷ rest) =
     elim (eqb_tells byte 10) [
@@ -282,35 +324,44 @@ in_line size line cut = if nat_le (line + length cut.0 + 2) 4096 then Some (size
 
 abbrev in_blanks : ℕ → ℕ → List ℕ × List ℕ → Option (ℕ × List ℕ)
 in_blanks size line cut =
-    if is_extension (trimmed_start tab_or_space cut.0) && nat_le (line + length cut.0 + 2) 4096 then Some (size, cut.1) else None
+    if is_extension (trimmed_start tab_or_space cut.0) && nat_le (line + length cut.0 + 2) 4096
+        then Some (size, cut.1) else None
 
 abbrev in_digits : ℕ → ℕ → List ℕ × List ℕ → Option (ℕ × List ℕ)
 in_digits digits value cut =
     if nat_le 1 (digits + length (size_digits cut.0)) && nat_le (digits + length (size_digits cut.0)) 16
-    && is_extension (trimmed_start tab_or_space (drop (length (size_digits cut.0)) cut.0)) && nat_le (digits + length cut.0 + 2) 4096
+    && is_extension (trimmed_start tab_or_space (drop (length (size_digits cut.0)) cut.0))
+        && nat_le (digits + length cut.0 + 2) 4096
     then Some (digits_value_after 16 value (size_digits cut.0), cut.1) else None
 
 -- at the end of the line
-ends : (f : List ℕ × List ℕ → Option (ℕ × List ℕ)) (size : ℕ) (rest : List ℕ) → ((r : List ℕ) → f ([], r) ≡ Some (size, r))
+ends : (f : List ℕ × List ℕ → Option (ℕ × List ℕ)) (size : ℕ) (rest : List ℕ)
+    → ((r : List ℕ) → f ([], r) ≡ Some (size, r))
     → decoded_at (LineEnd size) rest ≡ behind_size chunks (option_and_then f (cut_line (13 ∷ rest)))
 ends f size rest same =
-    line_end-decoded size rest ∙ ap (behind_size chunks) (sym (ap (option_and_then f) (cut_line-cr rest) ∙ shown (behind_lf rest)))
+    line_end-decoded size rest
+        ∙ ap (behind_size chunks) (sym (ap (option_and_then f) (cut_line-cr rest) ∙ shown (behind_lf rest)))
   where
     shown : (o : Option (List ℕ)) → option_and_then f (option_map (λ r. ([], r)) o) ≡ option_map (λ r. (size, r)) o
     shown None = refl
     shown (Some r) = same r
 
 -- a line that does not fit
-misfits : (f : List ℕ × List ℕ → Option (ℕ × List ℕ)) (byte : ℕ) (rest : List ℕ) → byte ≢ 13 → byte ≢ 10 → ((r : List ℕ) → f (byte ∷ line_of rest, r) ≡ None)
+misfits : (f : List ℕ × List ℕ → Option (ℕ × List ℕ)) (byte : ℕ) (rest : List ℕ) → byte ≢ 13 → byte ≢ 10
+    → ((r : List ℕ) → f (byte ∷ line_of rest, r) ≡ None)
     → broken ≡ behind_size chunks (option_and_then f (cut_line (byte ∷ rest)))
 misfits f byte rest no_cr no_lf none =
-    ap (behind_size chunks) (sym (ap (option_and_then f) (cut_line-more byte rest no_cr no_lf) ∙ nothing f (byte ∷ line_of rest) (tail_of rest) none))
+    ap (behind_size chunks) (sym (ap (option_and_then f) (cut_line-more byte rest no_cr no_lf)
+        ∙ nothing f (byte ∷ line_of rest) (tail_of rest) none))
 
 -- a line that goes on
-goes-on : (f g : List ℕ × List ℕ → Option (ℕ × List ℕ)) (byte : ℕ) (rest : List ℕ) → byte ≢ 13 → byte ≢ 10 → ((r : List ℕ) → f (byte ∷ line_of rest, r) ≡ g (line_of rest, r))
-    → behind_size chunks (option_and_then g (cut_line rest)) ≡ behind_size chunks (option_and_then f (cut_line (byte ∷ rest)))
+goes-on : (f g : List ℕ × List ℕ → Option (ℕ × List ℕ)) (byte : ℕ) (rest : List ℕ) → byte ≢ 13 → byte ≢ 10
+    → ((r : List ℕ) → f (byte ∷ line_of rest, r) ≡ g (line_of rest, r))
+    → behind_size chunks (option_and_then g (cut_line rest))
+        ≡ behind_size chunks (option_and_then f (cut_line (byte ∷ rest)))
 goes-on f g byte rest no_cr no_lf same =
-    ap (behind_size chunks) (sym (ap (option_and_then f) (cut_line-more byte rest no_cr no_lf) ∙ through f g (byte ∷ line_of rest) (line_of rest) (tail_of rest) same))
+    ap (behind_size chunks) (sym (ap (option_and_then f) (cut_line-more byte rest no_cr no_lf)
+        ∙ through f g (byte ∷ line_of rest) (line_of rest) (tail_of rest) same))
 
 abbrev at_line_feed : (f : List ℕ × List ℕ → Option (ℕ × List ℕ)) (rest : List ℕ) → Type 0
 at_line_feed f rest = broken ≡ behind_size chunks (option_and_then f (cut_line (10 ∷ rest)))
@@ -319,8 +370,10 @@ line-feed : (f : List ℕ × List ℕ → Option (ℕ × List ℕ)) (rest : List
 line-feed f rest = ap (behind_size chunks) (sym (ap (option_and_then f) (cut_line-lf rest)))
 
 -- the counts of one more byte
-room-more : (line : ℕ) (byte : ℕ) (text : List ℕ) → nat_le (line + length (byte ∷ text) + 2) 4096 ≡ nat_le (line + 1 + length text + 2) 4096
-room-more line byte text = let same : line + length (byte ∷ text) + 2 ≡ line + 1 + length text + 2 = omega arith in ap (λ n. nat_le n 4096) same
+room-more : (line : ℕ) (byte : ℕ) (text : List ℕ) → nat_le (line + length (byte ∷ text) + 2) 4096
+    ≡ nat_le (line + 1 + length text + 2) 4096
+room-more line byte text = let same : line + length (byte ∷ text) + 2 ≡ line + 1 + length text + 2 = omega arith in
+    ap (λ n. nat_le n 4096) same
 
 room-none : (line : ℕ) (byte : ℕ) (text : List ℕ) → 4094 ≤ line → nat_le (line + length (byte ∷ text) + 2) 4096 ≡ false
 room-none line byte text full = fails_le (line + length (byte ∷ text) + 2) 4096 (omega (arith, full))
@@ -332,33 +385,43 @@ false-right : (b : Bool) → (b && false) ≡ false
 false-right true = refl
 false-right false = refl
 
-in_line-more : (size line byte : ℕ) (text r : List ℕ) → in_line size line (byte ∷ text, r) ≡ in_line size (line + 1) (text, r)
+in_line-more : (size line byte : ℕ) (text r : List ℕ) → in_line size line (byte ∷ text, r)
+    ≡ in_line size (line + 1) (text, r)
 in_line-more size line byte text r = ap (λ b. if b then Some (size, r) else None) (room-more line byte text)
 
 in_line-none : (size line byte : ℕ) (text r : List ℕ) → 4094 ≤ line → in_line size line (byte ∷ text, r) ≡ None
 in_line-none size line byte text r full = ap (λ b. if b then Some (size, r) else None) (room-none line byte text full)
 
 in_extension-full : (size line byte : ℕ) → byte ≢ 13 → byte ≢ 10 → 4094 ≤ line → in_extension size line byte ≡ Broken
-in_extension-full size line byte no_cr no_lf full = rw (fails_eq byte 13 no_cr, fails_eq byte 10 no_lf, holds_le 4094 line full) refl
+in_extension-full size line byte no_cr no_lf full =
+    rw (fails_eq byte 13 no_cr, fails_eq byte 10 no_lf, holds_le 4094 line full) refl
 
-in_extension-goes : (size line byte : ℕ) → byte ≢ 13 → byte ≢ 10 → line < 4094 → in_extension size line byte ≡ To (Extension size (line + 1))
-in_extension-goes size line byte no_cr no_lf free = rw (fails_eq byte 13 no_cr, fails_eq byte 10 no_lf, fails_le 4094 line free) refl
+in_extension-goes : (size line byte : ℕ) → byte ≢ 13 → byte ≢ 10 → line < 4094 → in_extension size line byte
+    ≡ To (Extension size (line + 1))
+in_extension-goes size line byte no_cr no_lf free =
+    rw (fails_eq byte 13 no_cr, fails_eq byte 10 no_lf, fails_le 4094 line free) refl
 
-extension-decoded : (bytes : List ℕ) (size line : ℕ) → line ≤ 4094 → decoded_at (Extension size line) bytes ≡ behind_size chunks (option_and_then (in_line size line) (cut_line bytes))
+extension-decoded : (bytes : List ℕ) (size line : ℕ) → line ≤ 4094 → decoded_at (Extension size line) bytes
+    ≡ behind_size chunks (option_and_then (in_line size line) (cut_line bytes))
 extension-decoded [] size line within = refl
 extension-decoded (byte ∷ rest) size line within =
     elim (eqb_tells byte 13) [
-      | inl cr ↦ rw cr.1 (ends (in_line size line) size rest (λ r. ap (λ b. if b then Some (size, r) else None) (room-end line within)))
+      | inl cr ↦
+          rw cr.1 (ends (in_line size line) size rest
+          (λ r. ap (λ b. if b then Some (size, r) else None) (room-end line within)))
       | inr no_cr ↦
           elim (eqb_tells byte 10) [
             | inl lf ↦ rw lf.1 (line-feed (in_line size line) rest)
             | inr no_lf ↦
                 elim (leb_tells 4094 line) [
-                  | inl full ↦ ap (behind rest) (in_extension-full size line byte no_cr.1 no_lf.1 full.1) ∙ misfits (in_line size line) byte rest no_cr.1 no_lf.1 (λ r. in_line-none size line byte (line_of rest) r full.1)
+                  | inl full ↦ ap (behind rest) (in_extension-full size line byte no_cr.1 no_lf.1 full.1)
+                      ∙ misfits (in_line size line) byte rest no_cr.1 no_lf.1
+                      (λ r. in_line-none size line byte (line_of rest) r full.1)
                   | inr free ↦
                       ap (behind rest) (in_extension-goes size line byte no_cr.1 no_lf.1 free.1)
                       ∙ extension-decoded rest size (line + 1) (omega (arith, free.1))
-                      ∙ goes-on (in_line size line) (in_line size (line + 1)) byte rest no_cr.1 no_lf.1 (λ r. in_line-more size line byte (line_of rest) r)
+                      ∙ goes-on (in_line size line) (in_line size (line + 1)) byte rest no_cr.1 no_lf.1
+                          (λ r. in_line-more size line byte (line_of rest) r)
                 ]
           ]
     ]
@@ -366,54 +429,67 @@ extension-decoded (byte ∷ rest) size line within =
 -- ---- blanks
 
 -- a blank in front is trimmed
-trimmed-blank : (byte : ℕ) (text : List ℕ) → (byte ≡ 9) ⊎ (byte ≡ 32) → trimmed_start tab_or_space (byte ∷ text) ≡ trimmed_start tab_or_space text
+trimmed-blank : (byte : ℕ) (text : List ℕ) → (byte ≡ 9) ⊎ (byte ≡ 32) → trimmed_start tab_or_space (byte ∷ text)
+    ≡ trimmed_start tab_or_space text
 trimmed-blank byte text (inl tab) = rw tab refl
 trimmed-blank byte text (inr space) = rw space refl
 
-trimmed-other : (byte : ℕ) (text : List ℕ) → byte ≢ 9 → byte ≢ 32 → trimmed_start tab_or_space (byte ∷ text) ≡ byte ∷ text
-trimmed-other byte text no_tab no_space = rw (fails_eq 9 byte (λ e. no_tab (sym e)), fails_eq 32 byte (λ e. no_space (sym e))) refl
+trimmed-other : (byte : ℕ) (text : List ℕ) → byte ≢ 9 → byte ≢ 32 → trimmed_start tab_or_space (byte ∷ text) ≡ byte
+    ∷ text
+trimmed-other byte text no_tab no_space =
+    rw (fails_eq 9 byte (λ e. no_tab (sym e)), fails_eq 32 byte (λ e. no_space (sym e))) refl
 
 -- the size and the rest, where a test holds
 abbrev given : ℕ → List ℕ → Bool → Option (ℕ × List ℕ)
 given size r test = if test then Some (size, r) else None
 
-blanks-blank : (size line byte : ℕ) (text r : List ℕ) → (byte ≡ 9) ⊎ (byte ≡ 32) → in_blanks size line (byte ∷ text, r) ≡ in_blanks size (line + 1) (text, r)
+blanks-blank : (size line byte : ℕ) (text r : List ℕ) → (byte ≡ 9) ⊎ (byte ≡ 32)
+    → in_blanks size line (byte ∷ text, r) ≡ in_blanks size (line + 1) (text, r)
 blanks-blank size line byte text r blank =
-    ap (given size r) (ap (λ t. is_extension t && nat_le (line + length (byte ∷ text) + 2) 4096) (trimmed-blank byte text blank)
+    ap (given size r) (ap (λ t. is_extension t && nat_le (line + length (byte ∷ text) + 2) 4096)
+        (trimmed-blank byte text blank)
     ∙ ap (λ b. is_extension (trimmed_start tab_or_space text) && b) (room-more line byte text))
 
-blanks-semicolon : (size line : ℕ) (text r : List ℕ) → in_blanks size line (59 ∷ text, r) ≡ in_line size (line + 1) (text, r)
+blanks-semicolon : (size line : ℕ) (text r : List ℕ) → in_blanks size line (59 ∷ text, r)
+    ≡ in_line size (line + 1) (text, r)
 blanks-semicolon size line text r =
     ap (given size r) (room-more line 59 text)
 
-blanks-other : (size line byte : ℕ) (text r : List ℕ) → byte ≢ 9 → byte ≢ 32 → byte ≢ 59 → in_blanks size line (byte ∷ text, r) ≡ None
+blanks-other : (size line byte : ℕ) (text r : List ℕ) → byte ≢ 9 → byte ≢ 32 → byte ≢ 59
+    → in_blanks size line (byte ∷ text, r) ≡ None
 blanks-other size line byte text r no_tab no_space no_semicolon =
-    ap (given size r) (ap (λ t. is_extension t && nat_le (line + length (byte ∷ text) + 2) 4096) (trimmed-other byte text no_tab no_space)
+    ap (given size r) (ap (λ t. is_extension t && nat_le (line + length (byte ∷ text) + 2) 4096)
+        (trimmed-other byte text no_tab no_space)
     ∙ ap (λ b. b && nat_le (line + length (byte ∷ text) + 2) 4096) (fails_eq byte 59 no_semicolon))
 
 blanks-none : (size line byte : ℕ) (text r : List ℕ) → 4094 ≤ line → in_blanks size line (byte ∷ text, r) ≡ None
 blanks-none size line byte text r full =
-    ap (given size r) (ap (λ b. is_extension (trimmed_start tab_or_space (byte ∷ text)) && b) (room-none line byte text full) ∙ false-right (is_extension (trimmed_start tab_or_space (byte ∷ text))))
+    ap (given size r) (ap (λ b. is_extension (trimmed_start tab_or_space (byte ∷ text))
+        && b) (room-none line byte text full) ∙ false-right (is_extension (trimmed_start tab_or_space (byte ∷ text))))
 
 digits-full : (size line byte : ℕ) → byte ≢ 13 → 4094 ≤ line → behind_digits size line byte ≡ Broken
 digits-full size line byte no_cr full = rw (fails_eq byte 13 no_cr, holds_le 4094 line full) refl
 
-digits-blank : (size line byte : ℕ) → byte ≢ 13 → line < 4094 → (byte ≡ 9) ⊎ (byte ≡ 32) → behind_digits size line byte ≡ To (Blanks size (line + 1))
+digits-blank : (size line byte : ℕ) → byte ≢ 13 → line < 4094 → (byte ≡ 9) ⊎ (byte ≡ 32)
+    → behind_digits size line byte ≡ To (Blanks size (line + 1))
 digits-blank size line byte no_cr free (inl tab) = rw (tab, fails_le 4094 line free) refl
 digits-blank size line byte no_cr free (inr space) = rw (space, fails_le 4094 line free) refl
 
 digits-semicolon : (size line : ℕ) → line < 4094 → behind_digits size line 59 ≡ To (Extension size (line + 1))
 digits-semicolon size line free = rw (fails_le 4094 line free) refl
 
-digits-other : (size line byte : ℕ) → byte ≢ 13 → byte ≢ 9 → byte ≢ 32 → byte ≢ 59 → behind_digits size line byte ≡ Broken
+digits-other : (size line byte : ℕ) → byte ≢ 13 → byte ≢ 9 → byte ≢ 32 → byte ≢ 59 → behind_digits size line byte
+    ≡ Broken
 digits-other size line byte no_cr no_tab no_space no_semicolon =
     elim (leb_tells 4094 line) [
       | inl full ↦ digits-full size line byte no_cr full.1
-      | inr free ↦ rw (fails_eq byte 13 no_cr, fails_le 4094 line free.1, fails_eq byte 9 no_tab, fails_eq byte 32 no_space, fails_eq byte 59 no_semicolon) refl
+      | inr free ↦ rw (fails_eq byte 13 no_cr, fails_le 4094 line free.1, fails_eq byte 9 no_tab,
+          fails_eq byte 32 no_space, fails_eq byte 59 no_semicolon) refl
     ]
 
 -- behind the digits, or behind blanks
-blanks-decoded : (bytes : List ℕ) (size line : ℕ) → line ≤ 4094 → decoded_at (Blanks size line) bytes ≡ behind_size chunks (option_and_then (in_blanks size line) (cut_line bytes))
+blanks-decoded : (bytes : List ℕ) (size line : ℕ) → line ≤ 4094 → decoded_at (Blanks size line) bytes
+    ≡ behind_size chunks (option_and_then (in_blanks size line) (cut_line bytes))
 blanks-decoded [] size line within = refl
 blanks-decoded (byte ∷ rest) size line within =
     let f : List ℕ × List ℕ → Option (ℕ × List ℕ) = in_blanks size line in
@@ -421,15 +497,21 @@ blanks-decoded (byte ∷ rest) size line within =
       | inl cr ↦ rw cr.1 (ends f size rest (λ r. ap (given size r) (room-end line within)))
       | inr no_cr ↦
           elim (eqb_tells byte 10) [
-            | inl lf ↦ rw lf.1 (ap (behind rest) (digits-other size line 10 (λ e. omega (arith, e)) (λ e. omega (arith, e)) (λ e. omega (arith, e)) (λ e. omega (arith, e))) ∙ line-feed f rest)
+            | inl lf ↦
+                rw lf.1 (ap (behind rest)
+                (digits-other size line 10 (λ e. omega (arith, e)) (λ e. omega (arith, e)) (λ e. omega (arith, e))
+                (λ e. omega (arith, e))) ∙ line-feed f rest)
             | inr no_lf ↦
                 elim (leb_tells 4094 line) [
-                  | inl full ↦ ap (behind rest) (digits-full size line byte no_cr.1 full.1) ∙ misfits f byte rest no_cr.1 no_lf.1 (λ r. blanks-none size line byte (line_of rest) r full.1)
+                  | inl full ↦ ap (behind rest) (digits-full size line byte no_cr.1 full.1)
+                      ∙ misfits f byte rest no_cr.1 no_lf.1 (λ r. blanks-none size line byte (line_of rest) r full.1)
                   | inr free ↦
-                      let blank : (byte ≡ 9) ⊎ (byte ≡ 32) → decoded_at (Blanks size line) (byte ∷ rest) ≡ behind_size chunks (option_and_then f (cut_line (byte ∷ rest))) =
+                      let blank : (byte ≡ 9) ⊎ (byte ≡ 32) → decoded_at (Blanks size line) (byte ∷ rest)
+                          ≡ behind_size chunks (option_and_then f (cut_line (byte ∷ rest))) =
                       λ b. ap (behind rest) (digits-blank size line byte no_cr.1 free.1 b)
                       ∙ blanks-decoded rest size (line + 1) (omega (arith, free.1))
-                      ∙ goes-on f (in_blanks size (line + 1)) byte rest no_cr.1 no_lf.1 (λ r. blanks-blank size line byte (line_of rest) r b) in
+                      ∙ goes-on f (in_blanks size (line + 1)) byte rest no_cr.1 no_lf.1
+                          (λ r. blanks-blank size line byte (line_of rest) r b) in
                       elim (eqb_tells byte 9) [
                         | inl tab ↦ blank (inl tab.1)
                         | inr no_tab ↦
@@ -440,10 +522,14 @@ blanks-decoded (byte ∷ rest) size line within =
                                     | inl semicolon ↦
                                         rw semicolon.1 (ap (behind rest) (digits-semicolon size line free.1)
                                         ∙ extension-decoded rest size (line + 1) (omega (arith, free.1))
-                                        ∙ goes-on f (in_line size (line + 1)) 59 rest (λ e. omega (arith, e)) (λ e. omega (arith, e)) (λ r. blanks-semicolon size line (line_of rest) r))
+                                        ∙ goes-on f (in_line size (line + 1)) 59 rest (λ e. omega (arith, e))
+                                            (λ e. omega (arith, e)) (λ r. blanks-semicolon size line (line_of rest) r))
                                     | inr no_semicolon ↦
-                                        ap (behind rest) (digits-other size line byte no_cr.1 no_tab.1 no_space.1 no_semicolon.1)
-                                        ∙ misfits f byte rest no_cr.1 no_lf.1 (λ r. blanks-other size line byte (line_of rest) r no_tab.1 no_space.1 no_semicolon.1)
+                                        ap (behind rest)
+                                            (digits-other size line byte no_cr.1 no_tab.1 no_space.1 no_semicolon.1)
+                                        ∙ misfits f byte rest no_cr.1 no_lf.1
+                                            (λ r. blanks-other size line byte (line_of rest) r no_tab.1 no_space.1
+                                            no_semicolon.1)
                                   ]
                             ]
                       ]
@@ -453,7 +539,8 @@ blanks-decoded (byte ∷ rest) size line within =
 
 -- ---- digits
 
-size_digits-more : (byte : ℕ) (text : List ℕ) → is_ascii_hexdigit byte ≡ true → size_digits (byte ∷ text) ≡ byte ∷ size_digits text
+size_digits-more : (byte : ℕ) (text : List ℕ) → is_ascii_hexdigit byte ≡ true → size_digits (byte ∷ text) ≡ byte
+    ∷ size_digits text
 size_digits-more byte text digit = take_while-cons is_ascii_hexdigit byte text ∙ rw digit refl
 
 size_digits-end : (byte : ℕ) (text : List ℕ) → is_ascii_hexdigit byte ≡ false → size_digits (byte ∷ text) ≡ []
@@ -466,7 +553,8 @@ with_digits digits value front cut =
     && is_extension (trimmed_start tab_or_space (drop (length front) cut.0)) && nat_le (digits + length cut.0 + 2) 4096
     then Some (digits_value_after 16 value front, cut.1) else None
 
-digit-more : (digits value byte : ℕ) (text r : List ℕ) → is_ascii_hexdigit byte ≡ true → in_digits digits value (byte ∷ text, r) ≡ in_digits (digits + 1) (value * 16 + digit_value byte) (text, r)
+digit-more : (digits value byte : ℕ) (text r : List ℕ) → is_ascii_hexdigit byte ≡ true
+    → in_digits digits value (byte ∷ text, r) ≡ in_digits (digits + 1) (value * 16 + digit_value byte) (text, r)
 digit-more digits value byte text r digit =
     let front : List ℕ = size_digits text in
     let count : digits + length (byte ∷ front) ≡ digits + 1 + length front = omega arith in
@@ -474,25 +562,31 @@ digit-more digits value byte text r digit =
     ap (λ d. with_digits digits value d (byte ∷ text, r)) (size_digits-more byte text digit)
     ∙ ap (given (digits_value_after 16 (value * 16 + digit_value byte) front) r)
     (ap (λ n. nat_le 1 n && nat_le n 16 && test && nat_le (digits + length (byte ∷ text) + 2) 4096) count
-    ∙ ap (λ b. nat_le 1 (digits + 1 + length front) && nat_le (digits + 1 + length front) 16 && test && b) (room-more digits byte text))
+    ∙ ap (λ b. nat_le 1 (digits + 1 + length front) && nat_le (digits + 1 + length front) 16 && test
+        && b) (room-more digits byte text))
 
-digit-none : (value byte : ℕ) (text r : List ℕ) → is_ascii_hexdigit byte ≡ true → in_digits 16 value (byte ∷ text, r) ≡ None
+digit-none : (value byte : ℕ) (text r : List ℕ) → is_ascii_hexdigit byte ≡ true → in_digits 16 value (byte ∷ text, r)
+    ≡ None
 digit-none value byte text r digit =
     let front : List ℕ = size_digits text in
     let test : Bool = is_extension (trimmed_start tab_or_space (drop (length front) text)) in
     let more : Bool = nat_le (16 + length (byte ∷ text) + 2) 4096 in
-    let full : nat_le (16 + length (byte ∷ front)) 16 ≡ false = fails_le (16 + length (byte ∷ front)) 16 (omega arith) in
+    let full : nat_le (16 + length (byte ∷ front)) 16 ≡ false = fails_le (16 + length (byte ∷ front)) 16 (omega arith)
+        in
     ap (λ d. with_digits 16 value d (byte ∷ text, r)) (size_digits-more byte text digit)
     ∙ ap (given (digits_value_after 16 (value * 16 + digit_value byte) front) r)
-    (ap (λ b. nat_le 1 (16 + length (byte ∷ front)) && b && test && more) full ∙ ap (λ b. b && test && more) (false-right (nat_le 1 (16 + length (byte ∷ front)))))
+    (ap (λ b. nat_le 1 (16 + length (byte ∷ front)) && b && test && more) full
+        ∙ ap (λ b. b && test && more) (false-right (nat_le 1 (16 + length (byte ∷ front)))))
 
 -- behind one digit or more what follows stands as behind blanks
-no-digit : (digits value : ℕ) (text r : List ℕ) → 1 ≤ digits → digits ≤ 16 → size_digits text ≡ [] → in_digits digits value (text, r) ≡ in_blanks value digits (text, r)
+no-digit : (digits value : ℕ) (text r : List ℕ) → 1 ≤ digits → digits ≤ 16 → size_digits text ≡ []
+    → in_digits digits value (text, r) ≡ in_blanks value digits (text, r)
 no-digit digits value text r some few none =
     let first : nat_le 1 (digits + 0) ≡ true = holds_le 1 (digits + 0) (omega (arith, some)) in
     let second : nat_le (digits + 0) 16 ≡ true = holds_le (digits + 0) 16 (omega (arith, few)) in
     ap (λ d. with_digits digits value d (text, r)) none
-    ∙ ap (given value r) (ap (λ b. b && nat_le (digits + 0) 16 && is_extension (trimmed_start tab_or_space text) && nat_le (digits + length text + 2) 4096) first
+    ∙ ap (given value r) (ap (λ b. b && nat_le (digits + 0) 16 && is_extension (trimmed_start tab_or_space text)
+        && nat_le (digits + length text + 2) 4096) first
     ∙ ap (λ b. b && is_extension (trimmed_start tab_or_space text) && nat_le (digits + length text + 2) 4096) second)
 
 -- and without a digit nothing fits
@@ -507,14 +601,16 @@ front-none byte rest other =
       | inr no_cr ↦
           elim (eqb_tells byte 10) [
             | inl lf ↦ rw lf.1 refl
-            | inr no_lf ↦ ap size_digits (line_of-more byte rest no_cr.1 no_lf.1) ∙ size_digits-end byte (line_of rest) other
+            | inr no_lf ↦ ap size_digits (line_of-more byte rest no_cr.1 no_lf.1)
+                ∙ size_digits-end byte (line_of rest) other
           ]
     ]
 
 digit-no-end : (byte : ℕ) → is_ascii_hexdigit byte ≡ true → (byte ≢ 13) × (byte ≢ 10)
 digit-no-end byte digit = ((λ e. grind (arith, common_steps)), (λ e. grind (arith, common_steps)))
 
-in_size-digit : (digits value byte : ℕ) → is_ascii_hexdigit byte ≡ true → digits ≢ 16 → in_size digits value byte ≡ To (Size (digits + 1) (value * 16 + digit_value byte))
+in_size-digit : (digits value byte : ℕ) → is_ascii_hexdigit byte ≡ true → digits ≢ 16 → in_size digits value byte
+    ≡ To (Size (digits + 1) (value * 16 + digit_value byte))
 in_size-digit digits value byte digit fewer = rw (digit, fails_eq digits 16 fewer) refl
 
 in_size-full : (value byte : ℕ) → is_ascii_hexdigit byte ≡ true → in_size 16 value byte ≡ Broken
@@ -523,14 +619,17 @@ in_size-full value byte digit = rw digit refl
 in_size-first : (value byte : ℕ) → is_ascii_hexdigit byte ≡ false → in_size 0 value byte ≡ Broken
 in_size-first value byte other = rw other refl
 
-in_size-behind : (digits value byte : ℕ) → is_ascii_hexdigit byte ≡ false → digits ≢ 0 → in_size digits value byte ≡ behind_digits value digits byte
+in_size-behind : (digits value byte : ℕ) → is_ascii_hexdigit byte ≡ false → digits ≢ 0 → in_size digits value byte
+    ≡ behind_digits value digits byte
 in_size-behind digits value byte other some = rw (other, fails_eq digits 0 some) refl
 
 -- what is to be shown in the digits
 abbrev InDigits : ℕ → ℕ → List ℕ → Type 0
-InDigits digits value bytes = decoded_at (Size digits value) bytes ≡ behind_size chunks (option_and_then (in_digits digits value) (cut_line bytes))
+InDigits digits value bytes = decoded_at (Size digits value) bytes
+    ≡ behind_size chunks (option_and_then (in_digits digits value) (cut_line bytes))
 
-size-cases : (digits value byte : ℕ) (rest : List ℕ) → digits ≤ 16 → ((d v : ℕ) → d ≤ 16 → InDigits d v rest) → (test : Bool) → is_ascii_hexdigit byte ≡ test → InDigits digits value (byte ∷ rest)
+size-cases : (digits value byte : ℕ) (rest : List ℕ) → digits ≤ 16 → ((d v : ℕ) → d ≤ 16 → InDigits d v rest)
+    → (test : Bool) → is_ascii_hexdigit byte ≡ test → InDigits digits value (byte ∷ rest)
 size-cases digits value byte rest few later true digit =
     let f : List ℕ × List ℕ → Option (ℕ × List ℕ) = in_digits digits value in
     let no_end = digit-no-end byte digit in
@@ -538,11 +637,13 @@ size-cases digits value byte rest few later true digit =
       | inl full ↦
           let same : digits ≡ 16 = full.1 in
           ap (λ d. behind rest (in_size d value byte)) same ∙ ap (behind rest) (in_size-full value byte digit)
-          ∙ misfits f byte rest no_end.0 no_end.1 (λ r. ap (λ d. in_digits d value (byte ∷ line_of rest, r)) same ∙ digit-none value byte (line_of rest) r digit)
+          ∙ misfits f byte rest no_end.0 no_end.1 (λ r. ap (λ d. in_digits d value (byte ∷ line_of rest, r)) same
+              ∙ digit-none value byte (line_of rest) r digit)
       | inr fewer ↦
           ap (behind rest) (in_size-digit digits value byte digit fewer.1)
           ∙ later (digits + 1) (value * 16 + digit_value byte) (omega (arith, few, fewer.1))
-          ∙ goes-on f (in_digits (digits + 1) (value * 16 + digit_value byte)) byte rest no_end.0 no_end.1 (λ r. digit-more digits value byte (line_of rest) r digit)
+          ∙ goes-on f (in_digits (digits + 1) (value * 16 + digit_value byte)) byte rest no_end.0 no_end.1
+              (λ r. digit-more digits value byte (line_of rest) r digit)
     ]
 size-cases digits value byte rest few later false other =
     let f : List ℕ × List ℕ → Option (ℕ × List ℕ) = in_digits digits value in
@@ -551,16 +652,23 @@ size-cases digits value byte rest few later false other =
       | inl none ↦
           let same : digits ≡ 0 = none.1 in
           ap (λ d. behind rest (in_size d value byte)) same ∙ ap (behind rest) (in_size-first value byte other)
-          ∙ ap (behind_size chunks) (sym (nothing f (line_of (byte ∷ rest)) (tail_of (byte ∷ rest)) (λ r. ap (λ d. in_digits d value (line_of (byte ∷ rest), r)) same ∙ first-no-digit value (line_of (byte ∷ rest)) r front)))
+          ∙ ap (behind_size chunks)
+              (sym (nothing f (line_of (byte ∷ rest)) (tail_of (byte ∷ rest))
+              (λ r. ap (λ d. in_digits d value (line_of (byte ∷ rest), r)) same
+              ∙ first-no-digit value (line_of (byte ∷ rest)) r front)))
       | inr some ↦
           ap (behind rest) (in_size-behind digits value byte other some.1)
           ∙ blanks-decoded (byte ∷ rest) value digits (omega (arith, few))
-          ∙ ap (behind_size chunks) (sym (through f (in_blanks value digits) (line_of (byte ∷ rest)) (line_of (byte ∷ rest)) (tail_of (byte ∷ rest)) (λ r. no-digit digits value (line_of (byte ∷ rest)) r (omega (arith, some.1)) few front)))
+          ∙ ap (behind_size chunks)
+              (sym (through f (in_blanks value digits) (line_of (byte ∷ rest)) (line_of (byte ∷ rest))
+              (tail_of (byte ∷ rest))
+              (λ r. no-digit digits value (line_of (byte ∷ rest)) r (omega (arith, some.1)) few front)))
     ]
 
 size-decoded : (bytes : List ℕ) (digits value : ℕ) → digits ≤ 16 → InDigits digits value bytes
 size-decoded [] digits value few = refl
-size-decoded (byte ∷ rest) digits value few = size-cases digits value byte rest few (λ d v h. size-decoded rest d v h) (is_ascii_hexdigit byte) refl
+size-decoded (byte ∷ rest) digits value few =
+    size-cases digits value byte rest few (λ d v h. size-decoded rest d v h) (is_ascii_hexdigit byte) refl
 
 -- ---- the whole
 
@@ -570,45 +678,60 @@ first-line cut =
     let count : 0 + length (size_digits cut.0) ≡ length (size_digits cut.0) = omega arith in
     let whole : 0 + length cut.0 ≡ length cut.0 = omega arith in
     ap (given (digits_value_after 16 0 (size_digits cut.0)) cut.1)
-    (ap (λ n. nat_le 1 n && nat_le n 16 && is_extension (trimmed_start tab_or_space (drop (length (size_digits cut.0)) cut.0)) && nat_le (0 + length cut.0 + 2) 4096) count
-    ∙ ap (λ n. nat_le 1 (length (size_digits cut.0)) && nat_le (length (size_digits cut.0)) 16 && is_extension (trimmed_start tab_or_space (drop (length (size_digits cut.0)) cut.0)) && nat_le (n + 2) 4096) whole)
+    (ap (λ n. nat_le 1 n && nat_le n 16
+        && is_extension (trimmed_start tab_or_space (drop (length (size_digits cut.0)) cut.0))
+        && nat_le (0 + length cut.0 + 2) 4096) count
+    ∙ ap (λ n. nat_le 1 (length (size_digits cut.0)) && nat_le (length (size_digits cut.0)) 16
+        && is_extension (trimmed_start tab_or_space (drop (length (size_digits cut.0)) cut.0))
+        && nat_le (n + 2) 4096) whole)
 
 chunks-step : (bytes : List ℕ) → chunks bytes ≡ behind_size chunks (cut_size bytes)
 chunks-step bytes =
     size-decoded bytes 0 0 (omega arith)
-    ∙ ap (behind_size chunks) (through (in_digits 0 0) size_and_rest (line_of bytes) (line_of bytes) (tail_of bytes) (λ r. first-line (line_of bytes, r)))
+    ∙ ap (behind_size chunks) (through (in_digits 0 0) size_and_rest (line_of bytes) (line_of bytes) (tail_of bytes)
+        (λ r. first-line (line_of bytes, r)))
 
 -- two ways to go on that agree on what is shorter
 module _ (f g : List ℕ → Decoded) (most : ℕ) (same : (rest : List ℕ) → length rest ≤ most → f rest ≡ g rest) where
-  same-behind-data : (bytes : List ℕ) → length bytes ≤ most → behind_data f (behind_crlf bytes) ≡ behind_data g (behind_crlf bytes)
+  same-behind-data : (bytes : List ℕ) → length bytes ≤ most → behind_data f (behind_crlf bytes)
+      ≡ behind_data g (behind_crlf bytes)
   same-behind-data [] room = refl
   same-behind-data (byte ∷ []) room = refl
   same-behind-data (byte ∷ next ∷ rest) room =
-      choice (λ o. behind_data f o ≡ behind_data g o) (byte == 13 && next == 10) (Some rest) None (λ _. same rest (omega (arith, room))) (λ _. refl)
+      choice (λ o. behind_data f o ≡ behind_data g o) (byte == 13
+          && next == 10) (Some rest) None (λ _. same rest (omega (arith, room))) (λ _. refl)
 
-  same-behind-size : (size : ℕ) (rest : List ℕ) → length rest ≤ most → behind_size f (Some (size, rest)) ≡ behind_size g (Some (size, rest))
+  same-behind-size : (size : ℕ) (rest : List ℕ) → length rest ≤ most → behind_size f (Some (size, rest))
+      ≡ behind_size g (Some (size, rest))
   same-behind-size size rest room =
       let shorter : length (drop size rest) ≤ most = omega (arith, room, length-drop size rest) in
-      ap (λ d. if size == 0 then record { data_is = []; complete = has_trailers rest } else onto (take size rest) d) (same-behind-data (drop size rest) shorter)
+      ap (λ d. if size == 0 then record { data_is = []; complete = has_trailers rest }
+          else onto (take size rest) d) (same-behind-data (drop size rest) shorter)
 
   same-behind-line : (line bytes : List ℕ) → length bytes ≤ suc most
-      → behind_size f (option_and_then size_and_rest (option_map (λ r. (line, r)) (behind_crlf bytes))) ≡ behind_size g (option_and_then size_and_rest (option_map (λ r. (line, r)) (behind_crlf bytes)))
+      → behind_size f (option_and_then size_and_rest (option_map (λ r. (line, r)) (behind_crlf bytes)))
+          ≡ behind_size g (option_and_then size_and_rest (option_map (λ r. (line, r)) (behind_crlf bytes)))
   same-behind-line line [] room = refl
   same-behind-line line (byte ∷ []) room = refl
   same-behind-line line (byte ∷ next ∷ rest) room =
-      choice (λ o. behind_size f (option_and_then size_and_rest (option_map (λ r. (line, r)) o)) ≡ behind_size g (option_and_then size_and_rest (option_map (λ r. (line, r)) o)))
+      choice (λ o. behind_size f (option_and_then size_and_rest (option_map (λ r. (line, r)) o))
+          ≡ behind_size g (option_and_then size_and_rest (option_map (λ r. (line, r)) o)))
       (byte == 13 && next == 10) (Some rest) None
-      (λ _. choice (λ o. behind_size f o ≡ behind_size g o) (is_size_line line) _ None (λ _. same-behind-size _ rest (omega (arith, room))) (λ _. refl)) (λ _. refl)
+      (λ _. choice (λ o. behind_size f o ≡ behind_size g o) (is_size_line line) _ None
+          (λ _. same-behind-size _ rest (omega (arith, room))) (λ _. refl)) (λ _. refl)
 
-  same-step : (bytes : List ℕ) → length bytes ≤ suc most → behind_size f (cut_size bytes) ≡ behind_size g (cut_size bytes)
+  same-step : (bytes : List ℕ) → length bytes ≤ suc most → behind_size f (cut_size bytes)
+      ≡ behind_size g (cut_size bytes)
   same-step bytes room =
-      same-behind-line (line_of bytes) (drop (length (line_of bytes)) bytes) (omega (arith, room, length-drop (length (line_of bytes)) bytes))
+      same-behind-line (line_of bytes) (drop (length (line_of bytes)) bytes)
+          (omega (arith, room, length-drop (length (line_of bytes)) bytes))
 
 decoded_from-chunks : (most : ℕ) (bytes : List ℕ) → length bytes ≤ most → decoded_from most bytes ≡ chunks bytes
 decoded_from-chunks zero [] room = refl
 decoded_from-chunks zero (byte ∷ bytes) room = absurd (omega (arith, room))
 decoded_from-chunks (suc most) bytes room =
-    same-step (decoded_from most) chunks most (λ rest h. decoded_from-chunks most rest h) bytes room ∙ sym (chunks-step bytes)
+    same-step (decoded_from most) chunks most (λ rest h. decoded_from-chunks most rest h) bytes room
+        ∙ sym (chunks-step bytes)
 
 -- The bytes of a chunked body decode to what the reader's places make of them.
 pub decoded-chunks : (bytes : List ℕ) → decoded bytes ≡ decoded_at (Size 0 0) bytes

@@ -1,11 +1,14 @@
 -- Lines of a head: no block ends in them, and one ends in the empty line behind them.
-use Rattle.std.proofs.Common.{◌≡◌, ◌==◌, ◌||◌, ◌⊎◌, inl, inr, ℕ, Bool, true, false, true≢false, List, [], ◌∷◌, ◌++◌, length, take, reverse, refl, ap, sym, ◌∙◌, subst, arith, append_assoc, length-append}
+use Rattle.std.proofs.Common.{◌≡◌, ◌==◌, ◌||◌, ◌⊎◌, inl, inr, ℕ, Bool, true, false, true≢false, List, [], ◌∷◌, ◌++◌}
+use Rattle.std.proofs.Common.{length, take, reverse, refl, ap, sym, ◌∙◌, subst, arith, append_assoc, length-append}
 use Rattle.std.proofs.lemmas.List.{take-append-le}
 use Rattle.std.proofs.lemmas.List.Folds.{list_any-append}
 use Rattle.std.specs.List.{AllByRecursion, list_any}
 use Rattle.httparse.specs.Grammar.{LineEnd, crlf, lf, print_end}
 use Rattle.wf_http1.specs.Blocks.{is_block, is_line_byte, IsShortestBlock}
-use Rattle.wf_http1.proofs.BlockLemmas.{back-push, IsQuiet, is-block-crlf, is-block-lf, is-line, no-block, no-block-line, no-block-push, or-right, quiet-append, quiet-cons, quiet-end, quiet-nil}
+use Rattle.wf_http1.proofs.BlockLemmas.{back-push, IsQuiet, is-block-crlf, is-block-lf, is-line, no-block}
+use Rattle.wf_http1.proofs.BlockLemmas.{no-block-line, no-block-push, or-right, quiet-append, quiet-cons, quiet-end}
+use Rattle.wf_http1.proofs.BlockLemmas.{quiet-nil}
 
 -- a text that ends in a byte of a line and a line end
 pub record EndsLine (text : List ℕ) : Type 0 where
@@ -24,24 +27,34 @@ differs : (byte : ℕ) → byte ≡ 13 → ¬ (byte ≡ 10)
 differs byte cr same = true≢false (sym (ap (λ (b : ℕ). b == 10) same) ∙ ap (λ (b : ℕ). b == 10) cr)
 
 -- no block ends at a line's end
-no-block-end : (before : List ℕ) (byte : ℕ) → is_line_byte byte ≡ true → is_block ((before ++ byte ∷ []) ++ 10 ∷ []) ≡ false
+no-block-end : (before : List ℕ) (byte : ℕ) → is_line_byte byte ≡ true → is_block ((before ++ byte ∷ []) ++ 10 ∷ [])
+    ≡ false
 no-block-end before byte line = no-block ((before ++ byte ∷ []) ++ 10 ∷ []) (λ end. by_cases end.1)
   where
-    by_cases : {rest : List ℕ} → (reverse ((before ++ byte ∷ []) ++ 10 ∷ []) ≡ 10 ∷ 10 ∷ rest) ⊎ (reverse ((before ++ byte ∷ []) ++ 10 ∷ []) ≡ 10 ∷ 13 ∷ 10 ∷ rest) → ⊥
-    by_cases {rest} (inl h) = let a = back-push before byte in let b = back-push (before ++ byte ∷ []) 10 in (is-line byte line).0 (cc)
-    by_cases {rest} (inr h) = let a = back-push before byte in let b = back-push (before ++ byte ∷ []) 10 in (is-line byte line).1 (cc)
+    by_cases : {rest : List ℕ} → (reverse ((before ++ byte ∷ []) ++ 10 ∷ []) ≡ 10 ∷ 10 ∷ rest)
+        ⊎ (reverse ((before ++ byte ∷ []) ++ 10 ∷ []) ≡ 10 ∷ 13 ∷ 10 ∷ rest) → ⊥
+    by_cases {rest} (inl h) = let a = back-push before byte in let b = back-push (before ++ byte ∷ []) 10 in
+        (is-line byte line).0 (cc)
+    by_cases {rest} (inr h) = let a = back-push before byte in let b = back-push (before ++ byte ∷ []) 10 in
+        (is-line byte line).1 (cc)
 
-no-block-crlf : (before : List ℕ) (byte : ℕ) → is_line_byte byte ≡ true → is_block (((before ++ byte ∷ []) ++ 13 ∷ []) ++ 10 ∷ []) ≡ false
+no-block-crlf : (before : List ℕ) (byte : ℕ) → is_line_byte byte ≡ true
+    → is_block (((before ++ byte ∷ []) ++ 13 ∷ []) ++ 10 ∷ []) ≡ false
 no-block-crlf before byte line = no-block (((before ++ byte ∷ []) ++ 13 ∷ []) ++ 10 ∷ []) (λ end. by_cases end.1)
   where
-    by_cases : {rest : List ℕ} → (reverse (((before ++ byte ∷ []) ++ 13 ∷ []) ++ 10 ∷ []) ≡ 10 ∷ 10 ∷ rest) ⊎ (reverse (((before ++ byte ∷ []) ++ 13 ∷ []) ++ 10 ∷ []) ≡ 10 ∷ 13 ∷ 10 ∷ rest) → ⊥
-    by_cases {rest} (inl h) = let a = back-push before byte in let b = back-push (before ++ byte ∷ []) 13 in let d = back-push ((before ++ byte ∷ []) ++ 13 ∷ []) 10 in differs 13 refl (cc)
-    by_cases {rest} (inr h) = let a = back-push before byte in let b = back-push (before ++ byte ∷ []) 13 in let d = back-push ((before ++ byte ∷ []) ++ 13 ∷ []) 10 in (is-line byte line).0 (cc)
+    by_cases : {rest : List ℕ} → (reverse (((before ++ byte ∷ []) ++ 13 ∷ []) ++ 10 ∷ []) ≡ 10 ∷ 10 ∷ rest)
+        ⊎ (reverse (((before ++ byte ∷ []) ++ 13 ∷ []) ++ 10 ∷ []) ≡ 10 ∷ 13 ∷ 10 ∷ rest) → ⊥
+    by_cases {rest} (inl h) = let a = back-push before byte in let b = back-push (before ++ byte ∷ []) 13 in let d =
+        back-push ((before ++ byte ∷ []) ++ 13 ∷ []) 10 in differs 13 refl (cc)
+    by_cases {rest} (inr h) = let a = back-push before byte in let b = back-push (before ++ byte ∷ []) 13 in let d =
+        back-push ((before ++ byte ∷ []) ++ 13 ∷ []) 10 in (is-line byte line).0 (cc)
 
 -- no block ends in a line end behind a byte of a line
-end-quiet : (before : List ℕ) (byte : ℕ) (end : LineEnd) → is_line_byte byte ≡ true → IsQuiet (before ++ byte ∷ []) (print_end end)
+end-quiet : (before : List ℕ) (byte : ℕ) (end : LineEnd) → is_line_byte byte ≡ true
+    → IsQuiet (before ++ byte ∷ []) (print_end end)
 end-quiet before byte lf line =
-    quiet-cons (before ++ byte ∷ []) 10 [] (no-block-line before byte line) (quiet-nil ((before ++ byte ∷ []) ++ 10 ∷ []) (no-block-end before byte line))
+    quiet-cons (before ++ byte ∷ []) 10 [] (no-block-line before byte line)
+        (quiet-nil ((before ++ byte ∷ []) ++ 10 ∷ []) (no-block-end before byte line))
 end-quiet before byte crlf line =
     quiet-cons (before ++ byte ∷ []) 13 (10 ∷ []) (no-block-line before byte line)
     (quiet-cons ((before ++ byte ∷ []) ++ 13 ∷ []) 10 [] (no-block-push (before ++ byte ∷ []) 13 (differs 13 refl))
@@ -54,7 +67,8 @@ pub record IsBehindLine (before text : List ℕ) : Type 0 where
   pub quiet : IsQuiet before text
   pub line : EndsLine (before ++ text)
 
-pub line-quiet : (before : List ℕ) (byte : ℕ) (text : List ℕ) (end : LineEnd) → is_block before ≡ false → is_line_byte byte ≡ true → IsLineText text → IsBehindLine before (byte ∷ (text ++ print_end end))
+pub line-quiet : (before : List ℕ) (byte : ℕ) (text : List ℕ) (end : LineEnd) → is_block before ≡ false
+    → is_line_byte byte ≡ true → IsLineText text → IsBehindLine before (byte ∷ (text ++ print_end end))
 line-quiet before byte [] end none line each = record {
   quiet = quiet-cons before byte (print_end end) none (end-quiet before byte end line);
   line = record { front = before; byte = byte; end = end; line = line; whole = refl };
@@ -69,8 +83,10 @@ line-quiet before byte (next ∷ text) end none line each =
 -- what ends in a line holds a byte of one
 pub ends_line-some : (text : List ℕ) → EndsLine text → list_any is_line_byte text ≡ true
 ends_line-some text end =
-    ap (λ (l : List ℕ). list_any is_line_byte l) end.whole ∙ list_any-append is_line_byte end.front (end.byte ∷ print_end end.end)
-    ∙ or-right (list_any is_line_byte end.front) (list_any is_line_byte (end.byte ∷ print_end end.end)) (ap (λ (b : Bool). b || list_any is_line_byte (print_end end.end)) end.line)
+    ap (λ (l : List ℕ). list_any is_line_byte l) end.whole
+        ∙ list_any-append is_line_byte end.front (end.byte ∷ print_end end.end)
+    ∙ or-right (list_any is_line_byte end.front) (list_any is_line_byte (end.byte ∷ print_end end.end))
+        (ap (λ (b : Bool). b || list_any is_line_byte (print_end end.end)) end.line)
 
 -- and is no block
 pub ends_line-none : (text : List ℕ) → EndsLine text → is_block text ≡ false
@@ -81,20 +97,31 @@ ends_line-none text end =
 -- ---- the empty line behind a line
 
 some : (front : List ℕ) (byte : ℕ) → is_line_byte byte ≡ true → list_any is_line_byte (front ++ byte ∷ []) ≡ true
-some front byte line = list_any-append is_line_byte front (byte ∷ []) ∙ or-right (list_any is_line_byte front) (list_any is_line_byte (byte ∷ [])) (ap (λ (b : Bool). b || false) line)
+some front byte line = list_any-append is_line_byte front (byte ∷ [])
+    ∙ or-right (list_any is_line_byte front) (list_any is_line_byte (byte ∷ [])) (ap (λ (b : Bool). b || false) line)
 
 some-2 : (front : List ℕ) (byte : ℕ) → is_line_byte byte ≡ true → list_any is_line_byte (front ++ byte ∷ 13 ∷ []) ≡ true
-some-2 front byte line = list_any-append is_line_byte front (byte ∷ 13 ∷ []) ∙ or-right (list_any is_line_byte front) (list_any is_line_byte (byte ∷ 13 ∷ [])) (ap (λ (b : Bool). b || false) line)
+some-2 front byte line = list_any-append is_line_byte front (byte ∷ 13 ∷ [])
+    ∙ or-right (list_any is_line_byte front) (list_any is_line_byte (byte ∷ 13 ∷ []))
+    (ap (λ (b : Bool). b || false) line)
 
-block-behind : (front : List ℕ) (byte : ℕ) (end last : LineEnd) → is_line_byte byte ≡ true → is_block ((front ++ byte ∷ print_end end) ++ print_end last) ≡ true
+block-behind : (front : List ℕ) (byte : ℕ) (end last : LineEnd) → is_line_byte byte ≡ true
+    → is_block ((front ++ byte ∷ print_end end) ++ print_end last) ≡ true
 block-behind front byte lf lf line =
-    ap is_block (append_assoc front (byte ∷ 10 ∷ []) (10 ∷ []) ∙ sym (append_assoc front (byte ∷ []) (10 ∷ 10 ∷ []))) ∙ is-block-lf (front ++ byte ∷ []) (some front byte line)
+    ap is_block (append_assoc front (byte ∷ 10 ∷ []) (10 ∷ []) ∙ sym (append_assoc front (byte ∷ []) (10 ∷ 10 ∷ [])))
+        ∙ is-block-lf (front ++ byte ∷ []) (some front byte line)
 block-behind front byte lf crlf line =
-    ap is_block (append_assoc front (byte ∷ 10 ∷ []) (13 ∷ 10 ∷ []) ∙ sym (append_assoc front (byte ∷ []) (10 ∷ 13 ∷ 10 ∷ []))) ∙ is-block-crlf (front ++ byte ∷ []) (some front byte line)
+    ap is_block (append_assoc front (byte ∷ 10 ∷ []) (13 ∷ 10 ∷ [])
+        ∙ sym (append_assoc front (byte ∷ []) (10 ∷ 13 ∷ 10 ∷ [])))
+        ∙ is-block-crlf (front ++ byte ∷ []) (some front byte line)
 block-behind front byte crlf lf line =
-    ap is_block (append_assoc front (byte ∷ 13 ∷ 10 ∷ []) (10 ∷ []) ∙ sym (append_assoc front (byte ∷ 13 ∷ []) (10 ∷ 10 ∷ []))) ∙ is-block-lf (front ++ byte ∷ 13 ∷ []) (some-2 front byte line)
+    ap is_block (append_assoc front (byte ∷ 13 ∷ 10 ∷ []) (10 ∷ [])
+        ∙ sym (append_assoc front (byte ∷ 13 ∷ []) (10 ∷ 10 ∷ [])))
+        ∙ is-block-lf (front ++ byte ∷ 13 ∷ []) (some-2 front byte line)
 block-behind front byte crlf crlf line =
-    ap is_block (append_assoc front (byte ∷ 13 ∷ 10 ∷ []) (13 ∷ 10 ∷ []) ∙ sym (append_assoc front (byte ∷ 13 ∷ []) (10 ∷ 13 ∷ 10 ∷ []))) ∙ is-block-crlf (front ++ byte ∷ 13 ∷ []) (some-2 front byte line)
+    ap is_block (append_assoc front (byte ∷ 13 ∷ 10 ∷ []) (13 ∷ 10 ∷ [])
+        ∙ sym (append_assoc front (byte ∷ 13 ∷ []) (10 ∷ 13 ∷ 10 ∷ [])))
+        ∙ is-block-crlf (front ++ byte ∷ 13 ∷ []) (some-2 front byte line)
 
 -- the front of an empty line, but for its LF
 abbrev short_end : LineEnd → List ℕ
@@ -103,20 +130,26 @@ short_end lf = []
 
 short-quiet : (text : List ℕ) (last : LineEnd) → is_block text ≡ false → IsQuiet text (short_end last)
 short-quiet text lf none = quiet-nil text none
-short-quiet text crlf none = quiet-cons text 13 [] none (quiet-nil (text ++ 13 ∷ []) (no-block-push text 13 (differs 13 refl)))
+short-quiet text crlf none =
+    quiet-cons text 13 [] none (quiet-nil (text ++ 13 ∷ []) (no-block-push text 13 (differs 13 refl)))
 
 end-is : (last : LineEnd) → print_end last ≡ short_end last ++ 10 ∷ []
 end-is lf = refl
 end-is crlf = refl
 
 -- a text in which no block ends, which ends in a line, and then an empty line are a shortest block
-pub shortest-behind : (text : List ℕ) (last : LineEnd) → IsQuiet [] text → EndsLine text → IsShortestBlock (text ++ print_end last)
+pub shortest-behind : (text : List ℕ) (last : LineEnd) → IsQuiet [] text → EndsLine text
+    → IsShortestBlock (text ++ print_end last)
 shortest-behind text last quiet end = record {
-  block = ap (λ (l : List ℕ). is_block (l ++ print_end last)) end.whole ∙ block-behind end.front end.byte end.end last end.line;
+  block = ap (λ (l : List ℕ). is_block (l ++ print_end last)) end.whole
+      ∙ block-behind end.front end.byte end.end last end.line;
   shortest = λ n before.
-      let whole : text ++ print_end last ≡ (text ++ short_end last) ++ 10 ∷ [] = ap (λ (l : List ℕ). text ++ l) (end-is last) ∙ sym (append_assoc text (short_end last) (10 ∷ [])) in
-      let all : IsQuiet [] (text ++ short_end last) = quiet-append [] text (short_end last) quiet (short-quiet text last (quiet-end [] text quiet)) in
+      let whole : text ++ print_end last ≡ (text ++ short_end last) ++ 10 ∷ [] =
+          ap (λ (l : List ℕ). text ++ l) (end-is last) ∙ sym (append_assoc text (short_end last) (10 ∷ [])) in
+      let all : IsQuiet [] (text ++ short_end last) =
+          quiet-append [] text (short_end last) quiet (short-quiet text last (quiet-end [] text quiet)) in
       ap (λ (l : List ℕ). is_block (take n l)) whole
-      ∙ ap is_block (take-append-le n (text ++ short_end last) (10 ∷ []) (omega (arith, before, ap length whole, length-append (text ++ short_end last) (10 ∷ []))))
+      ∙ ap is_block (take-append-le n (text ++ short_end last) (10
+          ∷ []) (omega (arith, before, ap length whole, length-append (text ++ short_end last) (10 ∷ []))))
       ∙ all n;
 }

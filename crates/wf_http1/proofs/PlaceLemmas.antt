@@ -1,14 +1,17 @@
 -- The places of a reader of chunks stay within their limits.
-use Rattle.std.proofs.Common.{arith, inl, inr, ◌≡◌, ◌≢◌, ◌≤◌, ◌<◌, ◌+◌, ◌*◌, ◌^◌, ◌==◌, ℕ, refl, Bool, true, false, nat_le, lit<, ◌||◌, if◌then◌else◌}
+use Rattle.std.proofs.Common.{arith, inl, inr, ◌≡◌, ◌≢◌, ◌≤◌, ◌<◌, ◌+◌, ◌*◌, ◌^◌, ◌==◌, ℕ, refl, Bool, true, false}
+use Rattle.std.proofs.Common.{nat_le, lit<, ◌||◌, if◌then◌else◌}
 use Rattle.std.proofs.lemmas.Bool.Decides.{eqb_tells, leb_tells, nat_tests}
 use Rattle.std.proofs.lemmas.Grind.{common_steps, pow_more}
 use Rattle.std.proofs.Math.Nat.{pow-le-pow_right}
 use Rattle.std.specs.Char.{digit_value, is_ascii_hexdigit}
 use Rattle.wf_http1.specs.declared.place.Place.{Place}
-use Rattle.wf_http1.specs.declared.place.Place.TheVariants.{Size, Blanks, Extension, LineEnd, Data, DataEnd, Trailers, Trailer, TrailerEnd, LastEnd}
+use Rattle.wf_http1.specs.declared.place.Place.TheVariants.{Size, Blanks, Extension, LineEnd, Data, DataEnd, Trailers}
+use Rattle.wf_http1.specs.declared.place.Place.TheVariants.{Trailer, TrailerEnd, LastEnd}
 use Rattle.wf_http1.specs.declared.place.Turn.{Turn}
 use Rattle.wf_http1.specs.declared.place.Turn.TheVariants.{To}
-use Rattle.wf_http1.specs.Places.{IsLive, turn, in_size, in_extension, behind_digits, behind_line, at_trailer, line_feed}
+use Rattle.wf_http1.specs.Places.{IsLive, turn, in_size, in_extension, behind_digits, behind_line, at_trailer}
+use Rattle.wf_http1.specs.Places.{line_feed}
 
 pub digit-most : (byte : ℕ) → is_ascii_hexdigit byte ≡ true → digit_value byte ≤ 15
 digit-most byte digit = grind (arith, common_steps)
@@ -20,7 +23,8 @@ size-fits digits value most fewer within =
     let power : 16 ^ digits ≤ 16 ^ 15 = pow-le-pow_right (lit< tt) below in
     omega (arith, within, power)
 
-size-live : (digits value byte : ℕ) → digits ≤ 16 → value < 16 ^ digits → is_ascii_hexdigit byte ≡ true → digits ≢ 16 → IsLive (Size (digits + 1) (value * 16 + digit_value byte))
+size-live : (digits value byte : ℕ) → digits ≤ 16 → value < 16 ^ digits → is_ascii_hexdigit byte ≡ true → digits ≢ 16
+    → IsLive (Size (digits + 1) (value * 16 + digit_value byte))
 size-live digits value byte most within digit fewer =
     let power : 16 ^ (digits + 1) ≡ 16 ^ digits * 16 = pow_more 16 digits in
     (omega (arith, most, fewer), omega (arith, within, power, digit-most byte digit))
@@ -31,27 +35,32 @@ IsTurnLive (To place) = IsLive place
 IsTurnLive _ = Unit {0}
 
 -- what holds of both sides of a choice holds of it
-pub choice : {A : Type 0} (P : A → Type 0) (test : Bool) (x y : A) → (test ≡ true → P x) → (test ≡ false → P y) → P (if test then x else y)
+pub choice : {A : Type 0} (P : A → Type 0) (test : Bool) (x y : A) → (test ≡ true → P x) → (test ≡ false → P y)
+    → P (if test then x else y)
 choice P true x y holds fails = holds refl
 choice P false x y holds fails = fails refl
 
 pub differs : (m n : ℕ) → (m == n) ≡ false → m ≢ n
-differs m n test = elim (eqb_tells m n) [ inl same ↦ absurd (grind (arith, nat_tests, test, same.0)) | inr other ↦ other.1 ]
+differs m n test = elim (eqb_tells m n) [ inl same ↦ absurd (grind (arith, nat_tests, test, same.0)) | inr other ↦
+    other.1 ]
 
 pub exceeds : (m n : ℕ) → nat_le m n ≡ false → n < m
-exceeds m n test = elim (leb_tells m n) [ inl less ↦ absurd (grind (arith, nat_tests, test, less.0)) | inr more ↦ more.1 ]
+exceeds m n test = elim (leb_tells m n) [ inl less ↦ absurd (grind (arith, nat_tests, test, less.0)) | inr more ↦
+    more.1 ]
 
 behind_digits-live : (size line byte : ℕ) → IsTurnLive (behind_digits size line byte)
 behind_digits-live size line byte =
     choice IsTurnLive (byte == 13) _ _ (λ _. tt) (λ _.
     choice IsTurnLive (nat_le 4094 line) _ _ (λ _. tt) (λ room.
     let within : line + 1 ≤ 4094 = omega (arith, exceeds 4094 line room) in
-    choice IsTurnLive (byte == 9 || byte == 32) _ _ (λ _. within) (λ _. choice IsTurnLive (byte == 59) _ _ (λ _. within) (λ _. tt))))
+    choice IsTurnLive (byte == 9 || byte == 32) _ _ (λ _. within)
+        (λ _. choice IsTurnLive (byte == 59) _ _ (λ _. within) (λ _. tt))))
 
 in_size-live : (digits value byte : ℕ) → IsLive (Size digits value) → IsTurnLive (in_size digits value byte)
 in_size-live digits value byte live =
     choice IsTurnLive (is_ascii_hexdigit byte) _ _
-    (λ digit. choice IsTurnLive (digits == 16) _ _ (λ _. tt) (λ fewer. size-live digits value byte live.0 live.1 digit (differs digits 16 fewer)))
+    (λ digit. choice IsTurnLive (digits == 16) _ _ (λ _. tt)
+        (λ fewer. size-live digits value byte live.0 live.1 digit (differs digits 16 fewer)))
     (λ _. choice IsTurnLive (digits == 0) _ _ (λ _. tt) (λ _. behind_digits-live value digits byte))
 
 in_extension-live : (size line byte : ℕ) → IsTurnLive (in_extension size line byte)

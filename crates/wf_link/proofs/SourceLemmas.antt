@@ -1,5 +1,6 @@
 -- What several reads come to.
-use Rattle.std.proofs.Common.{◌≡◌, ◌≤◌, ◌+◌, ◌-◌, ℕ, List, ◌++◌, length, take, drop, Option, Some, None, refl, ap, sym, ◌∙◌, append_assoc, arith, length-append}
+use Rattle.std.proofs.Common.{◌≡◌, ◌≤◌, ◌+◌, ◌-◌, ℕ, List, ◌++◌, length, take, drop, Option, Some, None, refl, ap}
+use Rattle.std.proofs.Common.{sym, ◌∙◌, append_assoc, arith, length-append}
 use Rattle.std.proofs.lemmas.List.{drop-drop, length-take-le, take-append-drop, take_at}
 use Rattle.wf_link.specs.Sources.{Gave, GaveAtMost, GaveJust}
 
@@ -17,13 +18,16 @@ gave-again (Some o) None c x y z p q e = absurd (no p.1)
   where
     no : None ≡ Some p.0 → ⊥
     no h = cc
-gave-again (Some o) (Some m) c x y z p q e = (q.0, q.1, p.2 ∙ ap (λ (l : List ℕ). x ++ l) (sym (same p.1) ∙ q.2) ∙ sym (append_assoc x y q.0) ∙ ap (λ (l : List ℕ). l ++ q.0) (sym e))
+gave-again (Some o) (Some m) c x y z p q e =
+    (q.0, q.1, p.2 ∙ ap (λ (l : List ℕ). x ++ l) (sym (same p.1) ∙ q.2) ∙ sym (append_assoc x y q.0)
+    ∙ ap (λ (l : List ℕ). l ++ q.0) (sym e))
   where
     same : {m n : List ℕ} → Some m ≡ Some n → m ≡ n
     same h = cc
 
 -- a read of all the bytes that the limit lacks, and one more
-pub gave-just : (a b c : Option (List ℕ)) (x y : List ℕ) (most : ℕ) → Gave a b x → length x ≤ most → Gave b c y → length y ≡ most + 1 - length x → GaveJust a c (most + 1)
+pub gave-just : (a b c : Option (List ℕ)) (x y : List ℕ) (most : ℕ) → Gave a b x → length x ≤ most → Gave b c y
+    → length y ≡ most + 1 - length x → GaveJust a c (most + 1)
 gave-just a b c x y most before within more count = record {
   given = x ++ y;
   gave = gave-again a b c x y (x ++ y) before more refl;
@@ -31,7 +35,8 @@ gave-just a b c x y most before within more count = record {
 }
 
 -- a read of fewer
-pub gave-at_most : (a b c : Option (List ℕ)) (x y : List ℕ) (most : ℕ) → Gave a b x → Gave b c y → length x + length y ≤ most → GaveAtMost a c most
+pub gave-at_most : (a b c : Option (List ℕ)) (x y : List ℕ) (most : ℕ) → Gave a b x → Gave b c y
+    → length x + length y ≤ most → GaveAtMost a c most
 gave-at_most a b c x y most before more within = record {
   given = x ++ y;
   gave = gave-again a b c x y (x ++ y) before more refl;
@@ -39,7 +44,9 @@ gave-at_most a b c x y most before more within = record {
 }
 
 -- the bytes at the front of a buffer, and those after them, are what was left
-pub gave-front : (at n : ℕ) (text left rest front more : List ℕ) → drop at text ≡ left → rest ≡ drop at text → n ≤ length rest → front ≡ take n rest → left ≡ take n (front ++ more) ++ drop (at + n) text
+pub gave-front : (at n : ℕ) (text left rest front more : List ℕ) → drop at text ≡ left → rest ≡ drop at text
+    → n ≤ length rest → front ≡ take n rest → left ≡ take n (front ++ more) ++ drop (at + n) text
 gave-front at n text left rest front more e whole within same =
     let long : length front ≡ n = ap length same ∙ length-take-le n rest within in
-    sym e ∙ sym whole ∙ rw (take_at front more n long, same, ← drop-drop n at text, ← whole) (sym (take-append-drop n rest))
+    sym e ∙ sym whole ∙ rw (take_at front more n long, same, ← drop-drop n at text,
+        ← whole) (sym (take-append-drop n rest))

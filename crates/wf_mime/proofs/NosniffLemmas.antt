@@ -1,5 +1,7 @@
 -- The first split value is `nosniff` exactly where the text before the first comma is.
-use Rattle.std.proofs.Common.{◌≡◌, ◌⊎◌, inl, inr, ◌==◌, ◌+◌, ◌||◌, ℕ, zero, suc, Bool, true, false, cond, not, List, [], ◌∷◌, ◌++◌, map, reverse, length, take, drop, slice_get, refl, ap, sym, subst, ◌∙◌, arith, codes, Option, Some, None, option_map, if◌then◌else◌, one-add}
+use Rattle.std.proofs.Common.{◌≡◌, ◌⊎◌, inl, inr, ◌==◌, ◌+◌, ◌||◌, ℕ, zero, suc, Bool, true, false, cond, not, List}
+use Rattle.std.proofs.Common.{[], ◌∷◌, ◌++◌, map, reverse, length, take, drop, slice_get, refl, ap, sym, subst, ◌∙◌}
+use Rattle.std.proofs.Common.{arith, codes, Option, Some, None, option_map, if◌then◌else◌, one-add}
 use Rattle.std.proofs.lemmas.List.Sorted.{IsPermutation-reverse, list_any-IsPermutation}
 use Rattle.std.proofs.lemmas.Bool.Decides.{eqb_tells, nat_tests}
 use Rattle.std.specs.Char.{to_ascii_lowercase}
@@ -18,7 +20,8 @@ until_comma text = before_first (λ byte. byte == 44) text
 until_comma-comma : (byte : ℕ) (text : List ℕ) → (byte == 44) ≡ true → until_comma (byte ∷ text) ≡ []
 until_comma-comma byte text comma = rw comma refl
 
-until_comma-other : (byte : ℕ) (text : List ℕ) → (byte == 44) ≡ false → until_comma (byte ∷ text) ≡ byte ∷ until_comma text
+until_comma-other : (byte : ℕ) (text : List ℕ) → (byte == 44) ≡ false → until_comma (byte ∷ text) ≡ byte
+    ∷ until_comma text
 until_comma-other byte text other = rw (other, one-add) refl
 
 -- a quote stands in the text
@@ -36,7 +39,8 @@ reverse-quote text = sym (list_any-IsPermutation (λ byte. byte == 34) text (rev
 trimmed-quote : (text : List ℕ) → has_quote (trimmed tab_or_space text) ≡ has_quote text
 trimmed-quote text =
     let start : List ℕ = trimmed_start tab_or_space text in
-    reverse-quote (trimmed_start tab_or_space (reverse start)) ∙ trimmed_start-quote (reverse start) ∙ reverse-quote start ∙ trimmed_start-quote text
+    reverse-quote (trimmed_start tab_or_space (reverse start)) ∙ trimmed_start-quote (reverse start)
+        ∙ reverse-quote start ∙ trimmed_start-quote text
 
 lowercase-quote : (byte : ℕ) → (to_ascii_lowercase byte == 34) ≡ (byte == 34)
 lowercase-quote byte = grind (arith, nat_tests)
@@ -58,24 +62,28 @@ is_nosniff text = str_eq_ignore_ascii_case (trimmed tab_or_space text) (codes "n
 
 quote-not_nosniff : (text : List ℕ) → has_quote text ≡ true → is_nosniff text ≡ false
 quote-not_nosniff text quote =
-    quote-differs (str_to_ascii_lowercase (trimmed tab_or_space text)) (codes "nosniff") (lower-quote (trimmed tab_or_space text) ∙ trimmed-quote text ∙ quote) refl
+    quote-differs (str_to_ascii_lowercase (trimmed tab_or_space text)) (codes "nosniff")
+        (lower-quote (trimmed tab_or_space text) ∙ trimmed-quote text ∙ quote) refl
 
 -- the first piece of a text
 abbrev first_piece : List (List ℕ) → List ℕ
 first_piece [] = []
 first_piece (piece ∷ pieces) = piece
 
-first_piece-with_front : (byte : ℕ) (parts : List (List ℕ)) → first_piece (with_front byte parts) ≡ byte ∷ first_piece parts
+first_piece-with_front : (byte : ℕ) (parts : List (List ℕ)) → first_piece (with_front byte parts) ≡ byte
+    ∷ first_piece parts
 first_piece-with_front byte [] = refl
 first_piece-with_front byte (piece ∷ parts) = refl
 
 first_piece-comma : (byte : ℕ) (text : List ℕ) → (byte == 44) ≡ true → first_piece (pieces (byte ∷ text)) ≡ []
 first_piece-comma byte text comma = rw comma refl
 
-first_piece-quote : (byte : ℕ) (text : List ℕ) → (byte == 44) ≡ false → (byte == 34) ≡ true → first_piece (pieces (byte ∷ text)) ≡ byte ∷ first_piece (in_quoted_string text)
+first_piece-quote : (byte : ℕ) (text : List ℕ) → (byte == 44) ≡ false → (byte == 34) ≡ true
+    → first_piece (pieces (byte ∷ text)) ≡ byte ∷ first_piece (in_quoted_string text)
 first_piece-quote byte text other quote = rw (other, quote) (first_piece-with_front byte (in_quoted_string text))
 
-first_piece-other : (byte : ℕ) (text : List ℕ) → (byte == 44) ≡ false → (byte == 34) ≡ false → first_piece (pieces (byte ∷ text)) ≡ byte ∷ first_piece (pieces text)
+first_piece-other : (byte : ℕ) (text : List ℕ) → (byte == 44) ≡ false → (byte == 34) ≡ false
+    → first_piece (pieces (byte ∷ text)) ≡ byte ∷ first_piece (pieces text)
 first_piece-other byte text other plain = rw (other, plain) (first_piece-with_front byte (pieces text))
 
 has_quote-quote : (byte : ℕ) (text : List ℕ) → (byte == 34) ≡ true → has_quote (byte ∷ text) ≡ true
@@ -86,22 +94,27 @@ has_quote-other byte text other = rw other refl
 
 -- the first piece is the text before the first comma, or a quote stands in both
 abbrev IsFirst : List ℕ → Type 0
-IsFirst text = (first_piece (pieces text) ≡ until_comma text) ⊎ ((has_quote (first_piece (pieces text)) ≡ true) × (has_quote (until_comma text) ≡ true))
+IsFirst text = (first_piece (pieces text) ≡ until_comma text)
+    ⊎ ((has_quote (first_piece (pieces text)) ≡ true) × (has_quote (until_comma text) ≡ true))
 
 IsFirst-quote : (byte : ℕ) (text : List ℕ) → (byte == 44) ≡ false → (byte == 34) ≡ true → IsFirst (byte ∷ text)
 IsFirst-quote byte text other quote =
     inr (
-      ap (λ l. has_quote l) (first_piece-quote byte text other quote) ∙ has_quote-quote byte (first_piece (in_quoted_string text)) quote,
+      ap (λ l. has_quote l) (first_piece-quote byte text other quote)
+          ∙ has_quote-quote byte (first_piece (in_quoted_string text)) quote,
       ap (λ l. has_quote l) (until_comma-other byte text other) ∙ has_quote-quote byte (until_comma text) quote,
     )
 
-IsFirst-other : (byte : ℕ) (text : List ℕ) → (byte == 44) ≡ false → (byte == 34) ≡ false → IsFirst text → IsFirst (byte ∷ text)
+IsFirst-other : (byte : ℕ) (text : List ℕ) → (byte == 44) ≡ false → (byte == 34) ≡ false → IsFirst text
+    → IsFirst (byte ∷ text)
 IsFirst-other byte text other plain (inl same) =
     inl (first_piece-other byte text other plain ∙ ap (λ l. byte ∷ l) same ∙ sym (until_comma-other byte text other))
 IsFirst-other byte text other plain (inr quotes) =
     inr (
-      ap (λ l. has_quote l) (first_piece-other byte text other plain) ∙ has_quote-other byte (first_piece (pieces text)) plain ∙ quotes.0,
-      ap (λ l. has_quote l) (until_comma-other byte text other) ∙ has_quote-other byte (until_comma text) plain ∙ quotes.1,
+      ap (λ l. has_quote l) (first_piece-other byte text other plain)
+          ∙ has_quote-other byte (first_piece (pieces text)) plain ∙ quotes.0,
+      ap (λ l. has_quote l) (until_comma-other byte text other) ∙ has_quote-other byte (until_comma text) plain
+          ∙ quotes.1,
     )
 
 first_piece-is : (text : List ℕ) → IsFirst text
@@ -116,52 +129,70 @@ first_piece-is (byte ∷ text) =
           ]
     ]
 
-same-is_nosniff : (text : List ℕ) → IsFirst text → is_nosniff (first_piece (pieces text)) ≡ is_nosniff (until_comma text)
+same-is_nosniff : (text : List ℕ) → IsFirst text → is_nosniff (first_piece (pieces text))
+    ≡ is_nosniff (until_comma text)
 same-is_nosniff text (inl same) = ap (λ l. is_nosniff l) same
 same-is_nosniff text (inr quotes) =
     quote-not_nosniff (first_piece (pieces text)) quotes.0 ∙ sym (quote-not_nosniff (until_comma text) quotes.1)
 
-begins-first_piece : (parts : List (List ℕ)) → begins_with_nosniff (Some (map (trimmed tab_or_space) parts)) ≡ is_nosniff (first_piece parts)
+begins-first_piece : (parts : List (List ℕ)) → begins_with_nosniff (Some (map (trimmed tab_or_space) parts))
+    ≡ is_nosniff (first_piece parts)
 begins-first_piece [] = refl
 begins-first_piece (piece ∷ parts) = refl
 
 -- a comma stands before what is joined to a value
-until_comma-append : (value : List ℕ) (values : List (List ℕ)) → until_comma (value ++ after_comma values) ≡ until_comma value
+until_comma-append : (value : List ℕ) (values : List (List ℕ)) → until_comma (value ++ after_comma values)
+    ≡ until_comma value
 until_comma-append [] [] = refl
 until_comma-append [] (next ∷ values) = refl
 until_comma-append (byte ∷ value) values =
     elim (eqb_tells byte 44) [
-      | inl comma ↦ until_comma-comma byte (value ++ after_comma values) comma.0 ∙ sym (until_comma-comma byte value comma.0)
-      | inr other ↦ until_comma-other byte (value ++ after_comma values) other.0 ∙ ap (λ l. byte ∷ l) (until_comma-append value values) ∙ sym (until_comma-other byte value other.0)
+      | inl comma ↦ until_comma-comma byte (value ++ after_comma values) comma.0
+          ∙ sym (until_comma-comma byte value comma.0)
+      | inr other ↦ until_comma-other byte (value ++ after_comma values) other.0
+          ∙ ap (λ l. byte ∷ l) (until_comma-append value values) ∙ sym (until_comma-other byte value other.0)
     ]
 
 -- the first of the split values is looked at in the first value alone
-begins_with_nosniff-first : (value : List ℕ) (values : List (List ℕ)) → begins_with_nosniff (Some (split (value ++ after_comma values))) ≡ is_nosniff (until_comma value)
+begins_with_nosniff-first : (value : List ℕ) (values : List (List ℕ))
+    → begins_with_nosniff (Some (split (value ++ after_comma values))) ≡ is_nosniff (until_comma value)
 begins_with_nosniff-first value values =
     let text : List ℕ = value ++ after_comma values in
-    begins-first_piece (pieces text) ∙ same-is_nosniff text (first_piece-is text) ∙ ap (λ l. is_nosniff l) (until_comma-append value values)
+    begins-first_piece (pieces text) ∙ same-is_nosniff text (first_piece-is text)
+        ∙ ap (λ l. is_nosniff l) (until_comma-append value values)
 
 -- a header of another name says nothing
-nosniff-other : (header : Header) (headers : List Header) → is_named (codes "X-Content-Type-Options") header ≡ false → nosniff (header ∷ headers) ≡ nosniff headers
+nosniff-other : (header : Header) (headers : List Header) → is_named (codes "X-Content-Type-Options") header ≡ false
+    → nosniff (header ∷ headers) ≡ nosniff headers
 nosniff-other header headers other = rw other refl
 
 -- the first header of the name says it
-nosniff-named : (header : Header) (headers : List Header) → is_named (codes "X-Content-Type-Options") header ≡ true → nosniff (header ∷ headers) ≡ is_nosniff (until_comma header.value)
-nosniff-named header headers named = rw named (begins_with_nosniff-first header.value (values_of (codes "X-Content-Type-Options") headers))
+nosniff-named : (header : Header) (headers : List Header) → is_named (codes "X-Content-Type-Options") header ≡ true
+    → nosniff (header ∷ headers) ≡ is_nosniff (until_comma header.value)
+nosniff-named header headers named =
+    rw named (begins_with_nosniff-first header.value (values_of (codes "X-Content-Type-Options") headers))
 
 -- the same of the header at an index
-pub nosniff-skipped : (headers : List Header) (index : ℕ) (name : List ℕ) → option_map (λ header. header.name) (slice_get headers index) ≡ Some name → str_eq_ignore_ascii_case name (codes "X-Content-Type-Options") ≡ false → nosniff (drop index headers) ≡ nosniff (drop (suc index) headers)
+pub nosniff-skipped : (headers : List Header) (index : ℕ) (name : List ℕ)
+    → option_map (λ header. header.name) (slice_get headers index) ≡ Some name
+    → str_eq_ignore_ascii_case name (codes "X-Content-Type-Options") ≡ false → nosniff (drop index headers)
+    ≡ nosniff (drop (suc index) headers)
 nosniff-skipped [] index name here other = absurd (cc)
 nosniff-skipped (header ∷ headers) zero name here other =
     let same : header.name ≡ name = cc in
     nosniff-other header headers (ap (λ n. str_eq_ignore_ascii_case n (codes "X-Content-Type-Options")) same ∙ other)
 nosniff-skipped (header ∷ headers) (suc index) name here other = nosniff-skipped headers index name here other
 
-pub nosniff-found : (headers : List Header) (index : ℕ) (name value : List ℕ) → option_map (λ header. header.name) (slice_get headers index) ≡ Some name → option_map (λ header. header.value) (slice_get headers index) ≡ Some value → str_eq_ignore_ascii_case name (codes "X-Content-Type-Options") ≡ true → nosniff (drop index headers) ≡ is_nosniff (until_comma value)
+pub nosniff-found : (headers : List Header) (index : ℕ) (name value : List ℕ)
+    → option_map (λ header. header.name) (slice_get headers index) ≡ Some name
+    → option_map (λ header. header.value) (slice_get headers index) ≡ Some value
+    → str_eq_ignore_ascii_case name (codes "X-Content-Type-Options") ≡ true → nosniff (drop index headers)
+    ≡ is_nosniff (until_comma value)
 nosniff-found [] index name value here there named = absurd (cc)
 nosniff-found (header ∷ headers) zero name value here there named =
     let same : header.name ≡ name = cc in
     let same_value : header.value ≡ value = cc in
     nosniff-named header headers (ap (λ n. str_eq_ignore_ascii_case n (codes "X-Content-Type-Options")) same ∙ named)
     ∙ ap (λ v. is_nosniff (until_comma v)) same_value
-nosniff-found (header ∷ headers) (suc index) name value here there named = nosniff-found headers index name value here there named
+nosniff-found (header ∷ headers) (suc index) name value here there named =
+    nosniff-found headers index name value here there named

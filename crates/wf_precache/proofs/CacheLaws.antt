@@ -1,5 +1,6 @@
 -- Every cache is sorted by its keys, and bounded for each.
-use Rattle.std.proofs.Common.{arith, ◌≡◌, ◌≤◌, ◌-◌, ◌++◌, ◌∷◌, [], ℕ, List, Bool, true, false, cond, not, ◌&&◌, length, map, filter, refl, sym, ap, ◌∙◌}
+use Rattle.std.proofs.Common.{arith, ◌≡◌, ◌≤◌, ◌-◌, ◌++◌, ◌∷◌, [], ℕ, List, Bool, true, false, cond, not, ◌&&◌}
+use Rattle.std.proofs.Common.{length, map, filter, refl, sym, ap, ◌∙◌}
 use mathlib.Core.Bool.{true≢false}
 use Rattle.std.specs.declared.cmp.Ordering.{Ordering}
 use Rattle.std.specs.declared.cmp.Ordering.TheVariants.{Less, Equal, Greater}
@@ -27,42 +28,55 @@ kept-most test xs = omega (arith, length-filter_both test (λ x. not (test x)) (
 newest-most : (entries : List CacheEntry) → length (newest entries) ≤ 64
 newest-most entries = omega (arith, length-drop (length entries - 64) entries)
 
-item-most : (lesson : Lesson) (now : ℕ) (entries : List CacheEntry) (item : Allowed) → length entries ≤ 64 → length (with_item lesson now entries item) ≤ 64
+item-most : (lesson : Lesson) (now : ℕ) (entries : List CacheEntry) (item : Allowed) → length entries ≤ 64
+    → length (with_item lesson now entries item) ≤ 64
 item-most lesson now entries item most = by (list_any (is_known lesson now item) entries)
   where
-    by : (known : Bool) → length (cond known (map (renewed lesson now item) entries) (newest (entries ++ created lesson now item ∷ []))) ≤ 64
+    by : (known : Bool)
+        → length (cond known (map (renewed lesson now item) entries)
+        (newest (entries ++ created lesson now item ∷ []))) ≤ 64
     by true = omega (arith, length-map entries (renewed lesson now item), most)
     by false = newest-most (entries ++ created lesson now item ∷ [])
 
-items-most : (lesson : Lesson) (now : ℕ) (items : List Allowed) (entries : List CacheEntry) → length entries ≤ 64 → length (fold (with_item lesson now) entries items) ≤ 64
+items-most : (lesson : Lesson) (now : ℕ) (items : List Allowed) (entries : List CacheEntry) → length entries ≤ 64
+    → length (fold (with_item lesson now) entries items) ≤ 64
 items-most lesson now [] entries most = most
-items-most lesson now (item ∷ items) entries most = items-most lesson now items (with_item lesson now entries item) (item-most lesson now entries item most)
+items-most lesson now (item ∷ items) entries most =
+    items-most lesson now items (with_item lesson now entries item) (item-most lesson now entries item most)
 
-taught-most : (lesson : Lesson) (now : ℕ) (entries : List CacheEntry) → length entries ≤ 64 → length (taught lesson now entries) ≤ 64
-taught-most lesson now entries most = items-most lesson now (methods_of lesson ++ names_of lesson) (filter (is_alive now) entries) (omega (arith, kept-most (is_alive now) entries, most))
+taught-most : (lesson : Lesson) (now : ℕ) (entries : List CacheEntry) → length entries ≤ 64
+    → length (taught lesson now entries) ≤ 64
+taught-most lesson now entries most =
+    items-most lesson now (methods_of lesson ++ names_of lesson) (filter (is_alive now) entries)
+    (omega (arith, kept-most (is_alive now) entries, most))
 
 either : (b : Bool) (xs ys : List CacheEntry) → length xs ≤ 64 → length ys ≤ 64 → length (cond b xs ys) ≤ 64
 either true xs ys x y = x
 either false xs ys x y = y
 
 -- ---- the order
-all-passing : {X : Type 0} (P : X → Type 0) (test : X → Bool) → ((x : X) → test x ≡ true → P x) → (xs : List X) → AllByRecursion P (filter test xs)
+all-passing : {X : Type 0} (P : X → Type 0) (test : X → Bool) → ((x : X) → test x ≡ true → P x) → (xs : List X)
+    → AllByRecursion P (filter test xs)
 all-passing P test step [] = tt
 all-passing P test step (x ∷ xs) = by (test x) refl (all-passing P test step xs)
   where
-    by : (b : Bool) → test x ≡ b → AllByRecursion P (filter test xs) → AllByRecursion P (cond b (x ∷ filter test xs) (filter test xs))
+    by : (b : Bool) → test x ≡ b → AllByRecursion P (filter test xs)
+        → AllByRecursion P (cond b (x ∷ filter test xs) (filter test xs))
     by true is rest = (step x is, rest)
     by false is rest = rest
 
-all-kept : {X : Type 0} (P : X → Type 0) (test : X → Bool) (xs : List X) → AllByRecursion P xs → AllByRecursion P (filter test xs)
+all-kept : {X : Type 0} (P : X → Type 0) (test : X → Bool) (xs : List X) → AllByRecursion P xs
+    → AllByRecursion P (filter test xs)
 all-kept P test [] all = tt
 all-kept P test (x ∷ xs) all = by (test x) (all-kept P test xs all.1)
   where
-    by : (b : Bool) → AllByRecursion P (filter test xs) → AllByRecursion P (cond b (x ∷ filter test xs) (filter test xs))
+    by : (b : Bool) → AllByRecursion P (filter test xs)
+        → AllByRecursion P (cond b (x ∷ filter test xs) (filter test xs))
     by true rest = (all.0, rest)
     by false rest = rest
 
-all-append : {X : Type 0} (P : X → Type 0) (xs ys : List X) → AllByRecursion P xs → AllByRecursion P ys → AllByRecursion P (xs ++ ys)
+all-append : {X : Type 0} (P : X → Type 0) (xs ys : List X) → AllByRecursion P xs → AllByRecursion P ys
+    → AllByRecursion P (xs ++ ys)
 all-append P [] ys xs_all ys_all = ys_all
 all-append P (x ∷ xs) ys xs_all ys_all = (xs_all.0, all-append P xs ys xs_all.1 ys_all)
 
@@ -75,10 +89,12 @@ sorted-kept test (k ∷ ks) sorted = by (test k) (sorted-kept test ks sorted.1)
     by false rest = rest
 
 -- all of one list stand where none of the other stands before them
-sorted-append : (xs ys : List Keyed) → AreSorted xs → AreSorted ys → AllByRecursion (λ x. AllByRecursion (λ y. stands_before y.key x.key ≡ false) ys) xs → AreSorted (xs ++ ys)
+sorted-append : (xs ys : List Keyed) → AreSorted xs → AreSorted ys
+    → AllByRecursion (λ x. AllByRecursion (λ y. stands_before y.key x.key ≡ false) ys) xs → AreSorted (xs ++ ys)
 sorted-append [] ys xs_sorted ys_sorted apart = ys_sorted
 sorted-append (x ∷ xs) ys xs_sorted ys_sorted apart =
-    (all-append (λ y. stands_before y.key x.key ≡ false) xs ys xs_sorted.0 apart.0, sorted-append xs ys xs_sorted.1 ys_sorted apart.1)
+    (all-append (λ y. stands_before y.key x.key ≡ false) xs ys xs_sorted.0 apart.0,
+        sorted-append xs ys xs_sorted.1 ys_sorted apart.1)
 
 less-is : (o : Ordering) → is_lt o ≡ true → o ≡ Less
 less-is Less is = refl
@@ -96,43 +112,62 @@ own-sorted : (key : List ℕ) (entries : List CacheEntry) → AreSorted (map (ke
 own-sorted key [] = tt
 own-sorted key (e ∷ es) = (own-at es, own-sorted key es)
   where
-    own-at : (es : List CacheEntry) → AllByRecursion (λ (other : Keyed). stands_before other.key key ≡ false) (map (keyed key) es)
+    own-at : (es : List CacheEntry)
+        → AllByRecursion (λ (other : Keyed). stands_before other.key key ≡ false) (map (keyed key) es)
     own-at [] = tt
     own-at (e ∷ es) = (not-itself key, own-at es)
 
 module _ (key : List ℕ) (entries : List CacheEntry) (cache : List Keyed) where
   -- the key's own entries, and those of the keys behind it
-  own-apart : (x : List ℕ) → stands_before key x ≡ false → (es : List CacheEntry) → AllByRecursion (λ (y : Keyed). stands_before y.key x ≡ false) (map (keyed key) es)
+  own-apart : (x : List ℕ) → stands_before key x ≡ false → (es : List CacheEntry)
+      → AllByRecursion (λ (y : Keyed). stands_before y.key x ≡ false) (map (keyed key) es)
   own-apart x is [] = tt
   own-apart x is (e ∷ es) = (is, own-apart x is es)
 
-  behind-apart : (x : List ℕ) → slice_cmp nat_cmp x key ≡ Less → AllByRecursion (λ (y : Keyed). stands_before y.key x ≡ false) (behind key cache)
-  behind-apart x less = all-passing (λ (y : Keyed). stands_before y.key x ≡ false) (λ k. stands_before key k.key) (λ y is. not-back x y.key (nat_list_cmp_total.trans x key y.key less (less-is _ is))) cache
+  behind-apart : (x : List ℕ) → slice_cmp nat_cmp x key ≡ Less
+      → AllByRecursion (λ (y : Keyed). stands_before y.key x ≡ false) (behind key cache)
+  behind-apart x less = all-passing (λ (y : Keyed). stands_before y.key x
+      ≡ false) (λ k. stands_before key k.key)
+      (λ y is. not-back x y.key (nat_list_cmp_total.trans x key y.key less (less-is _ is))) cache
 
   behind-own : AllByRecursion (λ (y : Keyed). stands_before y.key key ≡ false) (behind key cache)
-  behind-own = all-passing (λ (y : Keyed). stands_before y.key key ≡ false) (λ k. stands_before key k.key) (λ y is. not-back key y.key (less-is _ is)) cache
+  behind-own = all-passing (λ (y : Keyed). stands_before y.key key
+      ≡ false) (λ k. stands_before key k.key) (λ y is. not-back key y.key (less-is _ is)) cache
 
-  own-behind : (es : List CacheEntry) → AllByRecursion (λ (x : Keyed). AllByRecursion (λ (y : Keyed). stands_before y.key x.key ≡ false) (behind key cache)) (map (keyed key) es)
+  own-behind : (es : List CacheEntry)
+      → AllByRecursion (λ (x : Keyed). AllByRecursion (λ (y : Keyed). stands_before y.key x.key
+      ≡ false) (behind key cache)) (map (keyed key) es)
   own-behind [] = tt
   own-behind (e ∷ es) = (behind-own, own-behind es)
 
   with-sorted : AreSorted cache → AreSorted (with_entries key entries cache)
   with-sorted sorted =
-      sorted-append (before key cache) (map (keyed key) entries ++ behind key cache) (sorted-kept (λ k. stands_before k.key key) cache sorted)
-      (sorted-append (map (keyed key) entries) (behind key cache) (own-sorted key entries) (sorted-kept (λ k. stands_before key k.key) cache sorted) (own-behind entries))
-      (all-passing (λ (x : Keyed). AllByRecursion (λ (y : Keyed). stands_before y.key x.key ≡ false) (map (keyed key) entries ++ behind key cache)) (λ k. stands_before k.key key)
-      (λ x is. let less = less-is _ is in all-append (λ (y : Keyed). stands_before y.key x.key ≡ false) (map (keyed key) entries) (behind key cache) (own-apart x.key (not-back x.key key less) entries) (behind-apart x.key less)) cache)
+      sorted-append (before key cache) (map (keyed key) entries
+          ++ behind key cache) (sorted-kept (λ k. stands_before k.key key) cache sorted)
+      (sorted-append (map (keyed key) entries) (behind key cache) (own-sorted key entries)
+          (sorted-kept (λ k. stands_before key k.key) cache sorted) (own-behind entries))
+      (all-passing (λ (x : Keyed). AllByRecursion (λ (y : Keyed). stands_before y.key x.key
+          ≡ false) (map (keyed key) entries ++ behind key cache)) (λ k. stands_before k.key key)
+      (λ x is. let less = less-is _ is in
+          all-append (λ (y : Keyed). stands_before y.key x.key ≡ false) (map (keyed key) entries) (behind key cache)
+          (own-apart x.key (not-back x.key key less) entries) (behind-apart x.key less)) cache)
 
-learned-bounded : (lesson : Lesson) (now : ℕ) (cache : List Keyed) → ((key : List ℕ) → length (entries_of key cache) ≤ 64) → (key : List ℕ) → length (entries_of key (learned lesson now cache)) ≤ 64
+learned-bounded : (lesson : Lesson) (now : ℕ) (cache : List Keyed)
+    → ((key : List ℕ) → length (entries_of key cache) ≤ 64) → (key : List ℕ)
+    → length (entries_of key (learned lesson now cache)) ≤ 64
 learned-bounded lesson now cache most key =
     let is = entries_of-learned key lesson now cache in
-    rw is (either (bytes_eq lesson.key key) (taught lesson now (entries_of lesson.key cache)) (entries_of key cache) (taught-most lesson now (entries_of lesson.key cache) (most lesson.key)) (most key))
+    rw is (either (bytes_eq lesson.key key) (taught lesson now (entries_of lesson.key cache)) (entries_of key cache)
+        (taught-most lesson now (entries_of lesson.key cache) (most lesson.key)) (most key))
 
-cleared-bounded : (other origin url : List ℕ) (cache : List Keyed) → ((key : List ℕ) → length (entries_of key cache) ≤ 64) → (key : List ℕ) → length (entries_of key (cleared other origin url cache)) ≤ 64
+cleared-bounded : (other origin url : List ℕ) (cache : List Keyed)
+    → ((key : List ℕ) → length (entries_of key cache) ≤ 64) → (key : List ℕ)
+    → length (entries_of key (cleared other origin url cache)) ≤ 64
 cleared-bounded other origin url cache most key =
     let is = entries_of-cleared key origin url other cache in
     let left : List CacheEntry = filter (λ entry. not (is_of origin url entry)) (entries_of key cache) in
-    rw is (either (bytes_eq other key) left (entries_of key cache) (omega (arith, kept-most (λ entry. not (is_of origin url entry)) (entries_of key cache), most key)) (most key))
+    rw is (either (bytes_eq other key) left (entries_of key cache)
+        (omega (arith, kept-most (λ entry. not (is_of origin url entry)) (entries_of key cache), most key)) (most key))
 
 pub changes-keep-caches : ChangesKeepCaches
 changes-keep-caches = record {

@@ -77,9 +77,11 @@ computes-lessons = (refl, refl, refl)
 
 -- entries stand in the order of their keys, and clearing takes out those of a key, an origin and a URL
 abbrev beside : List Keyed → List Keyed
-beside own = entry (codes "a") false 0 9 (Method (codes "PUT")) ∷ (own ++ entry (codes "kk") false 0 9 (Method (codes "PUT")) ∷ [])
+beside own = entry (codes "a") false 0 9 (Method (codes "PUT"))
+    ∷ (own ++ entry (codes "kk") false 0 9 (Method (codes "PUT")) ∷ [])
 
-pub computes-keys : (learned (lesson false 5 (one (codes "PUT")) []) 0 (beside []) ≡ beside (entry (codes "k") false 0 5 (Method (codes "PUT")) ∷ []))
+pub computes-keys : (learned (lesson false 5 (one (codes "PUT")) []) 0 (beside [])
+    ≡ beside (entry (codes "k") false 0 5 (Method (codes "PUT")) ∷ []))
     × (cleared (codes "k") (codes "o") (codes "u") (beside put) ≡ beside [])
     × (cleared (codes "k") (codes "o") (codes "v") (beside put) ≡ beside put)
 computes-keys = (refl, refl, refl)

@@ -10,13 +10,21 @@ use Rattle.wf_precache.proofs.ListLemmas.{unmapped}
 
 module _ (lesson : Lesson) (now : ℕ) (item : Allowed) (old new : List CacheEntry) where
   -- where no entry is known, the renewed entries with the new one behind are those of the definition
-  created-last : list_any (is_known lesson now item) old ≡ false → new ≡ newest (map (renewed lesson now item) old ++ created lesson now item ∷ []) → new ≡ with_item lesson now old item
+  created-last : list_any (is_known lesson now item) old ≡ false → new
+      ≡ newest (map (renewed lesson now item) old ++ created lesson now item ∷ []) → new ≡ with_item lesson now old item
   created-last none is =
-      let same = unmapped (is_known lesson now item) (λ entry. record entry { made = now; age = lesson.age }) old none in
-      let choice : (b : Bool) → b ≡ false → cond b (map (renewed lesson now item) old) (newest (old ++ created lesson now item ∷ [])) ≡ newest (old ++ created lesson now item ∷ []) =
-      λ b e. ap (λ (b : Bool). cond b (map (renewed lesson now item) old) (newest (old ++ created lesson now item ∷ []))) e in
-      is ∙ (ap (λ (entries : List CacheEntry). newest (entries ++ created lesson now item ∷ [])) same ∙ sym (choice _ none))
+      let same = unmapped (is_known lesson now item) (λ entry. record entry { made = now; age = lesson.age }) old none
+          in
+      let choice : (b : Bool) → b ≡ false
+          → cond b (map (renewed lesson now item) old) (newest (old ++ created lesson now item ∷ []))
+          ≡ newest (old ++ created lesson now item ∷ []) =
+      λ b e. ap (λ (b : Bool). cond b (map (renewed lesson now item) old)
+          (newest (old ++ created lesson now item ∷ []))) e in
+      is ∙ (ap (λ (entries : List CacheEntry). newest (entries ++ created lesson now item ∷ [])) same
+          ∙ sym (choice _ none))
 
-  pub learnt-new : (result : Result (Unit {0}) OutOfMemory) → list_any (is_known lesson now item) old ≡ false → OnOk result (new ≡ newest (map (renewed lesson now item) old ++ created lesson now item ∷ [])) → OnOk result (new ≡ with_item lesson now old item)
+  pub learnt-new : (result : Result (Unit {0}) OutOfMemory) → list_any (is_known lesson now item) old ≡ false
+      → OnOk result (new ≡ newest (map (renewed lesson now item) old ++ created lesson now item ∷ []))
+      → OnOk result (new ≡ with_item lesson now old item)
   learnt-new (Ok done) none is = created-last none is
   learnt-new (Err error) none is = tt

@@ -49,7 +49,9 @@ transcript = record {
 }
 
 -- a play of one document that fetches once
-own_fetch : play_text (transcript ∷ []) ≡ codes "fetchplay 1\ndocument 0 https://a.test\nfetch 0\nsend https://a.test\n  GET / HTTP/1.1\n  Host: a.test\n  Accept: */*\n  User-Agent: fetchplay/1\n  Accept-Encoding: identity\n  Connection: close\nresult basic 200 https://a.test/\n  body whole 2: hi\nend finished\nhistory\ndone\n"
+own_fetch : play_text (transcript ∷ [])
+    ≡ codes
+    "fetchplay 1\ndocument 0 https://a.test\nfetch 0\nsend https://a.test\n  GET / HTTP/1.1\n  Host: a.test\n  Accept: */*\n  User-Agent: fetchplay/1\n  Accept-Encoding: identity\n  Connection: close\nresult basic 200 https://a.test/\n  body whole 2: hi\nend finished\nhistory\ndone\n"
 unfolding digits
 own_fetch = refl
 

@@ -9,8 +9,12 @@ use Rattle.wf_print.specs.declared.failure.Failure.TheVariants.{OutOfMemory}
 use Rattle.wf_print.specs.Writes.{Writes}
 
 -- a text behind one that was written whole
-pub writes-append : {K A B : Type 0} {taken : K → Option (List ℕ)} {faults zeros : K → ℕ} {old mid new : K} {x y : List ℕ} {a : A} {result : Result B Failure} → Writes taken faults zeros old mid x (Ok a) → Writes taken faults zeros mid new y result → Writes taken faults zeros old new (x ++ y) result
-writes-append {taken = taken} {faults = faults} {zeros = zeros} {old = old} {mid = mid} {new = new} {x = x} {y = y} {result = result} first second = record {
+pub writes-append : {K A B : Type 0} {taken : K → Option (List ℕ)} {faults zeros : K
+    → ℕ} {old mid new : K} {x y : List ℕ} {a : A} {result : Result B Failure}
+    → Writes taken faults zeros old mid x (Ok a) → Writes taken faults zeros mid new y result
+    → Writes taken faults zeros old new (x ++ y) result
+writes-append {taken = taken} {faults = faults} {zeros = zeros} {old = old} {mid = mid} {new = new} {x = x} {y =
+    y} {result = result} first second = record {
   ok = ok-after result (taken old) (taken mid) (taken new) x y first.ok second.ok;
   err = err-after result (taken old) (taken mid) (taken new) x y first.ok second.err;
   faults_stay = omega (arith, first.faults_stay, second.faults_stay);
@@ -20,7 +24,10 @@ writes-append {taken = taken} {faults = faults} {zeros = zeros} {old = old} {mid
 }
 
 -- more text behind one that was not written whole
-pub writes-before : {K A : Type 0} {taken : K → Option (List ℕ)} {faults zeros : K → ℕ} {old new : K} {x : List ℕ} {failure : Failure} (y : List ℕ) → Writes {A = A} taken faults zeros old new x (Err failure) → Writes {A = A} taken faults zeros old new (x ++ y) (Err failure)
+pub writes-before : {K A : Type 0} {taken : K → Option (List ℕ)} {faults zeros : K
+    → ℕ} {old new : K} {x : List ℕ} {failure : Failure} (y : List ℕ)
+    → Writes {A = A} taken faults zeros old new x (Err failure)
+    → Writes {A = A} taken faults zeros old new (x ++ y) (Err failure)
 writes-before {taken = taken} {old = old} {new = new} {x = x} y first = record {
   ok = tt;
   err = part-before (taken old) (taken new) x y first.err;
@@ -31,7 +38,10 @@ writes-before {taken = taken} {old = old} {new = new} {x = x} y first = record {
 }
 
 -- the failure is passed on
-pub writes-failed : {K A : Type 0} {taken : K → Option (List ℕ)} {faults zeros : K → ℕ} {old new : K} {x : List ℕ} {failure : Failure} (result : Result A Failure) → IsErrAnd result (λ passed. passed ≡ failure) → Writes {A = A} taken faults zeros old new x (Err failure) → Writes taken faults zeros old new x result
+pub writes-failed : {K A : Type 0} {taken : K → Option (List ℕ)} {faults zeros : K
+    → ℕ} {old new : K} {x : List ℕ} {failure : Failure} (result : Result A Failure)
+    → IsErrAnd result (λ passed. passed ≡ failure) → Writes {A = A} taken faults zeros old new x (Err failure)
+    → Writes taken faults zeros old new x result
 writes-failed (Ok b) e first = absurd e
 writes-failed {failure = failure} (Err passed) e first = record {
   ok = tt;
@@ -43,7 +53,10 @@ writes-failed {failure = failure} (Err passed) e first = record {
 }
 
 -- memory was refused behind a text that was written whole
-pub writes-refused : {K A : Type 0} {taken : K → Option (List ℕ)} {faults zeros : K → ℕ} {old new : K} {x : List ℕ} {a : A} (y : List ℕ) (result : Result A Failure) → IsErrAnd result (λ failure. failure ≡ OutOfMemory) → Writes taken faults zeros old new x (Ok a) → Writes taken faults zeros old new (x ++ y) result
+pub writes-refused : {K A : Type 0} {taken : K → Option (List ℕ)} {faults zeros : K
+    → ℕ} {old new : K} {x : List ℕ} {a : A} (y : List ℕ) (result : Result A Failure)
+    → IsErrAnd result (λ failure. failure ≡ OutOfMemory) → Writes taken faults zeros old new x (Ok a)
+    → Writes taken faults zeros old new (x ++ y) result
 writes-refused y (Ok b) e first = absurd e
 writes-refused {taken = taken} {old = old} {new = new} {x = x} y (Err failure) e first = record {
   ok = tt;

@@ -1,6 +1,8 @@
 -- Numbers in decimal digits compare by how many digits they have behind their first zeros, and then by
 -- these digits.
-use Rattle.std.proofs.Common.{arith, inl, inr, ◌≡◌, ◌≤◌, ◌<◌, ◌+◌, ◌*◌, ◌-◌, ◌==◌, ◌&&◌, ◌||◌, ◌∷◌, [], ℕ, suc, List, length, refl, subst, ◌∙◌, Bool, true, false, cond, nat_le, nat_lt, take, drop, Option, Some, None}
+use Rattle.std.proofs.Common.{arith, inl, inr, ◌≡◌, ◌≤◌, ◌<◌, ◌+◌, ◌*◌, ◌-◌, ◌==◌, ◌&&◌, ◌||◌, ◌∷◌, [], ℕ, suc, List}
+use Rattle.std.proofs.Common.{length, refl, subst, ◌∙◌, Bool, true, false, cond, nat_le, nat_lt, take, drop, Option}
+use Rattle.std.proofs.Common.{Some, None}
 use Rattle.std.proofs.lemmas.Bool.Decides.{eqb_tells, leb_tells, nat_tests}
 use Rattle.std.proofs.lemmas.Grind.{common_steps}
 use Rattle.std.specs.Char.{digit_value, is_ascii_digit}
@@ -30,15 +32,18 @@ value-grows n [] = omega arith
 value-grows n (byte ∷ text) = omega (arith, value-grows (n * 10 + digit_value byte) text)
 
 -- of two numbers the less stays so behind no more digits than the other
-stays-less : (m n : ℕ) (a b : List ℕ) → m < n → length a ≤ length b → are_digits a ≡ true → digits_value_after 10 m a < digits_value_after 10 n b
+stays-less : (m n : ℕ) (a b : List ℕ) → m < n → length a ≤ length b → are_digits a ≡ true
+    → digits_value_after 10 m a < digits_value_after 10 n b
 stays-less m n [] b less within digits = omega (arith, value-grows n b)
 stays-less m n (x ∷ a) [] less within digits = absurd (omega arith)
 stays-less m n (x ∷ a) (y ∷ b) less within digits =
     let digit = digit-value x (first-digit x a digits) in
-    stays-less (m * 10 + digit_value x) (n * 10 + digit_value y) a b (omega (arith, digit.0, digit.1, digit.2)) (omega arith) (later-digits x a digits)
+    stays-less (m * 10 + digit_value x) (n * 10 + digit_value y) a b (omega (arith, digit.0, digit.1, digit.2))
+        (omega arith) (later-digits x a digits)
 
 -- two numbers of as many digits compare as their digits do
-pub compared : (m : ℕ) (a b : List ℕ) → length a ≡ length b → are_digits a ≡ true → are_digits b ≡ true → nat_le (digits_value_after 10 m a) (digits_value_after 10 m b) ≡ is_le (slice_cmp nat_cmp a b)
+pub compared : (m : ℕ) (a b : List ℕ) → length a ≡ length b → are_digits a ≡ true → are_digits b ≡ true
+    → nat_le (digits_value_after 10 m a) (digits_value_after 10 m b) ≡ is_le (slice_cmp nat_cmp a b)
 compared m [] [] same digits_a digits_b = grind (arith, nat_tests)
 compared m [] (y ∷ b) same digits_a digits_b = absurd (omega arith)
 compared m (x ∷ a) [] same digits_a digits_b = absurd (omega arith)
@@ -52,13 +57,17 @@ compared m (x ∷ a) (y ∷ b) same digits_a digits_b =
     let n' : ℕ = m * 10 + digit_value y in
     elim (leb_tells (suc x) y) [
       | inl less ↦
-          let below = stays-less m' n' a b (omega (arith, less.1, digit_x.0, digit_x.1, digit_y.0, digit_y.1)) (omega arith) later_a in
+          let below = stays-less m' n' a b (omega (arith, less.1, digit_x.0, digit_x.1, digit_y.0, digit_y.1))
+              (omega arith) later_a in
           rw less.0 (grind (arith, nat_tests, below))
       | inr no_less ↦
           elim (eqb_tells x y) [
-            | inl equal ↦ rw (no_less.0, equal.0, equal.1) (compared (m * 10 + digit_value y) a b same_length later_a later_b)
+            | inl equal ↦
+                rw (no_less.0, equal.0, equal.1) (compared (m * 10 + digit_value y) a b same_length later_a later_b)
             | inr other ↦
-                let below = stays-less n' m' b a (omega (arith, no_less.1, other.1, digit_x.0, digit_x.1, digit_y.0, digit_y.1)) (omega arith) later_b in
+                let below =
+                    stays-less n' m' b a (omega (arith, no_less.1, other.1, digit_x.0, digit_x.1, digit_y.0,
+                    digit_y.1)) (omega arith) later_b in
                 rw (no_less.0, other.0) (grind (arith, nat_tests, below))
           ]
     ]
@@ -77,33 +86,41 @@ without_zeros-digits [] digits = refl
 without_zeros-digits (byte ∷ text) digits = grind (arith, common_steps, without_zeros-digits text)
 
 -- fewer digits than another has behind its zeros make less
-fewer-digits : (a text : List ℕ) → are_digits a ≡ true → are_digits text ≡ true → length a < length (without_zeros text) → digits_value 10 a < digits_value 10 (without_zeros text)
+fewer-digits : (a text : List ℕ) → are_digits a ≡ true → are_digits text ≡ true
+    → length a < length (without_zeros text) → digits_value 10 a < digits_value 10 (without_zeros text)
 fewer-digits a [] digits_a digits fewer = absurd (omega arith)
 fewer-digits a (byte ∷ text) digits_a digits fewer =
     elim (eqb_tells byte 48) [
       | inl zero ↦
           let cut : without_zeros (byte ∷ text) ≡ without_zeros text = rw zero.0 refl in
-          rw cut (fewer-digits a text digits_a (later-digits byte text digits) (subst (λ (l : List ℕ). length a < length l) cut fewer))
+          rw cut (fewer-digits a text digits_a (later-digits byte text digits)
+              (subst (λ (l : List ℕ). length a < length l) cut fewer))
       | inr other ↦
           let whole : without_zeros (byte ∷ text) ≡ byte ∷ text = rw other.0 refl in
           let digit = digit-value byte (first-digit byte text digits) in
-          let within : length a ≤ length text = omega (arith, subst (λ (l : List ℕ). length a < length l) whole fewer) in
-          rw whole (stays-less 0 (0 * 10 + digit_value byte) a text (omega (arith, other.1, digit.0, digit.1)) within digits_a)
+          let within : length a ≤ length text = omega (arith, subst (λ (l : List ℕ). length a < length l) whole fewer)
+              in
+          rw whole (stays-less 0 (0 * 10 + digit_value byte) a text (omega (arith, other.1, digit.0, digit.1)) within
+              digits_a)
     ]
 
 -- the three cases of two lengths
-by-length : (m n : ℕ) (test shown : Bool) → (m < n → test ≡ true) → (m ≡ n → test ≡ shown) → (n < m → test ≡ false) → test ≡ (nat_lt m n || (m == n && shown))
+by-length : (m n : ℕ) (test shown : Bool) → (m < n → test ≡ true) → (m ≡ n → test ≡ shown) → (n < m → test ≡ false)
+    → test ≡ (nat_lt m n || (m == n && shown))
 by-length m n test shown less same more = grind (arith, nat_tests, less, same, more)
 
 -- how two numbers compare
 pub is_at_most-compared : (start end : List ℕ) → are_digits start ≡ true → are_digits end ≡ true → is_at_most start end
-    ≡ (nat_lt (length (without_zeros start)) (length (without_zeros end)) || (length (without_zeros start) == length (without_zeros end) && is_le (slice_cmp nat_cmp (without_zeros start) (without_zeros end))))
+    ≡ (nat_lt (length (without_zeros start)) (length (without_zeros end))
+        || (length (without_zeros start) == length (without_zeros end)
+        && is_le (slice_cmp nat_cmp (without_zeros start) (without_zeros end))))
 is_at_most-compared start end digits_start digits_end =
     let a : List ℕ = without_zeros start in
     let b : List ℕ = without_zeros end in
     let digits_a : are_digits a ≡ true = without_zeros-digits start digits_start in
     let digits_b : are_digits b ≡ true = without_zeros-digits end digits_end in
-    let shown : is_at_most start end ≡ nat_le (digits_value 10 a) (digits_value 10 b) = rw (value-without_zeros start, value-without_zeros end) refl in
+    let shown : is_at_most start end ≡ nat_le (digits_value 10 a) (digits_value 10 b) =
+        rw (value-without_zeros start, value-without_zeros end) refl in
     shown
     ∙ by-length (length a) (length b) (nat_le (digits_value 10 a) (digits_value 10 b)) (is_le (slice_cmp nat_cmp a b))
     (λ less. let h = fewer-digits a end digits_a digits_end less in grind (arith, nat_tests, h))
@@ -116,7 +133,8 @@ chosen true n at e = (refl, grind arith)
 chosen false n at e = grind arith
 
 -- what stands before the first dash and after it
-pub is_span-cut : (text : List ℕ) (at : ℕ) → position (λ byte. byte == 45) text ≡ Some at → is_span text ≡ (is_digits (take at text) && is_end_of (take at text) (drop (at + 1) text))
+pub is_span-cut : (text : List ℕ) (at : ℕ) → position (λ byte. byte == 45) text ≡ Some at → is_span text
+    ≡ (is_digits (take at text) && is_end_of (take at text) (drop (at + 1) text))
 is_span-cut text at e =
     let found = chosen _ _ at e in
     rw (e, found.1) refl

@@ -1,12 +1,15 @@
 -- What is read keeps: a fact goes through each step of a reading.
-use Rattle.std.proofs.Common.{◌≡◌, ℕ, ◌+◌, ◌≤◌, Bool, true, false, List, [], ◌∷◌, length, Option, Some, None, Ok, Err, refl, arith, if◌then◌else◌}
+use Rattle.std.proofs.Common.{◌≡◌, ℕ, ◌+◌, ◌≤◌, Bool, true, false, List, [], ◌∷◌, length, Option, Some, None, Ok, Err}
+use Rattle.std.proofs.Common.{refl, arith, if◌then◌else◌}
 use Rattle.std.specs.Prelude.{nat_le, decimal, bytes_eq, option_and_then, IfSome, IsTrue}
 use Rattle.std.specs.List.{All}
 use Rattle.std.proofs.lemmas.Bool.{leb-true}
 use Rattle.std.proofs.lemmas.List.Elements.{All-nil, All-cons}
 use Rattle.serde_json.specs.Data.{Data, Items, no_items, item}
 use Rattle.serde_json.specs.Find.{get, as_str, as_array}
-use Rattle.wf_script.specs.Reading.{Read, ◌>>=◌, under, present, given, text_that, meaning, word_of, some_of, found_or, required, optional, count, each_from, items_of, list_of, two_of, pair_of}
+use Rattle.wf_script.specs.Reading.{Read, ◌>>=◌, under, present, given, text_that, meaning, word_of, some_of}
+use Rattle.wf_script.specs.Reading.{found_or, required, optional, count, each_from, items_of, list_of, two_of}
+use Rattle.wf_script.specs.Reading.{pair_of}
 
 -- the value has the property, where one is read
 abbrev pub Keeps : {A : Type 0} → (A → Type 0) → Read A → Type 0
@@ -30,11 +33,13 @@ pub keeps-then : {A B : Type 0} (P : A → Type 0) (Q : B → Type 0) (read : Re
 keeps-then P Q (Ok x) next kept goes = goes x kept
 keeps-then P Q (Err place) next kept goes = tt
 
-pub keeps-under : {A : Type 0} (P : A → Type 0) (segment : List ℕ) (read : Read A) → Keeps P read → Keeps P (under segment read)
+pub keeps-under : {A : Type 0} (P : A → Type 0) (segment : List ℕ) (read : Read A) → Keeps P read
+    → Keeps P (under segment read)
 keeps-under P segment (Ok x) kept = kept
 keeps-under P segment (Err place) kept = tt
 
-pub keeps-given : {A : Type 0} (P : A → Type 0) (passes : Bool) (x : A) → (IsTrue passes → P x) → Keeps P (given passes x)
+pub keeps-given : {A : Type 0} (P : A → Type 0) (passes : Bool) (x : A) → (IsTrue passes → P x)
+    → Keeps P (given passes x)
 keeps-given P true x kept = kept refl
 keeps-given P false x kept = tt
 
@@ -48,21 +53,28 @@ keeps-found_or P default read None kept each = kept
 keeps-found_or P default read (Some tree) kept each = each tree
 
 -- a step whose value has no property that is used
-pub keeps-after : {A B : Type 0} (Q : B → Type 0) (read : Read A) (next : A → Read B) → ((x : A) → Keeps Q (next x)) → Keeps Q (read >>= next)
+pub keeps-after : {A B : Type 0} (Q : B → Type 0) (read : Read A) (next : A → Read B) → ((x : A) → Keeps Q (next x))
+    → Keeps Q (read >>= next)
 keeps-after Q read next goes = keeps-then Anything Q read next (keeps-anything read) (λ x _. goes x)
 
 -- a key's value, and what is read after it
-pub keeps-required : {A B : Type 0} (P : A → Type 0) (Q : B → Type 0) (name : List ℕ) (read : Data → Read A) (tree : Data) (next : A → Read B)
-    → ((inside : Data) → Keeps P (read inside)) → ((x : A) → P x → Keeps Q (next x)) → Keeps Q (required name read tree >>= next)
+pub keeps-required : {A B : Type 0} (P : A → Type 0) (Q : B → Type 0) (name : List ℕ) (read : Data
+    → Read A) (tree : Data) (next : A → Read B)
+    → ((inside : Data) → Keeps P (read inside)) → ((x : A) → P x → Keeps Q (next x))
+        → Keeps Q (required name read tree >>= next)
 keeps-required P Q name read tree next each goes =
     keeps-then P Q (required name read tree) next
-    (keeps-under P name (found_or (Err []) read (get name tree)) (keeps-found_or P (Err []) read (get name tree) tt each)) goes
+    (keeps-under P name (found_or (Err []) read (get name tree))
+        (keeps-found_or P (Err []) read (get name tree) tt each)) goes
 
-pub keeps-optional : {A B : Type 0} (P : A → Type 0) (Q : B → Type 0) (name : List ℕ) (default : A) (read : Data → Read A) (tree : Data) (next : A → Read B)
-    → P default → ((inside : Data) → Keeps P (read inside)) → ((x : A) → P x → Keeps Q (next x)) → Keeps Q (optional name default read tree >>= next)
+pub keeps-optional : {A B : Type 0} (P : A → Type 0) (Q : B → Type 0) (name : List ℕ) (default : A) (read : Data
+    → Read A) (tree : Data) (next : A → Read B)
+    → P default → ((inside : Data) → Keeps P (read inside)) → ((x : A) → P x → Keeps Q (next x))
+        → Keeps Q (optional name default read tree >>= next)
 keeps-optional P Q name default read tree next kept each goes =
     keeps-then P Q (optional name default read tree) next
-    (keeps-under P name (found_or (Ok default) read (get name tree)) (keeps-found_or P (Ok default) read (get name tree) kept each)) goes
+    (keeps-under P name (found_or (Ok default) read (get name tree))
+        (keeps-found_or P (Ok default) read (get name tree) kept each)) goes
 
 -- each of so many has the property
 pub record IsListOf {A : Type 0} (P : A → Type 0) (most : ℕ) (xs : List A) : Type 0 where
@@ -73,9 +85,11 @@ keeps-each : {A : Type 0} (P : A → Type 0) (read : Data → Read A) → ((tree
     → (i : ℕ) (items : Items) → Keeps (IsListOf P (count items)) (each_from read i items)
 keeps-each P read each i no_items = record { few = omega arith; all = All-nil P }
 keeps-each P read each i (item tree items) =
-    keeps-then P (IsListOf P (count (item tree items))) (under (decimal i) (read tree)) (λ x. each_from read (i + 1) items >>= (λ xs. Ok (x ∷ xs)))
+    keeps-then P (IsListOf P (count (item tree items))) (under (decimal i) (read tree))
+        (λ x. each_from read (i + 1) items >>= (λ xs. Ok (x ∷ xs)))
     (keeps-under P (decimal i) (read tree) (each tree))
-    (λ x kept. keeps-then (IsListOf P (count items)) (IsListOf P (count (item tree items))) (each_from read (i + 1) items) (λ xs. Ok (x ∷ xs))
+    (λ x kept. keeps-then (IsListOf P (count items)) (IsListOf P (count (item tree items)))
+        (each_from read (i + 1) items) (λ xs. Ok (x ∷ xs))
     (keeps-each P read each (i + 1) items)
     (λ xs rest. record { few = omega (arith, rest.few); all = All-cons P x xs kept rest.all }))
 
@@ -83,20 +97,25 @@ pub keeps-items : {A : Type 0} (P : A → Type 0) (read : Data → Read A)
     → ((inside : Data) → Keeps P (read inside)) → (tree : Data) → Keeps (λ xs. All P xs) (items_of read tree)
 keeps-items P read each tree =
     keeps-after (λ xs. All P xs) (present (as_array tree)) (λ items. each_from read 0 items)
-    (λ items. keeps-weaker (IsListOf P (count items)) (λ xs. All P xs) (each_from read 0 items) (λ xs kept. kept.all) (keeps-each P read each 0 items))
+    (λ items. keeps-weaker (IsListOf P (count items)) (λ xs. All P xs) (each_from read 0 items) (λ xs kept. kept.all)
+        (keeps-each P read each 0 items))
 
 pub keeps-list : {A : Type 0} (P : A → Type 0) (most : ℕ) (read : Data → Read A)
     → ((inside : Data) → Keeps P (read inside)) → (tree : Data) → Keeps (IsListOf P most) (list_of most read tree)
 keeps-list P most read each tree =
-    keeps-after (IsListOf P most) (present (as_array tree)) (λ items. given (nat_le (count items) most) items >>= (λ few. each_from read 0 few))
-    (λ items. keeps-then (λ few. IsTrue (nat_le (count few) most)) (IsListOf P most) (given (nat_le (count items) most) items) (λ few. each_from read 0 few)
+    keeps-after (IsListOf P most) (present (as_array tree))
+        (λ items. given (nat_le (count items) most) items >>= (λ few. each_from read 0 few))
+    (λ items. keeps-then (λ few. IsTrue (nat_le (count few) most)) (IsListOf P most)
+        (given (nat_le (count items) most) items) (λ few. each_from read 0 few)
     (keeps-given (λ few. IsTrue (nat_le (count few) most)) (nat_le (count items) most) items (λ holds. holds))
     (λ few holds. keeps-weaker (IsListOf P (count few)) (IsListOf P most) (each_from read 0 few)
-    (λ xs kept. record { few = omega (arith, kept.few, leb-true (count few) most holds); all = kept.all }) (keeps-each P read each 0 few)))
+    (λ xs kept. record { few = omega (arith, kept.few, leb-true (count few) most holds); all = kept.all })
+        (keeps-each P read each 0 few)))
 
 -- ---- values of one form
 
-pub keeps-text_that : (passes : List ℕ → Bool) (tree : Data) → Keeps (λ text. IsTrue (passes text)) (text_that passes tree)
+pub keeps-text_that : (passes : List ℕ → Bool) (tree : Data)
+    → Keeps (λ text. IsTrue (passes text)) (text_that passes tree)
 keeps-text_that passes tree =
     keeps-after (λ text. IsTrue (passes text)) (present (as_str tree)) (λ text. given (passes text) text)
     (λ text. keeps-given (λ (t : List ℕ). IsTrue (passes t)) (passes text) text (λ holds. holds))
@@ -106,15 +125,19 @@ abbrev pub Means : {A : Type 0} → (A → Type 0) → List (List ℕ × A) → 
 Means P [] = Unit {0}
 Means P (entry ∷ words) = P entry.1 × Means P words
 
-keeps-meaning : {A : Type 0} (P : A → Type 0) (words : List (List ℕ × A)) (text : List ℕ) → Means P words → Keeps P (present (meaning words text))
+keeps-meaning : {A : Type 0} (P : A → Type 0) (words : List (List ℕ × A)) (text : List ℕ) → Means P words
+    → Keeps P (present (meaning words text))
 keeps-meaning P [] text each = tt
 keeps-meaning {A} P (entry ∷ words) text each =
-    elim (bytes_eq entry.0 text) as (λ b. let found : Option A = if b then Some entry.1 else meaning words text in Keeps P (present found))
+    elim (bytes_eq entry.0 text) as (λ b. let found : Option A = if b then Some entry.1 else meaning words text in
+        Keeps P (present found))
     [ true ↦ each.0 | false ↦ keeps-meaning P words text each.1 ]
 
-pub keeps-word : {A : Type 0} (P : A → Type 0) (words : List (List ℕ × A)) → Means P words → (tree : Data) → Keeps P (word_of words tree)
+pub keeps-word : {A : Type 0} (P : A → Type 0) (words : List (List ℕ × A)) → Means P words → (tree : Data)
+    → Keeps P (word_of words tree)
 keeps-word P words each tree =
-    keeps-after P (present (as_str tree)) (λ text. present (meaning words text)) (λ text. keeps-meaning P words text each)
+    keeps-after P (present (as_str tree)) (λ text. present (meaning words text))
+        (λ text. keeps-meaning P words text each)
 
 pub keeps-some : {A : Type 0} (P : A → Type 0) (read : Data → Read A)
     → ((inside : Data) → Keeps P (read inside)) → (tree : Data) → Keeps (λ x. IfSome x P) (some_of read tree)
@@ -132,7 +155,8 @@ keeps-pair {A} {B} P Q first second each other tree =
     (keeps-under Q (decimal 1) (second two.1) (other two.1)) (λ y two. (one, two))))
 
 -- the two parts of a pair, and what is read after them
-pub keeps-parts : {A B C : Type 0} (P : A → Type 0) (Q : B → Type 0) (R : C → Type 0) (first : Data → Read A) (second : Data → Read B) (tree : Data) (next : A × B → Read C)
+pub keeps-parts : {A B C : Type 0} (P : A → Type 0) (Q : B → Type 0) (R : C → Type 0) (first : Data
+    → Read A) (second : Data → Read B) (tree : Data) (next : A × B → Read C)
     → ((inside : Data) → Keeps P (first inside)) → ((inside : Data) → Keeps Q (second inside))
     → ((x : A) (y : B) → P x → Q y → Keeps R (next (x, y))) → Keeps R (pair_of first second tree >>= next)
 keeps-parts {A} {B} P Q R first second tree next each other goes =

@@ -5,7 +5,8 @@ use Rattle.url.proofs.OnLiterals.{url_on_literals}
 use Rattle.url.specs.declared.host.Host.TheVariants.{Domain}
 use Rattle.url.specs.Parts.{Parts}
 use Rattle.wf_types.specs.declared.client.Client.{Client}
-use Rattle.wf_types.specs.declared.fault.TypeFault.TheVariants.{BadUrl, UrlCredentials, BadMethod, ForbiddenMethod, BodyWithGet, NoCorsMethod, BadHeader, NavigateMode}
+use Rattle.wf_types.specs.declared.fault.TypeFault.TheVariants.{BadUrl, UrlCredentials, BadMethod, ForbiddenMethod}
+use Rattle.wf_types.specs.declared.fault.TypeFault.TheVariants.{BodyWithGet, NoCorsMethod, BadHeader, NavigateMode}
 use Rattle.wf_types.specs.declared.init.Init.{Init}
 use Rattle.wf_types.specs.declared.mode.Credentials.TheVariants as credentials
 use Rattle.wf_types.specs.declared.mode.Mode.TheVariants as mode
@@ -68,8 +69,10 @@ pub faults_in_order : (new_request client (record put { url = codes "http://" })
     × (new_request client (record put { method = codes "A B" }) ≡ Err BadMethod)
     × (new_request client (record put { method = codes "tRaCe"; mode = mode.NoCors }) ≡ Err ForbiddenMethod)
     × (new_request client (record put { method = codes "get"; mode = mode.Navigate }) ≡ Err BodyWithGet)
-    × (new_request client (record put { mode = mode.NoCors; headers = record { name = []; value = [] } ∷ [] }) ≡ Err NoCorsMethod)
-    × (new_request client (record asked { mode = mode.Navigate; headers = record { name = codes "a"; value = [] } ∷ record { name = codes "a b"; value = [] } ∷ [] }) ≡ Err (BadHeader 1))
+    × (new_request client (record put { mode = mode.NoCors; headers = record { name = []; value = [] } ∷ [] })
+        ≡ Err NoCorsMethod)
+    × (new_request client (record asked { mode = mode.Navigate; headers = record { name = codes "a"; value = [] }
+        ∷ record { name = codes "a b"; value = [] } ∷ [] }) ≡ Err (BadHeader 1))
     × (new_request client (record asked { mode = mode.Navigate }) ≡ Err NavigateMode)
 unfolding url_on_literals
 faults_in_order = (refl, refl, refl, refl, refl, refl, refl, refl)

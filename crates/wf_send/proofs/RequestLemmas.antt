@@ -13,7 +13,9 @@ referrer-http : (client_referrer : Bool) → IsTrue (is_http_referrer (referrer_
 referrer-http true = refl
 referrer-http false = refl
 
-pub made-valid : (client : Client) (init : Init) (url : Parts) (request : Request) → request ≡ made client init url → IsRequest request
+pub made-valid : (client : Client) (init : Init) (url : Parts) (request : Request) → request ≡ made client init url
+    → IsRequest request
 made-valid client init url request is =
-    let valid : IsRequest (made client init url) = record { urls = refl; redirects = omega arith; referrer = referrer-http init.client_referrer } in
+    let valid : IsRequest (made client init url) =
+        record { urls = refl; redirects = omega arith; referrer = referrer-http init.client_referrer } in
     subst (λ (r : Request). IsRequest r) (sym is) valid

@@ -34,12 +34,14 @@ pub second_rule : answer_to servers hop.origin (request_bytes hop) ≡ answer_by
 second_rule = refl
 
 -- without a rule the status is 404, and without a server the answer is empty
-pub without_a_rule : answer_to (record { origin = codes "https://a.test"; rules = [] } ∷ []) hop.origin (request_bytes hop)
+pub without_a_rule : answer_to (record { origin = codes "https://a.test"; rules = [] }
+    ∷ []) hop.origin (request_bytes hop)
     ≡ codes "HTTP/1.1 404 Scripted\r\n\r\n"
 without_a_rule = refl
 
 pub without_a_server : RunsOver 262144 (idle []) (document_run [] document)
-    (record { events = event.Fetch 0 ∷ event.Sent hop ∷ event.Result (Error BadHead) ∷ []; ending = Some (Finished, 0) })
+    (record { events = event.Fetch 0 ∷ event.Sent hop ∷ event.Result (Error BadHead) ∷ []; ending =
+        Some (Finished, 0) })
 unfolding url_on_literals
 without_a_server = record {
   tape = Sent ∷ HeadBad ∷ [];
@@ -48,5 +50,6 @@ without_a_server = record {
 }
 
 -- the words
-pub words : (is_play (codes "play" ∷ []) ≡ true) × (is_play [] ≡ false) × (is_play (codes "gen" ∷ codes "0" ∷ []) ≡ false)
+pub words : (is_play (codes "play" ∷ []) ≡ true) × (is_play [] ≡ false)
+    × (is_play (codes "gen" ∷ codes "0" ∷ []) ≡ false)
 words = (refl, refl, refl)

@@ -9,8 +9,11 @@ use Rattle.wf_types.specs.Requests.{are_same, is_origin, taints, tainted_from}
 abbrev pub tainted_after : Origin → Option Origin → List Parts → Bool
 tainted_after origin earlier [] = false
 tainted_after origin earlier (next ∷ urls) =
-    (not (are_same earlier (origin_of next)) && not (is_origin origin earlier)) || tainted_after origin (origin_of next) urls
+    (not (are_same earlier (origin_of next)) && not (is_origin origin earlier))
+        || tainted_after origin (origin_of next) urls
 
-pub tainted_from-after : (origin : Origin) (url : Parts) (urls : List Parts) → tainted_from origin url urls ≡ tainted_after origin (origin_of url) urls
+pub tainted_from-after : (origin : Origin) (url : Parts) (urls : List Parts) → tainted_from origin url urls
+    ≡ tainted_after origin (origin_of url) urls
 tainted_from-after origin url [] = refl
-tainted_from-after origin url (next ∷ urls) = ap (λ b. taints origin url next || b) (tainted_from-after origin next urls)
+tainted_from-after origin url (next ∷ urls) =
+    ap (λ b. taints origin url next || b) (tainted_from-after origin next urls)

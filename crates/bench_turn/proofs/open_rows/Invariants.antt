@@ -9,5 +9,6 @@ invariant-loop-document l = record {
   belongs : l.first.seat.table_id ≡ l.book.table.shared.table_id;
   first : l.first.document ≡ 4294967295;
   fresh : (d : ℕ) → l.document ≤ d → times d (made_of l.first) ≡ 0;
-  rows : All (λ row. (row.pass.seat.table_id ≡ l.book.table.shared.table_id) × (left_of row.pass ≡ 4294967295)) l.rows.items;
+  rows : All (λ row. (row.pass.seat.table_id ≡ l.book.table.shared.table_id)
+      × (left_of row.pass ≡ 4294967295)) l.rows.items;
 }

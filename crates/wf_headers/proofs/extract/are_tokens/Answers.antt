@@ -4,7 +4,9 @@ use Rattle.wf_headers.proofs.ExtractLemmas.{all-from}
 use Rattle.wf_headers.proofs.extract.are_tokens.Goals as goal
 
 pub returns-then-not-is_token : goal.returns-then-not-is_token
-returns-then-not-is_token c = let step = all-from is_token c.args.texts.now c.loop-index.index c.at.result.now c.at.ensures in grind (arith, step)
+returns-then-not-is_token c = let step =
+    all-from is_token c.args.texts.now c.loop-index.index c.at.result.now c.at.ensures in grind (arith, step)
 
 pub loop-index-preserved : goal.loop-index-preserved
-loop-index-preserved c = let step = all-from is_token c.args.texts.now c.loop-index.index c.at.result.now c.at.ensures in grind (arith, step)
+loop-index-preserved c = let step = all-from is_token c.args.texts.now c.loop-index.index c.at.result.now c.at.ensures
+    in grind (arith, step)

@@ -4,4 +4,5 @@ use Rattle.wf_headers.specs.Finding.{FoundBefore}
 use Rattle.wf_headers.proofs.extract.find.Given as goal
 
 abbrev pub invariant-loop-header : goal.invariant-loop-header
-invariant-loop-header l = FoundBefore l.found (values_of l.name (drop l.header-index l.headers)) (values_of l.name l.headers)
+invariant-loop-header l = FoundBefore l.found (values_of l.name (drop l.header-index l.headers))
+    (values_of l.name l.headers)

@@ -5,4 +5,5 @@ use Rattle.wf_headers.proofs.SplitLemmas.{goes_on}
 use Rattle.wf_headers.proofs.split.split_in.Given as goal
 
 abbrev pub invariant-loop-header : goal.invariant-loop-header
-invariant-loop-header l = split_values l.name l.headers ≡ goes_on l.found l.splitter (values_of l.name (drop l.header-index l.headers))
+invariant-loop-header l = split_values l.name l.headers
+    ≡ goes_on l.found l.splitter (values_of l.name (drop l.header-index l.headers))

@@ -4,4 +4,5 @@ use Rattle.wf_http1.specs.HeadReading.{with_pairs}
 use Rattle.wf_http1.proofs.block.headers_of.Given as goal
 
 abbrev pub invariant-loop-line : goal.invariant-loop-line
-invariant-loop-line l = with_pairs [] (map (header_bytes l.block) l.lines) ≡ with_pairs l.headers (map (header_bytes l.block) (drop l.line-index l.lines))
+invariant-loop-line l = with_pairs [] (map (header_bytes l.block) l.lines)
+    ≡ with_pairs l.headers (map (header_bytes l.block) (drop l.line-index l.lines))

@@ -5,7 +5,8 @@ use Rattle.wf_http1.proofs.taking.take_chunks.Given as goal
 
 abbrev pub invariant-loop-rest : goal.invariant-loop-rest
 invariant-loop-rest l =
-    IsOn Chunked l.limit (λ more. rest_end Chunked l.limit l.fn.held.items l.fn.place (l.fn.piece ++ more)) l.held.items (vec_capacity l.held) l.place l.rest
+    IsOn Chunked l.limit (λ more. rest_end Chunked l.limit l.fn.held.items l.fn.place (l.fn.piece ++ more))
+        l.held.items (vec_capacity l.held) l.place l.rest
 
 abbrev pub decreases-loop-rest : goal.decreases-loop-rest
 decreases-loop-rest l = length l.rest

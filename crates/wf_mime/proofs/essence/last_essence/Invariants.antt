@@ -5,4 +5,5 @@ use Rattle.wf_mime.specs.Essence as spec
 use Rattle.wf_mime.proofs.essence.last_essence.Given as goal
 
 abbrev pub invariant-loop-index : goal.invariant-loop-index
-invariant-loop-index l = option_map str_to_ascii_lowercase (option_copied l.last) ≡ spec.last_essence (take l.index l.values)
+invariant-loop-index l = option_map str_to_ascii_lowercase (option_copied l.last)
+    ≡ spec.last_essence (take l.index l.values)

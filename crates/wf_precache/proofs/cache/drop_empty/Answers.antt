@@ -6,5 +6,7 @@ use Rattle.wf_precache.proofs.cache.drop_empty.Goals as goal
 
 pub returns-then-is_empty-clause-listed : goal.returns-then-is_empty-clause-listed
 returns-then-is_empty-clause-listed c =
-    let none = empty (entries_of c.args.key.now (listed (λ key. key.items) c.args.partitions.now.entries)) c.entries_of.result.now c.entries_of.ensures.entries c.if-is_empty.ensures in
-    ap (λ es. listed (λ key. key.items) es) c.remove.ensures.entries ∙ entries-emptied (λ key. key.items) c.args.key.now c.args.partitions.now.entries c.requires none
+    let none = empty (entries_of c.args.key.now (listed (λ key. key.items) c.args.partitions.now.entries))
+        c.entries_of.result.now c.entries_of.ensures.entries c.if-is_empty.ensures in
+    ap (λ es. listed (λ key. key.items) es) c.remove.ensures.entries
+        ∙ entries-emptied (λ key. key.items) c.args.key.now c.args.partitions.now.entries c.requires none

@@ -6,5 +6,6 @@ use Rattle.wf_precache.proofs.partition.renew_all.Given as goal
 abbrev pub invariant-loop-entry : goal.invariant-loop-entry
 invariant-loop-entry l = record {
   any : l.found ≡ list_any (is_known l.lesson l.now l.item) (take l.entry-index l.initial.entries);
-  all : l.entries ≡ map (renewed l.lesson l.now l.item) (take l.entry-index l.initial.entries) ++ drop l.entry-index l.initial.entries;
+  all : l.entries ≡ map (renewed l.lesson l.now l.item) (take l.entry-index l.initial.entries)
+      ++ drop l.entry-index l.initial.entries;
 }

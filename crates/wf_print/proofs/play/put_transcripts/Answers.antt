@@ -8,23 +8,28 @@ use Rattle.wf_print.proofs.play.put_transcripts.Goals as goal
 pub returns-in_err-text : goal.returns-in_err-text
 returns-in_err-text g c =
     rw (flat_map-split spec.transcript_text c.args.transcripts.now c.loop-transcript.transcript-index)
-    (writes-refused (flat_map spec.transcript_text (drop c.loop-transcript.transcript-index c.args.transcripts.now)) c.from_residual.result c.from_residual.ensures.1 c.loop-transcript.invariant)
+    (writes-refused (flat_map spec.transcript_text (drop c.loop-transcript.transcript-index c.args.transcripts.now))
+        c.from_residual.result c.from_residual.ensures.1 c.loop-transcript.invariant)
 
 pub returns-in_err-put : goal.returns-in_err-put
 returns-in_err-put g c =
     writes-failed c.from_residual-in_err-put.result c.from_residual-in_err-put.ensures.1
     (rw (
       flat_map-split spec.transcript_text c.args.transcripts.now (c.loop-transcript.transcript-index + 1),
-      flat_map-take spec.transcript_text c.args.transcripts.now c.loop-transcript.transcript-index c.transcript-item.result c.loop-transcript-test.true c.transcript-item.is,
+      flat_map-take spec.transcript_text c.args.transcripts.now c.loop-transcript.transcript-index
+          c.transcript-item.result c.loop-transcript-test.true c.transcript-item.is,
       ← c.in_ok-text.ensures,
       ← c.as_slice.ensures,
     )
-    (writes-before (flat_map spec.transcript_text (drop (c.loop-transcript.transcript-index + 1) c.args.transcripts.now)) (writes-append c.loop-transcript.invariant c.in_err-put.ensures)))
+    (writes-before (flat_map spec.transcript_text
+        (drop (c.loop-transcript.transcript-index + 1) c.args.transcripts.now))
+        (writes-append c.loop-transcript.invariant c.in_err-put.ensures)))
 
 pub loop-transcript-preserved : goal.loop-transcript-preserved
 loop-transcript-preserved g c =
     rw (
-      flat_map-take spec.transcript_text c.args.transcripts.now c.loop-transcript.transcript-index c.transcript-item.result c.loop-transcript-test.true c.transcript-item.is,
+      flat_map-take spec.transcript_text c.args.transcripts.now c.loop-transcript.transcript-index
+          c.transcript-item.result c.loop-transcript-test.true c.transcript-item.is,
       ← c.in_ok-text.ensures,
       ← c.as_slice.ensures,
     )

@@ -7,7 +7,9 @@ use Rattle.wf_safelist.proofs.sets.sort_and_dedup.Goals as goal
 pub returns-clause-ascending : goal.returns-clause-ascending
 returns-clause-ascending c =
     rw (dedup_is _ _ _ c.dedup.ensures.filtered)
-    (IsAscending-map (λ text. text.items) _ (IsStrictlySortedBy-dedup (on_texts (λ text. text.items)) (λ a b. texts_ties a.items b.items) _ c.sort_unstable.ensures.sorted))
+    (IsAscending-map (λ text. text.items) _
+        (IsStrictlySortedBy-dedup (on_texts (λ text. text.items)) (λ a b. texts_ties a.items b.items) _
+        c.sort_unstable.ensures.sorted))
 
 pub returns-clause-members : goal.returns-clause-members
 returns-clause-members c = λ query.

@@ -11,5 +11,6 @@ returns c =
       arith,
       c.loop-header.invariant.0,
       c.loop-header.invariant.1,
-      ap (λ (headers : List Pair). length (flat_map header_line headers)) (drop-past c.args.headers.now c.loop-header.header-index c.loop-header-test.false),
+      ap (λ (headers : List Pair). length (flat_map header_line headers))
+          (drop-past c.args.headers.now c.loop-header.header-index c.loop-header-test.false),
     )

@@ -3,4 +3,5 @@ use Rattle.wf_headers.specs.Splitting.{split_with}
 use Rattle.wf_headers.proofs.split.Splitter.take_all.Given as goal
 
 abbrev pub invariant-loop-byte : goal.invariant-loop-byte
-invariant-loop-byte l = (rest : List ℕ) → split_with l.self (drop l.byte-index l.text ++ rest) ≡ split_with l.fn.self (l.text ++ rest)
+invariant-loop-byte l = (rest : List ℕ) → split_with l.self (drop l.byte-index l.text ++ rest)
+    ≡ split_with l.fn.self (l.text ++ rest)

@@ -5,4 +5,5 @@ use Rattle.wf_hsts.proofs.NameLemmas.{bytes_of}
 use Rattle.wf_hsts.proofs.index.Index.len.Goals as goal
 
 pub returns-clause-sorted : goal.returns-clause-sorted
-returns-clause-sorted c = subst AreSorted c.self.view_is (listed-sorted bytes_of c.self.inside.terms.entries c.self.invariant.sorted)
+returns-clause-sorted c =
+    subst AreSorted c.self.view_is (listed-sorted bytes_of c.self.inside.terms.entries c.self.invariant.sorted)

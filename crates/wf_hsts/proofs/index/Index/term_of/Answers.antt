@@ -6,7 +6,9 @@ use Rattle.wf_hsts.proofs.NameLemmas.{bytes_of}
 use Rattle.wf_hsts.proofs.index.Index.term_of.Goals as goal
 
 pub returns-clause-term : goal.returns-clause-term
-returns-clause-term c = c.copied.ensures ∙ c.get.ensures.value ∙ term-listed bytes_of c.args.host.now c.self.inside.terms.entries ∙ ap (term_in c.args.host.now) c.self.view_is
+returns-clause-term c = c.copied.ensures ∙ c.get.ensures.value
+    ∙ term-listed bytes_of c.args.host.now c.self.inside.terms.entries ∙ ap (term_in c.args.host.now) c.self.view_is
 
 pub returns-clause-sorted : goal.returns-clause-sorted
-returns-clause-sorted c = subst AreSorted c.self.view_is (listed-sorted bytes_of c.self.inside.terms.entries c.self.invariant.sorted)
+returns-clause-sorted c =
+    subst AreSorted c.self.view_is (listed-sorted bytes_of c.self.inside.terms.entries c.self.invariant.sorted)
