@@ -1,14 +1,15 @@
 -- Trimming of bytes at the ends of a text (Fetch, section 2.2: HTTP tab or space, HTTP whitespace).
 use Rattle.std.specs.Prelude.{ℕ, ◌==◌, List, [], ◌∷◌, reverse, if◌then◌else◌}
 use Rattle.std.specs.List.{list_any}
+use Rattle.wf_text.specs.Ascii.{carriage_return, line_feed, space, tab}
 
 -- an HTTP tab or space byte is one of these
 abbrev pub tab_or_space : List ℕ
-tab_or_space = 9 ∷ 32 ∷ []
+tab_or_space = tab ∷ space ∷ []
 
 -- an HTTP whitespace byte is one of these: tab, LF, CR and space
 abbrev pub http_whitespace : List ℕ
-http_whitespace = 9 ∷ 10 ∷ 13 ∷ 32 ∷ []
+http_whitespace = tab ∷ line_feed ∷ carriage_return ∷ space ∷ []
 
 -- the text without the first bytes that are among the blanks
 abbrev pub trimmed_start : List ℕ → List ℕ → List ℕ

@@ -3,10 +3,11 @@ use Rattle.std.specs.Prelude.{ℕ, Bool, ◌==◌, ◌||◌, ◌&&◌, not, List
 use Rattle.std.specs.List.{list_all}
 use Rattle.std.specs.Str.{bytes_eq}
 use Rattle.wf_text.specs.Trims.{tab_or_space, trimmed}
+use Rattle.wf_text.specs.Ascii.{carriage_return, line_feed, nul}
 
 -- NUL or an HTTP newline byte
 abbrev pub is_nul_or_newline : ℕ → Bool
-is_nul_or_newline byte = byte == 0 || byte == 10 || byte == 13
+is_nul_or_newline byte = byte == nul || byte == line_feed || byte == carriage_return
 
 -- a header value: no tab or space at its ends, and neither NUL nor newline in it
 abbrev pub is_header_value : List ℕ → Bool
