@@ -23,7 +23,11 @@ cap-again n digit most cap below = omega arith
 pub capped-more : (text : List ℕ) (i cap value next : ℕ) → i < length text → is_ascii_digit (get_or text i 0) ≡ true
     → cap < 2 ^ 64 → value ≡ min (digits_value 10 (take i text)) cap
     → next ≡ min (min (min (value * 10) (2 ^ 64 - 1) + (get_or text i 0 - 48)) (2 ^ 64 - 1)) cap → next
-        ≡ min (digits_value 10 (take (i + 1) text)) cap
+    ≡ min (digits_value 10 (take (i + 1) text)) cap
 capped-more text i cap value next below digit fits e f =
-    rw (f, digits_value_more 10 text i below, value-digit (get_or text i 0) digit,
-    e) (cap-again (digits_value 10 (take i text)) (get_or text i 0 - 48) (2 ^ 64) cap fits)
+    rw (
+      f,
+      digits_value_more 10 text i below,
+      value-digit (get_or text i 0) digit,
+      e,
+    ) (cap-again (digits_value 10 (take i text)) (get_or text i 0 - 48) (2 ^ 64) cap fits)

@@ -10,13 +10,17 @@ pub trimmed_start-rest : (blanks text : List ℕ) → (front : List ℕ) × (tex
 trimmed_start-rest blanks [] = ([], refl)
 trimmed_start-rest blanks (byte ∷ text) =
     elim (list_any (λ blank. blank == byte) blanks)
-    as (λ v. (front : List ℕ) × (byte ∷ text ≡ front ++ (if v then trimmed_start blanks text else byte ∷ text)))
-    [ true ↦ let more = trimmed_start-rest blanks text in (byte ∷ more.0, ap (λ l. byte ∷ l) more.1) | false ↦
-        ([], refl) ]
+    as (λ v. (front : List ℕ) × (byte ∷ text ≡ front ++ (if v then trimmed_start blanks text else byte ∷ text))) [
+      | true ↦ let more = trimmed_start-rest blanks text in (byte ∷ more.0, ap (λ l. byte ∷ l) more.1)
+      | false ↦
+          ([], refl)
+    ]
 
 -- or at the front
 pub trimmed_end-rest : (blanks text : List ℕ) → (back : List ℕ) × (text ≡ trimmed_end blanks text ++ back)
 trimmed_end-rest blanks text =
-    let rest = trimmed_start-rest blanks (reverse text) in
-    (reverse rest.0, sym (reverse-reverse text) ∙ ap (λ l. reverse l) rest.1
-        ∙ reverse-append rest.0 (trimmed_start blanks (reverse text)))
+    let rest = trimmed_start-rest blanks (reverse text) in (
+      reverse rest.0,
+      sym (reverse-reverse text) ∙ ap (λ l. reverse l) rest.1
+          ∙ reverse-append rest.0 (trimmed_start blanks (reverse text)),
+    )

@@ -50,6 +50,13 @@ impl Bytes {
         self.items.as_slice()
     }
 
+    /// The bytes as a vector, which is not copied.
+    pub fn into_vec(self) -> Vec<u8>
+        ensures { result.items ≡ self }
+    {
+        self.items
+    }
+
     /// How many bytes there are.
     pub fn len(&self) -> usize
         ensures { result ≡ length self.now }
@@ -71,12 +78,22 @@ impl Bytes {
         Bytes::of(alloc, self.as_slice())
     }
 
-    /// Adds the bytes at the end.
+    /// Adds the bytes at the end. Where memory is refused, the text is as it was.
     pub fn append(&mut self, piece: &[u8]) -> Result<(), OutOfMemory>
         ensures ok { OnOk result (self.new ≡ self.old ++ piece.now) }
         ensures err { OnErr result (self.new ≡ self.old) }
     {
         self.items.extend_from_slice(piece)?;
         Ok(())
+    }
+}
+
+/// An equal text, where there is one.
+pub fn copy_of(alloc: Global, text: &Option<Bytes>) -> Result<Option<Bytes>, OutOfMemory>
+    ensures { IfOk result (λ copy. copy ≡ text.now) }
+{
+    match text {
+        None => Ok(None),
+        Some(text) => Ok(Some(text.copy(alloc)?)),
     }
 }

@@ -1,4 +1,4 @@
-ghost use Rattle.std.specs.Prelude.{◌≡◌, ◌<◌, ◌++◌, ◌∷◌, [], length, slice_get, Some, OnOk, OnErr};
+ghost use Rattle.std.specs.Prelude.{◌≡◌, ◌==◌, ◌-◌, ◌<◌, ◌++◌, ◌∷◌, [], length, take, slice_get, Some, OnOk, OnErr};
 
 use crate::memory::OutOfMemory;
 use std::alloc::Global;
@@ -35,6 +35,13 @@ impl<T> Items<T> {
         self.items.len()
     }
 
+    /// Whether there are none.
+    pub fn is_empty(&self) -> bool
+        ensures { result ≡ (length self.now == 0) }
+    {
+        self.items.is_empty()
+    }
+
     /// The item at an index below the length.
     pub fn at(&self, index: usize) -> &T
         requires { index < length self.now }
@@ -49,15 +56,31 @@ impl<T> Items<T> {
     {
         self.items.as_slice()
     }
+
+    /// The items as a vector, which is not copied.
+    pub fn into_vec(self) -> Vec<T>
+        ensures { result.items ≡ self }
+    {
+        self.items
+    }
 }
 
 impl<T: Drop> Items<T> {
-    /// Adds an item at the end.
+    /// Adds an item at the end. Where memory is refused, the list is as it was.
     pub fn push(&mut self, item: T) -> Result<(), OutOfMemory>
         ensures ok { OnOk result (self.new ≡ self.old ++ item ∷ []) }
         ensures err { OnErr result (self.new ≡ self.old) }
     {
         self.items.push(item)?;
         Ok(())
+    }
+
+    /// Puts an item in the place of the last. It takes no memory.
+    pub fn set_last(&mut self, item: T)
+        requires { 0 < length self.old }
+        ensures { self.new ≡ take (length self.old - 1) self.old ++ item ∷ [] }
+    {
+        let last = self.items.len() - 1;
+        self.items[last] = item;
     }
 }

@@ -1,8 +1,10 @@
 // Texts of any bytes and lists of them, and the words on texts that every layer shares.
 #![tactic(auto)]
 
+mod among;
 mod bytes;
 mod digits;
+mod find;
 mod fold;
 mod items;
 mod list;
@@ -14,9 +16,11 @@ mod token;
 mod trim;
 mod value;
 
-pub use bytes::Bytes;
-pub use digits::parse_digits;
-pub use fold::eq_fold;
+pub use among::{is_among, is_among_fold};
+pub use bytes::{Bytes, copy_of};
+pub use digits::{is_digits, parse_digits};
+pub use find::{after_byte, before_byte, position_of};
+pub use fold::{eq_fold, in_lower_case, in_upper_case};
 pub use items::Items;
 pub use list::BytesList;
 pub use memory::OutOfMemory;

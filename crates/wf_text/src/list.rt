@@ -1,4 +1,4 @@
-ghost use Rattle.std.specs.Prelude.{◌≡◌, ◌<◌, ◌++◌, ◌∷◌, [], length, slice_get, Some, OnOk, OnErr};
+ghost use Rattle.std.specs.Prelude.{◌≡◌, ◌==◌, ◌<◌, ◌++◌, ◌∷◌, [], length, slice_get, Some, IfOk, OnOk, OnErr};
 
 use crate::bytes::Bytes;
 use crate::memory::OutOfMemory;
@@ -29,7 +29,7 @@ impl BytesList {
         }
     }
 
-    /// Adds a text at the end.
+    /// Adds a text at the end. Where memory is refused, the list is as it was.
     pub fn push(&mut self, item: Bytes) -> Result<(), OutOfMemory>
         ensures ok { OnOk result (self.new ≡ self.old ++ item ∷ []) }
         ensures err { OnErr result (self.new ≡ self.old) }
@@ -51,5 +51,44 @@ impl BytesList {
         ensures { slice_get self.now index ≡ Some result.now }
     {
         self.texts[index].as_slice()
+    }
+
+    /// Whether there are none.
+    pub fn is_empty(&self) -> bool
+        ensures { result ≡ (length self.now == 0) }
+    {
+        self.texts.is_empty()
+    }
+
+    /// The texts, in order.
+    pub fn as_slice(&self) -> &[Bytes]
+        ensures { result.now ≡ self.now }
+    {
+        self.texts.as_slice()
+    }
+
+    /// The texts as a vector, which is not copied.
+    pub fn into_vec(self) -> Vec<Bytes>
+        ensures { result.items ≡ self }
+    {
+        self.texts
+    }
+
+    /// The texts of a vector, which is not copied.
+    pub fn from_vec(texts: Vec<Bytes>) -> BytesList
+        ensures { result ≡ texts.items }
+    {
+        BytesList { texts }
+    }
+
+    /// An equal list.
+    pub fn copy(&self, alloc: Global) -> Result<BytesList, OutOfMemory>
+        ensures { IfOk result (λ list. list ≡ self.now) }
+    {
+        let mut texts = Vec::with_capacity(alloc, self.texts.len())?;
+        for text in self.as_slice() {
+            texts.push(text.copy(alloc)?)?;
+        }
+        Ok(BytesList { texts })
     }
 }

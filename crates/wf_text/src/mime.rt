@@ -1,9 +1,10 @@
 ghost use Rattle.std.specs.Prelude.{◌≡◌, ◌==◌, map, option_copied};
 ghost use Rattle.std.specs.Char.{to_ascii_lowercase};
-ghost use Rattle.std.specs.List.{after_first, before_first, list_all, position, zip};
+ghost use Rattle.std.specs.List.{list_all, zip};
 ghost use Rattle.std.specs.Str.{bytes_eq, str_to_ascii_lowercase};
 ghost use Rattle.wf_text.specs.Mime.{has_essence, subtype_of, type_and_subtype, type_of, written_essence};
 
+use crate::find::{after_byte, before_byte};
 use crate::token::is_token;
 use crate::trim::{trim_http, trim_http_end};
 
@@ -25,7 +26,7 @@ pub fn essence_is(value: &[u8], essence: &[u8]) -> bool
     }
 }
 
-/// The type and the subtype with the slash between, where both are tokens.
+// The type and the subtype with the slash between, where both are tokens.
 fn type_and_subtype(text: &[u8]) -> Option<&[u8]>
     ensures { option_copied result ≡ type_and_subtype text.now }
 {
@@ -38,54 +39,28 @@ fn type_and_subtype(text: &[u8]) -> Option<&[u8]>
     }
 }
 
-/// What stands before the slash.
+// What stands before the slash.
 fn type_of(text: &[u8]) -> &[u8]
     ensures { result.now ≡ type_of text.now }
 {
-    before(text, b'/')
+    before_byte(text, b'/')
 }
 
-/// What stands after the slash, up to a semicolon or the end, without whitespace at its end.
+// What stands after the slash, up to a semicolon or the end, without whitespace at its end.
 fn subtype_of(text: &[u8]) -> &[u8]
     ensures { result.now ≡ subtype_of text.now }
 {
-    trim_http_end(before(after(text, b'/'), b';'))
+    trim_http_end(before_byte(after_byte(text, b'/'), b';'))
 }
 
-/// Where the first such byte is.
-fn find(text: &[u8], byte: u8) -> Option<usize>
-    ensures { result ≡ position (λ b. b == byte) text.now }
-{
-    text.iter().position(|b| *b == byte)
-}
-
-/// What stands before the first such byte, or all of the text.
-fn before(text: &[u8], byte: u8) -> &[u8]
-    ensures { result.now ≡ before_first (λ b. b == byte) text.now }
-{
-    match find(text, byte) {
-        Some(index) => text.split_at(index).0,
-        None => text,
-    }
-}
-
-/// What stands after the first such byte, or nothing.
-fn after(text: &[u8], byte: u8) -> &[u8]
-    ensures { result.now ≡ after_first (λ b. b == byte) text.now }
-{
-    match find(text, byte) {
-        Some(index) => text.split_at(index + 1).1,
-        None => &[],
-    }
-}
-
-/// Whether the bytes of the text in lower case are these.
+// Whether the bytes of the text in lower case are these.
 fn is_lower_case_of(lower: &[u8], text: &[u8]) -> bool
     ensures { result ≡ bytes_eq (str_to_ascii_lowercase text.now) lower.now }
 {
     lower.len() == text.len() && are_lowered(lower, text)
 }
 
+// Whether each byte of the text in lower case is that of the other; both are of one length.
 fn are_lowered(lower: &[u8], text: &[u8]) -> bool
     ensures { result ≡ list_all (λ pair. to_ascii_lowercase pair.0 == pair.1) (zip text.now lower.now) }
 {

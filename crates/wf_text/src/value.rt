@@ -4,7 +4,7 @@ ghost use Rattle.wf_text.specs.Values.{is_header_value, is_nul_or_newline};
 
 use crate::trim::trim_tab_or_space;
 
-/// Whether the text has neither NUL nor CR nor LF.
+// Whether the text has neither NUL nor CR nor LF.
 fn lacks_nul_and_newline(text: &[u8]) -> bool
     ensures { result ≡ list_all (λ byte. not (is_nul_or_newline byte)) text.now }
 {
