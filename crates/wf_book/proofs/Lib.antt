@@ -1,3 +1,4 @@
 pub mod EntryLemmas
 pub mod PastLemmas
+pub mod PastsLemmas
 pub mod SoloLemmas

@@ -1,12 +1,13 @@
 -- What a document's questions depend on: the notes of hosts, and what was learnt and cleared under its key.
-use Rattle.std.specs.Prelude.{◌≡◌, ℕ, Bool, true, false, List, filter}
+use Rattle.std.specs.Prelude.{◌≡◌, ℕ, Bool, ◌==◌, true, false, List, [], ◌∷◌, ◌++◌, filter, if◌then◌else◌}
+use Rattle.std.specs.List.{AllByRecursion}
 use Rattle.std.specs.Str.{bytes_eq}
 use Rattle.wf_book.specs.declared.book.Book.{Book}
 use Rattle.wf_book.specs.declared.entry.Entry.{Entry}
 use Rattle.wf_book.specs.declared.op.Op.{Op}
 use Rattle.wf_book.specs.declared.op.Op.TheVariants.{Match, Note, Covers, Learn, Clear}
 use Rattle.wf_book.specs.Book.{reply}
-use Rattle.wf_book.specs.Entries.{book_after}
+use Rattle.wf_book.specs.Entries.{Legal, book_after, entries_of}
 
 -- the op may change what a document of this key is told: it is a Note, or a Learn or Clear of the key
 abbrev pub may_change : List ℕ → Op → Bool
@@ -34,3 +35,29 @@ is_of_key key (Clear other origin url now) = bytes_eq other key
 abbrev pub PastReplies : Type 0
 PastReplies = (key : List ℕ) (opening : Book) (history : List Entry) (op : Op) → is_of_key key op ≡ true
     → reply (book_after opening (past key history)) op ≡ reply (book_after opening history) op
+
+-- before each entry of a document, the past of its key: of these entries, and of those before it
+abbrev pub pasts_from : ℕ → List ℕ → List Entry → List Entry → List (List Entry)
+pasts_from document key before [] = []
+pasts_from document key before (e ∷ es) =
+    if e.document == document then past key before ∷ pasts_from document key (before ++ e ∷ []) es
+    else pasts_from document key (before ++ e ∷ []) es
+
+-- the pasts of a document with this key in a history: one before each of its entries
+abbrev pub pasts_of : ℕ → List ℕ → List Entry → List (List Entry)
+pasts_of document key history = pasts_from document key [] history
+
+-- there is a past for each entry, and the opening book after it replies to the op what the entry says
+abbrev pub Answer : Book → List (List Entry) → List Entry → Type 0
+Answer opening [] [] = Unit {0}
+Answer opening [] (e ∷ es) = ⊥
+Answer opening (before ∷ pasts) [] = ⊥
+Answer opening (before ∷ pasts) (e ∷ es) =
+    (e.reply ≡ reply (book_after opening before) e.op) × Answer opening pasts es
+
+-- in a legal history the replies to a document whose ops are all of its key are those of the book after
+-- their pasts
+abbrev pub PastsAnswer : Type 0
+PastsAnswer = (opening : Book) (history : List Entry) (document : ℕ) (key : List ℕ)
+    → Legal opening history → AllByRecursion (λ e. is_of_key key e.op ≡ true) (entries_of document history)
+    → Answer opening (pasts_of document key history) (entries_of document history)

@@ -1,5 +1,5 @@
 ghost use Rattle.wf_book.specs.Entries.{GrowsByAnEntry, IsLastOfItsDocument};
-ghost use Rattle.wf_book.specs.Past.{PastReplies};
+ghost use Rattle.wf_book.specs.Past.{PastReplies, PastsAnswer};
 
 use wf_precache::{law_clears, law_lessons};
 
@@ -20,4 +20,13 @@ pub fn law_past()
 {
     law_lessons();
     law_clears();
+}
+
+/// In a history that is legal from a book, each reply to an operation of a document whose operations are all
+/// of one key is that of the book after the operation's past: the notes before it, and what was learnt and
+/// cleared under that key. So what else documents of other keys did tells it nothing.
+pub fn law_pasts()
+    ensures { PastsAnswer }
+{
+    law_past();
 }

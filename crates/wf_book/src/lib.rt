@@ -14,7 +14,7 @@ mod tests;
 pub use book::Book;
 pub use entry::Entry;
 pub use history::History;
-pub use laws::{law_grown, law_own, law_past};
+pub use laws::{law_grown, law_own, law_past, law_pasts};
 pub use op::{Op, Reply};
 pub use share::Share;
 pub use solo::{SoloBook, SoloPass};

@@ -1,5 +1,5 @@
 ghost use Rattle.std.specs.Prelude.{◌≡◌, []};
-ghost use Rattle.wf_book.specs.Entries.{AllTurnsBelow, book_after};
+ghost use Rattle.wf_book.specs.Entries.{AllTurnsBelow, Legal, book_after};
 
 use crate::book::Book;
 use crate::history::History;
@@ -50,10 +50,14 @@ impl SoloBook {
         (SoloBook, pass)
     }
 
-    /// The book and the pass's entries, which are all that it has seen. Their turn numbers are below the
-    /// number of its calls, refused ones too. It takes no memory.
+    /// The book and the pass's entries, which are all that it has seen: they are legal from the opening
+    /// book, and the book is the one after them. Their turn numbers are below the number of its calls,
+    /// refused ones too. It takes no memory.
     pub fn close(self, pass: SoloPass) -> (Book, History)
-        ensures { (result.0 ≡ book_after pass.opening pass.entries) × (result.1 ≡ pass.entries) × AllTurnsBelow pass.calls result.1 }
+        ensures book { result.0 ≡ book_after pass.opening pass.entries }
+        ensures entries { result.1 ≡ pass.entries }
+        ensures legal { Legal pass.opening result.1 }
+        ensures turns { AllTurnsBelow pass.calls result.1 }
     {
         let SoloPass {
             book,

@@ -1,6 +1,6 @@
 -- Every cache is sorted by its keys, and bounded for each.
 use Rattle.std.proofs.Common.{arith, ◌≡◌, ◌≤◌, ◌-◌, ◌++◌, ◌∷◌, [], ℕ, List, Bool, true, false, cond, not, ◌&&◌}
-use Rattle.std.proofs.Common.{length, map, filter, refl, sym, ap, ◌∙◌}
+use Rattle.std.proofs.Common.{length, map, filter, refl, sym, ap, ◌∙◌, Result, Ok, Err, OnOk, OnErr}
 use mathlib.Core.Bool.{true≢false}
 use Rattle.std.specs.declared.cmp.Ordering.{Ordering}
 use Rattle.std.specs.declared.cmp.Ordering.TheVariants.{Less, Equal, Greater}
@@ -16,8 +16,9 @@ use Rattle.wf_precache.specs.declared.entry.CacheEntry.{CacheEntry}
 use Rattle.wf_precache.specs.declared.question.Lesson.{Lesson}
 use Rattle.wf_precache.specs.Cache.{cleared, learned}
 use Rattle.wf_precache.specs.Entries.{is_alive, is_of}
-use Rattle.wf_precache.specs.Keys.{Keyed, before, behind, entries_of, keyed, stands_before, with_entries}
-use Rattle.wf_precache.specs.Laws.{AreSorted, ChangesKeepCaches}
+use Rattle.wf_precache.specs.Keys.{AreSorted, IsCache, Keyed, before, behind, entries_of, keyed, listed}
+use Rattle.wf_precache.specs.Keys.{stands_before, with_entries}
+use Rattle.wf_precache.specs.Laws.{ChangesKeepCaches}
 use Rattle.wf_precache.specs.Teaching.{created, is_known, methods_of, names_of, newest, renewed, taught, with_item}
 use Rattle.wf_precache.proofs.KeyLaws.{entries_of-cleared, entries_of-learned}
 
@@ -181,3 +182,16 @@ changes-keep-caches = record {
     bounded = cleared-bounded key origin url cache is.bounded;
   };
 }
+
+-- what a lesson leaves in a map of lists, unless memory was wanting
+pub learned-cache : {K T E : Type 0} (bytes : K → List ℕ) (r : Result T E) (lesson : Lesson) (now : ℕ)
+    (key again : List ℕ) (entries partition : List CacheEntry) (old new : List (K × List CacheEntry))
+    → IsCache (listed bytes old) → key ≡ lesson.key → again ≡ lesson.key → entries ≡ entries_of key (listed bytes old)
+    → partition ≡ taught lesson now entries
+    → OnOk r (listed bytes new ≡ with_entries again partition (listed bytes old)) → OnErr r (new ≡ old)
+    → IsCache (listed bytes new)
+learned-cache bytes (Err error) lesson now key again entries partition old new is k a e p put refused =
+    rw refused is
+learned-cache bytes (Ok answer) lesson now key again entries partition old new is k a e p put refused =
+    let whole : listed bytes new ≡ learned lesson now (listed bytes old) = rw (put, a, p, e, k) refl in
+    rw whole (changes-keep-caches.learned_is lesson now (listed bytes old) is)

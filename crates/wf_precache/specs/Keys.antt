@@ -1,5 +1,6 @@
 -- The entries of all keys as one list, in the order of the keys' bytes.
-use Rattle.std.specs.Prelude.{ℕ, Bool, List, [], ◌∷◌, ◌++◌, map, filter}
+use Rattle.std.specs.Prelude.{◌≡◌, ℕ, ◌≤◌, Bool, false, List, [], ◌∷◌, ◌++◌, length, map, filter}
+use Rattle.std.specs.List.{AllByRecursion}
 use Rattle.std.specs.Str.{bytes_eq}
 use Rattle.std.specs.Ordering.{is_lt, nat_cmp}
 use Rattle.std.specs.declared.cmp.Ordering.{Ordering}
@@ -21,6 +22,16 @@ stands_before a b = is_lt (slice_cmp nat_cmp a b)
 -- the entries of one key, in order
 abbrev pub entries_of : List ℕ → List Keyed → List CacheEntry
 entries_of key cache = map (λ k. k.entry) (filter (λ k. bytes_eq k.key key) cache)
+
+-- no key stands before an earlier one
+abbrev pub AreSorted : List Keyed → Type 0
+AreSorted [] = Unit {0}
+AreSorted (k ∷ ks) = AllByRecursion (λ other. stands_before other.key k.key ≡ false) ks × AreSorted ks
+
+-- what every cache is: sorted by the bytes of the keys, with at most 64 entries of each
+pub record IsCache (cache : List Keyed) : Type 0 where
+  pub sorted : AreSorted cache
+  pub bounded : (key : List ℕ) → length (entries_of key cache) ≤ 64
 
 -- the entries of the keys before this one, and of those behind it
 abbrev pub before : List ℕ → List Keyed → List Keyed

@@ -1,11 +1,10 @@
 -- What every cache is, and what a change of one key's entries is to the entries of any key.
-use Rattle.std.specs.Prelude.{◌≡◌, ℕ, ◌≤◌, false, not, List, [], ◌∷◌, length, filter, if◌then◌else◌}
-use Rattle.std.specs.List.{AllByRecursion}
+use Rattle.std.specs.Prelude.{◌≡◌, ℕ, not, List, [], filter, if◌then◌else◌}
 use Rattle.std.specs.Str.{bytes_eq}
 use Rattle.wf_precache.specs.declared.question.Lesson.{Lesson}
 use Rattle.wf_precache.specs.Cache.{cleared, learned}
 use Rattle.wf_precache.specs.Entries.{is_of}
-use Rattle.wf_precache.specs.Keys.{Keyed, entries_of, stands_before}
+use Rattle.wf_precache.specs.Keys.{IsCache, Keyed, entries_of}
 use Rattle.wf_precache.specs.Teaching.{taught}
 
 -- a lesson teaches the entries of its own key, and leaves those of every other key
@@ -19,16 +18,6 @@ abbrev pub ClearsKeepOtherKeys : Type 0
 ClearsKeepOtherKeys = (key other origin url : List ℕ) (cache : List Keyed)
     → entries_of key (cleared other origin url cache)
     ≡ (if bytes_eq other key then filter (λ entry. not (is_of origin url entry)) (entries_of key cache) else entries_of key cache)
-
--- no key stands before an earlier one
-abbrev pub AreSorted : List Keyed → Type 0
-AreSorted [] = Unit {0}
-AreSorted (k ∷ ks) = AllByRecursion (λ other. stands_before other.key k.key ≡ false) ks × AreSorted ks
-
--- what every cache is: sorted by the bytes of the keys, with at most 64 entries of each
-pub record IsCache (cache : List Keyed) : Type 0 where
-  pub sorted : AreSorted cache
-  pub bounded : (key : List ℕ) → length (entries_of key cache) ≤ 64
 
 -- the empty list is a cache, and so is what a lesson or a clear makes of one
 pub record ChangesKeepCaches : Type 0 where

@@ -1,7 +1,7 @@
 ghost use Rattle.std.specs.Prelude.{◌≡◌, ◌≤◌, [], length, OnOk, OnErr};
 ghost use Rattle.std.specs.BTreeMap.{IsOrdered};
 ghost use Rattle.wf_precache.specs.Cache.{cleared, covers, learned};
-ghost use Rattle.wf_precache.specs.Keys.{entries_of, key_cmp, listed, with_entries};
+ghost use Rattle.wf_precache.specs.Keys.{IsCache, entries_of, key_cmp, listed, with_entries};
 
 #[cfg(test)]
 mod tests;
@@ -25,13 +25,14 @@ pub struct Precache {
 impl Model for Precache {
     ghost use Rattle.std.specs.Prelude.{List};
     ghost use Rattle.std.specs.BTreeMap.{IsOrdered};
-    ghost use Rattle.wf_precache.specs.Keys.{Keyed, key_cmp, listed};
+    ghost use Rattle.wf_precache.specs.Keys.{IsCache, Keyed, key_cmp, listed};
 
     ghost Value = { List Keyed };
 
     ghost view = { λ cache. listed (λ key. key.items) cache.partitions.entries };
 
-    ghost invariant = { λ cache. IsOrdered (key_cmp (λ key. key.items)) cache.partitions };
+    ghost invariant = { λ cache. IsOrdered (key_cmp (λ key. key.items)) cache.partitions
+        × IsCache (listed (λ key. key.items) cache.partitions.entries) };
 }
 
 // The entries of a key.
@@ -92,7 +93,8 @@ fn drop_empty(partitions: &mut BTreeMap<Vec<u8>, Partition>, key: &[u8])
 impl Precache {
     /// The empty cache. It takes no memory.
     pub fn new(alloc: Global) -> Precache
-        ensures { result ≡ [] }
+        ensures empty { result ≡ [] }
+        ensures cache { IsCache result }
     {
         Precache {
             alloc,
@@ -103,7 +105,8 @@ impl Precache {
     /// Whether the method, if the question has one, and each of its header names are matched by an
     /// entry that is alive now, in seconds. It takes no memory.
     pub fn covers(&self, question: &Question, now: u64) -> bool
-        ensures { result ≡ covers question.now now self.now }
+        ensures covers { result ≡ covers question.now now self.now }
+        ensures cache { IsCache self.now }
     {
         covers(
             entries_of(&self.partitions, question.key.as_slice()),
@@ -119,6 +122,7 @@ impl Precache {
     pub fn learn(&mut self, lesson: &Lesson, now: u64) -> Result<(), OutOfMemory>
         ensures ok { OnOk result (self.new ≡ learned lesson.now now self.old) }
         ensures err { OnErr result (self.new ≡ self.old) }
+        ensures cache { IsCache self.new }
     {
         let entries = entries_of(&self.partitions, lesson.key.as_slice());
         let partition = Partition::taught(self.alloc, entries, lesson, now)?;
@@ -132,7 +136,8 @@ impl Precache {
 
     /// "clear cache entries": takes out the entries of a key, an origin and a URL. It takes no memory.
     pub fn clear(&mut self, key: &[u8], origin: &[u8], url: &[u8])
-        ensures { self.new ≡ cleared key.now origin.now url.now self.old }
+        ensures cleared { self.new ≡ cleared key.now origin.now url.now self.old }
+        ensures cache { IsCache self.new }
     {
         clear_in(&mut self.partitions, key, origin, url);
         drop_empty(&mut self.partitions, key);
