@@ -1,44 +1,44 @@
 -- The first piece of a text, and the others.
-use Rattle.std.proofs.Common.{◌≡◌, ◌≤◌, ◌+◌, ℕ, List, [], ◌∷◌, length, take, drop, Option, Some, None, refl, ap, sym}
+use Rattle.std.proofs.Common.{◌≡◌, ◌≤◌, ◌+◌, ℕ, suc, Bool, true, false, if◌then◌else◌, List, [], ◌∷◌, length, take, drop, Option, Some, None, refl, ap, sym}
 use Rattle.std.proofs.Common.{◌∙◌, arith, append_assoc, append-nil, ◌<◌, ◌-◌}
 use Rattle.std.proofs.lemmas.List.{take_rest}
-use Rattle.wf_hsts.specs.Reading.{directives_in, directives_of, next_place, one_more, piece_end, piece_in, pieces}
-use Rattle.wf_hsts.specs.Reading.{pieces_from, with_front, with_more}
+use Rattle.wf_hsts.specs.Private.Pieces.{piece_end}
+use Rattle.wf_hsts.specs.Reading.{cuts, directives_in, directives_of, next_place, piece_in, pieces, with_front}
+use Rattle.wf_hsts.specs.Reading.{with_more}
 use Rattle.wf_hsts.specs.declared.directives.Directive.{Directive}
 use Rattle.wf_hsts.specs.declared.pieces.Place.{Place}
 use Rattle.wf_hsts.specs.declared.pieces.Place.TheVariants.{Outside}
 
-end-within : (n : ℕ) (next : Option Place) (end : Place → ℕ) → ((place : Place) → end place ≤ n)
-    → one_more next end ≤ n + 1
-end-within n None end h = omega arith
-end-within n (Some next) end h = omega (arith, h next)
+end-within : (cut : Bool) (n end : ℕ) → end ≤ n → (if cut then 0 else suc end) ≤ n + 1
+end-within true n end h = omega arith
+end-within false n end h = omega (arith, h)
 
 -- the first piece ends within the text
 pub piece_end-within : (place : Place) (text : List ℕ) → piece_end place text ≤ length text
 piece_end-within place [] = omega arith
 piece_end-within place (byte ∷ text) =
-    omega (arith, end-within (length text) (next_place place byte) (λ next. piece_end next text)
-    (λ next. piece_end-within next text))
+    omega (arith, end-within (cuts place byte) (length text) (piece_end (next_place place byte) text)
+    (piece_end-within (next_place place byte) text))
 
 -- the pieces behind the first one
 abbrev pub pieces_behind : List ℕ → List (List ℕ)
 pieces_behind [] = []
 pieces_behind (semicolon ∷ text) = pieces Outside text
 
-cut-there : (byte : ℕ) (text : List ℕ) (next : Option Place)
-    → ((place : Place) → pieces place text ≡ take (piece_end place text) text
-        ∷ pieces_behind (drop (piece_end place text) text))
-    → pieces_from byte next (λ place. pieces place text)
-    ≡ take (one_more next (λ place. piece_end place text)) (byte ∷ text)
-        ∷ pieces_behind (drop (one_more next (λ place. piece_end place text)) (byte ∷ text))
-cut-there byte text None h = refl
-cut-there byte text (Some next) h = ap (with_front byte) (h next)
+cut-there : (cut : Bool) (byte : ℕ) (text : List ℕ) (end : ℕ) (ps : List (List ℕ))
+    → ps ≡ take end text ∷ pieces_behind (drop end text)
+    → (if cut then [] ∷ pieces Outside text else with_front byte ps)
+    ≡ take (if cut then 0 else suc end) (byte ∷ text) ∷ pieces_behind (drop (if cut then 0 else suc end) (byte ∷ text))
+cut-there true byte text end ps h = refl
+cut-there false byte text end ps h = ap (with_front byte) h
 
 -- the pieces are the first one, and the ones behind its semicolon
 pub pieces-cut : (place : Place) (text : List ℕ) → pieces place text ≡ take (piece_end place text) text
     ∷ pieces_behind (drop (piece_end place text) text)
 pieces-cut place [] = refl
-pieces-cut place (byte ∷ text) = cut-there byte text (next_place place byte) (λ next. pieces-cut next text)
+pieces-cut place (byte ∷ text) =
+    cut-there (cuts place byte) byte text (piece_end (next_place place byte) text)
+    (pieces (next_place place byte) text) (pieces-cut (next_place place byte) text)
 
 -- directives put together
 pub with_more-nothing : (found : Option (List Directive)) → with_more found (Some []) ≡ found

@@ -1,6 +1,7 @@
 -- A field: the grammar and its reading agree.
 use Rattle.std.proofs.Common.{◌≡◌, ◌==◌, ◌&&◌, not, ℕ, Bool, true, false, List, [], ◌∷◌, ◌++◌, length, Option, Some}
-use Rattle.std.proofs.Common.{None, option_map, refl, ap, sym, subst, ◌∙◌, if◌then◌else◌, append_assoc, append-nil}
+use Rattle.std.proofs.Common.{None, cond, option_map, refl, ap, sym, subst, ◌∙◌, if◌then◌else◌}
+use Rattle.std.proofs.Common.{append_assoc, append-nil}
 use Rattle.std.proofs.lemmas.Bool.{eqb-true}
 use Rattle.std.proofs.lemmas.List.Folds.{list_all-append}
 use Rattle.std.specs.Cmp.{first_so, second_so}
@@ -9,7 +10,7 @@ use Rattle.wf_text.specs.Tokens.{is_tchar, is_token}
 use Rattle.wf_text.specs.Trims.{tab_or_space, trimmed}
 use Rattle.wf_hsts.specs.Grammar.{IsBlank, IsDirective, IsField, IsPadded, IsPiece, IsQuoted, IsValue, is_blank}
 use Rattle.wf_hsts.specs.Reading.{behind_equals, directive, directive_from, directive_in, directive_with}
-use Rattle.wf_hsts.specs.Reading.{directives_in, directives_of, next_place, piece_in, pieces, pieces_from, value_in}
+use Rattle.wf_hsts.specs.Reading.{cuts, directives_in, directives_of, next_place, piece_in, pieces, value_in}
 use Rattle.wf_hsts.specs.Reading.{with_front, with_more}
 use Rattle.wf_hsts.specs.declared.directives.Directive.{Directive}
 use Rattle.wf_hsts.specs.declared.pieces.Place.{Place}
@@ -148,7 +149,7 @@ passes-both a b p q = record {
       ∙ sym (onto-append a b (pieces Outside rest));
 }
 
-plain-next : (byte : ℕ) → is_plain byte ≡ true → next_place Outside byte ≡ Some Outside
+plain-next : (byte : ℕ) → is_plain byte ≡ true → (cuts Outside byte ≡ false) × (next_place Outside byte ≡ Outside)
 plain-next byte plain =
     let quote : (byte == 34) ≡ false = unequal byte 34 (λ same.
     let there : is_plain 34 ≡ true = subst (λ b. is_plain b ≡ true) same plain in
@@ -156,14 +157,21 @@ plain-next byte plain =
     let semicolon : (byte == 59) ≡ false = unequal byte 59 (λ same.
     let there : is_plain 59 ≡ true = subst (λ b. is_plain b ≡ true) same plain in
     cc) in
-    rw (semicolon, quote) refl
+    (semicolon, rw quote refl)
+
+-- a byte that cuts nothing is the next one of the first piece
+goes-on : (place next : Place) (byte : ℕ) (text : List ℕ) → cuts place byte ≡ false → next_place place byte ≡ next
+    → pieces place (byte ∷ text) ≡ with_front byte (pieces next text)
+goes-on place next byte text cut behind =
+    ap (λ (c : Bool). cond c ([] ∷ pieces Outside text) (with_front byte (pieces (next_place place byte) text))) cut
+    ∙ ap (λ (p : Place). with_front byte (pieces p text)) behind
 
 plain-over : (text rest : List ℕ) → list_all is_plain text ≡ true → pieces Outside (text ++ rest)
     ≡ onto text (pieces Outside rest)
 plain-over [] rest plain = refl
 plain-over (byte ∷ text) rest plain =
-    ap (λ next. pieces_from byte next (λ place. pieces place (text ++ rest)))
-        (plain-next byte (first_so (is_plain byte) (list_all is_plain text) plain))
+    let next = plain-next byte (first_so (is_plain byte) (list_all is_plain text) plain) in
+    goes-on Outside Outside byte (text ++ rest) next.0 next.1
     ∙ ap (with_front byte) (plain-over text rest (second_so (is_plain byte) (list_all is_plain text) plain))
 
 plain-passes : (text : List ℕ) → list_all is_plain text ≡ true → Passes text
@@ -176,8 +184,7 @@ quoted-over : (written value : List ℕ) → IsQuoted written value → (rest : 
     ≡ onto written (pieces Outside rest)
 quoted-over _ _ IsQuoted.closed rest = refl
 quoted-over _ _ (IsQuoted.plain byte written value quote backslash q) rest =
-    let next : next_place Quoted byte ≡ Some Quoted = rw (unequal byte 34 quote, unequal byte 92 backslash) refl in
-    ap (λ n. pieces_from byte n (λ place. pieces place (written ++ rest))) next
+    goes-on Quoted Quoted byte (written ++ rest) refl (rw (unequal byte 34 quote, unequal byte 92 backslash) refl)
         ∙ ap (with_front byte) (quoted-over written value q rest)
 quoted-over _ _ (IsQuoted.escaped byte written value q) rest =
     ap (λ ps. with_front 92 (with_front byte ps)) (quoted-over written value q rest)
@@ -341,38 +348,28 @@ joined-front byte [] = refl
 joined-front byte (piece ∷ []) = refl
 joined-front byte (piece ∷ next ∷ ps) = refl
 
-none-semicolon-by : (byte : ℕ) (semicolon quote : Bool) → (byte == 59) ≡ semicolon
-    → (if semicolon then None else if quote then Some Quoted else Some Outside) ≡ None → byte ≡ 59
-none-semicolon-by byte true quote same e = eqb-true byte 59 same
-none-semicolon-by byte false true same e = cc
-none-semicolon-by byte false false same e = cc
-
-quoted-goes-on : (quote backslash : Bool)
-    → (if quote then Some Outside else if backslash then Some Escaped else Some Quoted) ≡ None → ⊥
-quoted-goes-on true backslash e = absurd (cc)
-quoted-goes-on false true e = absurd (cc)
-quoted-goes-on false false e = absurd (cc)
-
-none-semicolon : (place : Place) (byte : ℕ) → next_place place byte ≡ None → byte ≡ 59
-none-semicolon Outside byte e = none-semicolon-by byte (byte == 59) (byte == 34) refl e
-none-semicolon Quoted byte e = absurd (quoted-goes-on (byte == 34) (byte == 92) e)
-none-semicolon Escaped byte e = cc
+cut-semicolon : (place : Place) (byte : ℕ) → cuts place byte ≡ true → byte ≡ 59
+cut-semicolon Outside byte e = eqb-true byte 59 e
+cut-semicolon Quoted byte e = absurd (cc)
+cut-semicolon Escaped byte e = absurd (cc)
 
 joined-next : (ps : List (List ℕ)) (piece : List ℕ) (others : List (List ℕ)) → ps ≡ piece ∷ others → joined ([] ∷ ps)
     ≡ 59 ∷ joined ps
 joined-next ps piece others e = rw e refl
 
-joined-by : (place : Place) (byte : ℕ) (text : List ℕ) (next : Option Place) → next_place place byte ≡ next
-    → ((p : Place) → joined (pieces p text) ≡ text) → joined (pieces_from byte next (λ p. pieces p text)) ≡ byte ∷ text
-joined-by place byte text None e h =
-    let semicolon : byte ≡ 59 = none-semicolon place byte e in
+joined-by : (place : Place) (byte : ℕ) (text : List ℕ) (cut : Bool) → cuts place byte ≡ cut
+    → ((p : Place) → joined (pieces p text) ≡ text)
+    → joined (if cut then [] ∷ pieces Outside text else with_front byte (pieces (next_place place byte) text))
+    ≡ byte ∷ text
+joined-by place byte text true e h =
     joined-next (pieces Outside text) _ _ (pieces-cut Outside text) ∙ ap (λ l. 59 ∷ l) (h Outside)
-        ∙ ap (λ b. b ∷ text) (sym semicolon)
-joined-by place byte text (Some next) e h = joined-front byte (pieces next text) ∙ ap (λ l. byte ∷ l) (h next)
+        ∙ ap (λ b. b ∷ text) (sym (cut-semicolon place byte e))
+joined-by place byte text false e h =
+    joined-front byte (pieces (next_place place byte) text) ∙ ap (λ l. byte ∷ l) (h (next_place place byte))
 
 pieces-joined : (place : Place) (text : List ℕ) → joined (pieces place text) ≡ text
 pieces-joined place [] = refl
-pieces-joined place (byte ∷ text) = joined-by place byte text (next_place place byte) refl (λ p. pieces-joined p text)
+pieces-joined place (byte ∷ text) = joined-by place byte text (cuts place byte) refl (λ p. pieces-joined p text)
 
 record BothRead (first others : Option (List Directive)) (found : List Directive) : Type 0 where
   a : List Directive

@@ -8,7 +8,7 @@ use Rattle.std.specs.Str.{bytes_eq}
 use Rattle.std.specs.declared.cmp.Ordering.{Ordering}
 use Rattle.std.specs.declared.cmp.Ordering.TheVariants.{Equal, Greater, Less}
 use Rattle.wf_hsts.specs.Hosts.{AreSorted, Each, ends_before, holds, text_cmp, without, without_first_to_end}
-use Rattle.wf_hsts.specs.Terms.{term_in}
+use Rattle.wf_hsts.specs.Private.Terms.{term_in}
 use Rattle.wf_hsts.specs.declared.hosts.KnownHost.{KnownHost}
 use Rattle.wf_hsts.specs.declared.index.Term.{Term}
 use Rattle.wf_hsts.proofs.OrderLemmas.{bytes-equal, bytes-flip, bytes-order, bytes-self, flipped, less-apart}

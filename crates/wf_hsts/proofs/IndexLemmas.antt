@@ -12,8 +12,8 @@ use Rattle.std.specs.Ordering.{is_eq, is_gt, match_ordering, nat_cmp, ordering_t
 use Rattle.std.specs.declared.cmp.Ordering.{Ordering}
 use Rattle.std.specs.declared.cmp.Ordering.TheVariants.{Equal, Greater, Less}
 use Rattle.wf_hsts.specs.Hosts.{AreSorted, Each, holds, text_cmp, with_host, without, without_first_to_end}
-use Rattle.wf_hsts.specs.Index.{end_cmp, ends_at, known_of, listed, name_cmp, term_of}
-use Rattle.wf_hsts.specs.Terms.{term_in}
+use Rattle.wf_hsts.specs.Private.Index.{end_cmp, ends_at, known_of, listed, name_cmp, term_of}
+use Rattle.wf_hsts.specs.Private.Terms.{term_in}
 use Rattle.wf_hsts.specs.declared.hosts.KnownHost.{KnownHost}
 use Rattle.wf_hsts.specs.declared.index.Term.{Term}
 use Rattle.wf_hsts.proofs.FirstLemmas.{each-term, end_order, first-goes, term-holds}

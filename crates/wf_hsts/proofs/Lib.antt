@@ -5,6 +5,7 @@ pub mod EqualsLemmas
 pub mod FieldLemmas
 pub mod FirstLemmas
 pub mod IndexLemmas
+pub mod KeptLemmas
 pub mod NameLemmas
 pub mod NotedLemmas
 pub mod OrderLemmas

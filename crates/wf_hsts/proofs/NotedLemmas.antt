@@ -8,11 +8,12 @@ use Rattle.std.specs.Ordering.{is_eq, is_gt, is_lt}
 use Rattle.std.specs.Str.{bytes_eq}
 use Rattle.std.specs.declared.cmp.Ordering.{Ordering}
 use Rattle.std.specs.declared.cmp.Ordering.TheVariants.{Equal, Greater, Less}
-use Rattle.wf_hsts.specs.Hosts.{holds, known_host, noted, text_cmp, with_host, with_room, without, without_first_to_end}
-use Rattle.wf_hsts.specs.Terms.{IsLeaving, term_in}
+use Rattle.wf_hsts.specs.Hosts.{AreHosts, holds, known_host, noted, text_cmp, with_host, with_room, without, without_first_to_end}
+use Rattle.wf_hsts.specs.Private.Terms.{IsLeaving, term_in}
 use Rattle.wf_hsts.specs.declared.hosts.KnownHost.{KnownHost}
 use Rattle.wf_hsts.specs.declared.index.Term.{Term}
 use Rattle.wf_hsts.specs.declared.sts.Sts.{Sts}
+use Rattle.wf_hsts.proofs.KeptLemmas.{sorted-kept, sorted-with}
 use Rattle.wf_hsts.proofs.FirstLemmas.{term-holds}
 use Rattle.wf_hsts.proofs.OrderLemmas.{bytes-equal, bytes-order}
 use Rattle.wf_hsts.proofs.QuotedLemmas.{unequal}
@@ -243,22 +244,45 @@ kept-few host subdomains until hosts room =
 
 -- ---- the same of a host that is put in, and of one that is taken out then
 
--- with room
-pub put-kept : (host : List ℕ) (sts : Sts) (now : ℕ) (hosts new : List KnownHost) → (sts.age ≡ 0 → ⊥)
-    → IsLeaving None host hosts
-    → new ≡ with_host (known_host host sts.subdomains (now + sts.age)) hosts
-    → (new ≡ noted host sts now hosts) × (length new ≤ 4096)
-put-kept host sts now hosts new aged_some room e =
-    (e ∙ sym (noted-kept host sts now hosts (unequal sts.age 0 aged_some) room),
-        subst (λ l. length l ≤ 4096) (sym e) (kept-few host sts.subdomains (now + sts.age) hosts room))
+pub hosts-without : (host : List ℕ) (hosts : List KnownHost) → AreHosts hosts → AreHosts (without host hosts)
+hosts-without host hosts are = record {
+  sorted = sorted-kept (λ known. not (bytes_eq known.host host)) hosts are.sorted;
+  few = omega (arith, without-length host hosts, are.few);
+}
 
--- and without
-pub put-left : (host name : List ℕ) (sts : Sts) (now : ℕ) (hosts put new : List KnownHost) → (sts.age ≡ 0 → ⊥)
-    → length hosts ≤ 4096 → IsLeaving (Some name) host hosts
-    → put ≡ with_host (known_host host sts.subdomains (now + sts.age)) hosts → new ≡ without name put
-    → (new ≡ noted host sts now hosts) × (length new ≤ 4096)
-put-left host name sts now hosts put new aged_some few leaving e f =
-    let left = noted-left host name sts now hosts (unequal sts.age 0 aged_some) few leaving.0 leaving.1 leaving.2 in
-    let same : new ≡ without name (with_host (known_host host sts.subdomains (now + sts.age)) hosts) = f
-        ∙ ap (without name) e in
-    (same ∙ sym left.0, subst (λ l. length l ≤ 4096) (sym same) left.1)
+-- with room; again and moved are the host as a call has it, and leaving what is told of the host that goes
+pub put-kept : (host again moved : List ℕ) (leaving : Option (List ℕ)) (sts : Sts) (now : ℕ)
+    (hosts new : List KnownHost) → (sts.age ≡ 0 → ⊥) → AreHosts hosts → again ≡ host → moved ≡ host
+    → leaving ≡ None → IsLeaving leaving again hosts
+    → new ≡ with_host (known_host moved sts.subdomains (now + sts.age)) hosts
+    → (new ≡ noted host sts now hosts) × AreHosts new
+put-kept host again moved leaving sts now hosts new aged_some are a m none told put =
+    let new_host = known_host host sts.subdomains (now + sts.age) in
+    let room : IsLeaving None host hosts =
+        subst (λ h. IsLeaving None h hosts) a (subst (λ l. IsLeaving l again hosts) none told) in
+    let e : new ≡ with_host new_host hosts = put ∙ ap (λ h. with_host (known_host h sts.subdomains (now + sts.age))
+        hosts) m in
+    (e ∙ sym (noted-kept host sts now hosts (unequal sts.age 0 aged_some) room), subst AreHosts (sym e) (record {
+      sorted = sorted-with new_host hosts are.sorted;
+      few = kept-few host sts.subdomains (now + sts.age) hosts room;
+    }))
+
+-- and without; gone is the name as a call has it
+pub put-left : (host again moved name gone : List ℕ) (leaving : Option (List ℕ)) (sts : Sts) (now : ℕ)
+    (hosts put new : List KnownHost) → (sts.age ≡ 0 → ⊥) → AreHosts hosts → again ≡ host → moved ≡ host
+    → gone ≡ name → leaving ≡ Some name → IsLeaving leaving again hosts
+    → put ≡ with_host (known_host moved sts.subdomains (now + sts.age)) hosts → new ≡ without gone put
+    → (new ≡ noted host sts now hosts) × AreHosts new
+put-left host again moved name gone leaving sts now hosts put new aged_some are a m g some told e f =
+    let new_host = known_host host sts.subdomains (now + sts.age) in
+    let going : IsLeaving (Some name) host hosts =
+        subst (λ h. IsLeaving (Some name) h hosts) a (subst (λ l. IsLeaving l again hosts) some told) in
+    let left = noted-left host name sts now hosts (unequal sts.age 0 aged_some) are.few going.0 going.1 going.2 in
+    let same : new ≡ without name (with_host new_host hosts) =
+        f ∙ ap (λ n. without n put) g
+        ∙ ap (without name) (e ∙ ap (λ h. with_host (known_host h sts.subdomains (now + sts.age)) hosts) m) in
+    (same ∙ sym left.0, subst AreHosts (sym same) (record {
+      sorted = sorted-kept (λ known. not (bytes_eq known.host name)) (with_host new_host hosts)
+          (sorted-with new_host hosts are.sorted);
+      few = left.1;
+    }))

@@ -7,7 +7,7 @@ use Rattle.std.specs.Str.{bytes_eq}
 use Rattle.std.specs.declared.cmp.Ordering.{Ordering}
 use Rattle.std.specs.declared.cmp.Ordering.TheVariants.{Equal, Greater, Less}
 use Rattle.wf_hsts.specs.Hosts.{AreSorted, Each, text_cmp, with_host, without}
-use Rattle.wf_hsts.specs.Terms.{passes, term_in}
+use Rattle.wf_hsts.specs.Private.Terms.{passes, term_in}
 use Rattle.wf_hsts.specs.declared.hosts.KnownHost.{KnownHost}
 use Rattle.wf_hsts.specs.declared.index.Term.{Term}
 use Rattle.wf_hsts.proofs.OrderLemmas.{bytes-equal, chained, flipped, less-apart-back, text-equal}

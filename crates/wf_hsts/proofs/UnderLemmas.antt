@@ -8,7 +8,7 @@ use Rattle.std.specs.List.{ends_with, list_any}
 use Rattle.std.specs.Str.{bytes_eq}
 use Rattle.wf_hsts.specs.Hosts.{matches_host}
 use Rattle.wf_hsts.proofs.IndexLemmas.{eq-flip}
-use Rattle.wf_hsts.specs.Terms.{begins_under, covers, is_under}
+use Rattle.wf_hsts.specs.Private.Terms.{begins_under, covers, is_under}
 use Rattle.wf_hsts.specs.declared.hosts.KnownHost.{KnownHost}
 
 drop-nothing : (n : ℕ) → drop n (let none : List ℕ = [] in none) ≡ []

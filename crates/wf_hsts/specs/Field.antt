@@ -1,5 +1,6 @@
 -- What a Strict-Transport-Security field says (RFC 6797, sections 6.1, 6.1.1 and 6.1.2).
-use Rattle.std.specs.Prelude.{◌≡◌, ℕ, ◌||◌, Bool, true, false, List, [], ◌∷◌, Option, Some, None, codes}
+use Rattle.std.specs.Prelude.{◌≡◌, ℕ, ◌||◌, Bool, true, false, List, [], ◌∷◌, codes, if◌then◌else◌}
+use Rattle.std.specs.Prelude.{Option, Some, None, is_none, option_and_then, option_map}
 use Rattle.std.specs.List.{find, list_any}
 use Rattle.std.specs.Str.{bytes_eq}
 use Rattle.wf_text.specs.Digits.{capped_digits}
@@ -10,46 +11,36 @@ use Rattle.wf_hsts.specs.declared.sts.Sts.{Sts}
 -- a name stands twice; names are in lower case here
 abbrev pub has_twice : List Directive → Bool
 has_twice [] = false
-has_twice (directive ∷ directives) = list_any (λ other. bytes_eq directive.name other.name) directives || has_twice directives
+has_twice (directive ∷ directives) =
+    list_any (λ other. bytes_eq directive.name other.name) directives || has_twice directives
 
 -- the directive of a name
 abbrev pub named : List ℕ → List Directive → Option Directive
 named name directives = find (λ directive. bytes_eq directive.name name) directives
 
--- the seconds that max-age's value writes, at most 4,294,967,295
-abbrev pub seconds : Option (List ℕ) → Option ℕ
-seconds None = None
-seconds (Some digits) = capped_digits digits 4294967295
+-- the greatest max-age in seconds: a greater one counts as this (profile)
+abbrev pub greatest_age : ℕ
+greatest_age = 4294967295
 
--- those of the directive max-age, which has to be there
-abbrev pub max_age_in : Option Directive → Option ℕ
-max_age_in None = None
-max_age_in (Some directive) = seconds directive.value
-
+-- the seconds that the value of max-age writes in digits; it has to be there and to have a value
 abbrev pub max_age : List Directive → Option ℕ
-max_age directives = max_age_in (named (codes "max-age") directives)
+max_age directives =
+    option_and_then (λ digits. capped_digits digits greatest_age)
+    (option_and_then (λ directive. directive.value) (named (codes "max-age") directives))
 
--- includeSubDomains is there or not, and has no value
-abbrev pub has_no_value : Option (List ℕ) → Option Bool
-has_no_value None = Some true
-has_no_value (Some value) = None
-
-abbrev pub include_subdomains_in : Option Directive → Option Bool
-include_subdomains_in None = Some false
-include_subdomains_in (Some directive) = has_no_value directive.value
+-- whether includeSubDomains is there; it must not have a value
+abbrev pub is_flag : Option Directive → Option Bool
+is_flag None = Some false
+is_flag (Some directive) = if is_none directive.value then Some true else None
 
 abbrev pub include_subdomains : List Directive → Option Bool
-include_subdomains directives = include_subdomains_in (named (codes "includesubdomains") directives)
+include_subdomains directives = is_flag (named (codes "includesubdomains") directives)
 
--- the age and the flag, where both are there
-abbrev pub both : Option ℕ → Option Bool → Option Sts
-both None flag = None
-both (Some age) None = None
-both (Some age) (Some subdomains) = Some (record { age = age; subdomains = subdomains })
-
--- what directives say; the others are ignored
+-- what directives say, if it is both an age and a flag; the others are ignored
 abbrev pub sts_of : List Directive → Option Sts
-sts_of directives = both (max_age directives) (include_subdomains directives)
+sts_of directives =
+    option_and_then (λ age. option_map (λ subdomains. record { age = age; subdomains = subdomains })
+    (include_subdomains directives)) (max_age directives)
 
 -- the value of a field that says this: directives by the grammar, no name twice, that say it
 pub record IsSts (value : List ℕ) (sts : Sts) : Type 0 where

@@ -2,6 +2,7 @@
 use Rattle.std.specs.Prelude.{◌≡◌, ℕ, Bool, ◌==◌, List, [], ◌∷◌, ◌++◌, Some, None, IsTrue}
 use Rattle.std.specs.List.{list_all, list_any}
 use Rattle.std.specs.Str.{str_to_ascii_lowercase}
+use Rattle.wf_text.specs.Ascii.{backslash, equals_sign, quotation_mark, semicolon}
 use Rattle.wf_text.specs.Tokens.{is_token}
 use Rattle.wf_text.specs.Trims.{tab_or_space}
 use Rattle.wf_hsts.specs.declared.directives.Directive.{Directive}
@@ -25,22 +26,25 @@ pub record IsPadded (inner text : List ℕ) : Type 0 where
 -- what is written of a quoted-string behind its first quote, and its value: a backslash takes the next
 -- byte with it, and the first other quote is the last byte (RFC 9110, section 5.6.4)
 pub data IsQuoted : List ℕ → List ℕ → Type 0 where
-  closed : IsQuoted (34 ∷ []) []
-  plain : (byte : ℕ) (written value : List ℕ) → (byte ≡ 34 → ⊥) → (byte ≡ 92 → ⊥) → IsQuoted written value → IsQuoted (byte ∷ written) (byte ∷ value)
-  escaped : (byte : ℕ) (written value : List ℕ) → IsQuoted written value → IsQuoted (92 ∷ byte ∷ written) (byte ∷ value)
+  closed : IsQuoted (quotation_mark ∷ []) []
+  plain : (byte : ℕ) (written value : List ℕ) → (byte ≡ quotation_mark → ⊥) → (byte ≡ backslash → ⊥)
+      → IsQuoted written value → IsQuoted (byte ∷ written) (byte ∷ value)
+  escaped : (byte : ℕ) (written value : List ℕ) → IsQuoted written value
+      → IsQuoted (backslash ∷ byte ∷ written) (byte ∷ value)
 
 -- directive-value: a token, which is its own value, or a quoted-string
 pub data IsValue : List ℕ → List ℕ → Type 0 where
   token : (text : List ℕ) → IsTrue (is_token text) → IsValue text text
-  quoted : (written value : List ℕ) → IsQuoted written value → IsValue (34 ∷ written) value
+  quoted : (written value : List ℕ) → IsQuoted written value → IsValue (quotation_mark ∷ written) value
 
 -- directive: a name, which is a token, or a name, "=" and a value; it is seen with its name in lower
 -- case, since names compare in any case
 pub data IsDirective : List ℕ → Directive → Type 0 where
   bare : (name text : List ℕ) → IsTrue (is_token name) → IsPadded name text
       → IsDirective text (record { name = str_to_ascii_lowercase name; value = None })
-  valued : (name left written right value : List ℕ) → IsTrue (is_token name) → IsPadded name left → IsValue written value → IsPadded written right
-      → IsDirective (left ++ 61 ∷ right) (record { name = str_to_ascii_lowercase name; value = Some value })
+  valued : (name left written right value : List ℕ) → IsTrue (is_token name) → IsPadded name left
+      → IsValue written value → IsPadded written right
+      → IsDirective (left ++ equals_sign ∷ right) (record { name = str_to_ascii_lowercase name; value = Some value })
 
 -- [ directive ]
 pub data IsPiece : List ℕ → List Directive → Type 0 where
@@ -51,4 +55,4 @@ pub data IsPiece : List ℕ → List Directive → Type 0 where
 pub data IsField : List ℕ → List Directive → Type 0 where
   last : (text : List ℕ) (directives : List Directive) → IsPiece text directives → IsField text directives
   more : (piece rest : List ℕ) (directives others : List Directive) → IsPiece piece directives → IsField rest others
-      → IsField (piece ++ 59 ∷ rest) (directives ++ others)
+      → IsField (piece ++ semicolon ∷ rest) (directives ++ others)

@@ -1,12 +1,14 @@
 -- Known HSTS hosts (RFC 6797, sections 6.1.1, 8.1, 8.1.1 and 8.2): which names are known, and what a
 -- Strict-Transport-Security field changes. A list of them is sorted by the bytes of the host.
-use Rattle.std.specs.Prelude.{◌≡◌, ℕ, ◌+◌, ◌≤◌, ◌==◌, ◌||◌, ◌&&◌, not, Bool, List, [], ◌∷◌, ◌++◌, length, nat_eq, nat_lt, filter, if◌then◌else◌}
+use Rattle.std.specs.Prelude.{◌≡◌, ℕ, ◌+◌, ◌≤◌, ◌==◌, ◌||◌, ◌&&◌, not, Bool, List, [], ◌∷◌, ◌++◌, length}
+use Rattle.std.specs.Prelude.{nat_eq, nat_lt, filter, if◌then◌else◌}
 use Rattle.std.specs.Cmp.Lexicographic.{slice_cmp}
 use Rattle.std.specs.List.{ends_with, list_any}
 use Rattle.std.specs.declared.cmp.Ordering.{Ordering}
 use Rattle.std.specs.declared.cmp.Ordering.TheVariants.{Less}
 use Rattle.std.specs.Ordering.{is_gt, is_lt, nat_cmp, ordering_then}
 use Rattle.std.specs.Str.{bytes_eq}
+use Rattle.wf_text.specs.Ascii.{dot}
 use Rattle.wf_hsts.specs.declared.hosts.KnownHost.{KnownHost}
 use Rattle.wf_hsts.specs.declared.sts.Sts.{Sts}
 
@@ -34,7 +36,8 @@ known_host host subdomains until = record { host = host; subdomains = subdomains
 
 -- a name that a known host stands for: the host's own, or with subdomains one that ends in a dot and it
 abbrev pub stands_for : List ℕ → KnownHost → Bool
-stands_for name known = bytes_eq known.host name || (known.subdomains && ends_with nat_eq name (46 ∷ known.host))
+stands_for name known =
+    bytes_eq known.host name || (known.subdomains && ends_with nat_eq name (dot ∷ known.host))
 
 -- a name is known at a time where a host stands for it whose term has not ended
 abbrev pub matches_host : List KnownHost → List ℕ → ℕ → Bool
@@ -51,7 +54,8 @@ without host hosts = filter (λ known. not (bytes_eq known.host host)) hosts
 -- the hosts that come before this one, it, and those that come behind it
 abbrev pub with_host : KnownHost → List KnownHost → List KnownHost
 with_host new hosts =
-    filter (λ known. is_lt (text_cmp known.host new.host)) hosts ++ (new ∷ filter (λ known. is_gt (text_cmp known.host new.host)) hosts)
+    filter (λ known. is_lt (text_cmp known.host new.host)) hosts
+    ++ (new ∷ filter (λ known. is_gt (text_cmp known.host new.host)) hosts)
 
 -- a host's term ends before another's, or at the same time and its bytes come first
 abbrev pub ends_before : KnownHost → KnownHost → Bool

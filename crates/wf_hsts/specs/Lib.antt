@@ -1,6 +1,5 @@
 pub mod Field
 pub mod Grammar
 pub mod Hosts
-pub mod Index
+pub mod Private
 pub mod Reading
-pub mod Terms

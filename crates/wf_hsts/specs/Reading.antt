@@ -1,71 +1,68 @@
--- How a field is read: it is cut at the semicolons outside quoted strings, and each piece is read. That
--- this comes to the grammar is proved in proofs/StsLemmas.antt.
-use Rattle.std.specs.Prelude.{ℕ, ◌==◌, ◌+◌, suc, List, [], ◌∷◌, ◌++◌, length, drop, Option, Some, None, option_map, if◌then◌else◌}
+-- What the value of a Strict-Transport-Security field says, read from front to back (RFC 6797, section
+-- 6.1): it is cut at its semicolons, and each piece is a directive or blank. That this is what the grammar
+-- says is a law.
+use Rattle.std.specs.Prelude.{◌≡◌, ◌↔◌, ℕ, ◌+◌, ◌≤◌, ◌==◌, Bool, false, List, [], ◌∷◌, ◌++◌, length, drop}
+use Rattle.std.specs.Prelude.{Option, Some, None, option_and_then, option_map, if◌then◌else◌}
 use Rattle.std.specs.List.{before_first, list_all, position}
 use Rattle.std.specs.Str.{str_to_ascii_lowercase}
+use Rattle.wf_text.specs.Ascii.{backslash, equals_sign, quotation_mark, semicolon}
 use Rattle.wf_text.specs.Tokens.{is_token}
 use Rattle.wf_text.specs.Trims.{tab_or_space, trimmed}
-use Rattle.wf_hsts.specs.Field.{has_twice, sts_of}
+use Rattle.wf_hsts.specs.Field.{IsSts, greatest_age, has_twice, sts_of}
 use Rattle.wf_hsts.specs.Grammar.{is_blank}
 use Rattle.wf_hsts.specs.declared.directives.Directive.{Directive}
 use Rattle.wf_hsts.specs.declared.pieces.Place.{Place}
 use Rattle.wf_hsts.specs.declared.pieces.Place.TheVariants.{Outside, Quoted, Escaped}
 use Rattle.wf_hsts.specs.declared.sts.Sts.{Sts}
 
--- the place behind a byte, or nothing where it is a semicolon between two pieces
-abbrev pub next_place : Place → ℕ → Option Place
-next_place Outside byte = if byte == 59 then None else if byte == 34 then Some Quoted else Some Outside
-next_place Quoted byte = if byte == 34 then Some Outside else if byte == 92 then Some Escaped else Some Quoted
-next_place Escaped byte = Some Quoted
+-- whether a byte at this place is a semicolon between two pieces
+abbrev pub cuts : Place → ℕ → Bool
+cuts Outside byte = byte == semicolon
+cuts Quoted byte = false
+cuts Escaped byte = false
 
--- nothing where there is no next place, or one more than there
-abbrev pub one_more : Option Place → (Place → ℕ) → ℕ
-one_more None behind = 0
-one_more (Some next) behind = suc (behind next)
-
--- how many bytes the piece at the front has
-abbrev pub piece_end : Place → List ℕ → ℕ
-piece_end place [] = 0
-piece_end place (byte ∷ text) = one_more (next_place place byte) (λ next. piece_end next text)
+-- the place behind another byte: a quotation mark begins and ends a quoted string, in which a backslash
+-- takes the next byte with it
+abbrev pub next_place : Place → ℕ → Place
+next_place Outside byte = if byte == quotation_mark then Quoted else Outside
+next_place Quoted byte = if byte == quotation_mark then Outside else if byte == backslash then Escaped else Quoted
+next_place Escaped byte = Quoted
 
 -- the pieces, the first of them with one byte more at its front
 abbrev pub with_front : ℕ → List (List ℕ) → List (List ℕ)
 with_front byte [] = (byte ∷ []) ∷ []
 with_front byte (piece ∷ pieces) = (byte ∷ piece) ∷ pieces
 
--- the pieces from a byte on, which ends the first of them or belongs to it
-abbrev pub pieces_from : ℕ → Option Place → (Place → List (List ℕ)) → List (List ℕ)
-pieces_from byte None behind = [] ∷ behind Outside
-pieces_from byte (Some next) behind = with_front byte (behind next)
-
--- the pieces of a text
+-- the pieces of a text that begins at this place
 abbrev pub pieces : Place → List ℕ → List (List ℕ)
 pieces place [] = [] ∷ []
-pieces place (byte ∷ text) = pieces_from byte (next_place place byte) (λ next. pieces next text)
+pieces place (byte ∷ text) =
+    if cuts place byte then [] ∷ pieces Outside text else with_front byte (pieces (next_place place byte) text)
 
 abbrev mutual
-  -- the value of a quoted string, of what follows its first quote
+  -- the value of a quoted string, of what follows its first quotation mark: the next one ends it and the text
   pub unquoted : List ℕ → Option (List ℕ)
   unquoted [] = None
   unquoted (byte ∷ text) =
-      if byte == 34 then (if length text == 0 then Some [] else None)
-      else if byte == 92 then behind_backslash text
+      if byte == quotation_mark then (if length text == 0 then Some [] else None)
+      else if byte == backslash then behind_backslash text
       else option_map (λ value. byte ∷ value) (unquoted text)
 
+  -- and of what follows a backslash in it
   pub behind_backslash : List ℕ → Option (List ℕ)
   behind_backslash [] = None
   behind_backslash (byte ∷ text) = option_map (λ value. byte ∷ value) (unquoted text)
 
--- the value of a token or a quoted string
+-- the value of a quoted string or a token
 abbrev pub value_in : List ℕ → Option (List ℕ)
 value_in [] = None
 value_in (byte ∷ text) =
-    if byte == 34 then unquoted text
+    if byte == quotation_mark then unquoted text
     else if is_token (byte ∷ text) then Some (byte ∷ text) else None
 
 -- what stands behind the first equals sign, where there is one
 abbrev pub behind_equals : List ℕ → Option (List ℕ)
-behind_equals text = option_map (λ index. drop (index + 1) text) (position (λ byte. byte == 61) text)
+behind_equals text = option_map (λ index. drop (index + 1) text) (position (λ byte. byte == equals_sign) text)
 
 -- a directive with this name in lower case and with this value
 abbrev pub directive : List ℕ → Option (List ℕ) → Directive
@@ -74,15 +71,17 @@ directive name value = record { name = str_to_ascii_lowercase name; value = valu
 -- a directive with this name, and with the value in this text if there is one
 abbrev pub directive_with : List ℕ → Option (List ℕ) → Option Directive
 directive_with name None = Some (directive name None)
-directive_with name (Some text) = option_map (λ value. directive name (Some value)) (value_in (trimmed tab_or_space text))
+directive_with name (Some text) =
+    option_map (λ value. directive name (Some value)) (value_in (trimmed tab_or_space text))
 
 -- the same where the name is a token
 abbrev pub directive_from : List ℕ → Option (List ℕ) → Option Directive
 directive_from name written = if is_token name then directive_with name written else None
 
--- the directive that a text is
+-- the directive that a text is: its name stands before the first equals sign, its value behind it
 abbrev pub directive_in : List ℕ → Option Directive
-directive_in text = directive_from (trimmed tab_or_space (before_first (λ byte. byte == 61) text)) (behind_equals text)
+directive_in text =
+    directive_from (trimmed tab_or_space (before_first (λ byte. byte == equals_sign) text)) (behind_equals text)
 
 -- the directives of a piece, none or one
 abbrev pub piece_in : List ℕ → Option (List Directive)
@@ -103,10 +102,18 @@ directives_in (piece ∷ pieces) = with_more (piece_in piece) (directives_in pie
 abbrev pub directives_of : List ℕ → Option (List Directive)
 directives_of value = directives_in (pieces Outside value)
 
--- the same as it is read
-abbrev pub sts_read : Option (List Directive) → Option Sts
-sts_read None = None
-sts_read (Some directives) = if has_twice directives then None else sts_of directives
+-- what directives say, of which no name may stand twice
+abbrev pub said_once : List Directive → Option Sts
+said_once directives = if has_twice directives then None else sts_of directives
 
+-- what a field says
 abbrev pub sts_in : List ℕ → Option Sts
-sts_in value = sts_read (directives_of value)
+sts_in value = option_and_then said_once (directives_of value)
+
+-- a field says this exactly where the grammar and the rules for its directives say so
+abbrev pub ReadsTheGrammar : Type 0
+ReadsTheGrammar = (value : List ℕ) (sts : Sts) → (sts_in value ≡ Some sts) ↔ IsSts value sts
+
+-- and no age is greater than the greatest
+abbrev pub AgesAreBounded : Type 0
+AgesAreBounded = (value : List ℕ) (sts : Sts) → sts_in value ≡ Some sts → sts.age ≤ greatest_age

@@ -1,11 +1,13 @@
 ghost use Rattle.std.specs.Prelude.{◌≡◌, ◌==◌, ◌<◌, length, Some, None, IfOk, if◌then◌else◌, option_copied};
-ghost use Rattle.std.specs.List.{before_first, list_all, position};
+ghost use Rattle.std.specs.List.{list_all};
 ghost use Rattle.wf_hsts.specs.Grammar.{is_blank};
 ghost use Rattle.wf_hsts.specs.Reading.{behind_equals, directive_in, directive_with, directives_of, piece_in, unquoted, value_in, with_more};
 
 use crate::pieces::piece_end;
 use std::alloc::Global;
-use wf_text::{Bytes, Items, OutOfMemory, is_token, trim_tab_or_space};
+use wf_text::{
+    Bytes, Items, OutOfMemory, before_byte, in_lower_case, is_token, position_of, trim_tab_or_space,
+};
 
 const TAB_OR_SPACE: &[u8] = b"\t ";
 
@@ -18,8 +20,8 @@ pub(crate) struct Directive {
     pub(crate) value: Option<Bytes>,
 }
 
-/// A quoted string's value, from what follows its first quote; nothing where the text is not one
-/// quoted string to its end.
+// A quoted string's value, from what follows its first quote; nothing where the text is not one
+// quoted string to its end.
 fn unquoted(alloc: Global, text: &[u8]) -> Result<Option<Bytes>, OutOfMemory>
     ensures { IfOk result (λ value. value ≡ unquoted text.now) }
 {
@@ -45,7 +47,7 @@ fn unquoted(alloc: Global, text: &[u8]) -> Result<Option<Bytes>, OutOfMemory>
     Ok(None)
 }
 
-/// A directive's value: that of a token or of a quoted string, or nothing where it is neither.
+// A directive's value: that of a token or of a quoted string, or nothing where it is neither.
 fn value_in(alloc: Global, text: &[u8]) -> Result<Option<Bytes>, OutOfMemory>
     ensures { IfOk result (λ value. value ≡ value_in text.now) }
 {
@@ -59,35 +61,18 @@ fn value_in(alloc: Global, text: &[u8]) -> Result<Option<Bytes>, OutOfMemory>
     }
 }
 
-/// Where the first equals sign is.
-fn equals_sign(text: &[u8]) -> Option<usize>
-    ensures { result ≡ position (λ byte. byte == 61) text.now }
-{
-    text.iter().position(|byte| *byte == b'=')
-}
-
-/// What stands before the first equals sign, or all of the text.
-fn before_equals(text: &[u8]) -> &[u8]
-    ensures { result.now ≡ before_first (λ byte. byte == 61) text.now }
-{
-    match equals_sign(text) {
-        Some(index) => text.split_at(index).0,
-        None => text,
-    }
-}
-
-/// What stands behind the first equals sign, where there is one.
+// What stands behind the first equals sign, where there is one.
 fn behind_equals(text: &[u8]) -> Option<&[u8]>
     ensures { option_copied result ≡ behind_equals text.now }
 {
-    match equals_sign(text) {
+    match position_of(text, b'=') {
         Some(index) => Some(text.split_at(index + 1).1),
         None => None,
     }
 }
 
-/// A directive with this name, and with the value in this text if there is one; nothing where the
-/// text is no value.
+// A directive with this name, and with the value in this text if there is one; nothing where the
+// text is no value.
 fn directive_with(
     alloc: Global,
     name: &[u8],
@@ -95,7 +80,7 @@ fn directive_with(
 ) -> Result<Option<Directive>, OutOfMemory>
     ensures { IfOk result (λ directive. directive ≡ directive_with name.now (option_copied written.entry)) }
 {
-    let name = Bytes::from_vec(name.to_ascii_lowercase(alloc)?);
+    let name = in_lower_case(alloc, name)?;
     let Some(written) = written else {
         return Ok(Some(Directive { name, value: None }));
     };
@@ -108,11 +93,11 @@ fn directive_with(
     }
 }
 
-/// The directive that a text is, or nothing where it is none.
+// The directive that a text is, or nothing where it is none.
 fn directive_in(alloc: Global, text: &[u8]) -> Result<Option<Directive>, OutOfMemory>
     ensures { IfOk result (λ directive. directive ≡ directive_in text.now) }
 {
-    let name = trim_tab_or_space(before_equals(text));
+    let name = trim_tab_or_space(before_byte(text, b'='));
     if is_token(name) {
         directive_with(alloc, name, behind_equals(text))
     } else {
@@ -120,14 +105,14 @@ fn directive_in(alloc: Global, text: &[u8]) -> Result<Option<Directive>, OutOfMe
     }
 }
 
-/// Whether there are tabs and spaces alone.
+// Whether there are tabs and spaces alone.
 fn is_blank(text: &[u8]) -> bool
     ensures { result ≡ list_all is_blank text.now }
 {
     text.iter().all(|byte| TAB_OR_SPACE.contains(byte))
 }
 
-/// Adds the directive that a piece is, if it is not blank. Answers whether it is one or the other.
+// Adds the directive that a piece is, if it is not blank. Answers whether it is one or the other.
 fn add_piece(
     alloc: Global,
     directives: &mut Items<Directive>,
@@ -148,8 +133,8 @@ fn add_piece(
     }
 }
 
-/// The directives of a field's value, in order, or nothing where it is not one of the grammar (RFC
-/// 6797, section 6.1).
+// The directives of a field's value, in order, or nothing where it is not one of the grammar (RFC
+// 6797, section 6.1).
 pub(crate) fn directives_of(
     alloc: Global,
     value: &[u8],

@@ -1,6 +1,6 @@
 ghost use Rattle.std.specs.Prelude.{◌≡◌, ◌^◌, ◌<◌, ◌≤◌, ◌&&◌, [], length, nat_lt, IfOk, OnOk, OnErr};
 ghost use Rattle.wf_hsts.specs.Hosts.{AreHosts, matches_host, noted, without};
-ghost use Rattle.wf_hsts.specs.Terms.{IsLeaving, begins_under, covers, holds_alive, is_under, passes};
+ghost use Rattle.wf_hsts.specs.Private.Terms.{IsLeaving, begins_under, covers, holds_alive, is_under, passes};
 
 use crate::index::{Index, Term};
 use crate::sts::Sts;
@@ -31,17 +31,18 @@ pub struct HstsList {
 }
 
 impl Model for HstsList {
-    ghost use Rattle.std.specs.Prelude.{List, length, ◌≤◌};
+    ghost use Rattle.std.specs.Prelude.{List};
+    ghost use Rattle.wf_hsts.specs.Hosts.{AreHosts};
     ghost use Rattle.wf_hsts.specs.declared.hosts.KnownHost.{KnownHost};
 
     ghost Value = { List KnownHost };
 
     ghost view = { λ list. list.index };
 
-    ghost invariant = { λ list. length list.index ≤ 4096 };
+    ghost invariant = { λ list. AreHosts list.index };
 }
 
-/// Whether there is a term that has not ended.
+// Whether there is a term that has not ended.
 fn is_alive(term: Option<Term>, now: u64) -> bool
     ensures { result ≡ passes (λ term. nat_lt now term.until) term }
 {
@@ -51,7 +52,7 @@ fn is_alive(term: Option<Term>, now: u64) -> bool
     }
 }
 
-/// Whether there is a term with subdomains that has not ended.
+// Whether there is a term with subdomains that has not ended.
 fn covers_subdomains(term: Option<Term>, now: u64) -> bool
     ensures { result ≡ passes (λ term. term.subdomains && nat_lt now term.until) term }
 {
@@ -61,21 +62,21 @@ fn covers_subdomains(term: Option<Term>, now: u64) -> bool
     }
 }
 
-/// Whether the host itself is there, and its term has not ended.
+// Whether the host itself is there, and its term has not ended.
 fn holds_alive(index: &Index, host: &[u8], now: u64) -> bool
     ensures { result ≡ holds_alive index.now host.now now }
 {
     is_alive(index.term_of(host), now)
 }
 
-/// Whether the host is there with subdomains, and its term has not ended.
+// Whether the host is there with subdomains, and its term has not ended.
 fn covers(index: &Index, host: &[u8], now: u64) -> bool
     ensures { result ≡ covers index.now host.now now }
 {
     covers_subdomains(index.term_of(host), now)
 }
 
-/// Whether the text is a dot and such a host.
+// Whether the text is a dot and such a host.
 fn begins_under(index: &Index, text: &[u8], now: u64) -> bool
     ensures { result ≡ begins_under index.now text.now now }
 {
@@ -85,7 +86,7 @@ fn begins_under(index: &Index, text: &[u8], now: u64) -> bool
     }
 }
 
-/// Whether the name ends in a dot and such a host.
+// Whether the name ends in a dot and such a host.
 fn is_under(index: &Index, name: &[u8], now: u64) -> bool
     ensures { result ≡ is_under index.now name.now now }
 {
@@ -97,7 +98,7 @@ fn is_under(index: &Index, name: &[u8], now: u64) -> bool
     false
 }
 
-/// Whether fewer than 4,096 other hosts are known.
+// Whether fewer than 4,096 other hosts are known.
 fn has_room(index: &Index, host: &[u8]) -> bool
     requires { length index.now ≤ 4096 }
     ensures { result ≡ nat_lt (length (without host.now index.now)) 4096 }
@@ -105,7 +106,7 @@ fn has_room(index: &Index, host: &[u8]) -> bool
     index.len() < MOST_HOSTS || index.term_of(host).is_some()
 }
 
-/// The host that goes where there is no room for this one.
+// The host that goes where there is no room for this one.
 fn leaving_for(alloc: Global, index: &Index, host: &[u8]) -> Result<Option<Bytes>, OutOfMemory>
     requires { length index.now ≤ 4096 }
     ensures { IfOk result (λ leaving. IsLeaving leaving host.now index.now) }
@@ -122,7 +123,8 @@ fn leaving_for(alloc: Global, index: &Index, host: &[u8]) -> Result<Option<Bytes
 impl HstsList {
     /// The empty list. It takes no memory.
     pub fn new(alloc: Global) -> HstsList
-        ensures { result ≡ [] }
+        ensures empty { result ≡ [] }
+        ensures hosts { AreHosts result }
     {
         HstsList {
             alloc,
@@ -142,14 +144,16 @@ impl HstsList {
     /// not ended is the name, or has subdomains and the name ends in a dot and it (RFC 6797, section
     /// 8.2). It takes no memory.
     pub fn is_known(&self, host: &[u8], now: u64) -> bool
-        ensures { result ≡ matches_host self.now host.now now }
+        ensures known { result ≡ matches_host self.now host.now now }
+        ensures hosts { AreHosts self.now }
     {
         holds_alive(&self.index, host, now) || is_under(&self.index, host, now)
     }
 
     /// Takes the host out, if it is there. It takes no memory.
     pub fn forget(&mut self, host: &[u8])
-        ensures { self.new ≡ without host.now self.old }
+        ensures forgotten { self.new ≡ without host.now self.old }
+        ensures hosts { AreHosts self.new }
     {
         self.index.take_out(host);
     }
@@ -164,6 +168,7 @@ impl HstsList {
         requires age { sts.age < 2 ^ 48 }
         ensures ok { OnOk result (self.new ≡ noted host sts now self.old) }
         ensures err { OnErr result (self.new ≡ self.old) }
+        ensures hosts { AreHosts self.new }
     {
         if sts.age == 0 {
             self.forget(host.as_slice());
@@ -174,7 +179,7 @@ impl HstsList {
             until: now + sts.age,
         };
         let leaving = leaving_for(self.alloc, &self.index, host.as_slice())?;
-        self.index.put(self.alloc, host.as_slice(), term)?;
+        self.index.put(self.alloc, host.into_vec(), term)?;
         if let Some(name) = leaving {
             self.index.take_out(name.as_slice());
         }

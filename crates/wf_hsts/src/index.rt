@@ -1,6 +1,6 @@
 ghost use Rattle.std.specs.Prelude.{◌≡◌, [], length, Some, None, OnOk, OnErr, option_copied};
 ghost use Rattle.wf_hsts.specs.Hosts.{AreSorted, known_host, with_host, without};
-ghost use Rattle.wf_hsts.specs.Terms.{IsFirstToEnd, term_in};
+ghost use Rattle.wf_hsts.specs.Private.Terms.{IsFirstToEnd, term_in};
 
 use std::alloc::Global;
 use std::collections::{BTreeMap, BTreeSet};
@@ -27,7 +27,7 @@ pub(crate) struct Index {
 impl Model for Index {
     ghost use Rattle.std.specs.Prelude.{List};
     ghost use Rattle.wf_hsts.specs.declared.hosts.KnownHost.{KnownHost};
-    ghost use Rattle.wf_hsts.specs.Index.{IsIndexed, listed};
+    ghost use Rattle.wf_hsts.specs.Private.Index.{IsIndexed, listed};
 
     ghost Value = { List KnownHost };
 
@@ -37,6 +37,7 @@ impl Model for Index {
 }
 
 impl Index {
+    // No hosts. It takes no memory.
     pub(crate) fn new(alloc: Global) -> Index
         ensures { result ≡ [] }
     {
@@ -46,6 +47,7 @@ impl Index {
         }
     }
 
+    // How many hosts there are.
     pub(crate) fn len(&self) -> usize
         ensures len { result ≡ length self.now }
         ensures sorted { AreSorted self.now }
@@ -53,7 +55,7 @@ impl Index {
         self.terms.len()
     }
 
-    /// The term of a host, if it is known.
+    // The term of a host, if it is known.
     pub(crate) fn term_of(&self, host: &[u8]) -> Option<Term>
         ensures term { result ≡ term_in host.now self.now }
         ensures sorted { AreSorted self.now }
@@ -61,7 +63,7 @@ impl Index {
         self.terms.get(host).copied()
     }
 
-    /// The host whose term ends first; of some whose terms end then, the first by its bytes.
+    // The host whose term ends first; of some whose terms end then, the first by its bytes.
     pub(crate) fn first_to_end(&self) -> Option<&[u8]>
         ensures { IsFirstToEnd (option_copied result) self.now }
     {
@@ -71,7 +73,7 @@ impl Index {
         }
     }
 
-    /// Takes a host out, if it is there.
+    // Takes a host out, if it is there.
     pub(crate) fn take_out(&mut self, host: &[u8])
         ensures { self.new ≡ without host.now self.old }
     {
@@ -80,12 +82,18 @@ impl Index {
         }
     }
 
-    /// Gives a host a term, in the place of the one that it has.
-    pub(crate) fn put(&mut self, alloc: Global, host: &[u8], term: Term) -> Result<(), OutOfMemory>
-        ensures ok { OnOk result (self.new ≡ with_host (known_host host.now term.subdomains term.until) self.old) }
+    // Gives a host a term, in the place of the one that it has.
+    pub(crate) fn put(
+        &mut self,
+        alloc: Global,
+        host: Vec<u8>,
+        term: Term,
+    ) -> Result<(), OutOfMemory>
+        ensures ok { OnOk result
+            (self.new ≡ with_host (known_host host.items term.subdomains term.until) self.old) }
         ensures err { OnErr result (self.new ≡ self.old) }
     {
-        match self.term_of(host) {
+        match self.term_of(host.as_slice()) {
             Some(old) => self.replace(alloc, host, old, term),
             None => self.add(alloc, host, term),
         }
@@ -95,16 +103,17 @@ impl Index {
     fn replace(
         &mut self,
         alloc: Global,
-        host: &[u8],
+        host: Vec<u8>,
         old: Term,
         term: Term,
     ) -> Result<(), OutOfMemory>
-        requires { term_in host.now self.old ≡ Some old }
-        ensures ok { OnOk result (self.new ≡ with_host (known_host host.now term.subdomains term.until) self.old) }
+        requires { term_in host.items self.old ≡ Some old }
+        ensures ok { OnOk result
+            (self.new ≡ with_host (known_host host.items term.subdomains term.until) self.old) }
         ensures err { OnErr result (self.new ≡ self.old) }
     {
-        let end = (term.until, Vec::from_slice(alloc, host)?);
-        let ended = (old.until, Vec::from_slice(alloc, host)?);
+        let end = (term.until, Vec::from_slice(alloc, host.as_slice())?);
+        let ended = (old.until, host);
         if self.ends.insert(end)? {
             self.ends.remove(&ended);
         }
@@ -116,15 +125,15 @@ impl Index {
     }
 
     // Adds a host that is not there.
-    fn add(&mut self, alloc: Global, host: &[u8], term: Term) -> Result<(), OutOfMemory>
-        requires { term_in host.now self.old ≡ None }
-        ensures ok { OnOk result (self.new ≡ with_host (known_host host.now term.subdomains term.until) self.old) }
+    fn add(&mut self, alloc: Global, host: Vec<u8>, term: Term) -> Result<(), OutOfMemory>
+        requires { term_in host.items self.old ≡ None }
+        ensures ok { OnOk result
+            (self.new ≡ with_host (known_host host.items term.subdomains term.until) self.old) }
         ensures err { OnErr result (self.new ≡ self.old) }
     {
-        let name = Vec::from_slice(alloc, host)?;
-        let end = (term.until, Vec::from_slice(alloc, host)?);
+        let end = (term.until, Vec::from_slice(alloc, host.as_slice())?);
         self.ends.insert(end)?;
-        match self.terms.insert(name, term) {
+        match self.terms.insert(host, term) {
             Ok(_) => Ok(()),
             Err(refused) => {
                 let (name, _) = refused.value;

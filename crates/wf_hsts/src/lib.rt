@@ -4,10 +4,12 @@
 mod directives;
 mod hosts;
 mod index;
+mod laws;
 mod pieces;
 mod sts;
 #[cfg(test)]
 mod tests;
 
 pub use hosts::{HstsList, KnownHost};
+pub use laws::{law_ages, law_sts_grammar};
 pub use sts::{Sts, parse_sts};

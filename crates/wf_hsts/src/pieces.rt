@@ -1,5 +1,6 @@
 ghost use Rattle.std.specs.Prelude.{◌≡◌};
-ghost use Rattle.wf_hsts.specs.Reading.{next_place, piece_end};
+ghost use Rattle.wf_hsts.specs.Private.Pieces.{piece_end};
+ghost use Rattle.wf_hsts.specs.Reading.{cuts, next_place};
 
 /// Where a text stands that is cut at its semicolons.
 #[derive(Clone, Copy)]
@@ -13,31 +14,40 @@ pub(crate) enum Place {
 }
 
 impl Place {
-    // The place behind a byte, or nothing where the byte is a semicolon between two pieces.
-    fn behind(self, byte: u8) -> Option<Place>
+    // Whether the byte is a semicolon between two pieces.
+    fn cuts(self, byte: u8) -> bool
+        ensures { result ≡ cuts self byte }
+    {
+        match self {
+            Place::Outside => byte == b';',
+            Place::Quoted | Place::Escaped => false,
+        }
+    }
+
+    // The place behind another byte.
+    fn behind(self, byte: u8) -> Place
         ensures { result ≡ next_place self byte }
     {
         match self {
-            Place::Outside if byte == b';' => None,
-            Place::Outside if byte == b'"' => Some(Place::Quoted),
-            Place::Outside => Some(Place::Outside),
-            Place::Quoted if byte == b'"' => Some(Place::Outside),
-            Place::Quoted if byte == b'\\' => Some(Place::Escaped),
-            Place::Quoted | Place::Escaped => Some(Place::Quoted),
+            Place::Outside if byte == b'"' => Place::Quoted,
+            Place::Outside => Place::Outside,
+            Place::Quoted if byte == b'"' => Place::Outside,
+            Place::Quoted if byte == b'\\' => Place::Escaped,
+            Place::Quoted | Place::Escaped => Place::Quoted,
         }
     }
 }
 
-/// How many bytes stand before the first semicolon outside quoted strings, or before the end.
+// How many bytes stand before the first semicolon outside quoted strings, or before the end.
 pub(crate) fn piece_end(text: &[u8]) -> usize
     ensures { result ≡ piece_end Place.Outside text.now }
 {
     let mut place = Place::Outside;
     for (index, byte) in text.iter().enumerate() {
-        match place.behind(*byte) {
-            Some(next) => place = next,
-            None => return index,
+        if place.cuts(*byte) {
+            return index;
         }
+        place = place.behind(*byte);
     }
     text.len()
 }

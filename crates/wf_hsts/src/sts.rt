@@ -1,5 +1,5 @@
-ghost use Rattle.std.specs.Prelude.{◌≡◌, ◌↔◌, IfOk, option_copied};
-ghost use Rattle.wf_hsts.specs.Field.{IsSts, has_twice, include_subdomains, max_age, named, sts_of};
+ghost use Rattle.std.specs.Prelude.{◌≡◌, ◌≤◌, ◌↔◌, IfOk, IfSome, option_copied};
+ghost use Rattle.wf_hsts.specs.Field.{IsSts, greatest_age, has_twice, include_subdomains, max_age, named, sts_of};
 ghost use Rattle.wf_hsts.specs.Reading.{sts_in};
 
 use crate::directives::{Directive, directives_of};
@@ -20,7 +20,7 @@ pub struct Sts {
     pub subdomains: bool,
 }
 
-/// Whether a name stands twice.
+// Whether a name stands twice.
 fn has_twice(alloc: Global, directives: &[Directive]) -> Result<bool, OutOfMemory>
     ensures { IfOk result (λ twice. twice ≡ has_twice directives.now) }
 {
@@ -33,7 +33,7 @@ fn has_twice(alloc: Global, directives: &[Directive]) -> Result<bool, OutOfMemor
     Ok(false)
 }
 
-/// The first directive of that name.
+// The first directive of that name.
 fn named<'a>(directives: &'a [Directive], name: &[u8]) -> Option<&'a Directive>
     ensures { option_copied result ≡ named name.now directives.now }
 {
@@ -42,7 +42,7 @@ fn named<'a>(directives: &'a [Directive], name: &[u8]) -> Option<&'a Directive>
         .find(|directive| directive.name.as_slice() == name)
 }
 
-/// The seconds of max-age, or nothing where it is absent or its value is not digits.
+// The seconds of max-age, or nothing where it is absent or its value is not digits.
 fn max_age(directives: &[Directive]) -> Option<u64>
     ensures { result ≡ max_age directives.now }
 {
@@ -50,7 +50,7 @@ fn max_age(directives: &[Directive]) -> Option<u64>
     parse_digits(digits.as_slice(), GREATEST_AGE)
 }
 
-/// Whether includeSubDomains is there, or nothing where it has a value.
+// Whether includeSubDomains is there, or nothing where it has a value.
 fn include_subdomains(directives: &[Directive]) -> Option<bool>
     ensures { result ≡ include_subdomains directives.now }
 {
@@ -61,7 +61,7 @@ fn include_subdomains(directives: &[Directive]) -> Option<bool>
     }
 }
 
-/// What directives say, each of them once.
+// What directives say, each of them once.
 fn sts_of(directives: &[Directive]) -> Option<Sts>
     ensures { result ≡ sts_of directives.now }
 {
@@ -71,6 +71,7 @@ fn sts_of(directives: &[Directive]) -> Option<Sts>
     })
 }
 
+// What a field's value says.
 fn sts_in(alloc: Global, value: &[u8]) -> Result<Option<Sts>, OutOfMemory>
     ensures { IfOk result (λ sts. sts ≡ sts_in value.now) }
 {
@@ -88,7 +89,9 @@ fn sts_in(alloc: Global, value: &[u8]) -> Result<Option<Sts>, OutOfMemory>
 /// is absent or not digits, or includeSubDomains has a value. Other directives are ignored (RFC
 /// 6797, sections 6.1, 6.1.1 and 6.1.2).
 pub fn parse_sts(alloc: Global, value: &[u8]) -> Result<Option<Sts>, OutOfMemory>
-    ensures { IfOk result (λ parsed. (sts : Sts) → (parsed ≡ Some sts) ↔ IsSts value.now sts) }
+    ensures says { IfOk result (λ parsed. parsed ≡ sts_in value.now) }
+    ensures grammar { IfOk result (λ parsed. (sts : Sts) → (parsed ≡ Some sts) ↔ IsSts value.now sts) }
+    ensures age { IfOk result (λ parsed. IfSome parsed (λ sts. sts.age ≤ greatest_age)) }
 {
     sts_in(alloc, value)
 }

@@ -1,5 +1,5 @@
 use Rattle.std.proofs.Common.{◌&&◌, nat_lt, ap, ◌∙◌}
-use Rattle.wf_hsts.specs.Terms.{passes}
+use Rattle.wf_hsts.specs.Private.Terms.{passes}
 use Rattle.wf_hsts.specs.declared.index.Term.{Term}
 use Rattle.wf_hsts.proofs.SortedLemmas.{passes-any}
 use Rattle.wf_hsts.proofs.hosts.covers.Goals as goal

@@ -1,5 +1,5 @@
 use Rattle.std.proofs.Common.{ap, sym, ◌∙◌}
-use Rattle.wf_hsts.specs.Terms.{begins_under}
+use Rattle.wf_hsts.specs.Private.Terms.{begins_under}
 use Rattle.wf_hsts.proofs.UnderLemmas.{under-ended, under-here, under-later}
 use Rattle.wf_hsts.proofs.hosts.is_under.Goals as goal
 

@@ -1,5 +1,5 @@
 use Rattle.std.proofs.Common.{◌≡◌, drop}
-use Rattle.wf_hsts.specs.Terms.{is_under}
+use Rattle.wf_hsts.specs.Private.Terms.{is_under}
 use Rattle.wf_hsts.proofs.hosts.is_under.Given as goal
 
 abbrev pub invariant-loop-start : goal.invariant-loop-start

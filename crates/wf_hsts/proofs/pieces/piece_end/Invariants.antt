@@ -1,5 +1,5 @@
 use Rattle.std.proofs.Common.{◌≡◌, ◌+◌, drop}
-use Rattle.wf_hsts.specs.Reading.{piece_end}
+use Rattle.wf_hsts.specs.Private.Pieces.{piece_end}
 use Rattle.wf_hsts.specs.declared.pieces.Place.TheVariants.{Outside}
 use Rattle.wf_hsts.proofs.pieces.piece_end.Given as goal
 

@@ -1,6 +1,11 @@
-use Rattle.std.proofs.Common.{arith}
-use Rattle.wf_hsts.proofs.NotedLemmas.{without-length}
+use Rattle.std.proofs.Common.{subst, sym}
+use Rattle.wf_hsts.specs.Hosts.{AreHosts}
+use Rattle.wf_hsts.proofs.NotedLemmas.{hosts-without}
 use Rattle.wf_hsts.proofs.hosts.HstsList.forget.Goals as goal
 
 pub invariant_of-self : goal.invariant_of-self
-invariant_of-self c = rw c.take_out.ensures (omega (arith, without-length c.args.host.now c.self.inside.index))
+invariant_of-self c =
+    subst AreHosts (sym c.take_out.ensures) (hosts-without c.args.host.now c.self.inside.index c.self.invariant)
+
+pub returns-clause-hosts : goal.returns-clause-hosts
+returns-clause-hosts c = invariant_of-self c

@@ -1,11 +1,11 @@
 use Rattle.std.proofs.Common.{◌≡◌, ◌||◌, ap, sym, ◌∙◌}
 use Rattle.wf_hsts.specs.Hosts.{matches_host}
-use Rattle.wf_hsts.specs.Terms.{holds_alive, is_under}
+use Rattle.wf_hsts.specs.Private.Terms.{holds_alive, is_under}
 use Rattle.wf_hsts.proofs.UnderLemmas.{matches-parts}
 use Rattle.wf_hsts.proofs.hosts.HstsList.is_known.Goals as goal
 
-pub returns-then-holds_alive : goal.returns-then-holds_alive
-returns-then-holds_alive c =
+pub returns-then-holds_alive-clause-known : goal.returns-then-holds_alive-clause-known
+returns-then-holds_alive-clause-known c =
     let parts : matches_host c.args.self.now c.args.host.now c.args.now
         ≡ (holds_alive c.self.inside.index c.args.host.now c.args.now
         || is_under c.self.inside.index c.args.host.now c.args.now) =
@@ -15,8 +15,8 @@ returns-then-holds_alive c =
         ∙ sym (parts ∙ ap (λ b. b || is_under c.self.inside.index c.args.host.now c.args.now)
         (sym c.holds_alive.ensures ∙ c.if-holds_alive.true))
 
-pub returns-else-holds_alive : goal.returns-else-holds_alive
-returns-else-holds_alive c =
+pub returns-else-holds_alive-clause-known : goal.returns-else-holds_alive-clause-known
+returns-else-holds_alive-clause-known c =
     let parts : matches_host c.args.self.now c.args.host.now c.args.now
         ≡ (holds_alive c.self.inside.index c.args.host.now c.args.now
         || is_under c.self.inside.index c.args.host.now c.args.now) =

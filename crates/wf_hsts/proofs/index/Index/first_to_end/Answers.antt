@@ -1,5 +1,5 @@
 use Rattle.std.proofs.Common.{◌≡◌, true, false, Some, subst, sym, ◌∙◌}
-use Rattle.wf_hsts.specs.Terms.{IsFirstToEnd}
+use Rattle.wf_hsts.specs.Private.Terms.{IsFirstToEnd}
 use Rattle.wf_hsts.proofs.IndexLemmas.{first-is, none-first}
 use Rattle.wf_hsts.proofs.NameLemmas.{bytes_of}
 use Rattle.wf_hsts.proofs.index.Index.first_to_end.Goals as goal

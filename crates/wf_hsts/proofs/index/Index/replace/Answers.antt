@@ -1,9 +1,9 @@
-use Rattle.std.proofs.Common.{◌≡◌, ℕ, Vec, Global, Some, None, cond, ap, subst, sym, ◌∙◌}
+use Rattle.std.proofs.Common.{◌≡◌, ℕ, Vec, Global, Some, None, cond, ap, refl, subst, sym, ◌∙◌}
 use Rattle.std.specs.Ordering.{is_eq}
 use Rattle.wf_hsts.specs.Hosts.{known_host, text_cmp, with_host}
 use Rattle.std.specs.BTreeMap.{insert_entry}
-use Rattle.wf_hsts.specs.Index.{listed, name_cmp, term_of}
-use Rattle.wf_hsts.specs.Terms.{term_in}
+use Rattle.wf_hsts.specs.Private.Index.{listed, name_cmp, term_of}
+use Rattle.wf_hsts.specs.Private.Terms.{term_in}
 use Rattle.wf_hsts.proofs.IndexLemmas.{Agree, agree-moved, agree-stayed, put-in, term-listed}
 use Rattle.wf_hsts.proofs.NameLemmas.{bytes_of}
 use Rattle.wf_hsts.proofs.TwiceLemmas.{from-new, from-old}
@@ -15,12 +15,11 @@ unreachable-requires c =
     let entries : c.if-branch.self-inside.terms.entries ≡ c.self.inside.terms.entries =
     elim c.if-branch.branch [ then-branch w ↦ ap (λ s. s.terms.entries) w.self-inside-is | else-branch w ↦
         ap (λ s. s.terms.entries) w.self-inside-is ] in
-    let there : term_of bytes_of c.args.host.now c.self.inside.terms.entries ≡ Some c.args.old =
-        term-listed bytes_of c.args.host.now c.self.inside.terms.entries ∙ ap (term_in c.args.host.now) c.self.view_is
+    let there : term_of bytes_of c.args.host.items c.self.inside.terms.entries ≡ Some c.args.old =
+        term-listed bytes_of c.args.host.items c.self.inside.terms.entries ∙ ap (term_in c.args.host.items) c.self.view_is
         ∙ c.requires in
-    let absent : term_of bytes_of c.args.host.now c.self.inside.terms.entries ≡ None =
-    ap (λ text. term_of bytes_of text c.self.inside.terms.entries) (sym c.in_ok-from_slice-2.ensures.items)
-        ∙ ap (λ es. term_of bytes_of (bytes_of c.in_ok-from_slice-2.field-0) es) (sym entries)
+    let absent : term_of bytes_of c.args.host.items c.self.inside.terms.entries ≡ None =
+    ap (λ es. term_of bytes_of (bytes_of c.args.host) es) (sym entries)
         ∙ c.in-Err.ensures.absent in
     let never : Some c.args.old ≡ None = sym there ∙ absent in
     absurd (cc)
@@ -30,10 +29,10 @@ invariant_of-self-2 c =
     let entries : c.if-branch.self-inside.terms.entries ≡ c.self.inside.terms.entries =
     elim c.if-branch.branch [ then-branch w ↦ ap (λ s. s.terms.entries) w.self-inside-is | else-branch w ↦
         ap (λ s. s.terms.entries) w.self-inside-is ] in
-    let there : term_of bytes_of c.args.host.now c.self.inside.terms.entries ≡ Some c.args.old =
-        term-listed bytes_of c.args.host.now c.self.inside.terms.entries ∙ ap (term_in c.args.host.now) c.self.view_is
+    let there : term_of bytes_of c.args.host.items c.self.inside.terms.entries ≡ Some c.args.old =
+        term-listed bytes_of c.args.host.items c.self.inside.terms.entries ∙ ap (term_in c.args.host.items) c.self.view_is
         ∙ c.requires in
-    let ended : Vec ℕ Global = c.in_ok-from_slice-2.field-0 in
+    let ended : Vec ℕ Global = c.args.host in
     let put : Vec ℕ Global = c.in_ok-from_slice.field-0 in
     let terms : (q : Vec ℕ Global) → term_of bytes_of (bytes_of q) c.insert-2.new.self.entries
         ≡ cond (is_eq (text_cmp (bytes_of ended) (bytes_of q))) (Some c.args.term)
@@ -47,15 +46,15 @@ invariant_of-self-2 c =
           | else-branch w ↦ rw w.self-inside-is c.in_ok-insert.ensures.ordered ];
       same = elim c.if-branch.branch [
         | then-branch w ↦ subst (λ s. Agree bytes_of c.insert-2.new.self.entries s.ends.keys) (sym w.self-inside-is)
-            (agree-moved bytes_of c.args.host.now put ended c.args.old c.args.term c.self.inside.terms.entries
+            (agree-moved bytes_of c.args.host.items put ended c.args.old c.args.term c.self.inside.terms.entries
                 c.insert-2.new.self.entries c.self.inside.ends.keys c.insert.new.self.keys w.remove.new.self.keys
-                c.in_ok-from_slice.ensures.items c.in_ok-from_slice-2.ensures.items there c.self.invariant.same
+                (c.in_ok-from_slice.ensures.items ∙ c.as_slice.ensures.value) refl there c.self.invariant.same
                 (from-new _ _ c.in_ok-insert.ensures.added w.if-branch.true) terms c.in_ok-insert.ensures.updates.0
                 w.remove.ensures.updates.0)
         | else-branch w ↦ subst (λ s. Agree bytes_of c.insert-2.new.self.entries s.ends.keys) (sym w.self-inside-is)
-            (agree-stayed bytes_of c.args.host.now put ended c.args.old c.args.term c.self.inside.terms.entries
+            (agree-stayed bytes_of c.args.host.items put ended c.args.old c.args.term c.self.inside.terms.entries
                 c.insert-2.new.self.entries c.self.inside.ends.keys c.insert.new.self.keys
-                c.in_ok-from_slice.ensures.items c.in_ok-from_slice-2.ensures.items there c.self.invariant.same
+                (c.in_ok-from_slice.ensures.items ∙ c.as_slice.ensures.value) refl there c.self.invariant.same
                 (from-old _ _ c.in_ok-insert.ensures.added w.if-branch.false) terms c.in_ok-insert.ensures.updates.0)
       ];
     }
@@ -66,8 +65,6 @@ returns-clause-ok c =
     elim c.if-branch.branch [ then-branch w ↦ ap (λ s. s.terms.entries) w.self-inside-is | else-branch w ↦
         ap (λ s. s.terms.entries) w.self-inside-is ] in
     ap (listed bytes_of) (c.in-Ok.ensures.entries
-        ∙ ap (λ es. insert_entry (name_cmp bytes_of) es c.in_ok-from_slice-2.field-0 c.args.term) entries)
-    ∙ put-in bytes_of c.in_ok-from_slice-2.field-0 c.args.term c.self.inside.terms.entries c.self.invariant.sorted
-    ∙ ap (λ host. with_host (known_host host c.args.term.subdomains c.args.term.until)
-        (listed bytes_of c.self.inside.terms.entries)) c.in_ok-from_slice-2.ensures.items
-    ∙ ap (with_host (known_host c.args.host.now c.args.term.subdomains c.args.term.until)) c.self.view_is
+        ∙ ap (λ es. insert_entry (name_cmp bytes_of) es c.args.host c.args.term) entries)
+    ∙ put-in bytes_of c.args.host c.args.term c.self.inside.terms.entries c.self.invariant.sorted
+    ∙ ap (with_host (known_host c.args.host.items c.args.term.subdomains c.args.term.until)) c.self.view_is

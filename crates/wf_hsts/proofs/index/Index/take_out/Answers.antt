@@ -1,6 +1,6 @@
 use Rattle.std.proofs.Common.{ap, sym, ◌∙◌}
 use Rattle.wf_hsts.specs.Hosts.{without}
-use Rattle.wf_hsts.specs.Index.{listed}
+use Rattle.wf_hsts.specs.Private.Index.{listed}
 use Rattle.wf_hsts.proofs.IndexLemmas.{agree-removed, taken-out}
 use Rattle.wf_hsts.proofs.NameLemmas.{bytes_of}
 use Rattle.wf_hsts.proofs.index.Index.take_out.Goals as goal

@@ -1,6 +1,6 @@
 use Rattle.std.proofs.Common.{ap, subst, ◌∙◌}
 use Rattle.wf_hsts.specs.Hosts.{AreSorted}
-use Rattle.wf_hsts.specs.Terms.{term_in}
+use Rattle.wf_hsts.specs.Private.Terms.{term_in}
 use Rattle.wf_hsts.proofs.IndexLemmas.{listed-sorted, term-listed}
 use Rattle.wf_hsts.proofs.NameLemmas.{bytes_of}
 use Rattle.wf_hsts.proofs.index.Index.term_of.Goals as goal

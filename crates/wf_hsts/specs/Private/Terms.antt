@@ -1,7 +1,9 @@
 -- Terms of known hosts, looked up by name and by end.
-use Rattle.std.specs.Prelude.{◌≡◌, ◌==◌, ◌&&◌, nat_eq, nat_lt, ℕ, Bool, true, false, List, [], ◌∷◌, length, Option, Some, None, if◌then◌else◌}
+use Rattle.std.specs.Prelude.{◌≡◌, ◌==◌, ◌&&◌, nat_eq, nat_lt, ℕ, Bool, true, false, List, [], ◌∷◌, length}
+use Rattle.std.specs.Prelude.{Option, Some, None, if◌then◌else◌}
 use Rattle.std.specs.List.{ends_with, list_any}
 use Rattle.std.specs.Str.{bytes_eq}
+use Rattle.wf_text.specs.Ascii.{dot}
 use Rattle.wf_hsts.specs.Hosts.{holds, without, without_first_to_end}
 use Rattle.wf_hsts.specs.declared.hosts.KnownHost.{KnownHost}
 use Rattle.wf_hsts.specs.declared.index.Term.{Term}
@@ -10,7 +12,8 @@ use Rattle.wf_hsts.specs.declared.index.Term.{Term}
 abbrev pub term_in : List ℕ → List KnownHost → Option Term
 term_in host [] = None
 term_in host (known ∷ hosts) =
-    if bytes_eq known.host host then Some (record { subdomains = known.subdomains; until = known.until }) else term_in host hosts
+    if bytes_eq known.host host then Some (record { subdomains = known.subdomains; until = known.until })
+    else term_in host hosts
 
 -- there is a term, and it passes the test
 abbrev pub passes : (Term → Bool) → Option Term → Bool
@@ -26,7 +29,8 @@ IsFirstToEnd (Some host) hosts = (holds host hosts ≡ true) × (without_first_t
 abbrev pub IsLeaving : Option (List ℕ) → List ℕ → List KnownHost → Type 0
 IsLeaving None host hosts = nat_lt (length (without host hosts)) 4096 ≡ true
 IsLeaving (Some name) host hosts =
-    (nat_lt (length (without host hosts)) 4096 ≡ false) × (holds name hosts ≡ true) × (without_first_to_end hosts ≡ without name hosts)
+    (nat_lt (length (without host hosts)) 4096 ≡ false) × (holds name hosts ≡ true)
+    × (without_first_to_end hosts ≡ without name hosts)
 
 -- the list has this host, and its term has not ended
 abbrev pub holds_alive : List KnownHost → List ℕ → ℕ → Bool
@@ -34,13 +38,15 @@ holds_alive hosts host now = list_any (λ known. bytes_eq known.host host && nat
 
 -- the same, with subdomains
 abbrev pub covers : List KnownHost → List ℕ → ℕ → Bool
-covers hosts host now = list_any (λ known. bytes_eq known.host host && (known.subdomains && nat_lt now known.until)) hosts
+covers hosts host now =
+    list_any (λ known. bytes_eq known.host host && (known.subdomains && nat_lt now known.until)) hosts
 
 -- the text is a dot and such a host
 abbrev pub begins_under : List KnownHost → List ℕ → ℕ → Bool
 begins_under hosts [] now = false
-begins_under hosts (byte ∷ text) now = byte == 46 && covers hosts text now
+begins_under hosts (byte ∷ text) now = byte == dot && covers hosts text now
 
 -- a name is under a host with subdomains whose term has not ended
 abbrev pub is_under : List KnownHost → List ℕ → ℕ → Bool
-is_under hosts name now = list_any (λ known. (known.subdomains && ends_with nat_eq name (46 ∷ known.host)) && nat_lt now known.until) hosts
+is_under hosts name now =
+    list_any (λ known. (known.subdomains && ends_with nat_eq name (dot ∷ known.host)) && nat_lt now known.until) hosts

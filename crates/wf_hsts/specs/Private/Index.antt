@@ -36,4 +36,5 @@ module _ {V : Type 0} (items : V → List ℕ) where
   pub record IsIndexed (entries : List (V × Term)) (ends : List (ℕ × V)) : Type 0 where
     pub sorted : IsStrictlySortedBy name_cmp (map (λ entry. entry.0) entries)
     pub ends_sorted : IsStrictlySortedBy end_cmp ends
-    pub same : (end : ℕ × V) → list_any (λ other. is_eq (end_cmp end other)) ends ≡ ends_at end.0 (term_of (items end.1) entries)
+    pub same : (end : ℕ × V)
+        → list_any (λ other. is_eq (end_cmp end other)) ends ≡ ends_at end.0 (term_of (items end.1) entries)

@@ -1,0 +1,12 @@
+ghost use Rattle.wf_hsts.specs.Reading.{AgesAreBounded, ReadsTheGrammar};
+
+/// What is read of a field's value, from front to back, is what the grammar of RFC 6797, section 6.1, and the
+/// rules for its directives say of it, and nothing else.
+pub fn law_sts_grammar()
+    ensures { ReadsTheGrammar }
+{}
+
+/// No field says an age above 4,294,967,295.
+pub fn law_ages()
+    ensures { AgesAreBounded }
+{}
