@@ -2,3 +2,4 @@ pub mod DigitLemmas
 pub mod LowerLemmas
 pub mod MimeLemmas
 pub mod TrimLemmas
+pub mod SpaceLemmas

@@ -1,5 +1,6 @@
 -- The ASCII bytes that headers, policies and messages give a meaning to, by name.
-use Rattle.std.specs.Prelude.{ℕ}
+use Rattle.std.specs.Prelude.{ℕ, Bool, ◌==◌, not, List}
+use Rattle.std.specs.List.{list_all}
 
 -- NUL
 abbrev pub nul : ℕ
@@ -72,3 +73,7 @@ backslash = 92
 -- DEL
 abbrev pub delete_byte : ℕ
 delete_byte = 127
+
+-- no byte of the text is a space
+abbrev pub lacks_space : List ℕ → Bool
+lacks_space text = list_all (λ byte. not (byte == space)) text

@@ -1,3 +1,4 @@
 pub mod TaintLemmas
 pub mod TextLemmas
 pub mod UrlLemmas
+pub mod TargetLemmas
