@@ -9,8 +9,7 @@ use Rattle.wf_text.specs.Trims.{tab_or_space, trimmed}
 use Rattle.wf_headers.specs.Headers.{is_named, values_of}
 use Rattle.wf_headers.specs.declared.headers.Header.{Header}
 use Rattle.wf_headers.specs.Extract.{between_commas, extracted_of, is_filled, items, token_list}
-use Rattle.wf_headers.specs.declared.extract.Rule.TheVariants.{Tokens, Digits, Single}
-use Rattle.wf_headers.specs.declared.extract.Extracted.TheVariants.{Failure}
+use Rattle.wf_headers.specs.declared.extract.Rule.TheVariants.{Tokens}
 
 -- a choice that gives something
 chosen : (b : Bool) (n at : ℕ) → (let o : Option ℕ = cond b (Some n) None in o ≡ Some at) → (b ≡ true) × (at ≡ n)
@@ -41,7 +40,7 @@ pub items-cut : (text : List ℕ) (at : ℕ) → position (λ byte. byte == 44) 
 items-cut text at e =
     let found = chosen _ _ at e in
     let cut : between_commas text ≡ take at text ∷ between_commas (drop 1 (drop at text)) =
-        between_commas-cut text at found.1 (grind (arith, found.0, found.1)) in
+    between_commas-cut text at found.1 (grind (arith, found.0, found.1)) in
     rw cut (grind (arith, common_steps))
 
 -- the item where there is no comma

@@ -1,11 +1,11 @@
 -- What each byte of a text does to its pieces.
-use Rattle.std.proofs.Common.{arith, ◌≡◌, ◌++◌, ◌∷◌, [], ℕ, List, ap, refl, sym, ◌∙◌, append_assoc, map, Bool, true}
+use Rattle.std.proofs.Common.{arith, ◌≡◌, ◌++◌, ◌∷◌, [], ℕ, List, refl, map, Bool, true}
 use Rattle.std.proofs.Common.{false, cond, Option, Some, None, nat_eq}
 use Rattle.std.proofs.lemmas.Grind.{common_steps}
 use Rattle.wf_text.specs.Trims.{tab_or_space, trimmed}
 use Rattle.wf_headers.specs.Headers.{after_comma}
 use Rattle.wf_headers.specs.Split.{with_front, pieces, in_quoted_string}
-use Rattle.wf_headers.specs.Splitting.{onto, split_with}
+use Rattle.wf_headers.specs.Private.Splitting.{onto, split_with}
 use Rattle.wf_headers.specs.declared.split.Splitter.{Splitter}
 
 -- nothing put before pieces with a byte at their front leaves them

@@ -1,6 +1,7 @@
 -- "extract header list values" by the rule of the header's grammar (Fetch, section 2.2.2).
 use Rattle.std.specs.Prelude.{ℕ, Bool, List, [], ◌∷◌, ◌==◌, not, length, map, filter, if◌then◌else◌}
 use Rattle.std.specs.List.{flat_map, list_all}
+use Rattle.wf_text.specs.Ascii.{comma}
 use Rattle.wf_text.specs.Digits.{is_digits}
 use Rattle.wf_text.specs.Tokens.{is_token}
 use Rattle.wf_text.specs.Trims.{tab_or_space, trimmed}
@@ -15,7 +16,8 @@ use Rattle.wf_headers.specs.declared.extract.Extracted.TheVariants.{Absent, Fail
 -- what stands between the commas of a text
 abbrev pub between_commas : List ℕ → List (List ℕ)
 between_commas [] = [] ∷ []
-between_commas (byte ∷ text) = if byte == 44 then [] ∷ between_commas text else with_front byte (between_commas text)
+between_commas (byte ∷ text) =
+    if byte == comma then [] ∷ between_commas text else with_front byte (between_commas text)
 
 -- the text has a byte
 abbrev pub is_filled : List ℕ → Bool

@@ -1,6 +1,8 @@
 -- Header lists: lists of names with their values, in order (Fetch, section 2.2.2).
-use Rattle.std.specs.Prelude.{ℕ, List, [], ◌∷◌, ◌++◌, ◌+◌, Bool, not, map, filter, codes, Option, Some, None, if◌then◌else◌}
-use Rattle.std.specs.Str.{str_eq_ignore_ascii_case}
+use Rattle.std.specs.Prelude.{ℕ, List, [], ◌∷◌, ◌++◌, ◌+◌, Bool, false, not, map, filter, codes}
+use Rattle.std.specs.Prelude.{Option, Some, None, if◌then◌else◌}
+use Rattle.std.specs.List.{list_any}
+use Rattle.std.specs.Str.{bytes_eq, str_eq_ignore_ascii_case}
 use Rattle.wf_headers.specs.declared.headers.Header.{Header}
 
 -- the header has this name: names are byte-case-insensitive
@@ -15,6 +17,15 @@ spelling name (header ∷ headers) = if is_named name header then header.name el
 -- "append": one more header, in the spelling that is there
 abbrev pub appended : List ℕ → List ℕ → List Header → List Header
 appended name value headers = headers ++ record { name = spelling name headers; value = value } ∷ []
+
+-- each of these appended, in order
+abbrev pub all_appended : List Header → List Header → List Header
+all_appended [] headers = headers
+all_appended (one ∷ more) headers = all_appended more (appended one.name one.value headers)
+
+-- "contains": a header of the list has this name
+abbrev pub contains : List ℕ → List Header → Bool
+contains name headers = list_any (is_named name) headers
 
 -- "delete": the list without the headers of that name
 abbrev pub without : List ℕ → List Header → List Header
@@ -50,3 +61,12 @@ joined (text ∷ texts) = Some (text ++ after_comma texts)
 -- "get": all values of the name, joined; nothing where the list does not contain it
 abbrev pub combined : List ℕ → List Header → Option (List ℕ)
 combined name headers = joined (values_of name headers)
+
+-- there is a text, and it is this one
+abbrev pub is_text : List ℕ → Option (List ℕ) → Bool
+is_text text None = false
+is_text text (Some found) = bytes_eq found text
+
+-- what "get" gives for the name is this text
+abbrev pub has_value : List ℕ → List ℕ → List Header → Bool
+has_value name text headers = is_text text (combined name headers)

@@ -1,5 +1,6 @@
 -- "get, decode, and split": the pieces of the values of a name (Fetch, section 2.2.2).
 use Rattle.std.specs.Prelude.{ℕ, List, [], ◌∷◌, ◌==◌, map, Option, option_map, if◌then◌else◌}
+use Rattle.wf_text.specs.Ascii.{backslash, comma, quotation_mark}
 use Rattle.wf_text.specs.Trims.{tab_or_space, trimmed}
 use Rattle.wf_headers.specs.Headers.{combined}
 use Rattle.wf_headers.specs.declared.headers.Header.{Header}
@@ -15,16 +16,16 @@ abbrev mutual
   pub pieces : List ℕ → List (List ℕ)
   pieces [] = [] ∷ []
   pieces (byte ∷ text) =
-      if byte == 44 then [] ∷ pieces text
-      else if byte == 34 then with_front byte (in_quoted_string text)
+      if byte == comma then [] ∷ pieces text
+      else if byte == quotation_mark then with_front byte (in_quoted_string text)
       else with_front byte (pieces text)
 
   -- the same from within an HTTP quoted string, which goes to its closing quote, or else to the end
   pub in_quoted_string : List ℕ → List (List ℕ)
   in_quoted_string [] = [] ∷ []
   in_quoted_string (byte ∷ text) =
-      if byte == 34 then with_front byte (pieces text)
-      else if byte == 92 then with_front byte (behind_backslash text)
+      if byte == quotation_mark then with_front byte (pieces text)
+      else if byte == backslash then with_front byte (behind_backslash text)
       else with_front byte (in_quoted_string text)
 
   -- the same from behind a backslash, which takes the next byte with it

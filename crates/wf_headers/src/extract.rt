@@ -1,16 +1,17 @@
-ghost use Rattle.std.specs.Prelude.{◌≡◌, ◌==◌, ◌++◌, ◌∷◌, [], filter, IfOk, OnOk};
-ghost use Rattle.std.specs.List.{list_all, position};
-ghost use Rattle.wf_text.specs.Digits.{is_digits};
+ghost use Rattle.std.specs.Prelude.{◌≡◌, ◌++◌, ◌∷◌, [], filter, IfOk, OnOk};
+ghost use Rattle.std.specs.List.{list_all};
 ghost use Rattle.wf_text.specs.Tokens.{is_token};
 ghost use Rattle.wf_text.specs.Trims.{tab_or_space, trimmed};
 ghost use Rattle.wf_headers.specs.Headers.{values_of};
 ghost use Rattle.wf_headers.specs.Extract.{extracted, extracted_of, is_filled, items};
-ghost use Rattle.wf_headers.specs.Finding.{WasFound};
+ghost use Rattle.wf_headers.specs.Private.Finding.{WasFound};
 ghost use Rattle.wf_headers.specs.declared.extract.Rule.TheVariants.{Tokens, Digits, Single};
 
 use crate::headers::{Header, HeaderList};
 use std::alloc::Global;
-use wf_text::{Bytes, BytesList, OutOfMemory, eq_fold, is_token, parse_digits, trim_tab_or_space};
+use wf_text::{
+    Bytes, BytesList, OutOfMemory, eq_fold, is_digits, is_token, position_of, trim_tab_or_space,
+};
 
 /// How the values of a header are extracted.
 #[derive(Clone, Copy)]
@@ -54,19 +55,12 @@ fn add_item(alloc: Global, list: &mut BytesList, text: &[u8]) -> Result<(), OutO
     Ok(())
 }
 
-// Where the first comma is.
-fn comma_in(text: &[u8]) -> Option<usize>
-    ensures { result ≡ position (λ byte. byte == 44) text.now }
-{
-    text.iter().position(|byte| *byte == b',')
-}
-
 // Adds the items of a value.
 fn add_items(alloc: Global, list: &mut BytesList, value: &[u8]) -> Result<(), OutOfMemory>
     ensures { OnOk result (list.new ≡ list.old ++ items value.now) }
 {
     let mut rest = value;
-    while let Some(comma) = comma_in(rest) {
+    while let Some(comma) = position_of(rest, b',') {
         let (item, behind) = rest.split_at(comma);
         add_item(alloc, list, item)?;
         rest = behind.split_at(1).1;
@@ -132,13 +126,6 @@ fn one(alloc: Global, value: &[u8]) -> Result<Extracted, OutOfMemory>
     Ok(Extracted::Items(items))
 }
 
-// Whether the text is one digit or more.
-fn are_digits(text: &[u8]) -> bool
-    ensures { result ≡ is_digits text.now }
-{
-    parse_digits(text, 0).is_some()
-}
-
 impl HeaderList {
     /// "extract header list values": the items of the values of that name by a rule (Fetch, section
     /// 2.2.2).
@@ -154,7 +141,7 @@ impl HeaderList {
             Rule::Tokens => tokens_in(alloc, self.as_slice(), name),
             Rule::Digits => match find(self.as_slice(), name) {
                 Found::Nothing => Ok(Extracted::Absent),
-                Found::Once(value) if are_digits(value) => one(alloc, value),
+                Found::Once(value) if is_digits(value) => one(alloc, value),
                 Found::Once(_) | Found::Repeated => Ok(Extracted::Failure),
             },
             Rule::Single => match find(self.as_slice(), name) {

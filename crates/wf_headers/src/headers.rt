@@ -1,5 +1,8 @@
-ghost use Rattle.std.specs.Prelude.{◌≤◌, vec_len, vec_capacity, ◌≡◌, ◌<◌, ◌++◌, [], length, IfOk, OnOk, OnErr, Some, slice_get, option_map, codes, if◌then◌else◌};
-ghost use Rattle.wf_headers.specs.Headers.{appended, combined, first_of, spelling, with_only, without};
+ghost use Rattle.std.specs.Prelude.{ℕ, List, ◌≤◌, vec_len, vec_capacity, ◌≡◌, ◌≢◌, ◌↔◌, ◌<◌, ◌++◌, [], length, IsTrue};
+ghost use Rattle.std.specs.Prelude.{IfOk, OnOk, OnErr, MatchOption, Some, slice_get, option_map, codes, if◌then◌else◌};
+ghost use Rattle.wf_headers.specs.Headers.{all_appended, appended, combined, contains, first_of, has_value, spelling, with_only, without};
+ghost use Rattle.wf_headers.specs.Private.Joining.{behind_value};
+ghost use Rattle.wf_headers.specs.Spelling.{HaveOneSpelling};
 ghost use Rattle.wf_headers.specs.declared.headers.Header.{Header};
 
 use std::alloc::Global;
@@ -37,6 +40,10 @@ impl Model for HeaderList {
     ghost Value = { List Header };
 
     ghost view = { λ list. list.headers.items };
+
+    ghost use Rattle.wf_headers.specs.Spelling.{HaveOneSpelling};
+
+    ghost invariant = { λ list. HaveOneSpelling list.headers.items };
 }
 
 // The spelling of a name that the headers have already.
@@ -80,14 +87,11 @@ fn replace(headers: &mut Vec<Header>, at: usize, name: &[u8], value: Bytes)
 {
     let first = headers.remove(at);
     take_out(headers, name);
-    // One header left at least, so there is room.
-    let _ = headers.insert(
-        at,
-        Header {
-            name: first.name,
-            value,
-        },
-    );
+    let name = first.name;
+    let Ok(()) = headers.insert(at, Header { name, value }) else {
+        // One header was taken out, so there is room.
+        unreachable!();
+    };
 }
 
 // Gives a name this one value, where its first header is or at the end.
@@ -153,6 +157,44 @@ fn combined_in(alloc: Global, headers: &[Header], name: &[u8]) -> Result<Option<
     }
 }
 
+// What follows the prefix at the text's front.
+fn after_prefix<'a>(text: &'a [u8], prefix: &[u8]) -> Option<&'a [u8]>
+    ensures { MatchOption result ((rest : List ℕ) → text.now ≢ prefix.now ++ rest)
+        (λ rest. text.now ≡ prefix.now ++ rest.now) }
+{
+    text.strip_prefix(prefix)
+}
+
+// What follows a value at the text's front, behind a comma and a space where one was there.
+fn after_value<'a>(text: &'a [u8], found: bool, value: &[u8]) -> Option<&'a [u8]>
+    ensures { MatchOption result ((rest : List ℕ) → text.now ≢ behind_value found value.now rest)
+        (λ rest. text.now ≡ behind_value found value.now rest.now) }
+{
+    if found {
+        after_prefix(after_prefix(text, b", ")?, value)
+    } else {
+        after_prefix(text, value)
+    }
+}
+
+// Whether the values of a name, joined, are this text.
+fn are_joined(headers: &[Header], name: &[u8], text: &[u8]) -> bool
+    ensures { result ≡ has_value name.now text.now headers.now }
+{
+    let mut rest = text;
+    let mut found = false;
+    for header in headers {
+        if eq_fold(header.name.as_slice(), name) {
+            let Some(after) = after_value(rest, found, header.value.as_slice()) else {
+                return false;
+            };
+            rest = after;
+            found = true;
+        }
+    }
+    found && rest.is_empty()
+}
+
 impl HeaderList {
     /// The empty list. It takes no memory.
     pub fn new(alloc: Global) -> HeaderList
@@ -193,6 +235,22 @@ impl HeaderList {
         self.headers[index].value.as_slice()
     }
 
+    /// A law for those who call: equal names have one spelling in each list. The call does nothing.
+    pub fn law_one_spelling(&self)
+        ensures { HaveOneSpelling self.now }
+    {
+        let _ = &self.headers;
+    }
+
+    /// "contains": whether a header has that name (Fetch, section 2.2.2). It takes no memory.
+    pub fn contains(&self, name: &[u8]) -> bool
+        ensures { result ≡ contains name.now self.now }
+    {
+        self.headers
+            .iter()
+            .any(|header| eq_fold(header.name.as_slice(), name))
+    }
+
     /// "append": adds a header, its name in the spelling that the list has already
     /// (Fetch, section 2.2.2).
     pub fn append(&mut self, name: &[u8], value: &[u8]) -> Result<(), OutOfMemory>
@@ -224,6 +282,16 @@ impl HeaderList {
         take_out(&mut self.headers, name);
     }
 
+    /// Appends each of these headers, in order. Where memory is refused, those before it are there.
+    pub fn append_all(&mut self, more: &[Header]) -> Result<(), OutOfMemory>
+        ensures { OnOk result (self.new ≡ all_appended more.now self.old) }
+    {
+        for header in more {
+            self.append(header.name.as_slice(), header.value.as_slice())?;
+        }
+        Ok(())
+    }
+
     /// An equal list.
     pub fn copy(&self, alloc: Global) -> Result<HeaderList, OutOfMemory>
         ensures { IfOk result (λ list. list ≡ self.now) }
@@ -238,5 +306,14 @@ impl HeaderList {
         ensures { IfOk result (λ text. text ≡ combined name.now self.now) }
     {
         combined_in(alloc, self.headers.as_slice(), name)
+    }
+
+    /// Whether "get" gives this text for that name: the values joined by a comma and a space are the
+    /// text (Fetch, section 2.2.2). They are not joined, and it takes no memory.
+    pub fn has_value(&self, name: &[u8], text: &[u8]) -> bool
+        ensures value { result ≡ has_value name.now text.now self.now }
+        ensures equal { IsTrue result ↔ (combined name.now self.now ≡ Some text.now) }
+    {
+        are_joined(self.headers.as_slice(), name, text)
     }
 }

@@ -1,7 +1,7 @@
 ghost use Rattle.std.specs.Prelude.{ℕ, List, ◌≡◌, ◌++◌, ◌∷◌, [], IfOk, OnOk, codes, if◌then◌else◌};
 ghost use Rattle.wf_text.specs.Trims.{tab_or_space, trimmed};
 ghost use Rattle.wf_headers.specs.Split.{split, split_values};
-ghost use Rattle.wf_headers.specs.Splitting.{pieces_at, pieces_behind, split_with};
+ghost use Rattle.wf_headers.specs.Private.Splitting.{pieces_at, pieces_behind, split_with};
 
 use crate::headers::{Header, HeaderList};
 use std::alloc::Global;

@@ -1,6 +1,6 @@
 use Rattle.std.proofs.Common.{drop}
 use Rattle.wf_headers.specs.Headers.{values_of}
-use Rattle.wf_headers.specs.Finding.{FoundBefore}
+use Rattle.wf_headers.specs.Private.Finding.{FoundBefore}
 use Rattle.wf_headers.proofs.extract.find.Given as goal
 
 abbrev pub invariant-loop-header : goal.invariant-loop-header

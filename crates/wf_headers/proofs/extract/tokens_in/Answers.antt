@@ -8,5 +8,5 @@ pub returns-then-are_tokens : goal.returns-then-are_tokens
 returns-then-are_tokens c =
     let found : c.loop-header.found ≡ true = grind (arith, c.if-not-found.false) in
     let some = tokens-some (values_of c.args.name.now c.args.headers.now)
-        (named-some c.args.name.now c.args.headers.now (c.loop-header.invariant.something found)) in
+    (named-some c.args.name.now c.args.headers.now (c.loop-header.invariant.something found)) in
     grind (arith, common_steps, some)

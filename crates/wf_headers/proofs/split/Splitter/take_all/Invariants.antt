@@ -1,5 +1,5 @@
 use Rattle.std.proofs.Common.{◌≡◌, ◌++◌, ℕ, List, drop}
-use Rattle.wf_headers.specs.Splitting.{split_with}
+use Rattle.wf_headers.specs.Private.Splitting.{split_with}
 use Rattle.wf_headers.proofs.split.Splitter.take_all.Given as goal
 
 abbrev pub invariant-loop-byte : goal.invariant-loop-byte
