@@ -64,15 +64,18 @@ concat-given [] n = rw (take-nil n) refl
 concat-given ([] ∷ pieces) n = concat-given pieces n
 concat-given ((byte ∷ piece) ∷ pieces) n =
     ap (λ (l : List ℕ). l ++ concat pieces) (sym (take-append-drop n (byte ∷ piece)))
-        ∙ append_assoc (take n (byte ∷ piece)) (drop n (byte ∷ piece)) (concat pieces)
+    ∙ append_assoc (take n (byte ∷ piece)) (drop n (byte ∷ piece)) (concat pieces)
 
 -- as the trait says it
 pub gave-piece : (pieces : List (List ℕ)) (n room : ℕ) (given old : List ℕ) → n
     ≡ min (length (front (skipped pieces))) room → given ≡ take n (front (skipped pieces)) ++ drop n old
     → concat pieces ≡ take n given ++ concat (behind n (skipped pieces))
 gave-piece pieces n room given old count e =
-    rw (e, take_at (take n (front (skipped pieces))) (drop n old) n
-        (length-take-le n (front (skipped pieces)) (omega (arith, count)))) (concat-given pieces n)
+    rw (
+      e,
+      take_at (take n (front (skipped pieces))) (drop n old) n
+          (length-take-le n (front (skipped pieces)) (omega (arith, count))),
+    ) (concat-given pieces n)
 
 -- nothing is given into a buffer with room only where nothing is to come
 pub concat-end : (pieces : List (List ℕ)) (n room : ℕ) → n ≡ min (length (front (skipped pieces))) room → n ≡ 0

@@ -18,9 +18,12 @@ gave-again (Some o) None c x y z p q e = absurd (no p.1)
   where
     no : None ≡ Some p.0 → ⊥
     no h = cc
-gave-again (Some o) (Some m) c x y z p q e =
-    (q.0, q.1, p.2 ∙ ap (λ (l : List ℕ). x ++ l) (sym (same p.1) ∙ q.2) ∙ sym (append_assoc x y q.0)
-    ∙ ap (λ (l : List ℕ). l ++ q.0) (sym e))
+gave-again (Some o) (Some m) c x y z p q e = (
+  q.0,
+  q.1,
+  p.2 ∙ ap (λ (l : List ℕ). x ++ l) (sym (same p.1) ∙ q.2) ∙ sym (append_assoc x y q.0)
+      ∙ ap (λ (l : List ℕ). l ++ q.0) (sym e),
+)
   where
     same : {m n : List ℕ} → Some m ≡ Some n → m ≡ n
     same h = cc
@@ -48,5 +51,9 @@ pub gave-front : (at n : ℕ) (text left rest front more : List ℕ) → drop at
     → n ≤ length rest → front ≡ take n rest → left ≡ take n (front ++ more) ++ drop (at + n) text
 gave-front at n text left rest front more e whole within same =
     let long : length front ≡ n = ap length same ∙ length-take-le n rest within in
-    sym e ∙ sym whole ∙ rw (take_at front more n long, same, ← drop-drop n at text,
-        ← whole) (sym (take-append-drop n rest))
+    sym e ∙ sym whole ∙ rw (
+      take_at front more n long,
+      same,
+      ← drop-drop n at text,
+      ← whole,
+    ) (sym (take-append-drop n rest))

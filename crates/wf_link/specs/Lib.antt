@@ -1,9 +1,9 @@
 pub mod Counts
-pub mod KeptAsks
 pub mod Links
 pub mod MemoryLink
 pub mod MemoryLinks
 pub mod MemorySink
 pub mod MemorySource
+pub mod Private
 pub mod Sinks
 pub mod Sources

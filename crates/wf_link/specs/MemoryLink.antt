@@ -1,5 +1,6 @@
 -- A link in memory: what its calls answer, and what they leave.
-use Rattle.std.specs.Prelude.{ℕ, Bool, ◌||◌, not, nat_le, ◌+◌, ◌-◌, min, drop, length, List, [], ◌∷◌, ◌++◌, Result, Ok, Err, ⊤, if◌then◌else◌}
+use Rattle.std.specs.Prelude.{ℕ, Bool, ◌||◌, not, nat_le, ◌+◌, ◌-◌, min, drop, length, List, [], ◌∷◌, ◌++◌, Result}
+use Rattle.std.specs.Prelude.{Ok, Err, ⊤, if◌then◌else◌}
 use Rattle.std.specs.List.{concat}
 use Rattle.wf_link.specs.Counts.{is_next_in, one_more}
 use Rattle.wf_link.specs.declared.source.Failed.{Failed}
@@ -57,7 +58,11 @@ room_after room ask = if finds_room room ask then room - needed_room ask else ro
 abbrev pub state_after : LinkState → List ℕ → List ℕ → LinkState
 state_after state origin request =
     let ask : Ask = record { origin = origin; request = request } in
-    record { answers = drop 1 state.answers; asks = asks_after state.room state.asks ask; room = room_after state.room ask }
+    record {
+      answers = drop 1 state.answers;
+      asks = asks_after state.room state.asks ask;
+      room = room_after state.room ask;
+    }
 
 -- an ask fails as its number says, and where it does not find its room
 abbrev pub fails_ask : MemoryLinkState → Ask → Bool
@@ -70,9 +75,18 @@ ask_answer link origin request =
 -- what an ask with this answer leaves: the pieces of the next answer are to come, or none after a failure
 abbrev pub after_ask : MemoryLinkState → List ℕ → List ℕ → Result ⊤ Failed → MemoryLinkState
 after_ask link origin request (Ok done) =
-    record link { state = state_after link.state origin request; pieces = front link.state.answers; ask_calls = one_more link.ask_calls }
+    record link {
+      state = state_after link.state origin request;
+      pieces = front link.state.answers;
+      ask_calls = one_more link.ask_calls;
+    }
 after_ask link origin request (Err failed) =
-    record link { state = state_after link.state origin request; pieces = []; ask_calls = one_more link.ask_calls; faults = one_more link.faults }
+    record link {
+      state = state_after link.state origin request;
+      pieces = [];
+      ask_calls = one_more link.ask_calls;
+      faults = one_more link.faults;
+    }
 
 -- the pieces from the first on that is not empty
 abbrev pub skipped : List (List ℕ) → List (List ℕ)
@@ -94,5 +108,7 @@ receive_answer link room =
 
 -- what a receive with this answer leaves
 abbrev pub after_receive : MemoryLinkState → Result ℕ Failed → MemoryLinkState
-after_receive link (Ok n) = record link { pieces = behind n (skipped link.pieces); receive_calls = one_more link.receive_calls }
-after_receive link (Err failed) = record link { receive_calls = one_more link.receive_calls; faults = one_more link.faults }
+after_receive link (Ok n) =
+    record link { pieces = behind n (skipped link.pieces); receive_calls = one_more link.receive_calls }
+after_receive link (Err failed) =
+    record link { receive_calls = one_more link.receive_calls; faults = one_more link.faults }

@@ -21,4 +21,5 @@ kept_back lent link = if lent.out == 0 then lent else one_back lent link
 
 -- what a take_back leaves: its faults are counted in any case
 abbrev pub after_take_back : LinksState → MemoryLinkState → LinksState
-after_take_back links link = record links { lent = kept_back links.lent link; faults = grown_by links.faults link.faults }
+after_take_back links link =
+    record links { lent = kept_back links.lent link; faults = grown_by links.faults link.faults }

@@ -1,5 +1,6 @@
 -- A sink in memory: what its calls answer, and what they leave.
-use Rattle.std.specs.Prelude.{ℕ, Bool, ◌==◌, ◌&&◌, not, ◌-◌, min, take, length, List, ◌++◌, Result, Ok, Err, if◌then◌else◌}
+use Rattle.std.specs.Prelude.{ℕ, Bool, ◌==◌, ◌&&◌, not, ◌-◌, min, take, length, List, ◌++◌}
+use Rattle.std.specs.Prelude.{Result, Ok, Err, if◌then◌else◌}
 use Rattle.wf_link.specs.Counts.{is_next_in, one_more}
 use Rattle.wf_link.specs.declared.source.Failed.{Failed}
 
@@ -34,5 +35,10 @@ zeros_after sink piece n = if (n == 0) && not (length piece == 0) then one_more 
 -- what a write with this answer leaves
 abbrev pub after_write : SinkState → List ℕ → Result ℕ Failed → SinkState
 after_write sink piece (Ok n) =
-    record sink { taken = sink.taken ++ take n piece; room = sink.room - n; calls = one_more sink.calls; zeros = zeros_after sink piece n }
+    record sink {
+      taken = sink.taken ++ take n piece;
+      room = sink.room - n;
+      calls = one_more sink.calls;
+      zeros = zeros_after sink piece n;
+    }
 after_write sink piece (Err failed) = record sink { calls = one_more sink.calls; faults = one_more sink.faults }

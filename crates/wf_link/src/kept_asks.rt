@@ -8,7 +8,7 @@ use wf_text::{Bytes, Items, OutOfMemory};
 
 /// How many bytes of each part of an ask were kept.
 #[derive(Clone, Copy)]
-pub struct AskSize {
+pub(crate) struct AskSize {
     origin: usize,
     request: usize,
 }
@@ -16,7 +16,7 @@ pub struct AskSize {
 /// The asks that were kept, and the bytes of room left for more. Each takes its bytes and one more,
 /// so there are at most as many as there were bytes of room, and none needs more memory.
 #[derive(Drop)]
-pub struct KeptAsks {
+pub(crate) struct KeptAsks {
     text: Vec<u8>,
     sizes: Vec<AskSize>,
     room: usize,
@@ -28,16 +28,18 @@ impl Model for KeptAsks {
 
     ghost Value = { KeptState };
 
-    ghost use Rattle.wf_link.specs.KeptAsks.{asks_in, bytes_of};
+    ghost use Rattle.wf_link.specs.Private.KeptAsks.{asks_in, bytes_of};
 
     ghost view = { λ kept. record { asks = asks_in kept.sizes.items kept.text.items; room = kept.room } };
 
-    ghost invariant = { λ kept. (vec_len kept.text + kept.room ≤ vec_capacity kept.text) × (vec_len kept.sizes + kept.room ≤ vec_capacity kept.sizes) × (bytes_of kept.sizes.items ≡ length kept.text.items) };
+    ghost invariant = { λ kept. (vec_len kept.text + kept.room ≤ vec_capacity kept.text)
+        × (vec_len kept.sizes + kept.room ≤ vec_capacity kept.sizes)
+        × (bytes_of kept.sizes.items ≡ length kept.text.items) };
 }
 
 impl KeptAsks {
-    /// No ask, and so many bytes of room, which are reserved here, or `OutOfMemory`.
-    pub fn new(alloc: Global, room: usize) -> Result<KeptAsks, OutOfMemory>
+    // No ask, and so many bytes of room, which are reserved here, or `OutOfMemory`.
+    pub(crate) fn new(alloc: Global, room: usize) -> Result<KeptAsks, OutOfMemory>
         ensures { IfOk result (λ kept. kept ≡ record { asks = []; room = room }) }
     {
         Ok(KeptAsks {
@@ -47,11 +49,13 @@ impl KeptAsks {
         })
     }
 
-    /// Keeps an ask where it finds its room, and answers whether it did.
-    pub fn keep(&mut self, origin: &[u8], request: &[u8]) -> bool
+    // Keeps an ask where it finds its room, and answers whether it did.
+    pub(crate) fn keep(&mut self, origin: &[u8], request: &[u8]) -> bool
         ensures kept { result ≡ finds_room self.old.room (record { origin = origin.now; request = request.now }) }
-        ensures asks { self.new.asks ≡ asks_after self.old.room self.old.asks (record { origin = origin.now; request = request.now }) }
-        ensures room { self.new.room ≡ room_after self.old.room (record { origin = origin.now; request = request.now }) }
+        ensures asks { self.new.asks
+            ≡ asks_after self.old.room self.old.asks (record { origin = origin.now; request = request.now }) }
+        ensures room { self.new.room
+            ≡ room_after self.old.room (record { origin = origin.now; request = request.now }) }
     {
         let needed = origin.len() + request.len() + 1;
         if self.room < needed {
@@ -74,8 +78,8 @@ impl KeptAsks {
         }
     }
 
-    /// Copies of the asks.
-    pub fn copies(&self, alloc: Global) -> Result<Items<Ask>, OutOfMemory>
+    // Copies of the asks.
+    pub(crate) fn copies(&self, alloc: Global) -> Result<Items<Ask>, OutOfMemory>
         ensures { IfOk result (λ asks. asks ≡ self.now.asks) }
     {
         let mut asks = Items::new(alloc);

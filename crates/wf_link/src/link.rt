@@ -36,9 +36,12 @@ pub trait Link {
     /// where it failed. `Failed` only where the count of faults rose.
     fn ask(&mut self, target: &Target, request: &[u8]) -> Result<(), Failed>
         ensures state { state self.new ≡ option_map (λ s. next s target.now.origin request.now) (state self.old) }
-        ensures answered { OnOk result (left self.new ≡ option_map (λ s. answer s target.now.origin request.now) (state self.old)) }
-        ensures asked { OnOk result (Asked (asks self.old) (asks self.new) (record { origin = target.now.origin; request = request.now })) }
-        ensures failed { OnErr result (MayHaveAsked (asks self.old) (asks self.new) (record { origin = target.now.origin; request = request.now })) }
+        ensures answered { OnOk result (left self.new
+            ≡ option_map (λ s. answer s target.now.origin request.now) (state self.old)) }
+        ensures asked { OnOk result (Asked (asks self.old) (asks self.new)
+            (record { origin = target.now.origin; request = request.now })) }
+        ensures failed { OnErr result (MayHaveAsked (asks self.old) (asks self.new)
+            (record { origin = target.now.origin; request = request.now })) }
         ensures cause { HasCause (faults self.old) (faults self.new) result };
 
     /// Puts the next bytes of the answer at the front of the buffer, and answers how many. 0 for a

@@ -3,7 +3,8 @@ ghost use Rattle.std.specs.Io.{ReadsAtMost};
 ghost use Rattle.std.specs.List.{concat};
 ghost use Rattle.wf_link.specs.Counts.{HasCause, one_more};
 ghost use Rattle.wf_link.specs.Links.{Asked, MayHaveAsked};
-ghost use Rattle.wf_link.specs.MemoryLink.{LinkState, after_ask, after_receive, answer_to, ask_answer, front, receive_answer, skipped, state_after};
+ghost use Rattle.wf_link.specs.MemoryLink.{LinkState, after_ask, after_receive, answer_to, ask_answer, front};
+ghost use Rattle.wf_link.specs.MemoryLink.{receive_answer, skipped, state_after};
 ghost use Rattle.wf_link.specs.Sources.{Gave, IsAtEnd};
 
 use crate::kept_asks::KeptAsks;
@@ -35,7 +36,15 @@ impl Model for MemoryLink {
 
     ghost Value = { MemoryLinkState };
 
-    ghost view = { λ link. record { state = record { answers = link.answers.items; asks = link.kept.asks; room = link.kept.room }; pieces = link.pieces; ask_calls = link.ask_calls; failing_asks = link.failing_asks.items; receive_calls = link.receive_calls; failing_receives = link.failing_receives.items; faults = link.faults } };
+    ghost view = { λ link. record {
+      state = record { answers = link.answers.items; asks = link.kept.asks; room = link.kept.room };
+      pieces = link.pieces;
+      ask_calls = link.ask_calls;
+      failing_asks = link.failing_asks.items;
+      receive_calls = link.receive_calls;
+      failing_receives = link.failing_receives.items;
+      faults = link.faults;
+    } };
 }
 
 impl MemoryLink {
@@ -50,7 +59,15 @@ impl MemoryLink {
         failed_asks: Vec<u64>,
         failed_receives: Vec<u64>,
     ) -> Result<MemoryLink, OutOfMemory>
-        ensures { IfOk result (λ link. link ≡ record { state = record { answers = answers.items; asks = []; room = room }; pieces = []; ask_calls = 0; failing_asks = failed_asks.items; receive_calls = 0; failing_receives = failed_receives.items; faults = 0 }) }
+        ensures { IfOk result (λ link. link ≡ record {
+          state = record { answers = answers.items; asks = []; room = room };
+          pieces = [];
+          ask_calls = 0;
+          failing_asks = failed_asks.items;
+          receive_calls = 0;
+          failing_receives = failed_receives.items;
+          faults = 0;
+        }) }
     {
         Ok(MemoryLink {
             answers: VecDeque::from(answers),
@@ -78,7 +95,7 @@ impl MemoryLink {
         self.faults
     }
 
-    /// A failure, which is counted.
+    // A failure, which is counted.
     fn fail(&mut self) -> Failed
         ensures counted { self.new ≡ record self.old { faults = one_more self.old.faults } }
         ensures later { self.old.faults ≤ self.new.faults }
@@ -109,9 +126,12 @@ impl Link for MemoryLink {
     /// as its number says. After a failed ask nothing is to come.
     fn ask(&mut self, target: &Target, request: &[u8]) -> Result<(), Failed>
         ensures state { Some self.new.state ≡ Some (state_after self.old.state target.now.origin request.now) }
-        ensures answered { OnOk result (Some (concat self.new.pieces) ≡ Some (answer_to self.old.state target.now.origin request.now)) }
-        ensures asked { OnOk result (Asked (Some self.old.state.asks) (Some self.new.state.asks) (record { origin = target.now.origin; request = request.now })) }
-        ensures failed { OnErr result (MayHaveAsked (Some self.old.state.asks) (Some self.new.state.asks) (record { origin = target.now.origin; request = request.now })) }
+        ensures answered { OnOk result (Some (concat self.new.pieces)
+            ≡ Some (answer_to self.old.state target.now.origin request.now)) }
+        ensures asked { OnOk result (Asked (Some self.old.state.asks) (Some self.new.state.asks)
+            (record { origin = target.now.origin; request = request.now })) }
+        ensures failed { OnErr result (MayHaveAsked (Some self.old.state.asks) (Some self.new.state.asks)
+            (record { origin = target.now.origin; request = request.now })) }
         ensures cause { HasCause self.old.faults self.new.faults result }
         ensures answer { result ≡ ask_answer self.old target.now.origin request.now }
         ensures after { self.new ≡ after_ask self.old target.now.origin request.now result }
@@ -133,7 +153,8 @@ impl Link for MemoryLink {
     /// fails as its number says.
     fn recv(&mut self, buf: &mut [u8]) -> Result<usize, Failed>
         ensures count { ReadsAtMost result buf.new }
-        ensures gave { IfOk result (λ n. Gave (Some (concat self.old.pieces)) (Some (concat self.new.pieces)) (take n buf.new)) }
+        ensures gave { IfOk result (λ n. Gave (Some (concat self.old.pieces)) (Some (concat self.new.pieces))
+            (take n buf.new)) }
         ensures end { result ≡ Ok 0 → 0 < length buf.new → IsAtEnd (Some (concat self.new.pieces)) }
         ensures failed { OnErr result (Some (concat self.new.pieces) ≡ Some (concat self.old.pieces)) }
         ensures state { Some self.new.state ≡ Some self.old.state }

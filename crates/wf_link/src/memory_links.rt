@@ -28,16 +28,22 @@ impl Model for MemoryLinks {
 
     ghost Value = { LinksState };
 
-    ghost view = { λ links. record { waiting = links.waiting.items; lent = record { back = links.back.items; out = links.out }; faults = links.faults } };
+    ghost view = { λ links. record {
+      waiting = links.waiting.items;
+      lent = record { back = links.back.items; out = links.out };
+      faults = links.faults;
+    } };
 
-    ghost invariant = { λ links. vec_len links.back + links.out + length links.waiting.items ≤ vec_capacity links.back };
+    ghost invariant = { λ links. vec_len links.back + links.out + length links.waiting.items
+        ≤ vec_capacity links.back };
 }
 
 impl MemoryLinks {
     /// Links to be handed out in this order, with room for all of them to be taken back, which is
     /// reserved here, or `OutOfMemory`.
     pub fn new(alloc: Global, links: Vec<MemoryLink>) -> Result<MemoryLinks, OutOfMemory>
-        ensures { IfOk result (λ made. made ≡ record { waiting = links.items; lent = record { back = []; out = 0 }; faults = 0 }) }
+        ensures { IfOk result (λ made. made
+            ≡ record { waiting = links.items; lent = record { back = []; out = 0 }; faults = 0 }) }
     {
         Ok(MemoryLinks {
             back: Vec::with_capacity(alloc, links.len())?,

@@ -29,7 +29,15 @@ impl Model for MemorySink {
 
     ghost Value = { SinkState };
 
-    ghost view = { λ sink. record { taken = sink.taken.items; room = sink.room; calls = sink.calls; failing_calls = sink.failing_calls.items; zero_calls = sink.zero_calls.items; faults = sink.faults; zeros = sink.zeros } };
+    ghost view = { λ sink. record {
+      taken = sink.taken.items;
+      room = sink.room;
+      calls = sink.calls;
+      failing_calls = sink.failing_calls.items;
+      zero_calls = sink.zero_calls.items;
+      faults = sink.faults;
+      zeros = sink.zeros;
+    } };
 
     ghost invariant = { λ sink. vec_len sink.taken + sink.room ≤ vec_capacity sink.taken };
 }
@@ -44,7 +52,15 @@ impl MemorySink {
         fails: Vec<u64>,
         zeros: Vec<u64>,
     ) -> Result<MemorySink, OutOfMemory>
-        ensures { IfOk result (λ sink. sink ≡ record { taken = []; room = room; calls = 0; failing_calls = fails.items; zero_calls = zeros.items; faults = 0; zeros = 0 }) }
+        ensures { IfOk result (λ sink. sink ≡ record {
+          taken = [];
+          room = room;
+          calls = 0;
+          failing_calls = fails.items;
+          zero_calls = zeros.items;
+          faults = 0;
+          zeros = 0;
+        }) }
     {
         Ok(MemorySink {
             taken: Vec::with_capacity(alloc, room)?,

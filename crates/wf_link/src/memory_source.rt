@@ -24,7 +24,12 @@ impl Model for MemorySource {
 
     ghost Value = { SourceState };
 
-    ghost view = { λ source. record { left = drop source.at source.text; calls = source.calls; failing_calls = source.failing_calls.items; faults = source.faults } };
+    ghost view = { λ source. record {
+      left = drop source.at source.text;
+      calls = source.calls;
+      failing_calls = source.failing_calls.items;
+      faults = source.faults;
+    } };
 
     ghost invariant = { λ source. source.at ≤ length source.text };
 }

@@ -8,7 +8,7 @@ use wf_text::BytesList;
 /// What is still to come of an answer, seen as the list of its pieces, the first of which may have
 /// been given in part.
 #[derive(Drop)]
-pub struct Pieces {
+pub(crate) struct Pieces {
     answer: BytesList,
     piece: usize,
     at: usize,
@@ -26,8 +26,8 @@ impl Model for Pieces {
 }
 
 impl Pieces {
-    /// The pieces of an answer.
-    pub fn of(answer: BytesList) -> Pieces
+    // The pieces of an answer.
+    pub(crate) fn of(answer: BytesList) -> Pieces
         ensures { result ≡ answer }
     {
         Pieces {
@@ -37,24 +37,24 @@ impl Pieces {
         }
     }
 
-    /// No piece. It takes no memory.
-    pub fn none(alloc: Global) -> Pieces
+    // No piece. It takes no memory.
+    pub(crate) fn none(alloc: Global) -> Pieces
         ensures { result ≡ [] }
     {
         Pieces::of(BytesList::new(alloc))
     }
 
-    /// Drops them all.
-    pub fn clear(&mut self)
+    // Drops them all.
+    pub(crate) fn clear(&mut self)
         ensures { self.new ≡ [] }
     {
         self.piece = self.answer.len();
         self.at = 0;
     }
 
-    /// Puts the next bytes at the front of the buffer, and answers how many: as many as the buffer
-    /// holds, and as the first piece has left that is not empty.
-    pub fn give(&mut self, buf: &mut [u8]) -> usize
+    // Puts the next bytes at the front of the buffer, and answers how many: as many as the buffer
+    // holds, and as the first piece has left that is not empty.
+    pub(crate) fn give(&mut self, buf: &mut [u8]) -> usize
         ensures count { result ≡ min (length (front (skipped self.old))) (length buf.old) }
         ensures left { self.new ≡ behind result (skipped self.old) }
         ensures given { buf.new ≡ take result (front (skipped self.old)) ++ drop result buf.old }
@@ -70,7 +70,7 @@ impl Pieces {
         count
     }
 
-    /// Goes to the first piece that has bytes left.
+    // Goes to the first piece that has bytes left.
     fn skip(&mut self)
         ensures { self.new ≡ skipped self.old }
     {

@@ -1,4 +1,5 @@
-ghost use Rattle.std.specs.Prelude.{◌≡◌, ◌+◌, ◌<◌, ◌≤◌, ◌^◌, ℕ, List, [], take, length, Option, Ok, Err, IfOk, OnErr, vec_len};
+ghost use Rattle.std.specs.Prelude.{◌≡◌, ◌+◌, ◌<◌, ◌≤◌, ◌^◌, ℕ, List, [], take, length};
+ghost use Rattle.std.specs.Prelude.{Option, Ok, Err, IfOk, OnErr, vec_len};
 ghost use Rattle.std.specs.Io.{ReadsAtMost};
 ghost use Rattle.wf_link.specs.Counts.{HasCause, Rose};
 ghost use Rattle.wf_link.specs.Sources.{Gave, GaveAtMost, GaveJust, GaveWhole, IsAtEnd};
@@ -39,10 +40,10 @@ pub enum ReadStop {
     OutOfMemory,
 }
 
-/// How many bytes are asked for at once.
+// How many bytes are asked for at once.
 const PIECE: usize = 65_536;
 
-/// Room for one piece.
+// Room for one piece.
 fn piece_buffer(alloc: Global) -> Result<Vec<u8>, OutOfMemory>
     ensures { IfOk result (λ buffer. vec_len buffer ≡ PIECE) }
 {

@@ -1,5 +1,5 @@
 use Rattle.std.proofs.Common.{◌≡◌, ◌++◌, drop, length}
-use Rattle.wf_link.specs.KeptAsks.{asks_in, bytes_of}
+use Rattle.wf_link.specs.Private.KeptAsks.{asks_in, bytes_of}
 use Rattle.wf_link.proofs.kept_asks.KeptAsks.copies.Given as goal
 
 abbrev pub invariant-loop-size : goal.invariant-loop-size

@@ -12,7 +12,7 @@ loop-self-preserved c = record {
 pub returns-else-self-at : goal.returns-else-self-at
 returns-else-self-at c =
     let within : c.loop-self.self-inside.at ≤ length c.at.result.now =
-        rw (front-at c.loop-self.self-inside.answer c.loop-self.self-inside.piece c.at.result.now c.at.ensures) at
-        c.loop-self.invariant.within in
+    rw (front-at c.loop-self.self-inside.answer c.loop-self.self-inside.piece c.at.result.now c.at.ensures) at
+    c.loop-self.invariant.within in
     sym (skip-left c.loop-self.self-inside.answer c.loop-self.self-inside.piece c.loop-self.self-inside.at
-        c.at.result.now c.at.ensures (omega (arith, within, c.if-self-at.false))) ∙ c.loop-self.invariant.same
+    c.at.result.now c.at.ensures (omega (arith, within, c.if-self-at.false))) ∙ c.loop-self.invariant.same

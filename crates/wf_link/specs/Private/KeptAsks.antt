@@ -7,7 +7,9 @@ use Rattle.wf_link.specs.declared.target.Ask.{Ask}
 abbrev pub asks_in : List AskSize → List ℕ → List Ask
 asks_in [] text = []
 asks_in (size ∷ sizes) text =
-    record { origin = take size.origin text; request = take size.request (drop size.origin text) } ∷ asks_in sizes (drop size.request (drop size.origin text))
+    let behind = drop size.origin text in
+    record { origin = take size.origin text; request = take size.request behind }
+    ∷ asks_in sizes (drop size.request behind)
 
 -- how many bytes they have together
 abbrev pub bytes_of : List AskSize → ℕ
