@@ -16,7 +16,8 @@ use Rattle.wf_precache.specs.declared.entry.CacheEntry.{CacheEntry}
 use Rattle.wf_precache.specs.declared.question.Lesson.{Lesson}
 use Rattle.wf_precache.specs.Cache.{cleared, learned}
 use Rattle.wf_precache.specs.Entries.{is_alive, is_of}
-use Rattle.wf_precache.specs.Keys.{AreSorted, IsCache, Keyed, before, behind, entries_of, keyed, listed}
+use Rattle.wf_precache.specs.Keys.{AreSorted, IsCache, Keyed, before, behind, entries_of, keyed}
+use Rattle.wf_precache.specs.Private.Partitions.{listed}
 use Rattle.wf_precache.specs.Keys.{stands_before, with_entries}
 use Rattle.wf_precache.specs.Laws.{ChangesKeepCaches}
 use Rattle.wf_precache.specs.Teaching.{created, is_known, methods_of, names_of, newest, renewed, taught, with_item}
@@ -93,9 +94,10 @@ sorted-kept test (k ∷ ks) sorted = by (test k) (sorted-kept test ks sorted.1)
 sorted-append : (xs ys : List Keyed) → AreSorted xs → AreSorted ys
     → AllByRecursion (λ x. AllByRecursion (λ y. stands_before y.key x.key ≡ false) ys) xs → AreSorted (xs ++ ys)
 sorted-append [] ys xs_sorted ys_sorted apart = ys_sorted
-sorted-append (x ∷ xs) ys xs_sorted ys_sorted apart =
-    (all-append (λ y. stands_before y.key x.key ≡ false) xs ys xs_sorted.0 apart.0,
-        sorted-append xs ys xs_sorted.1 ys_sorted apart.1)
+sorted-append (x ∷ xs) ys xs_sorted ys_sorted apart = (
+  all-append (λ y. stands_before y.key x.key ≡ false) xs ys xs_sorted.0 apart.0,
+  sorted-append xs ys xs_sorted.1 ys_sorted apart.1,
+)
 
 less-is : (o : Ordering) → is_lt o ≡ true → o ≡ Less
 less-is Less is = refl
@@ -144,14 +146,14 @@ module _ (key : List ℕ) (entries : List CacheEntry) (cache : List Keyed) where
   with-sorted : AreSorted cache → AreSorted (with_entries key entries cache)
   with-sorted sorted =
       sorted-append (before key cache) (map (keyed key) entries
-          ++ behind key cache) (sorted-kept (λ k. stands_before k.key key) cache sorted)
+      ++ behind key cache) (sorted-kept (λ k. stands_before k.key key) cache sorted)
       (sorted-append (map (keyed key) entries) (behind key cache) (own-sorted key entries)
-          (sorted-kept (λ k. stands_before key k.key) cache sorted) (own-behind entries))
+      (sorted-kept (λ k. stands_before key k.key) cache sorted) (own-behind entries))
       (all-passing (λ (x : Keyed). AllByRecursion (λ (y : Keyed). stands_before y.key x.key
-          ≡ false) (map (keyed key) entries ++ behind key cache)) (λ k. stands_before k.key key)
+      ≡ false) (map (keyed key) entries ++ behind key cache)) (λ k. stands_before k.key key)
       (λ x is. let less = less-is _ is in
-          all-append (λ (y : Keyed). stands_before y.key x.key ≡ false) (map (keyed key) entries) (behind key cache)
-          (own-apart x.key (not-back x.key key less) entries) (behind-apart x.key less)) cache)
+      all-append (λ (y : Keyed). stands_before y.key x.key ≡ false) (map (keyed key) entries) (behind key cache)
+      (own-apart x.key (not-back x.key key less) entries) (behind-apart x.key less)) cache)
 
 learned-bounded : (lesson : Lesson) (now : ℕ) (cache : List Keyed)
     → ((key : List ℕ) → length (entries_of key cache) ≤ 64) → (key : List ℕ)
@@ -159,7 +161,7 @@ learned-bounded : (lesson : Lesson) (now : ℕ) (cache : List Keyed)
 learned-bounded lesson now cache most key =
     let is = entries_of-learned key lesson now cache in
     rw is (either (bytes_eq lesson.key key) (taught lesson now (entries_of lesson.key cache)) (entries_of key cache)
-        (taught-most lesson now (entries_of lesson.key cache) (most lesson.key)) (most key))
+    (taught-most lesson now (entries_of lesson.key cache) (most lesson.key)) (most key))
 
 cleared-bounded : (other origin url : List ℕ) (cache : List Keyed)
     → ((key : List ℕ) → length (entries_of key cache) ≤ 64) → (key : List ℕ)
@@ -168,7 +170,7 @@ cleared-bounded other origin url cache most key =
     let is = entries_of-cleared key origin url other cache in
     let left : List CacheEntry = filter (λ entry. not (is_of origin url entry)) (entries_of key cache) in
     rw is (either (bytes_eq other key) left (entries_of key cache)
-        (omega (arith, kept-most (λ entry. not (is_of origin url entry)) (entries_of key cache), most key)) (most key))
+    (omega (arith, kept-most (λ entry. not (is_of origin url entry)) (entries_of key cache), most key)) (most key))
 
 pub changes-keep-caches : ChangesKeepCaches
 changes-keep-caches = record {

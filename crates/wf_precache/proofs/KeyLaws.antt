@@ -61,12 +61,12 @@ module _ (key : List ℕ) (cache : List Keyed) where
 
   own-parts : (other : List ℕ) (entries : List CacheEntry) → own (with_entries other entries cache)
       ≡ cond (stands_before key other) (own cache) []
-          ++ (own (map (keyed other) entries) ++ cond (stands_before other key) (own cache) [])
+      ++ (own (map (keyed other) entries) ++ cond (stands_before other key) (own cache) [])
   own-parts other entries =
       filter-append (λ k. bytes_eq k.key key) (before other cache) (map (keyed other) entries ++ behind other cache)
       ∙ (λ i. own-before other i
-          ++ (filter-append (λ k. bytes_eq k.key key) (map (keyed other) entries) (behind other cache)
-          ∙ (λ j. own (map (keyed other) entries) ++ own-behind other j)) i)
+      ++ (filter-append (λ k. bytes_eq k.key key) (map (keyed other) entries) (behind other cache)
+      ∙ (λ j. own (map (keyed other) entries) ++ own-behind other j)) i)
 
   equal-by : (other : List ℕ) (o : Ordering) → slice_cmp nat_cmp other key ≡ o → bytes_eq other key ≡ is_eq o
   equal-by other o is = nat_list_eq_equiv.symm other key ∙ same-by other key o is
@@ -77,19 +77,19 @@ module _ (key : List ℕ) (cache : List Keyed) where
   with-by other entries Less is =
       ap shown (own-parts other entries)
       ∙ (λ i. shown (cond (low-by other key Less is i) (own cache) []
-          ++ (part-dropped (λ l. bytes_eq l key) other entries (equal-by other Less is) i
-          ++ cond (high-by other key Less is i) (own cache) [])))
+      ++ (part-dropped (λ l. bytes_eq l key) other entries (equal-by other Less is) i
+      ++ cond (high-by other key Less is i) (own cache) [])))
   with-by other entries Equal is =
       ap shown (own-parts other entries)
       ∙ ((λ i. shown (cond (low-by other key Equal is i) (own cache) []
-          ++ (part-kept (λ l. bytes_eq l key) other entries (equal-by other Equal is) i
-          ++ cond (high-by other key Equal is i) (own cache) [])))
+      ++ (part-kept (λ l. bytes_eq l key) other entries (equal-by other Equal is) i
+      ++ cond (high-by other key Equal is i) (own cache) [])))
       ∙ entries-back other entries)
   with-by other entries Greater is =
       ap shown (own-parts other entries)
       ∙ ((λ i. shown (cond (low-by other key Greater is i) (own cache) []
-          ++ (part-dropped (λ l. bytes_eq l key) other entries (equal-by other Greater is) i
-          ++ cond (high-by other key Greater is i) (own cache) [])))
+      ++ (part-dropped (λ l. bytes_eq l key) other entries (equal-by other Greater is) i
+      ++ cond (high-by other key Greater is i) (own cache) [])))
       ∙ ap shown (append-nil (own cache)))
 
   -- other entries of one key are its entries, and leave those of every other key
@@ -98,7 +98,7 @@ module _ (key : List ℕ) (cache : List Keyed) where
   entries_of-with other entries =
       with-by other entries (slice_cmp nat_cmp other key) refl
       ∙ ap (λ (b : Bool). cond b entries (entries_of key cache))
-          (sym (equal-by other (slice_cmp nat_cmp other key) refl))
+      (sym (equal-by other (slice_cmp nat_cmp other key) refl))
 
 -- clearing one key takes out entries of its own, and leaves those of every other key
 module _ (key origin url : List ℕ) where
@@ -120,11 +120,11 @@ module _ (key origin url : List ℕ) where
       → entries_of key (cleared key origin url (k ∷ cache)) ≡ left (entries_of key (k ∷ cache))
   left-head k cache false of is at rest =
       (λ i. kept k (cleared key origin url cache) (is i) (at i))
-          ∙ (ap (first k (cleared key origin url cache)) is
-          ∙ (rest ∙ sym (ap (λ (same : Bool). left (first k cache same)) is)))
+      ∙ (ap (first k (cleared key origin url cache)) is
+      ∙ (rest ∙ sym (ap (λ (same : Bool). left (first k cache same)) is)))
   left-head k cache true true is at rest =
       (λ i. kept k (cleared key origin url cache) (is i) (at i))
-          ∙ (rest ∙ (sym (ap (chosen k cache) at) ∙ sym (ap (λ (same : Bool). left (first k cache same)) is)))
+      ∙ (rest ∙ (sym (ap (chosen k cache) at) ∙ sym (ap (λ (same : Bool). left (first k cache same)) is)))
   left-head k cache true false is at rest =
       (λ i. kept k (cleared key origin url cache) (is i) (at i))
       ∙ (ap (first k (cleared key origin url cache)) is
@@ -142,7 +142,7 @@ module _ (key origin url : List ℕ) where
       ap (λ (ks : List Keyed). map (λ k. k.entry) ks)
       (filter-within (λ k. bytes_eq k.key key) (λ k. not (bytes_eq k.key other && is_of origin url k.entry)) true
       (λ k same. ap (λ (l : List ℕ). not (bytes_eq l other && is_of origin url k.entry)) (is-key key cache k same)
-          ∙ ap (λ (b : Bool). not (b && is_of origin url k.entry)) apart) cache)
+      ∙ ap (λ (b : Bool). not (b && is_of origin url k.entry)) apart) cache)
 
   cleared-by : (other : List ℕ) (cache : List Keyed) (b : Bool) → bytes_eq other key ≡ b
       → entries_of key (cleared other origin url cache) ≡ cond b (left (entries_of key cache)) (entries_of key cache)

@@ -16,7 +16,8 @@ use Rattle.std.proofs.lemmas.Map.Keys.{sorted_head, sorted_tail}
 use Rattle.wf_precache.specs.declared.entry.CacheEntry.{CacheEntry}
 use Rattle.wf_precache.specs.Cache.{cleared}
 use Rattle.wf_precache.specs.Entries.{is_of}
-use Rattle.wf_precache.specs.Keys.{Keyed, entries_of, key_cmp, keyed, listed, stands_before, with_entries}
+use Rattle.wf_precache.specs.Keys.{Keyed, entries_of, keyed, stands_before, with_entries}
+use Rattle.wf_precache.specs.Private.Partitions.{key_cmp, listed}
 
 -- the entries under one key all pass a test of the key, or none does
 pub part-kept : (test : List ℕ → Bool) (key : List ℕ) (entries : List CacheEntry) → test key ≡ true
@@ -55,8 +56,8 @@ module _ {K : Type 0} (bytes : K → List ℕ) where
       → test (bytes p.0) ≡ b → filter (λ (k : Keyed). test k.key) (listed bytes ps)
       ≡ listed bytes (filter (λ q. test (bytes q.0)) ps)
       → filter (λ (k : Keyed). test k.key) (map (keyed (bytes p.0)) p.1)
-          ++ filter (λ (k : Keyed). test k.key) (listed bytes ps)
-          ≡ listed bytes (cond b (p ∷ filter (λ q. test (bytes q.0)) ps) (filter (λ q. test (bytes q.0)) ps))
+      ++ filter (λ (k : Keyed). test k.key) (listed bytes ps)
+      ≡ listed bytes (cond b (p ∷ filter (λ q. test (bytes q.0)) ps) (filter (λ q. test (bytes q.0)) ps))
   sifted-head test p ps true is rest = λ k. part-kept test (bytes p.0) p.1 is k ++ rest k
   sifted-head test p ps false is rest = λ k. part-dropped test (bytes p.0) p.1 is k ++ rest k
 
@@ -113,9 +114,11 @@ module _ {K : Type 0} (bytes : K → List ℕ) where
 
     high-less : (p : K × List CacheEntry) (ps : List (K × List CacheEntry))
         → IsStrictlySortedBy (key_cmp bytes) (keys_of (p ∷ ps)) → compare p.0 ≡ Less → AllHigh (p ∷ ps)
-    high-less p ps sorted is =
-        (is, high-through p.0 (λ other less. nat_list_cmp_total.trans key (bytes p.0) (bytes other) is less) ps
-        (sorted_head (key_cmp bytes) p.0 (keys_of ps) sorted))
+    high-less p ps sorted is = (
+      is,
+      high-through p.0 (λ other less. nat_list_cmp_total.trans key (bytes p.0) (bytes other) is less) ps
+          (sorted_head (key_cmp bytes) p.0 (keys_of ps) sorted),
+    )
 
     high-equal : (p : K × List CacheEntry) (ps : List (K × List CacheEntry))
         → IsStrictlySortedBy (key_cmp bytes) (keys_of (p ∷ ps)) → compare p.0 ≡ Equal → AllHigh ps
@@ -182,14 +185,14 @@ module _ {K : Type 0} (bytes : K → List ℕ) where
         ≡ Equal → AllHigh ps → among entries (p ∷ ps) ≡ entries ++ listed bytes ps
     among-equal entries p ps is all =
         (λ k. listed bytes (cond (low-by key (bytes p.0) Equal is k) (p ∷ low ps) (low ps))
-            ++ (entries ++ listed bytes (cond (high-by key (bytes p.0) Equal is k) (p ∷ high ps) (high ps))))
+        ++ (entries ++ listed bytes (cond (high-by key (bytes p.0) Equal is k) (p ∷ high ps) (high ps))))
         ∙ among-less entries ps all
 
     among-greater : (entries : List Keyed) (p : K × List CacheEntry) (ps : List (K × List CacheEntry)) → compare p.0
         ≡ Greater → among entries (p ∷ ps) ≡ map (keyed (bytes p.0)) p.1 ++ among entries ps
     among-greater entries p ps is =
         (λ k. listed bytes (cond (low-by key (bytes p.0) Greater is k) (p ∷ low ps) (low ps))
-            ++ (entries ++ listed bytes (cond (high-by key (bytes p.0) Greater is k) (p ∷ high ps) (high ps))))
+        ++ (entries ++ listed bytes (cond (high-by key (bytes p.0) Greater is k) (p ∷ high ps) (high ps))))
         ∙ append_assoc (map (keyed (bytes p.0)) p.1) (listed bytes (low ps)) (entries ++ listed bytes (high ps))
 
     -- without the key
@@ -239,7 +242,7 @@ module _ {K : Type 0} (bytes : K → List ℕ) where
         ∙ sym (among-equal (bytes k) own p ps is (high-equal (bytes k) p ps sorted is)))
     inserted-by p ps sorted rest Greater is =
         ap (placed p ps) is ∙ (ap (λ (ks : List Keyed). map (keyed (bytes p.0)) p.1 ++ ks) rest
-            ∙ sym (among-greater (bytes k) own p ps is))
+        ∙ sym (among-greater (bytes k) own p ps is))
 
     inserted-among : (ps : List (K × List CacheEntry)) → IsStrictlySortedBy (key_cmp bytes) (keys_of ps)
         → listed bytes (inserted ps) ≡ among (bytes k) own ps
@@ -265,13 +268,13 @@ module _ {K : Type 0} (bytes : K → List ℕ) where
         → filter is_left (map (keyed other) (e ∷ es)) ≡ map (keyed other) (left (e ∷ es))
     cleared-head other e es is rest true at =
         (λ k. cond (not (is k && at k)) (keyed other e ∷ filter is_left (map (keyed other) es))
-            (filter is_left (map (keyed other) es)))
+        (filter is_left (map (keyed other) es)))
         ∙ (rest ∙ sym (ap (λ (b : Bool). map (keyed other) (cond (not b) (e ∷ left es) (left es))) at))
     cleared-head other e es is rest false at =
         (λ k. cond (not (is k && at k)) (keyed other e ∷ filter is_left (map (keyed other) es))
-            (filter is_left (map (keyed other) es)))
+        (filter is_left (map (keyed other) es)))
         ∙ (ap (λ (ks : List Keyed). keyed other e ∷ ks) rest
-            ∙ sym (ap (λ (b : Bool). map (keyed other) (cond (not b) (e ∷ left es) (left es))) at))
+        ∙ sym (ap (λ (b : Bool). map (keyed other) (cond (not b) (e ∷ left es) (left es))) at))
 
     part-cleared : (other : List ℕ) (entries : List CacheEntry) → bytes_eq other key ≡ true
         → filter is_left (map (keyed other) entries) ≡ map (keyed other) (left entries)
@@ -283,7 +286,7 @@ module _ {K : Type 0} (bytes : K → List ℕ) where
     part-left other [] is = refl
     part-left other (e ∷ es) is =
         ap (λ (b : Bool). cond (not (b && is_of origin url e)) (keyed other e ∷ filter is_left (map (keyed other) es))
-            (filter is_left (map (keyed other) es))) is
+        (filter is_left (map (keyed other) es))) is
         ∙ ap (λ (ks : List Keyed). keyed other e ∷ ks) (part-left other es is)
 
     all-left : (ps : List (K × List CacheEntry)) → AllHigh key ps → filter is_left (listed bytes ps) ≡ listed bytes ps
@@ -377,12 +380,12 @@ module _ {K : Type 0} (bytes : K → List ℕ) where
   emptied-by key p ps true is none rest =
       let here : p.1 ≡ [] = sym (ap (λ (b : Bool). unwrap_or (cond b (Some p.1) (found key ps)) []) is) ∙ none in
       ap (λ (b : Bool). listed bytes (cond b ps (p ∷ remove_entry (is_at (compare key)) ps))) is
-          ∙ sym (ap (λ (es : List CacheEntry). map (keyed (bytes p.0)) es ++ listed bytes ps) here)
+      ∙ sym (ap (λ (es : List CacheEntry). map (keyed (bytes p.0)) es ++ listed bytes ps) here)
   emptied-by key p ps false is none rest =
       let there : unwrap_or (found key ps) [] ≡ [] =
-          sym (ap (λ (b : Bool). unwrap_or (cond b (Some p.1) (found key ps)) []) is) ∙ none in
+      sym (ap (λ (b : Bool). unwrap_or (cond b (Some p.1) (found key ps)) []) is) ∙ none in
       ap (λ (b : Bool). listed bytes (cond b ps (p ∷ remove_entry (is_at (compare key)) ps))) is
-          ∙ ap (λ (ks : List Keyed). map (keyed (bytes p.0)) p.1 ++ ks) (rest there)
+      ∙ ap (λ (ks : List Keyed). map (keyed (bytes p.0)) p.1 ++ ks) (rest there)
 
   emptied : (key : List ℕ) (ps : List (K × List CacheEntry)) → unwrap_or (found key ps) [] ≡ []
       → listed bytes (remove_entry (is_at (compare key)) ps) ≡ listed bytes ps

@@ -55,7 +55,7 @@ module _ {X : Type 0} (test : X → Bool) (f : X → X) (old now : List X) (i : 
   changed-more y lt so_far is =
       let same : y ≡ f (get_or old i x) = is ∙ ap f (item-is so_far) in
       (λ k. set (so_far k) i (same k))
-          ∙ mapped-more f old i (get_or old i x) lt (get_or_default old i x (get_or old i x) lt)
+      ∙ mapped-more f old i (get_or old i x) lt (get_or_default old i x (get_or old i x) lt)
 
 -- a fold over what is left of a list, one item on
 pub folded-from : {A X Y : Type 0} (step : A → Y → A) (made : X

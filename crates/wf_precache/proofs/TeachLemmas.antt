@@ -14,14 +14,14 @@ module _ (lesson : Lesson) (now : ℕ) (item : Allowed) (old new : List CacheEnt
       ≡ newest (map (renewed lesson now item) old ++ created lesson now item ∷ []) → new ≡ with_item lesson now old item
   created-last none is =
       let same = unmapped (is_known lesson now item) (λ entry. record entry { made = now; age = lesson.age }) old none
-          in
+      in
       let choice : (b : Bool) → b ≡ false
-          → cond b (map (renewed lesson now item) old) (newest (old ++ created lesson now item ∷ []))
-          ≡ newest (old ++ created lesson now item ∷ []) =
+      → cond b (map (renewed lesson now item) old) (newest (old ++ created lesson now item ∷ []))
+      ≡ newest (old ++ created lesson now item ∷ []) =
       λ b e. ap (λ (b : Bool). cond b (map (renewed lesson now item) old)
-          (newest (old ++ created lesson now item ∷ []))) e in
+      (newest (old ++ created lesson now item ∷ []))) e in
       is ∙ (ap (λ (entries : List CacheEntry). newest (entries ++ created lesson now item ∷ [])) same
-          ∙ sym (choice _ none))
+      ∙ sym (choice _ none))
 
   pub learnt-new : (result : Result (Unit {0}) OutOfMemory) → list_any (is_known lesson now item) old ≡ false
       → OnOk result (new ≡ newest (map (renewed lesson now item) old ++ created lesson now item ∷ []))

@@ -3,7 +3,6 @@ use Rattle.std.specs.Prelude.{◌≡◌, ℕ, ◌≤◌, Bool, false, List, [], 
 use Rattle.std.specs.List.{AllByRecursion}
 use Rattle.std.specs.Str.{bytes_eq}
 use Rattle.std.specs.Ordering.{is_lt, nat_cmp}
-use Rattle.std.specs.declared.cmp.Ordering.{Ordering}
 use Rattle.std.specs.Cmp.Lexicographic.{slice_cmp}
 use Rattle.wf_precache.specs.declared.entry.CacheEntry.{CacheEntry}
 
@@ -43,12 +42,3 @@ behind key cache = filter (λ k. stands_before key k.key) cache
 -- the list with these as the entries of the key
 abbrev pub with_entries : List ℕ → List CacheEntry → List Keyed → List Keyed
 with_entries key entries cache = before key cache ++ (map (keyed key) entries ++ behind key cache)
-
--- the order of keys by their bytes
-abbrev pub key_cmp : {K : Type 0} → (K → List ℕ) → K → K → Ordering
-key_cmp bytes a b = slice_cmp nat_cmp (bytes a) (bytes b)
-
--- the entries that lists of entries hold under their keys, as one list
-abbrev pub listed : {K : Type 0} → (K → List ℕ) → List (K × List CacheEntry) → List Keyed
-listed bytes [] = []
-listed bytes (p ∷ ps) = map (keyed (bytes p.0)) p.1 ++ listed bytes ps

@@ -17,10 +17,12 @@ LessonsKeepOtherKeys = (key : List ℕ) (lesson : Lesson) (now : ℕ) (cache : L
 abbrev pub ClearsKeepOtherKeys : Type 0
 ClearsKeepOtherKeys = (key other origin url : List ℕ) (cache : List Keyed)
     → entries_of key (cleared other origin url cache)
-    ≡ (if bytes_eq other key then filter (λ entry. not (is_of origin url entry)) (entries_of key cache) else entries_of key cache)
+    ≡ (if bytes_eq other key then filter (λ entry. not (is_of origin url entry)) (entries_of key cache)
+    else entries_of key cache)
 
 -- the empty list is a cache, and so is what a lesson or a clear makes of one
 pub record ChangesKeepCaches : Type 0 where
   pub new : IsCache []
   pub learned_is : (lesson : Lesson) (now : ℕ) (cache : List Keyed) → IsCache cache → IsCache (learned lesson now cache)
-  pub cleared_is : (key origin url : List ℕ) (cache : List Keyed) → IsCache cache → IsCache (cleared key origin url cache)
+  pub cleared_is : (key origin url : List ℕ) (cache : List Keyed) → IsCache cache
+      → IsCache (cleared key origin url cache)

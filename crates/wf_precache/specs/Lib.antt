@@ -1,5 +1,6 @@
-pub mod Entries
-pub mod Teaching
-pub mod Keys
 pub mod Cache
+pub mod Entries
+pub mod Keys
 pub mod Laws
+pub mod Private
+pub mod Teaching

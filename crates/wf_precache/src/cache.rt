@@ -1,7 +1,8 @@
 ghost use Rattle.std.specs.Prelude.{◌≡◌, ◌≤◌, [], length, OnOk, OnErr};
 ghost use Rattle.std.specs.BTreeMap.{IsOrdered};
 ghost use Rattle.wf_precache.specs.Cache.{cleared, covers, learned};
-ghost use Rattle.wf_precache.specs.Keys.{IsCache, entries_of, key_cmp, listed, with_entries};
+ghost use Rattle.wf_precache.specs.Keys.{IsCache, entries_of, with_entries};
+ghost use Rattle.wf_precache.specs.Private.Partitions.{key_cmp, listed};
 
 #[cfg(test)]
 mod tests;
@@ -25,7 +26,8 @@ pub struct Precache {
 impl Model for Precache {
     ghost use Rattle.std.specs.Prelude.{List};
     ghost use Rattle.std.specs.BTreeMap.{IsOrdered};
-    ghost use Rattle.wf_precache.specs.Keys.{IsCache, Keyed, key_cmp, listed};
+    ghost use Rattle.wf_precache.specs.Keys.{IsCache, Keyed};
+    ghost use Rattle.wf_precache.specs.Private.Partitions.{key_cmp, listed};
 
     ghost Value = { List Keyed };
 
@@ -56,7 +58,8 @@ fn put(
 ) -> Result<(), OutOfMemory>
     requires { IsOrdered (key_cmp (λ key. key.items)) partitions.old }
     ensures ordered { IsOrdered (key_cmp (λ key. key.items)) partitions.new }
-    ensures ok { OnOk result (listed (λ key. key.items) partitions.new.entries ≡ with_entries key.now partition (listed (λ key. key.items) partitions.old.entries)) }
+    ensures ok { OnOk result (listed (λ key. key.items) partitions.new.entries
+        ≡ with_entries key.now partition (listed (λ key. key.items) partitions.old.entries)) }
     ensures err { OnErr result (partitions.new.entries ≡ partitions.old.entries) }
 {
     if partition.as_slice().is_empty() {
@@ -72,7 +75,8 @@ fn put(
 fn clear_in(partitions: &mut BTreeMap<Vec<u8>, Partition>, key: &[u8], origin: &[u8], url: &[u8])
     requires { IsOrdered (key_cmp (λ key. key.items)) partitions.old }
     ensures ordered { IsOrdered (key_cmp (λ key. key.items)) partitions.new }
-    ensures cleared { listed (λ key. key.items) partitions.new.entries ≡ cleared key.now origin.now url.now (listed (λ key. key.items) partitions.old.entries) }
+    ensures cleared { listed (λ key. key.items) partitions.new.entries
+        ≡ cleared key.now origin.now url.now (listed (λ key. key.items) partitions.old.entries) }
 {
     if let Some(partition) = partitions.get_mut(key) {
         partition.clear(origin, url);
@@ -83,7 +87,8 @@ fn clear_in(partitions: &mut BTreeMap<Vec<u8>, Partition>, key: &[u8], origin: &
 fn drop_empty(partitions: &mut BTreeMap<Vec<u8>, Partition>, key: &[u8])
     requires { IsOrdered (key_cmp (λ key. key.items)) partitions.old }
     ensures ordered { IsOrdered (key_cmp (λ key. key.items)) partitions.new }
-    ensures listed { listed (λ key. key.items) partitions.new.entries ≡ listed (λ key. key.items) partitions.old.entries }
+    ensures listed { listed (λ key. key.items) partitions.new.entries
+        ≡ listed (λ key. key.items) partitions.old.entries }
 {
     if entries_of(partitions, key).is_empty() {
         partitions.remove(key);

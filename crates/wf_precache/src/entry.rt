@@ -1,6 +1,7 @@
 ghost use Rattle.std.specs.Prelude.{◌≡◌, IfOk};
 ghost use Rattle.std.specs.Str.{bytes_eq};
-ghost use Rattle.wf_precache.specs.Entries.{allows, allows_method, allows_name, is_alive, is_entry_match, is_non_wildcard_name, is_wildcard};
+ghost use Rattle.wf_precache.specs.Entries.{allows, allows_method, allows_name, is_alive, is_entry_match};
+ghost use Rattle.wf_precache.specs.Entries.{is_non_wildcard_name, is_wildcard};
 
 use std::alloc::Global;
 use wf_text::{Bytes, OutOfMemory, eq_fold};
@@ -42,7 +43,7 @@ fn is_non_wildcard_name(name: &[u8]) -> bool
 }
 
 impl Allowed {
-    /// Whether this is the method or the wildcard.
+    // Whether this is the method or the wildcard.
     pub(crate) fn allows_method(&self, method: &[u8]) -> bool
         ensures { result ≡ allows_method method.now self.now }
     {
@@ -54,7 +55,7 @@ impl Allowed {
         }
     }
 
-    /// Whether this is the header name, ASCII case aside, or the wildcard where that speaks of it.
+    // Whether this is the header name, ASCII case aside, or the wildcard where that speaks of it.
     pub(crate) fn allows_name(&self, name: &[u8]) -> bool
         ensures { result ≡ allows_name name.now self.now }
     {
@@ -67,7 +68,7 @@ impl Allowed {
         }
     }
 
-    /// Whether this allows the method or the header name.
+    // Whether this allows the method or the header name.
     pub(crate) fn allows(&self, wanted: &Allowed) -> bool
         ensures { result ≡ allows wanted.now self.now }
     {
@@ -88,14 +89,14 @@ impl Allowed {
 }
 
 impl CacheEntry {
-    /// Whether the entry is younger than its age.
+    // Whether the entry is younger than its age.
     pub(crate) fn is_alive(&self, now: u64) -> bool
         ensures { result ≡ is_alive now self.now }
     {
         now < self.made || now - self.made < self.age
     }
 
-    /// "cache entry match", the key aside.
+    // "cache entry match", the key aside.
     pub(crate) fn is_entry_match(&self, origin: &[u8], url: &[u8], include: bool) -> bool
         ensures { result ≡ is_entry_match origin.now url.now include self.now }
     {

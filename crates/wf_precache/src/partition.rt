@@ -1,7 +1,8 @@
 ghost use Rattle.std.specs.Prelude.{◌≡◌, ◌≤◌, ◌++◌, ◌∷◌, [], length, map, filter, not, IfOk, OnOk};
 ghost use Rattle.std.specs.List.{fold, list_all, list_any};
 ghost use Rattle.wf_precache.specs.Entries.{covered, has_match, has_method_match, is_alive, is_of};
-ghost use Rattle.wf_precache.specs.Teaching.{created, is_known, methods_of, names_of, newest, renewed, taught, with_item};
+ghost use Rattle.wf_precache.specs.Teaching.{created, is_known, methods_of, names_of, newest, renewed, taught};
+ghost use Rattle.wf_precache.specs.Teaching.{with_item};
 ghost use Rattle.wf_precache.specs.declared.entry.Allowed.{Allowed};
 ghost use Rattle.wf_precache.specs.declared.entry.Allowed.TheVariants.{Method, HeaderName};
 
@@ -16,7 +17,7 @@ const MOST: usize = 64;
 
 /// The entries of one network partition key, in the order of their creation.
 #[derive(Drop)]
-pub struct Partition {
+pub(crate) struct Partition {
     entries: Vec<CacheEntry>,
 }
 
@@ -83,8 +84,8 @@ fn covers_names(entries: &[CacheEntry], question: &Question, now: u64) -> bool
     true
 }
 
-/// Whether the method, if given, and each header name are matched by an entry that is alive.
-pub fn covers(entries: &[CacheEntry], question: &Question, now: u64) -> bool
+// Whether the method, if given, and each header name are matched by an entry that is alive.
+pub(crate) fn covers(entries: &[CacheEntry], question: &Question, now: u64) -> bool
     ensures { result ≡ covered question.now now entries.now }
 {
     covers_method(entries, question, now) && covers_names(entries, question, now)
@@ -177,8 +178,8 @@ fn clear_in(entries: &mut Vec<CacheEntry>, origin: &[u8], url: &[u8])
 }
 
 impl Partition {
-    /// The entries, in the order of their creation.
-    pub fn as_slice(&self) -> &[CacheEntry]
+    // The entries, in the order of their creation.
+    pub(crate) fn as_slice(&self) -> &[CacheEntry]
         ensures entries { result.now ≡ self.now }
         ensures most { length result.now ≤ 64 }
     {
@@ -243,8 +244,8 @@ impl Partition {
         Ok(())
     }
 
-    /// Copies of the entries that are alive, with what the lesson teaches.
-    pub fn taught(
+    // Copies of the entries that are alive, with what the lesson teaches.
+    pub(crate) fn taught(
         alloc: Global,
         entries: &[CacheEntry],
         lesson: &Lesson,
@@ -260,8 +261,8 @@ impl Partition {
         Ok(partition)
     }
 
-    /// Takes out the entries of the origin and the URL.
-    pub fn clear(&mut self, origin: &[u8], url: &[u8])
+    // Takes out the entries of the origin and the URL.
+    pub(crate) fn clear(&mut self, origin: &[u8], url: &[u8])
         ensures { self.new ≡ filter (λ entry. not (is_of origin.now url.now entry)) self.old }
     {
         clear_in(&mut self.entries, origin, url);

@@ -1,7 +1,7 @@
 ghost use Rattle.std.specs.Prelude.{◌≡◌, IfOk};
 
 use std::alloc::Global;
-use wf_text::{Bytes, BytesList, OutOfMemory};
+use wf_text::{Bytes, BytesList, OutOfMemory, copy_of};
 
 /// What a request would need of the cache: an entry for its method, where one is named, and for each
 /// of the header names (Fetch, "HTTP fetch", the check before a CORS-preflight fetch).
@@ -34,27 +34,6 @@ pub struct Lesson {
     pub names: BytesList,
 }
 
-// An equal list.
-fn copy_of(alloc: Global, texts: &BytesList) -> Result<BytesList, OutOfMemory>
-    ensures { IfOk result (λ copy. copy ≡ texts.now) }
-{
-    let mut copy = BytesList::new(alloc);
-    for index in 0..texts.len() {
-        copy.push(Bytes::of(alloc, texts.at(index))?)?;
-    }
-    Ok(copy)
-}
-
-// An equal method, where there is one.
-fn copy_of_method(alloc: Global, method: &Option<Bytes>) -> Result<Option<Bytes>, OutOfMemory>
-    ensures { IfOk result (λ copy. copy ≡ method.now) }
-{
-    match method {
-        Some(method) => Ok(Some(method.copy(alloc)?)),
-        None => Ok(None),
-    }
-}
-
 impl Question {
     /// An equal question.
     pub fn copy(&self, alloc: Global) -> Result<Question, OutOfMemory>
@@ -63,8 +42,8 @@ impl Question {
         let key = self.key.copy(alloc)?;
         let origin = self.origin.copy(alloc)?;
         let url = self.url.copy(alloc)?;
-        let method = copy_of_method(alloc, &self.method)?;
-        let names = copy_of(alloc, &self.names)?;
+        let method = copy_of(alloc, &self.method)?;
+        let names = self.names.copy(alloc)?;
         Ok(Question {
             key,
             origin,
@@ -84,8 +63,8 @@ impl Lesson {
         let key = self.key.copy(alloc)?;
         let origin = self.origin.copy(alloc)?;
         let url = self.url.copy(alloc)?;
-        let methods = copy_of(alloc, &self.methods)?;
-        let names = copy_of(alloc, &self.names)?;
+        let methods = self.methods.copy(alloc)?;
+        let names = self.names.copy(alloc)?;
         Ok(Lesson {
             key,
             origin,

@@ -1,5 +1,6 @@
 use Rattle.std.proofs.Common.{ap, ◌∙◌}
-use Rattle.wf_precache.specs.Keys.{entries_of, listed}
+use Rattle.wf_precache.specs.Keys.{entries_of}
+use Rattle.wf_precache.specs.Private.Partitions.{listed}
 use Rattle.wf_precache.proofs.ListLemmas.{empty}
 use Rattle.wf_precache.proofs.KeyLemmas.{entries-emptied}
 use Rattle.wf_precache.proofs.cache.drop_empty.Goals as goal
@@ -7,6 +8,6 @@ use Rattle.wf_precache.proofs.cache.drop_empty.Goals as goal
 pub returns-then-is_empty-clause-listed : goal.returns-then-is_empty-clause-listed
 returns-then-is_empty-clause-listed c =
     let none = empty (entries_of c.args.key.now (listed (λ key. key.items) c.args.partitions.now.entries))
-        c.entries_of.result.now c.entries_of.ensures.entries c.if-is_empty.ensures in
+    c.entries_of.result.now c.entries_of.ensures.entries c.if-is_empty.ensures in
     ap (λ es. listed (λ key. key.items) es) c.remove.ensures.entries
-        ∙ entries-emptied (λ key. key.items) c.args.key.now c.args.partitions.now.entries c.requires none
+    ∙ entries-emptied (λ key. key.items) c.args.key.now c.args.partitions.now.entries c.requires none

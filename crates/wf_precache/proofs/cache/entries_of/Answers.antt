@@ -8,7 +8,7 @@ pub returns-in-Some-clause-entries : goal.returns-in-Some-clause-entries
 returns-in-Some-clause-entries c =
     let is = entries-found (λ key. key.items) c.args.key.now c.args.partitions.now.entries c.requires in
     c.as_slice.ensures.entries
-        ∙ (ap (λ (found : Option (List CacheEntry)). unwrap_or found []) c.in-Some.ensures.value ∙ sym is)
+    ∙ (ap (λ (found : Option (List CacheEntry)). unwrap_or found []) c.in-Some.ensures.value ∙ sym is)
 
 pub returns-in-None-clause-entries : goal.returns-in-None-clause-entries
 returns-in-None-clause-entries c =

@@ -1,14 +1,16 @@
 use Rattle.std.proofs.Common.{sym, subst, ◌∙◌}
-use Rattle.wf_precache.specs.Keys.{IsCache, listed}
+use Rattle.wf_precache.specs.Keys.{IsCache}
+use Rattle.wf_precache.specs.Private.Partitions.{listed}
 use Rattle.wf_precache.proofs.CacheLaws.{changes-keep-caches}
 use Rattle.wf_precache.proofs.cache.Precache.clear.Goals as goal
 
 pub invariant_of-self : goal.invariant_of-self
-invariant_of-self c =
-    (c.drop_empty.ensures.ordered,
-        subst IsCache (sym (c.drop_empty.ensures.listed ∙ c.clear_in.ensures.cleared))
-        (changes-keep-caches.cleared_is c.args.key.now c.args.origin.now c.args.url.now
-        (listed (λ key. key.items) c.self.inside.partitions.entries) c.self.invariant.1))
+invariant_of-self c = (
+  c.drop_empty.ensures.ordered,
+  subst IsCache (sym (c.drop_empty.ensures.listed ∙ c.clear_in.ensures.cleared))
+      (changes-keep-caches.cleared_is c.args.key.now c.args.origin.now c.args.url.now
+      (listed (λ key. key.items) c.self.inside.partitions.entries) c.self.invariant.1),
+)
 
 pub returns-clause-cache : goal.returns-clause-cache
 returns-clause-cache c = (invariant_of-self c).1

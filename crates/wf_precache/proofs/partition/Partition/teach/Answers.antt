@@ -7,4 +7,4 @@ returns c =
     let made = c.in_ok-entry.ensures in
     let added = c.add.ensures in
     learnt-new c.args.lesson.now c.args.now c.args.item c.args.self.now c.add.new.self c.add.result
-        (sym c.renew.ensures.any ∙ c.if-renew.false) (rw (c.renew.ensures.all, made) at added)
+    (sym c.renew.ensures.any ∙ c.if-renew.false) (rw (c.renew.ensures.all, made) at added)

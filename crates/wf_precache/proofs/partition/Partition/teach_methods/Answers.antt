@@ -6,5 +6,5 @@ use Rattle.wf_precache.proofs.partition.Partition.teach_methods.Goals as goal
 pub loop-index-preserved : goal.loop-index-preserved
 loop-index-preserved c =
     folded-from (with_item c.args.lesson.now c.args.now) (λ item. Method item) c.args.lesson.now.methods
-        c.loop-index.index c.at.result.now c.in_ok-method.method c.loop-index.self c.teach.new.self _ c.at.ensures
-        c.in_ok-method.ensures c.in_ok-teach.ensures c.loop-index.invariant
+    c.loop-index.index c.at.result.now c.in_ok-method.method c.loop-index.self c.teach.new.self _ c.at.ensures
+    c.in_ok-method.ensures c.in_ok-teach.ensures c.loop-index.invariant
