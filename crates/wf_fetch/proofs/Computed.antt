@@ -5,7 +5,7 @@ use Rattle.url.proofs.OnLiterals.{url_on_literals}
 use Rattle.url.specs.declared.host.Host.TheVariants.{Domain}
 use Rattle.url.specs.Parts.{Parts}
 use Rattle.wf_origin.specs.Origins.{tuple_origin}
-use Rattle.wf_types.specs.declared.error.NetError.TheVariants.{Scheme, SameOriginMode}
+use Rattle.wf_types.specs.declared.error.NetError.TheVariants.{Scheme, SameOriginMode, LinkFault, BadHead, HeadTooBig}
 use Rattle.wf_types.specs.declared.fault.TypeFault.TheVariants.{ForbiddenMethod, NavigateMode}
 use Rattle.wf_types.specs.declared.hop.Hop.{Hop}
 use Rattle.wf_types.specs.declared.init.Init.{Init}
@@ -28,7 +28,7 @@ use Rattle.wf_script.specs.declared.types.Document.{Document}
 use Rattle.wf_print.specs.declared.events.Ending.TheVariants.{Finished, Fetches, Commands}
 use Rattle.wf_print.specs.declared.events.Event.TheVariants as event
 use Rattle.wf_fetch.specs.declared.act.Input.{Input}
-use Rattle.wf_fetch.specs.declared.act.Input.TheVariants.{Sent, HeadIs, BodyIs}
+use Rattle.wf_fetch.specs.declared.act.Input.TheVariants.{Sent, HeadIs, HeadBad, HeadLong, BodyIs, Fault}
 use Rattle.wf_fetch.specs.Fetch.{Context, lent, main_fetch}
 use Rattle.wf_fetch.specs.Play.{run_play}
 use Rattle.wf_fetch.specs.Process.{ended, run}
@@ -154,6 +154,13 @@ pub refused : (main_fetch context (at_url (record root { scheme = codes "http" }
     × (main_fetch context (at_url (record root { scheme = codes "ftp" })) ≡ ended (Error Scheme))
 unfolding url_on_literals
 refused = (refl, refl, refl, refl)
+
+-- where the link failed there is no response; a head of no kind and too long a one are told apart
+pub failed : ((run (main_fetch context request) (Sent ∷ Fault ∷ [])).outcome ≡ Some (Error LinkFault))
+    × ((run (main_fetch context request) (Sent ∷ HeadBad ∷ [])).outcome ≡ Some (Error BadHead))
+    × ((run (main_fetch context request) (Sent ∷ HeadLong ∷ [])).outcome ≡ Some (Error HeadTooBig))
+unfolding url_on_literals
+failed = (refl, refl, refl)
 
 -- the response to HEAD has no body, and none is read
 pub head_is_read_alone : (run (main_fetch context (record request { method = codes "HEAD" })) tape).outcome

@@ -2,7 +2,7 @@ ghost use Rattle.std.specs.Prelude.{◌≡◌, IfOk, map, take};
 ghost use Rattle.wf_fetch.specs.Runs as spec;
 
 use std::alloc::Global;
-use wf_text::{Bytes, OutOfMemory, trim_http};
+use wf_text::{Bytes, OutOfMemory, copy_of, trim_http};
 use wf_types::{Init, Pair, Pairs};
 
 // A header with its value normalised.
@@ -15,6 +15,7 @@ fn normalized_pair(alloc: Global, pair: &Pair) -> Result<Pair, OutOfMemory>
     })
 }
 
+// Headers with their values normalised.
 fn normalized_pairs(alloc: Global, pairs: &[Pair]) -> Result<Pairs, OutOfMemory>
     ensures { IfOk result (λ normalized. normalized ≡ map spec.normalized_pair pairs.now) }
 {
@@ -23,15 +24,6 @@ fn normalized_pairs(alloc: Global, pairs: &[Pair]) -> Result<Pairs, OutOfMemory>
         normalized.push(normalized_pair(alloc, pair)?)?;
     }
     Ok(normalized)
-}
-
-fn copy_of(alloc: Global, text: &Option<Bytes>) -> Result<Option<Bytes>, OutOfMemory>
-    ensures { IfOk result (λ copy. copy ≡ text.now) }
-{
-    match text {
-        None => Ok(None),
-        Some(text) => Ok(Some(text.copy(alloc)?)),
-    }
 }
 
 /// What a script asks of `fetch`, with the values of its headers normalised: without tab, space, CR

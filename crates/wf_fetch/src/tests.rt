@@ -1,4 +1,4 @@
-//! Fetches step by step, over inputs made by hand.
+//! One fetch step by step, over inputs made by hand.
 ghost use Rattle.std.specs.Prelude.{◌≡◌, IfOk, IsTrue};
 ghost use Rattle.wf_types.specs.Requests.{IsRequest};
 ghost use Rattle.wf_fetch.specs.Fetch.{lent};
@@ -25,8 +25,8 @@ fn client(alloc: Global) -> Result<Client, Fail> {
     Ok(Client::of(alloc, &url, &url, ReferrerPolicy::NoReferrer)?)
 }
 
-// A request in mode same-origin, without a referrer, of that client.
-fn request(alloc: Global, method: &[u8], address: &str) -> Result<Request, Fail>
+// A GET in mode same-origin, without a referrer, of that client.
+fn request(alloc: Global, address: &str) -> Result<Request, Fail>
     ensures valid { IfOk result IsRequest }
     ensures mode { IfOk result (λ request. request.mode ≡ Mode.SameOrigin) }
     ensures referrer { IfOk result (λ request. request.referrer ≡ Referrer.NoReferrer) }
@@ -35,7 +35,7 @@ fn request(alloc: Global, method: &[u8], address: &str) -> Result<Request, Fail>
     urls.push(Url::parse(alloc, address)?)?;
     let home = Url::parse(alloc, "https://a.test/")?;
     Ok(Request {
-        method: Bytes::of(alloc, method)?,
+        method: Bytes::of(alloc, b"GET")?,
         urls,
         headers: HeaderList::new(alloc),
         body: None,
@@ -54,12 +54,6 @@ fn request(alloc: Global, method: &[u8], address: &str) -> Result<Request, Fail>
         tainting: Tainting::Basic,
         redirects: 0,
     })
-}
-
-// What a fetch begins with, for a client without cookies.
-fn started(alloc: Global, client: &Client, method: &[u8], address: &str) -> Result<Step, Fail> {
-    let request = request(alloc, method, address)?;
-    Ok(Fetching::start(alloc, request, client, &Cookies::new(alloc))?)
 }
 
 // The next act, after an input that fits.
@@ -100,13 +94,11 @@ fn sent(
     alloc: Global,
     client: &Client,
     cookies: &Cookies,
-    method: &[u8],
-    address: &str,
 ) -> Result<(Fetching, Act), Fail>
     ensures waits { IfOk result (λ sent. last_act (lent client.now cookies.now) sent.0 ≡ sent.1) }
     ensures head { IfOk result (λ sent. sent.1 ≡ Act.ReadHead) }
 {
-    let request = request(alloc, method, address)?;
+    let request = request(alloc, "https://a.test/cart#top")?;
     let step = Fetching::start(alloc, request, client, cookies)?;
     let Step::Going(fetching, act) = step else {
         return Err(Fail::new("nothing was sent"));
@@ -157,9 +149,9 @@ fn see(rt: &impl Abort, alloc: Global, response: &Response) -> Result<(), Fail> 
 }
 
 // What a fetch comes to whose answer has this head and the body `hi`.
-fn answered(alloc: Global, method: &[u8], address: &str, head: Input) -> Result<Outcome, Fail> {
+fn answered(alloc: Global, head: Input) -> Result<Outcome, Fail> {
     let (client, cookies) = (client(alloc)?, Cookies::new(alloc));
-    let (fetching, act) = sent(alloc, &client, &cookies, method, address)?;
+    let (fetching, act) = sent(alloc, &client, &cookies)?;
     if !fits(&act, &head) {
         return Err(Fail::new("a head may not follow"));
     }
@@ -171,89 +163,11 @@ fn answered(alloc: Global, method: &[u8], address: &str, head: Input) -> Result<
     ended(alloc, &client, &cookies, fetching, body)
 }
 
-// What a fetch comes to that is over where its head came, or an input in its place.
-fn over_at_head(alloc: Global, method: &[u8], input: Input) -> Result<Outcome, Fail> {
-    let (client, cookies) = (client(alloc)?, Cookies::new(alloc));
-    let (fetching, act) = sent(alloc, &client, &cookies, method, "https://a.test/cart")?;
-    if !fits(&act, &input) {
-        return Err(Fail::new("the input may not follow"));
-    }
-    ended(alloc, &client, &cookies, fetching, input)
-}
-
 #[test]
 fn an_answer_is_read_and_handed_over(rt: HostRuntime) -> Result<(), Fail> {
     let head = not_found(rt.alloc())?;
-    match answered(rt.alloc(), b"GET", "https://a.test/cart#top", head)? {
+    match answered(rt.alloc(), head)? {
         Outcome::Answer(response) => see(&rt, rt.alloc(), &response),
         _ => Err(Fail::new("there was no response")),
     }
-}
-
-// Whether it is a response with a null body.
-fn has_no_body(outcome: &Outcome) -> bool {
-    match outcome {
-        Outcome::Answer(response) => matches!(response.body, BodyEnd::Null),
-        _ => false,
-    }
-}
-
-#[test]
-fn the_response_to_head_has_no_body(rt: HostRuntime) -> Result<(), Fail> {
-    let head = not_found(rt.alloc())?;
-    let outcome = over_at_head(rt.alloc(), b"HEAD", head)?;
-    assert!(rt; has_no_body(&outcome));
-    Ok(())
-}
-
-// The number of the network error that comes where this input stands in place of a head.
-fn error_at_head(alloc: Global, input: Input) -> Result<u32, Fail> {
-    match over_at_head(alloc, b"GET", input)? {
-        Outcome::Error(error) => Ok(error.number()),
-        _ => Err(Fail::new("there was a response")),
-    }
-}
-
-#[test]
-fn what_is_no_head_is_a_network_error(rt: HostRuntime) -> Result<(), Fail> {
-    assert_eq!(rt; error_at_head(rt.alloc(), Input::HeadBad)?, 25);
-    assert_eq!(rt; error_at_head(rt.alloc(), Input::HeadLong)?, 26);
-    assert_eq!(rt; error_at_head(rt.alloc(), Input::Fault)?, 24);
-    Ok(())
-}
-
-fn coded(alloc: Global) -> Result<Input, Fail> {
-    let mut headers = HeaderList::new(alloc);
-    headers.append(b"Content-Encoding", b"identity, gzip")?;
-    let status = 200;
-    Ok(Input::HeadIs(Head { status, headers }))
-}
-
-#[test]
-fn a_coded_body_is_not_read(rt: HostRuntime) -> Result<(), Fail> {
-    let head = coded(rt.alloc())?;
-    assert_eq!(rt; error_at_head(rt.alloc(), head)?, 23);
-    Ok(())
-}
-
-// The number of the network error with which a fetch of this address begins.
-fn refusal(alloc: Global, address: &str) -> Result<u32, Fail> {
-    match started(alloc, &client(alloc)?, b"GET", address)? {
-        Step::Over(Outcome::Error(error)) => Ok(error.number()),
-        _ => Err(Fail::new("it was not refused")),
-    }
-}
-
-#[test]
-fn another_origin_is_refused_and_nothing_is_sent(rt: HostRuntime) -> Result<(), Fail> {
-    let alloc = rt.alloc();
-    for (address, number) in [
-        ("https://b.test/", 5),
-        ("http://a.test/", 5),
-        ("https://a.test:444/", 5),
-        ("ftp://a.test/", 1),
-    ] {
-        assert_eq!(rt; refusal(alloc, address)?, number, "at {address}");
-    }
-    Ok(())
 }

@@ -14,9 +14,9 @@ use Rattle.wf_print.specs.declared.events.Event.TheVariants as event
 use Rattle.wf_fetch.specs.declared.act.Input.TheVariants.{Sent, HeadBad}
 use Rattle.wf_fetch.specs.Runs.{document_run}
 use Rattle.wf_fetch.proofs.Computed.{document, hop}
-use Rattle.wf_top.specs.Exchanges.{idle}
-use Rattle.wf_top.specs.Runs.{RunsOver}
+use Rattle.wf_top.specs.Plays.{RunsOver}
 use Rattle.wf_top.specs.Words.{is_play}
+use Rattle.wf_wire.specs.Exchanges.{idle}
 
 -- a server that answers PUT by 201 and all else by 200 with the body `hi`
 abbrev servers : List Server

@@ -3,4 +3,3 @@ pub mod PlayLemmas
 pub mod ProgramLemmas
 pub mod RequestLemmas
 pub mod RunLemmas
-pub mod WireLemmas

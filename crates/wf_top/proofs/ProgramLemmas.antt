@@ -8,7 +8,7 @@ use Rattle.wf_script.specs.declared.types.Place.{Place}
 use Rattle.wf_script.specs.declared.types.Scenario.{Scenario}
 use Rattle.wf_script.specs.Scenarios.{scenario_of}
 use Rattle.wf_top.specs.Program.{most_input, IsWhole, WritesPlay, IsCause, IsPlayed, IsVerdict, IsComplained, IsTold}
-use Rattle.wf_top.specs.Program.{IsAnswer, IsExcused, GaveFor, Answers}
+use Rattle.wf_top.specs.Program.{IsOutcome, IsAnswer, IsExcused, GaveFor, Answers}
 use Rattle.wf_top.specs.Statuses.{complaint}
 use Rattle.wf_top.specs.Streams.{Source, Sink, Failed}
 use Rattle.wf_top.specs.Words.{is_play}
@@ -136,6 +136,19 @@ bound-of false input input' output output' verdict v = record {
   reason_is = omega arith;
 }
 
+-- what the bytes of the whole input come to is the cause
+pub whole_cause : (bytes : List ℕ) (input input' : Source) (output output' : Sink) (verdict : Status)
+    → IsWhole bytes input' → IsOutcome bytes output output' verdict
+    → IsCause bytes input input' output output' verdict
+whole_cause bytes input input' output output' status.Ok whole o = (whole, o)
+whole_cause bytes input input' output output' status.Usage whole o = absurd o
+whole_cause bytes input input' output output' (status.Scenario place) whole o = (whole, o)
+whole_cause bytes input input' output output' status.ReadFault whole o = absurd o
+whole_cause bytes input input' output output' status.WriteFault whole o = (whole, o)
+whole_cause bytes input input' output output' status.OutOfMemory whole o =
+    (whole.short, elim o [ inl same ↦ inl same | inr part ↦ inr (whole, part) ])
+whole_cause bytes input input' output output' status.InputTooLong whole o = absurd o
+
 -- ---- exactly where
 
 same_place : (a b : Place) (read : Result Scenario Place) → read ≡ Err a → read ≡ Err b → a ≡ b
@@ -260,6 +273,10 @@ answers words input input' output output' c c' answer a =
           complete-at input input' output output' c c' bytes scenario a.verdict answer
           (played-of (is_play words) input input' output output' a.verdict accepted a.is_verdict) e tells short is
           | inr x ↦ inr (inr (inr (x.0, inr x.1))) ];
+      out_of_memory = λ is. cause-at input input' output output' a.verdict status.OutOfMemory
+          (played-other (is_play words) input input' output output' a.verdict
+          (λ u. memory_usage (sym (same is (λ h. memory_write h) ∙ is) ∙ u)) a.is_verdict)
+          (same is (λ h. memory_write h) ∙ is);
       bound = bound-of (is_play words) input input' output output' a.verdict a.is_verdict;
       told = told-line c c' a.verdict answer a.is_told;
     }
@@ -278,6 +295,12 @@ answers words input input' output output' c c' answer a =
 
     read_write : status.ReadFault ≡ status.WriteFault → ⊥
     read_write h = cc
+
+    memory_write : status.OutOfMemory ≡ status.WriteFault → ⊥
+    memory_write h = cc
+
+    memory_usage : status.OutOfMemory ≡ status.Usage → ⊥
+    memory_usage h = cc
 
     ok_usage : status.Ok ≡ status.Usage → ⊥
     ok_usage h = cc

@@ -20,7 +20,7 @@ use Rattle.wf_send.specs.Making.{is_too_long, made, new_request, request_for, ur
 use Rattle.wf_send.specs.Methods.{is_get_or_head, is_safelisted_method, normalized}
 use Rattle.wf_script.specs.Valid.{IsValidInit, is_opened_mode}
 use Rattle.wf_fetch.specs.Runs.{normalized_init}
-use Rattle.wf_top.specs.Runs.{IsFetchable}
+use Rattle.wf_top.specs.Private.Runs.{IsFetchable}
 
 no-fault-then : (one : Option TypeFault) (more : List (Option TypeFault)) → first_fault (one ∷ more) ≡ None
     → first_fault more ≡ None

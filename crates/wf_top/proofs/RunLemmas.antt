@@ -1,4 +1,4 @@
--- Parts of a run over the limit' tape, one after another.
+-- Parts of a run over the tape that the servers give, one after another.
 use Rattle.std.proofs.Common.{◌≡◌, ◌≢◌, ℕ, suc, ◌+◌, ◌≤◌, ◌<◌, List, [], ◌∷◌, ◌++◌, Option, Some, None, true, false}
 use Rattle.std.proofs.Common.{IsTrue, refl, ap, sym, subst, ◌∙◌, arith, append_assoc, add-one, drop, drop-cons}
 use Rattle.std.proofs.Common.{get_or, length, Result, Ok, Err, OnOk}
@@ -37,10 +37,11 @@ use Rattle.wf_fetch.specs.Play.{Play, PlayRun, emit, over, step, shows, events_o
 use Rattle.wf_fetch.specs.Runs.{Next, Progress, after_events, command_run, embed, fetched, finished as end_of}
 use Rattle.wf_fetch.specs.Runs.{limit_before, normalized_init, script_run, showing, started, unless_limit}
 use Rattle.wf_top.specs.declared.running.Running.{Running}
-use Rattle.wf_top.specs.declared.wire.Wire.{Wire}
-use Rattle.wf_top.specs.Runs.{Ends, Shows, Played, Fetched, RunsOver, progress_of}
-use Rattle.wf_top.specs.Exchanges.{Exchange, Exchanges}
-use Rattle.wf_top.specs.Wires.{exchange_of}
+use Rattle.wf_top.specs.Plays.{RunsOver, after_event}
+use Rattle.wf_top.specs.Private.Runs.{Ends, Shows, Played, Fetched, progress_of}
+use Rattle.wf_wire.specs.declared.wire.Wire.{Wire}
+use Rattle.wf_wire.specs.Exchanges.{Exchange, Exchanges, idle}
+use Rattle.wf_wire.specs.Wires.{exchange_of}
 
 -- the events of two parts, and then the rest
 shows-append : (a b : List Event) (rest : PlayRun) → shows a (shows b rest) ≡ shows (a ++ b) rest
@@ -75,40 +76,40 @@ progress-after a b events commands fetches shown = rw commands (rw fetches (rw s
 
 -- an event is shown, and then what the rest comes to
 emitted : (limit : ℕ) (exchange : Exchange) (event : Event) (play : Play) (later : PlayRun)
-    → RunsOver limit exchange play later → RunsOver limit exchange (emit event play) (shows (event ∷ []) later)
+    → RunsOver limit (after_event event exchange) play later
+    → RunsOver limit exchange (emit event play) (shows (event ∷ []) later)
 emitted limit exchange event play later runs = record {
   tape = runs.tape;
   is_tape = runs.is_tape;
   run_is = ap (λ (r : PlayRun). shows (event ∷ []) r) runs.run_is;
 }
 
--- the same where the wire stays as it was
-emitted-over : (limit : ℕ) (event : Event) (play : Play) (later : PlayRun) (a b : Running) → b.wire ≡ a.wire
-    → RunsOver limit (exchange_of b.wire) play later
+-- the same with the wire behind the event
+emitted-over : (limit : ℕ) (event : Event) (play : Play) (later : PlayRun) (a b : Running)
+    → exchange_of b.wire ≡ after_event event (exchange_of a.wire) → RunsOver limit (exchange_of b.wire) play later
     → RunsOver limit (exchange_of a.wire) (emit event play) (shows (event ∷ []) later)
-emitted-over limit event play later a b wire runs =
+emitted-over limit event play later a b stands runs =
     emitted limit (exchange_of a.wire) event play later
-        (subst (λ (w : Wire). RunsOver limit (exchange_of w) play later) wire runs)
-
--- an event that is shown first
-pub shows-event : {A : Type 0} (limit : ℕ) (rest : A → Play) (event : Event) (a b : Running) → b.events ≡ a.events
-    ++ event ∷ [] → b.wire ≡ a.wire → Shows limit (λ next. emit event (rest next)) rest a b
-shows-event limit rest event a b added wire = record {
-  made = event ∷ [];
-  added = added;
-  run = λ next later runs. emitted-over limit event (rest next) later a b wire runs;
-}
+        (subst (λ (e : Exchange). RunsOver limit e play later) stands runs)
 
 -- an event, and what stands there then
-pub played_event : (limit : ℕ) (event : Event) (a b : Running) → b.commands ≡ a.commands → b.fetches ≡ a.fetches
-    → b.events ≡ a.events ++ event ∷ [] → b.wire ≡ a.wire → Played limit (showing event) a b
-played_event limit event a b commands fetches added wire = record {
+played_event : (limit : ℕ) (event : Event) (a b : Running) → b.commands ≡ a.commands → b.fetches ≡ a.fetches
+    → b.events ≡ a.events ++ event ∷ [] → exchange_of b.wire ≡ after_event event (exchange_of a.wire)
+    → Played limit (showing event) a b
+played_event limit event a b commands fetches added stands = record {
   made = event ∷ [];
   added = added;
-  run = λ next later runs. emitted-over limit event (next (after_events (event ∷ []) (progress_of a))) later a b wire
+  run = λ next later runs. emitted-over limit event (next (after_events (event ∷ []) (progress_of a))) later a b stands
       (subst (λ (p : Progress). RunsOver limit (exchange_of b.wire) (next p) later)
           (progress-after a b (event ∷ []) commands fetches added) runs);
 }
+
+-- no request was made
+pub played_fault : (limit : ℕ) (fault : TypeFault) (a b : Running) → b.commands ≡ a.commands → b.fetches ≡ a.fetches
+    → b.events ≡ a.events ++ event.TypeError fault ∷ [] → b.wire ≡ a.wire
+    → Played limit (showing (event.TypeError fault)) a b
+played_fault limit fault a b commands fetches added wire =
+    played_event limit (event.TypeError fault) a b commands fetches added (ap exchange_of wire)
 
 -- an act with what came of it, and then what the rest comes to
 acted : (limit : ℕ) (exchange now : Exchange) (request : Request) (first : Act) (after : Input
@@ -302,7 +303,7 @@ fetching-on context limit whole old a b at next fetching first input is so_far c
 -- a fetch, and what it came to
 pub played_fetched : (limit : ℕ) (whole : Process) (outcome : Outcome) (a b c : Running)
     → Fetched limit whole a b outcome → c.commands ≡ b.commands → c.fetches ≡ b.fetches → c.events ≡ b.events
-    ++ event.Result outcome ∷ [] → c.wire ≡ b.wire
+    ++ event.Result outcome ∷ [] → exchange_of c.wire ≡ idle (exchange_of b.wire).servers
     → Played limit (λ next. embed whole (λ outcome. showing (event.Result outcome) next)) a c
 played_fetched limit whole outcome a b c came commands fetches added last =
     shows-then limit (λ (next : Next). embed whole (λ outcome. showing (event.Result outcome) next) (progress_of a))
@@ -323,7 +324,8 @@ played_started limit rest a b c commands fetches added last played =
       made = event.Fetch a.fetches ∷ [];
       added = added;
       run = λ next later runs. emitted-over limit (event.Fetch a.fetches)
-          (rest next (after_events (event.Fetch a.fetches ∷ []) (started (progress_of a)))) later a b last
+          (rest next (after_events (event.Fetch a.fetches ∷ []) (started (progress_of a)))) later a b
+          (ap exchange_of last)
           (subst (λ (p : Progress). RunsOver limit (exchange_of b.wire) (rest next p) later) stands runs);
     })
     played
@@ -465,7 +467,7 @@ pub played_request : (limit : ℕ) (context : Context) (made : Result Request Ty
     (outcome : Outcome) (a b c : Running) (result : Result ⊤ OutOfMemory) → made ≡ Ok request
     → Fetched limit (main_fetch context request) a b outcome
     → OnOk result (c.events ≡ b.events ++ event.Result outcome ∷ []) → c.commands ≡ b.commands → c.fetches ≡ b.fetches
-    → c.wire ≡ b.wire → OnOk result (Played limit (fetched context made) a c)
+    → exchange_of c.wire ≡ idle (exchange_of b.wire).servers → OnOk result (Played limit (fetched context made) a c)
 played_request limit context made request outcome a b c (Ok done) is came added commands fetches last =
     rw is (played_fetched limit (main_fetch context request) outcome a b c came commands fetches added last)
 played_request limit context made request outcome a b c (Err refused) is came added commands fetches last = tt

@@ -1,8 +1,6 @@
-pub mod Wires
 pub mod Words
 pub mod Statuses
 pub mod Streams
-pub mod Exchanges
-pub mod Runs
 pub mod Plays
+pub mod Private
 pub mod Program

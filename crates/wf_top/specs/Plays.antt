@@ -1,15 +1,46 @@
 -- A play of a scenario: the run of each document over the tape that the scenario's servers give.
+--
+-- A run is main fetch and HTTP fetch as far as the definitions of a fetch go (wf_fetch, specs/Fetch.antt).
+-- What they do not look at yet, a play does not either: a final head that is a redirect, as one can be that a
+-- rule of status 100 has in its body, is handed over as a response; its Strict-Transport-Security is not noted;
+-- and of a request neither its integrity text, its destination, nor a bad port is looked at, nor whether it is
+-- to be upgraded.
 use Rattle.std.specs.Prelude.{◌≡◌, ℕ, ◌+◌, List, [], ◌∷◌, Some}
+use Rattle.wf_print.specs.declared.events.Event.{Event}
+use Rattle.wf_print.specs.declared.events.Event.TheVariants as event
 use Rattle.wf_print.specs.declared.events.Transcript.{Transcript}
 use Rattle.wf_script.specs.declared.types.Document.{Document}
 use Rattle.wf_script.specs.declared.types.Scenario.{Scenario}
+use Rattle.wf_fetch.specs.declared.act.Input.{Input}
+use Rattle.wf_fetch.specs.Play.{Play, PlayRun, over, emit, step, run_play}
 use Rattle.wf_fetch.specs.Runs.{document_client, document_run}
-use Rattle.wf_top.specs.Exchanges.{idle}
-use Rattle.wf_top.specs.Runs.{RunsOver}
+use Rattle.wf_wire.specs.Exchanges.{Exchange, Exchanges, idle}
+
+-- where an exchange stands after an event: with the result of a fetch nothing more of its answer is to come,
+-- read or not
+abbrev pub after_event : Event → Exchange → Exchange
+after_event (event.Result outcome) exchange = idle exchange.servers
+after_event _ exchange = exchange
+
+-- the tape is what comes of the acts of a run, one after another, up to its end
+abbrev pub IsTape : ℕ → Exchange → Play → List Input → Type 0
+IsTape limit exchange (over ending clock) tape = tape ≡ []
+IsTape limit exchange (emit shown rest) tape = IsTape limit (after_event shown exchange) rest tape
+IsTape limit exchange (step request act after) [] = ⊥
+IsTape limit exchange (step request act after) (input ∷ tape) =
+    (next : Exchange) × Exchanges limit exchange act input next × IsTape limit next (after input) tape
+
+-- From where the exchange stands the run comes to this: over the tape that the servers give, with bodies
+-- of so many bytes at most.
+pub record RunsOver (limit : ℕ) (exchange : Exchange) (play : Play) (run : PlayRun) : Type 0 where
+  pub tape : List Input
+  pub is_tape : IsTape limit exchange play tape
+  pub run_is : run_play play tape ≡ run
 
 -- the transcript is that of the scenario's document of this number: its key is its client's, and its run
 -- comes to this ending with these events
-pub record IsTranscript (scenario : Scenario) (number : ℕ) (document : Document) (transcript : Transcript) : Type 0 where
+pub record IsTranscript (scenario : Scenario) (number : ℕ) (document : Document) (transcript : Transcript)
+    : Type 0 where
   pub document_is : transcript.document ≡ number
   pub key_is : transcript.key ≡ (document_client document).key
   pub run_is : RunsOver scenario.body_limit (idle scenario.servers) (document_run scenario.cookies document)

@@ -1,5 +1,5 @@
 -- What the program answers to `play`: its verdict by the words and the bytes of the input, what it has
--- written then, and what it tells the complaints.
+-- written then, and what it tells the complaints. A play is one as far as specs/Plays.antt says.
 use Rattle.std.specs.Prelude.{◌≡◌, ◌≢◌, ℕ, ◌+◌, ◌≤◌, ◌<◌, ◌⊎◌, Bool, true, false, List, length, Some, Ok, Err}
 use Rattle.wf_link.specs.Counts.{Rose}
 use Rattle.wf_link.specs.Sinks.{Took, TookPart}
@@ -42,7 +42,7 @@ pub record IsWhole (bytes : List ℕ) (new : Source) : Type 0 where
   pub end : IsAtEnd new.left
   pub short : length bytes ≤ most_input
 
--- what whole bytes come to, and what the output has taken then
+-- what the bytes of a whole input come to, and what the output has taken then
 abbrev pub IsOutcome : List ℕ → Sink → Sink → Status → Type 0
 IsOutcome bytes output output' status.Ok = WritesPlay bytes output output'
 IsOutcome bytes output output' (status.Scenario place) = (scenario_of bytes ≡ Err place) × (output' ≡ output)
@@ -52,14 +52,15 @@ IsOutcome bytes output output' status.Usage = ⊥
 IsOutcome bytes output output' status.ReadFault = ⊥
 IsOutcome bytes output output' status.InputTooLong = ⊥
 
--- why the program comes to a verdict on the bytes that the input gave
+-- Why the program comes to a verdict on the bytes that the input gave. Where memory was refused and the output
+-- has taken something, the input was read to its end.
 abbrev pub IsCause : List ℕ → Source → Source → Sink → Sink → Status → Type 0
 IsCause bytes input input' output output' status.ReadFault =
     (length bytes ≤ most_input) × Rose input.faults input'.faults × (output' ≡ output)
 IsCause bytes input input' output output' status.InputTooLong =
     (length bytes ≡ most_input + 1) × (output' ≡ output)
 IsCause bytes input input' output output' status.OutOfMemory =
-    (length bytes ≤ most_input) × IsOutcome bytes output output' status.OutOfMemory
+    (length bytes ≤ most_input) × ((output' ≡ output) ⊎ (IsWhole bytes input' × WritesPart bytes output output'))
 IsCause bytes input input' output output' verdict = IsWhole bytes input' × IsOutcome bytes output output' verdict
 
 -- the verdict on accepted words
@@ -88,7 +89,8 @@ IsTold old new status.Ok answer = (answer ≡ status.Ok) × (new ≡ old)
 IsTold old new verdict answer = IsComplained old new verdict answer
 
 -- how the program came to its answer: it came to a verdict first, and told it then
-pub record IsAnswer (words : List (List ℕ)) (input input' : Source) (output output' complaints complaints' : Sink) (answer : Status) : Type 0 where
+pub record IsAnswer (words : List (List ℕ)) (input input' : Source) (output output' complaints complaints' : Sink)
+    (answer : Status) : Type 0 where
   pub verdict : Status
   pub is_verdict : IsVerdict (is_play words) input input' output output' verdict
   pub is_told : IsTold complaints complaints' verdict answer
@@ -108,25 +110,40 @@ pub record GaveFor (input input' : Source) (reason : List ℕ → Type 0) : Type
 
 -- What the program promises of its answer. The first field says all; the others are what it says of each
 -- status.
-pub record Answers (words : List (List ℕ)) (input input' : Source) (output output' complaints complaints' : Sink) (answer : Status) : Type 0 where
+pub record Answers (words : List (List ℕ)) (input input' : Source) (output output' complaints complaints' : Sink)
+    (answer : Status) : Type 0 where
   pub is_answer : IsAnswer words input input' output output' complaints complaints' answer
   -- Ok only where the whole input is a scenario, whose play the output has taken, and the complaints nothing
-  pub ok : answer ≡ status.Ok → GaveFor input input' (λ bytes. IsWhole bytes input' × WritesPlay bytes output output' × (complaints' ≡ complaints))
+  pub ok : answer ≡ status.Ok → GaveFor input input' (λ bytes.
+      IsWhole bytes input' × WritesPlay bytes output output' × (complaints' ≡ complaints))
   -- Usage only where the words are not accepted, and there always, unless the complaints failed
   pub usage : answer ≡ status.Usage → is_play words ≡ false
-  pub not_accepted : is_play words ≡ false → (answer ≡ status.Usage) ⊎ ((answer ≡ status.WriteFault) × Failed complaints complaints')
+  pub not_accepted : is_play words ≡ false
+      → (answer ≡ status.Usage) ⊎ ((answer ≡ status.WriteFault) × Failed complaints complaints')
   -- Scenario only where the whole input is refused at that place, and there always, but for the excuses
-  pub refused : (place : Place) → answer ≡ status.Scenario place → GaveFor input input' (λ bytes. IsWhole bytes input' × ((scenario_of bytes ≡ Err place) × (output' ≡ output)))
-  pub no_scenario : (bytes : List ℕ) (place : Place) → is_play words ≡ true → input.left ≡ Some bytes → length bytes ≤ most_input → scenario_of bytes ≡ Err place → (answer ≡ status.Scenario place) ⊎ IsExcused input input' output output' complaints complaints' answer
+  pub refused : (place : Place) → answer ≡ status.Scenario place → GaveFor input input' (λ bytes.
+      IsWhole bytes input' × ((scenario_of bytes ≡ Err place) × (output' ≡ output)))
+  pub no_scenario : (bytes : List ℕ) (place : Place) → is_play words ≡ true → input.left ≡ Some bytes
+      → length bytes ≤ most_input → scenario_of bytes ≡ Err place
+      → (answer ≡ status.Scenario place) ⊎ IsExcused input input' output output' complaints complaints' answer
   -- InputTooLong only where one byte more than the longest input was read, and there always, but for the excuses
-  pub too_long : answer ≡ status.InputTooLong → GaveFor input input' (λ bytes. (length bytes ≡ most_input + 1) × (output' ≡ output))
-  pub longer : (bytes : List ℕ) → is_play words ≡ true → input.left ≡ Some bytes → most_input < length bytes → (answer ≡ status.InputTooLong) ⊎ IsExcused input input' output output' complaints complaints' answer
+  pub too_long : answer ≡ status.InputTooLong
+      → GaveFor input input' (λ bytes. (length bytes ≡ most_input + 1) × (output' ≡ output))
+  pub longer : (bytes : List ℕ) → is_play words ≡ true → input.left ≡ Some bytes → most_input < length bytes
+      → (answer ≡ status.InputTooLong) ⊎ IsExcused input input' output output' complaints complaints' answer
   -- ReadFault only where the input failed; WriteFault only where a sink failed or took nothing
   pub read_fault : answer ≡ status.ReadFault → Rose input.faults input'.faults
   pub write_fault : answer ≡ status.WriteFault → Failed output output' ⊎ Failed complaints complaints'
   -- accepted words and an input that is a scenario have the answer Ok, but for the excuses
-  pub complete : (bytes : List ℕ) (scenario : Scenario) → is_play words ≡ true → input.left ≡ Some bytes → length bytes ≤ most_input → scenario_of bytes ≡ Ok scenario → (answer ≡ status.Ok) ⊎ IsExcused input input' output output' complaints complaints' answer
+  pub complete : (bytes : List ℕ) (scenario : Scenario) → is_play words ≡ true → input.left ≡ Some bytes
+      → length bytes ≤ most_input → scenario_of bytes ≡ Ok scenario
+      → (answer ≡ status.Ok) ⊎ IsExcused input input' output output' complaints complaints' answer
+  -- OutOfMemory only where the output has taken nothing, or the whole input is a scenario, and it has taken a
+  -- prefix of the text of its play
+  pub out_of_memory : answer ≡ status.OutOfMemory → GaveFor input input' (λ bytes.
+      (length bytes ≤ most_input) × ((output' ≡ output) ⊎ (IsWhole bytes input' × WritesPart bytes output output')))
   -- at most one byte more than the longest input is read
   pub bound : GaveFor input input' (λ bytes. length bytes ≤ most_input + 1)
   -- another answer than Ok and WriteFault is told by its whole line
-  pub told : answer ≢ status.Ok → answer ≢ status.WriteFault → Took complaints.taken complaints'.taken (complaint answer)
+  pub told : answer ≢ status.Ok → answer ≢ status.WriteFault
+      → Took complaints.taken complaints'.taken (complaint answer)

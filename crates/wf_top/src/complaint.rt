@@ -75,9 +75,9 @@ fn write_complaint<E: Sink>(complaints: &mut E, verdict: &Status) -> Result<(), 
     }
 }
 
-/// Tells a verdict other than Ok to the complaints, by its line. It answers the verdict, or
-/// `WriteFault` where the line could not be written.
-pub fn tell<E: Sink>(verdict: Status, complaints: &mut E) -> Status
+// Tells a verdict other than Ok to the complaints, by its line. It answers the verdict, or
+// `WriteFault` where the line could not be written.
+pub(crate) fn tell<E: Sink>(verdict: Status, complaints: &mut E) -> Status
     ensures { IsTold (sink_of E.taken E.faults E.zeros complaints.old)
         (sink_of E.taken E.faults E.zeros complaints.new) verdict result }
 {

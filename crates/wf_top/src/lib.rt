@@ -2,7 +2,6 @@
 #![tactic(auto)]
 
 mod complaint;
-mod exchange;
 mod limits;
 mod play;
 mod program;
@@ -10,9 +9,6 @@ mod running;
 mod status;
 #[cfg(test)]
 mod tests;
-mod wire;
-#[cfg(test)]
-mod wire_tests;
 mod words;
 
 pub use program::fetchplay;

@@ -1,6 +1,6 @@
 ghost use Rattle.std.specs.Prelude.{◌≡◌};
 ghost use Rattle.wf_fetch.specs.Runs.{limit_before};
-ghost use Rattle.wf_top.specs.Runs.{progress_of};
+ghost use Rattle.wf_top.specs.Private.Runs.{progress_of};
 
 use crate::running::Running;
 use wf_print::Ending;
@@ -13,7 +13,7 @@ const MOST_FETCHES: u32 = 1_024;
 const MOST_PRINTED: u64 = 8_388_608;
 
 impl Running<'_> {
-    /// The limit that the run has reached before a command.
+    // The limit that the run has reached before a command.
     pub(crate) fn limit_before(&self, command: &Command) -> Option<Ending>
         ensures { result ≡ limit_before command.now (progress_of self.now) }
     {

@@ -8,11 +8,12 @@ ghost use Rattle.wf_send.specs.Making.{new_request as request_of};
 ghost use Rattle.wf_fetch.specs.Fetch.{lent, main_fetch};
 ghost use Rattle.wf_fetch.specs.Play.{events_of};
 ghost use Rattle.wf_fetch.specs.Process.{fits};
-ghost use Rattle.wf_fetch.specs.Runs.{command_run, script_run, fetched, document_client, document_run, finished, limit_before, normalized_init as normal_init};
+ghost use Rattle.wf_fetch.specs.Runs.{command_run, script_run, fetched, finished, limit_before};
+ghost use Rattle.wf_fetch.specs.Runs.{normalized_init as normal_init};
 ghost use Rattle.wf_top.specs.Plays.{IsPlay, IsTranscript};
-ghost use Rattle.wf_top.specs.Runs.{Ends, Fetched, IsFetchable, Played, progress_of};
-ghost use Rattle.wf_top.specs.Exchanges.{Exchanges, idle};
-ghost use Rattle.wf_top.specs.Wires.{exchange_of};
+ghost use Rattle.wf_top.specs.Private.Runs.{Ends, Fetched, IsFetchable, Played, progress_of};
+ghost use Rattle.wf_wire.specs.Exchanges.{Exchanges};
+ghost use Rattle.wf_wire.specs.Wires.{exchange_of};
 
 use crate::running::Running;
 use std::alloc::Global;
@@ -33,28 +34,23 @@ struct Setting<'a> {
     cookies: &'a Cookies,
 }
 
-// Does an act over the wire and answers what comes of it.
+// Does an act over the wire, shows it, and answers what comes of it.
 fn exchange(
     alloc: Global,
     limit: u32,
     running: &mut Running<'_>,
     act: Act,
 ) -> Result<Input, OutOfMemory>
-    ensures came { IfOk result (λ input. Exchanges limit (exchange_of running.old.wire) act input (exchange_of running.new.wire)) }
+    ensures came { IfOk result (λ input. Exchanges limit (exchange_of running.old.wire) act input
+        (exchange_of running.new.wire)) }
     ensures fits { IfOk result (λ input. IsTrue (fits act input)) }
     ensures events { IfOk result (λ input. running.new.events ≡ running.old.events ++ events_of act input) }
     ensures commands { running.new.commands ≡ running.old.commands }
     ensures fetches { running.new.fetches ≡ running.old.fetches }
 {
-    match act {
-        Act::Send(hop) => {
-            let input = running.wire.send(alloc, &hop)?;
-            running.show(Event::Sent(hop))?;
-            Ok(input)
-        }
-        Act::ReadHead => running.wire.read_head(alloc),
-        Act::ReadBody => running.wire.read_body(alloc, limit),
-    }
+    let input = running.wire.exchange(alloc, limit, &act)?;
+    running.show_act(act)?;
+    Ok(input)
 }
 
 // One fetch, to its outcome.
@@ -98,7 +94,7 @@ fn requested(
 }
 
 // The request's outcome, or that there is no request.
-#[tactic(auto, using(crate::proofs::RunLemmas::played_event))]
+#[tactic(auto, using(crate::proofs::RunLemmas::played_fault))]
 fn run_request(
     alloc: Global,
     setting: &Setting<'_>,
@@ -113,7 +109,7 @@ fn run_request(
         Err(fault) => running.show(Event::TypeError(fault)),
         Ok(request) => {
             let outcome = run_fetch(alloc, setting, running, request)?;
-            running.show(Event::Result(outcome))
+            running.show_outcome(outcome)
         }
     }
 }
@@ -210,8 +206,8 @@ fn run_document(
     })
 }
 
-/// Plays a scenario: the run of each document, in order.
-pub fn play_all(alloc: Global, scenario: &Scenario) -> Result<Transcripts, OutOfMemory>
+// Plays a scenario: the run of each document, in order.
+pub(crate) fn play_all(alloc: Global, scenario: &Scenario) -> Result<Transcripts, OutOfMemory>
     requires { IsValid scenario.now }
     ensures played { IfOk result (λ transcripts. IsPlay scenario.now transcripts) }
     ensures has_text { IfOk result (λ transcripts. HasText transcripts) }

@@ -62,6 +62,7 @@ fn answer<S: Source, K: Sink, E: Sink>(
 }
 
 // The verdict on the words and the input, with the play written to the output.
+#[tactic(auto, using(crate::proofs::ProgramLemmas::whole_cause))]
 fn verdict<S: Source, K: Sink>(
     alloc: Global,
     words: &[String],

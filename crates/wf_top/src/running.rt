@@ -1,15 +1,19 @@
 ghost use Rattle.std.specs.Prelude.{◌≡◌, ◌≤◌, ◌<◌, ◌+◌, ◌++◌, ◌∷◌, [], IfOk, OnOk};
+ghost use Rattle.wf_fetch.specs.declared.act.Input.{Input};
 ghost use Rattle.wf_print.specs.Lengths.{capped};
 ghost use Rattle.wf_script.specs.Valid.{IsValid};
+ghost use Rattle.wf_fetch.specs.Play.{events_of};
 ghost use Rattle.wf_fetch.specs.Runs.{text_length};
-ghost use Rattle.wf_top.specs.Exchanges.{idle};
-ghost use Rattle.wf_top.specs.Wires.{exchange_of};
+ghost use Rattle.wf_wire.specs.Exchanges.{idle};
+ghost use Rattle.wf_wire.specs.Wires.{exchange_of};
 
-use crate::wire::Wire;
 use std::alloc::Global;
+use wf_fetch::Act;
 use wf_print::{Event, Events, event_len};
 use wf_script::Scenario;
 use wf_text::OutOfMemory;
+use wf_types::Outcome;
+use wf_wire::Wire;
 
 /// Where a document's run stands: how many commands and how many fetches have started, the events so
 /// far with the number of bytes that their lines have, as far as 64 bits tell it, and the wire to the
@@ -27,7 +31,7 @@ pub(crate) struct Running<'a> {
 }
 
 impl<'a> Running<'a> {
-    /// The beginning of a run over a new wire to the servers of a scenario.
+    // The beginning of a run over a new wire to the servers of a scenario.
     pub(crate) fn new(alloc: Global, scenario: &'a Scenario) -> Result<Running<'a>, OutOfMemory>
         requires { IsValid scenario.now }
         ensures commands { IfOk result (λ running. running.commands ≡ 0) }
@@ -44,7 +48,7 @@ impl<'a> Running<'a> {
         })
     }
 
-    /// Adds an event.
+    // Adds an event.
     pub(crate) fn show(&mut self, event: Event) -> Result<(), OutOfMemory>
         ensures events { OnOk result (self.new.events ≡ self.old.events ++ event ∷ []) }
         ensures commands { self.new.commands ≡ self.old.commands }
@@ -57,7 +61,32 @@ impl<'a> Running<'a> {
         Ok(())
     }
 
-    /// Starts a fetch.
+    // Adds what an act shows.
+    pub(crate) fn show_act(&mut self, act: Act) -> Result<(), OutOfMemory>
+        ensures events { (input : Input) → OnOk result (self.new.events ≡ self.old.events ++ events_of act input) }
+        ensures commands { self.new.commands ≡ self.old.commands }
+        ensures fetches { self.new.fetches ≡ self.old.fetches }
+        ensures wire { self.new.wire ≡ self.old.wire }
+    {
+        match act {
+            Act::Send(hop) => self.show(Event::Sent(hop)),
+            Act::ReadHead => Ok(()),
+            Act::ReadBody => Ok(()),
+        }
+    }
+
+    // Hangs up, since nothing more of the answer is wanted, and adds what the fetch came to.
+    pub(crate) fn show_outcome(&mut self, outcome: Outcome) -> Result<(), OutOfMemory>
+        ensures events { OnOk result (self.new.events ≡ self.old.events ++ Event.Result outcome ∷ []) }
+        ensures commands { self.new.commands ≡ self.old.commands }
+        ensures fetches { self.new.fetches ≡ self.old.fetches }
+        ensures wire { exchange_of self.new.wire ≡ idle (exchange_of self.old.wire).servers }
+    {
+        self.wire.close();
+        self.show(Event::Result(outcome))
+    }
+
+    // Starts a fetch.
     pub(crate) fn start_fetch(&mut self) -> Result<(), OutOfMemory>
         requires commands { self.old.commands < 16384 }
         requires fetches { self.old.fetches < 1024 }

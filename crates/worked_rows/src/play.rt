@@ -1,0 +1,58 @@
+use crate::failed::Failed;
+use crate::row::Row;
+use std::alloc::Global;
+use std::sync::Wait;
+use std::thread::Threads;
+use wf_link::{MemorySink, MemorySource};
+use wf_text::{Bytes, OutOfMemory};
+use wf_top::fetchplay;
+
+/// How many bytes the output and the complaints each have room for.
+const ROOM: usize = 1_048_576;
+
+/// What a play came to: the number of its status, and what was written and complained.
+#[derive(Drop)]
+pub(crate) struct Ran {
+    pub(crate) status: u8,
+    pub(crate) output: Bytes,
+    pub(crate) complaints: Bytes,
+}
+
+// A sink that fails at some calls, and takes nothing at others.
+fn sink(alloc: Global, fails: &[u64], zeros: &[u64]) -> Result<MemorySink, OutOfMemory> {
+    let fails = Vec::from_slice(alloc, fails)?;
+    let zeros = Vec::from_slice(alloc, zeros)?;
+    MemorySink::new(alloc, ROOM, fails, zeros)
+}
+
+// The program's words, which stand between commas.
+fn words_of(alloc: Global, text: &str) -> Result<Vec<String>, Failed> {
+    let mut words = Vec::new(alloc);
+    for word in text.split(',') {
+        if !word.is_empty() {
+            words.push(String::from_str(alloc, word)?)?;
+        }
+    }
+    Ok(words)
+}
+
+// Plays a scenario of a row.
+pub(crate) fn play<R: Threads + Wait + Sync + AllocGlobal>(
+    rt: &R,
+    row: &Row<'_>,
+    scenario: &str,
+) -> Result<Ran, Failed> {
+    let alloc = rt.alloc();
+    let words = words_of(alloc, row.words)?;
+    let text = Bytes::of(alloc, scenario.as_bytes())?;
+    let mut input = MemorySource::new(text, Vec::from_slice(alloc, row.reads.as_slice())?);
+    let mut output = sink(alloc, row.writes.as_slice(), row.zeros.as_slice())?;
+    let mut complaints = sink(alloc, row.complaints.as_slice(), &[])?;
+    let words = words.as_slice();
+    let status = fetchplay(rt, alloc, words, &mut input, &mut output, &mut complaints);
+    Ok(Ran {
+        status: status.number(),
+        output: Bytes::of(alloc, output.taken())?,
+        complaints: Bytes::of(alloc, complaints.taken())?,
+    })
+}
