@@ -47,14 +47,20 @@ block-ends text block = by_cases (or-true _ _ (and-true _ _ block).1)
 
 -- what holds a byte of a line and ends so is a block
 pub is-block-lf : (front : List ℕ) → list_any is_line_byte front ≡ true → is_block (front ++ codes "\n\n") ≡ true
-is-block-lf front some = rw (list_any-append is_line_byte front (codes "\n\n"), some,
-    (ends (front ++ codes "\n\n") (codes "\n\n")).1 front refl) refl
+is-block-lf front some = rw (
+  list_any-append is_line_byte front (codes "\n\n"),
+  some,
+  (ends (front ++ codes "\n\n") (codes "\n\n")).1 front refl,
+) refl
 
 pub is-block-crlf : (front : List ℕ) → list_any is_line_byte front ≡ true → is_block (front ++ codes "\n\r\n") ≡ true
-is-block-crlf front some = rw (list_any-append is_line_byte front (codes "\n\r\n"), some,
-    or-right (ends_with nat_eq (front ++ codes "\n\r\n") (codes "\n\n"))
-    (ends_with nat_eq (front ++ codes "\n\r\n") (codes "\n\r\n"))
-    ((ends (front ++ codes "\n\r\n") (codes "\n\r\n")).1 front refl)) refl
+is-block-crlf front some = rw (
+  list_any-append is_line_byte front (codes "\n\r\n"),
+  some,
+  or-right (ends_with nat_eq (front ++ codes "\n\r\n") (codes "\n\n"))
+      (ends_with nat_eq (front ++ codes "\n\r\n") (codes "\n\r\n"))
+      ((ends (front ++ codes "\n\r\n") (codes "\n\r\n")).1 front refl),
+) refl
 
 -- what does not end so is none
 pub no-block : (text : List ℕ) → (EndsEmpty (reverse text) → ⊥) → is_block text ≡ false
@@ -104,7 +110,7 @@ quiet-append before [] more quiet next = subst (λ (l : List ℕ). IsQuiet l mor
 quiet-append before (byte ∷ text) more quiet next =
     quiet-cons before byte (text ++ more) (ap is_block (sym (append-nil before)) ∙ quiet 0)
     (quiet-append (before ++ byte ∷ []) text more (λ n. ap is_block (append_assoc before (byte ∷ []) (take n text))
-        ∙ quiet (suc n))
+    ∙ quiet (suc n))
     (subst (λ (l : List ℕ). IsQuiet l more) (sym (append_assoc before (byte ∷ []) text)) next))
 
 -- at its end no block ends either

@@ -7,10 +7,10 @@ use Rattle.std.proofs.lemmas.List.{append-nil}
 use Rattle.wf_types.specs.declared.response.BodyEnd.{BodyEnd}
 use Rattle.wf_types.specs.declared.response.BodyEnd.TheVariants.{Whole, Cut, TooBig}
 use Rattle.wf_http1.specs.Bodies.{ended, body_end, IsDecided, IsOpen}
-use Rattle.wf_http1.specs.BodyPlaces.{Comes, IsKept, IsOn, IsReading, IsWaiting, rest_end}
+use Rattle.wf_http1.specs.Private.BodyPlaces.{Comes, IsKept, IsOn, IsReading, IsWaiting, rest_end}
 use Rattle.wf_http1.specs.BodyReading.{BodyReading}
 use Rattle.wf_http1.specs.Chunks.{Decoded}
-use Rattle.wf_http1.specs.Places.{decoded_at}
+use Rattle.wf_http1.specs.Private.Places.{decoded_at}
 use Rattle.wf_http1.specs.declared.framing.Framing.{Framing}
 use Rattle.wf_http1.specs.declared.framing.Framing.TheVariants.{Nothing, Chunked, Length, ToEnd, Broken}
 use Rattle.wf_http1.specs.declared.place.Place.{Place}
@@ -49,8 +49,11 @@ reach limit _ = 0
 
 reach-cut : (limit : ℕ) (held : List ℕ) → length held ≤ limit → reach limit (ended limit false held) ≡ 2 * length held
 reach-cut limit held within =
-    elim (leb_tells (suc limit) (length held)) [ inl beyond ↦ absurd (omega (arith, beyond.1, within)) | inr below ↦
-        rw below.0 refl ]
+    elim (leb_tells (suc limit) (length held)) [
+      | inl beyond ↦ absurd (omega (arith, beyond.1, within))
+      | inr below ↦
+          rw below.0 refl
+    ]
 
 reach-more : (limit : ℕ) (held data_ : List ℕ) → length held ≤ limit → 0 < length data_ → (complete : Bool)
     → 2 * length held + 2 ≤ reach limit (ended limit complete (held ++ data_))
@@ -117,8 +120,13 @@ Differ how limit held place = (more : List ℕ) × (rest_end how limit held plac
 progress-differs : (limit : ℕ) (held : List ℕ) (decoded : Decoded) → length held ≤ limit → IsProgress decoded
     → ended limit false (held ++ []) ≢ ended limit decoded.complete (held ++ decoded.data_is)
 progress-differs limit held decoded within (inl some) same =
-    omega (arith, ap (reach limit) same, ap (λ l. reach limit (ended limit false l)) (append-nil held),
-        reach-cut limit held within, reach-more limit held decoded.data_is within some decoded.complete)
+    omega (
+      arith,
+      ap (reach limit) same,
+      ap (λ l. reach limit (ended limit false l)) (append-nil held),
+      reach-cut limit held within,
+      reach-more limit held decoded.data_is within some decoded.complete,
+    )
 progress-differs limit held decoded within (inr whole) same =
     omega (
       arith,
@@ -129,7 +137,7 @@ progress-differs limit held decoded within (inr whole) same =
       reach-whole limit held decoded.data_is within,
     )
 
-take-short : (n : ℕ) (l : List ℕ) → length l ≤ n → take n l ≡ l
+pub take-short : (n : ℕ) (l : List ℕ) → length l ≤ n → take n l ≡ l
 take-short zero [] h = refl
 take-short zero (x ∷ l) h = absurd (omega (arith, h))
 take-short (suc n) [] h = refl
@@ -139,19 +147,27 @@ differ : (how : Framing) (limit : ℕ) (held : List ℕ) (place : Place) → len
     → Differ how limit held place
 differ Nothing limit held place within waiting = absurd waiting
 differ Broken limit held place within waiting = absurd waiting
-differ ToEnd limit held place within waiting =
-    (0 ∷ [], λ same. omega (arith, ap (reach limit) same,
-        ap (λ l. reach limit (ended limit true l)) (append-nil held), reach-here,
-        reach-more limit held (0 ∷ []) within (omega arith) true))
+differ ToEnd limit held place within waiting = (
+  0 ∷ [],
+  λ same. omega (
+    arith,
+    ap (reach limit) same,
+    ap (λ l. reach limit (ended limit true l)) (append-nil held),
+    reach-here,
+    reach-more limit held (0 ∷ []) within (omega arith) true,
+  ),
+)
   where
     reach-here : reach limit (ended limit true held) ≡ 2 * length held + 1
-    reach-here = elim (leb_tells (suc limit) (length held)) [ inl beyond ↦ absurd (omega (arith, beyond.1, within))
-        | inr below ↦ rw below.0 refl ]
+    reach-here = elim (leb_tells (suc limit) (length held)) [
+      | inl beyond ↦ absurd (omega (arith, beyond.1, within))
+      | inr below ↦ rw below.0 refl
+    ]
 differ (Length total) limit held place within waiting =
     let none : take total (held ++ []) ≡ held = ap (take total) (append-nil held)
-        ∙ take-short total held (omega (arith, waiting)) in
+    ∙ take-short total held (omega (arith, waiting)) in
     let one : take total (held ++ 0 ∷ []) ≡ held ++ 0 ∷ [] =
-        take-short total (held ++ 0 ∷ []) (omega (arith, waiting, length-append held (0 ∷ []))) in
+    take-short total (held ++ 0 ∷ []) (omega (arith, waiting, length-append held (0 ∷ []))) in
     let complete : Bool = nat_le total (length (held ++ 0 ∷ [])) in (
       0 ∷ [],
       λ same.
@@ -166,8 +182,11 @@ differ (Length total) limit held place within waiting =
     )
   where
     open_here : nat_le total (length (held ++ [])) ≡ false
-    open_here = elim (leb_tells total (length (held ++ []))) [ inl h ↦
-        absurd (omega (arith, h.1, waiting, ap length (append-nil held))) | inr h ↦ h.0 ]
+    open_here = elim (leb_tells total (length (held ++ []))) [
+      | inl h ↦
+          absurd (omega (arith, h.1, waiting, ap length (append-nil held)))
+      | inr h ↦ h.0
+    ]
 differ Chunked limit held place within waiting =
     let on = leads-on place in (on.0, progress-differs limit held (decoded_at place on.0) within on.1)
 
@@ -190,7 +209,7 @@ kept-waiting Chunked held place waiting = waiting
 pub read-on : (how : Framing) (limit : ℕ) (bytes piece held held' : List ℕ) (room room' : ℕ) (place place' : Place)
     → IsReading how limit bytes held room place
     → IsOn how limit (λ more. rest_end how limit held place (piece ++ more)) held' room' place' []
-        → IsReading how limit (bytes ++ piece) held' room' place'
+    → IsReading how limit (bytes ++ piece) held' room' place'
 read-on how limit bytes piece held held' room room' place place' reading on = record {
   meaning = λ more. ap (body_end how limit) (append_assoc bytes piece more) ∙ reading.meaning (piece ++ more)
       ∙ on.meaning more;
@@ -227,24 +246,26 @@ begins how limit bytes held room no_bytes none reserved = rw (no_bytes, none) re
 pub open-behind : (how : Framing) (limit : ℕ) (bytes piece held held' : List ℕ) (room room' : ℕ)
     (place place' : Place) (found : Found) → IsReading how limit bytes held room place
     → Comes how limit (λ more. rest_end how limit held place (piece ++ more)) held' room' place' found → found ≡ Open
-        → IsOpen how limit (bytes ++ piece)
+    → IsOpen how limit (bytes ++ piece)
 open-behind how limit bytes piece held held' room room' place place' found reading comes same =
     let on : IsOn how limit (λ more. rest_end how limit held place (piece ++ more)) held' room' place' [] =
-        subst (Comes how limit (λ more. rest_end how limit held place (piece ++ more)) held' room' place') same comes in
+    subst (Comes how limit (λ more. rest_end how limit held place (piece ++ more)) held' room' place') same comes in
     stays-open how limit (bytes ++ piece) held' room' place'
-        (read-on how limit bytes piece held held' room room' place place' reading on) on.waiting
+    (read-on how limit bytes piece held held' room room' place place' reading on) on.waiting
 
 -- and the reader then
 pub opened : (self : BodyReading) (how : Framing) (limit : ℕ) (bytes bytes' piece held held' : List ℕ)
     (room room' : ℕ) (place place' : Place) (found : Found)
     → record { framing = how; limit = limit; bytes = bytes } ≡ self → bytes' ≡ bytes ++ piece
-        → IsReading how limit bytes held room place
+    → IsReading how limit bytes held room place
     → Comes how limit (λ more. rest_end how limit held place (piece ++ more)) held' room' place' found → found ≡ Open
     → (record { framing = how; limit = limit; bytes = bytes' } ≡ record self { bytes = self.bytes ++ piece })
-        × IsOpen self.framing self.limit (self.bytes ++ piece)
+    × IsOpen self.framing self.limit (self.bytes ++ piece)
 opened self how limit bytes bytes' piece held held' room room' place place' found seen now reading comes same =
     let P : BodyReading → Type 0 =
-        λ s. (record { framing = how; limit = limit; bytes = bytes' } ≡ record s { bytes = s.bytes ++ piece })
-        × IsOpen s.framing s.limit (s.bytes ++ piece) in
-    subst P seen (ap (λ b. record { framing = how; limit = limit; bytes = b }) now,
-        open-behind how limit bytes piece held held' room room' place place' found reading comes same)
+    λ s. (record { framing = how; limit = limit; bytes = bytes' } ≡ record s { bytes = s.bytes ++ piece })
+    × IsOpen s.framing s.limit (s.bytes ++ piece) in
+    subst P seen (
+      ap (λ b. record { framing = how; limit = limit; bytes = b }) now,
+      open-behind how limit bytes piece held held' room room' place place' found reading comes same,
+    )

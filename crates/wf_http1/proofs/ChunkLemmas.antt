@@ -17,8 +17,8 @@ use Rattle.wf_http1.specs.declared.place.Place.TheVariants.{Size, Blanks, Extens
 use Rattle.wf_http1.specs.declared.place.Place.TheVariants.{TrailerEnd, LastEnd}
 use Rattle.wf_http1.specs.declared.place.Turn.{Turn}
 use Rattle.wf_http1.specs.declared.place.Turn.TheVariants.{To, Broken}
-use Rattle.wf_http1.specs.Places.{decoded_at, behind_turn, behind_line, behind_digits, in_size, in_extension}
-use Rattle.wf_http1.specs.Places.{at_trailer}
+use Rattle.wf_http1.specs.Private.Places.{decoded_at, behind_turn, behind_line, behind_digits, in_size, in_extension}
+use Rattle.wf_http1.specs.Private.Places.{at_trailer}
 use Rattle.wf_http1.proofs.PlaceLemmas.{choice}
 
 -- ---- tests
@@ -54,7 +54,7 @@ tail_of bytes = behind_crlf (drop (length (line_of bytes)) bytes)
 line_of-more : (byte : ℕ) (bytes : List ℕ) → byte ≢ 13 → byte ≢ 10 → line_of (byte ∷ bytes) ≡ byte ∷ line_of bytes
 line_of-more byte bytes no_cr no_lf =
     take_while-cons (λ b. not (b == 13 || b == 10)) byte bytes
-        ∙ rw (fails_eq byte 13 no_cr, fails_eq byte 10 no_lf) refl
+    ∙ rw (fails_eq byte 13 no_cr, fails_eq byte 10 no_lf) refl
 
 -- a byte that ends no line is the first of its line
 cut_line-more : (byte : ℕ) (bytes : List ℕ) → byte ≢ 13 → byte ≢ 10 → cut_line (byte ∷ bytes)
@@ -131,7 +131,7 @@ at_least_two : (most : ℕ) (cut : Option (List ℕ × List ℕ)) (m : ℕ) → 
 at_least_two most None m e = absurd (grind arith)
 at_least_two most (Some cut) m e =
     choice (λ o. o ≡ Some m → 2 ≤ m) (length cut.0 == 0) (Some 2)
-        (option_map (λ n. length cut.0 + 2 + n) (trailers_length most cut.1))
+    (option_map (λ n. length cut.0 + 2 + n) (trailers_length most cut.1))
     (λ _ h. grind arith) (λ _. longer (trailers_length most cut.1)) e
   where
     longer : (o : Option ℕ) → option_map (λ n. length cut.0 + 2 + n) o ≡ Some m → 2 ≤ m
@@ -158,7 +158,7 @@ too-long n most byte line (Some rest) full = from (trailers_length most rest) re
 -- a byte of a line counts as one before it
 one-more : (n most : ℕ) (byte : ℕ) (line : List ℕ) (o : Option (List ℕ))
     → line_and_more n most (option_map (λ rest. (byte ∷ line, rest)) o)
-        ≡ line_and_more (n + 1) most (option_map (λ rest. (line, rest)) o)
+    ≡ line_and_more (n + 1) most (option_map (λ rest. (line, rest)) o)
 one-more n most byte line None = refl
 one-more n most byte line (Some rest) =
     let same : n + length (byte ∷ line) + 2 ≡ n + 1 + length line + 2 = omega arith in
@@ -167,7 +167,7 @@ one-more n most byte line (Some rest) =
 -- a line that is not empty, and more lines
 longer-line : (n most : ℕ) (byte : ℕ) (line : List ℕ) (o : Option (List ℕ))
     → plus n (behind_trailer (trailers_length most) (option_map (λ rest. (byte ∷ line, rest)) o))
-        ≡ line_and_more n most (option_map (λ rest. (byte ∷ line, rest)) o)
+    ≡ line_and_more n most (option_map (λ rest. (byte ∷ line, rest)) o)
 longer-line n most byte line None = refl
 longer-line n most byte line (Some rest) =
     let test : (length (byte ∷ line) == 0) ≡ false = fails_eq (length (byte ∷ line)) 0 (λ e. omega (arith, e)) in
@@ -182,7 +182,7 @@ longer-line n most byte line (Some rest) =
 -- behind the CR of the empty line
 last-decoded : (n most : ℕ) (rest : List ℕ) → n ≤ 8190
     → decoded_at LastEnd rest
-        ≡ trailers_end (plus n (behind_trailer (trailers_length most) (option_map (λ r. ([], r)) (behind_lf rest))))
+    ≡ trailers_end (plus n (behind_trailer (trailers_length most) (option_map (λ r. ([], r)) (behind_lf rest))))
 last-decoded n most [] within = refl
 last-decoded n most (byte ∷ rest) within =
     elim (eqb_tells byte 10) [
@@ -224,19 +224,19 @@ mutual
               | inl lf ↦ rw (lf.1, cut_line-lf bytes) refl
               | inr no_lf ↦
                   let whole =
-                      ap trailers_end
-                      (ap (λ o. plus n (behind_trailer (trailers_length most) o))
-                      (cut_line-more byte bytes no_cr.1 no_lf.1)
-                      ∙ longer-line n most byte (line_of bytes) (tail_of bytes)) in
+                  ap trailers_end
+                  (ap (λ o. plus n (behind_trailer (trailers_length most) o))
+                  (cut_line-more byte bytes no_cr.1 no_lf.1)
+                  ∙ longer-line n most byte (line_of bytes) (tail_of bytes)) in
                   elim (leb_tells 8188 n) [
                     | inl full ↦
                         let none = too-long n most byte (line_of bytes) (tail_of bytes) full.1 in
                         ap (behind bytes) (trailer-full byte n LastEnd no_cr.1 no_lf.1 full.1)
-                            ∙ sym (whole ∙ ap ended_as none)
+                        ∙ sym (whole ∙ ap ended_as none)
                     | inr free ↦
                         ap (behind bytes) (trailer-goes byte n LastEnd no_cr.1 no_lf.1 free.1)
                         ∙ (trailer-decoded bytes (n + 1) most room' (omega (arith, free.1))
-                            ∙ sym (whole ∙ ap trailers_end (one-more n most byte (line_of bytes) (tail_of bytes))))
+                        ∙ sym (whole ∙ ap trailers_end (one-more n most byte (line_of bytes) (tail_of bytes))))
                   ]
             ]
       ]
@@ -266,7 +266,7 @@ mutual
             elim (eqb_tells next 10) [
               | inl lf ↦
                   rw (cr.1, lf.1) (trailers-decoded rest (n + 2) most (omega (arith, room)) (omega (arith, within))
-                      ∙ ap (λ k. trailers_end (plus k (trailers_length most rest))) (empty-line n))
+                  ∙ ap (λ k. trailers_end (plus k (trailers_length most rest))) (empty-line n))
               | inr other ↦ rw (cr.1, cut_line-cr (next ∷ rest), other.0) refl
             ]
         | inr no_cr ↦
@@ -274,18 +274,18 @@ mutual
               | inl lf ↦ rw (lf.1) refl
               | inr no_lf ↦
                   let whole =
-                      ap (λ o. trailers_end (line_and_more n most o))
-                      (cut_line-more byte (next ∷ rest) no_cr.1 no_lf.1) in
+                  ap (λ o. trailers_end (line_and_more n most o))
+                  (cut_line-more byte (next ∷ rest) no_cr.1 no_lf.1) in
                   elim (leb_tells 8188 n) [
                     | inl full ↦
                         let none = too-long n most byte (line_of (next ∷ rest)) (tail_of (next ∷ rest)) full.1 in
                         ap (behind (next ∷ rest)) (trailer-full byte n (TrailerEnd n) no_cr.1 no_lf.1 full.1)
-                            ∙ sym (whole ∙ ap ended_as none)
+                        ∙ sym (whole ∙ ap ended_as none)
                     | inr free ↦
                         ap (behind (next ∷ rest)) (trailer-goes byte n (TrailerEnd n) no_cr.1 no_lf.1 free.1)
                         ∙ (trailer-decoded (next ∷ rest) (n + 1) most (omega (arith, room)) (omega (arith, free.1))
-                            ∙ sym (whole
-                            ∙ ap trailers_end (one-more n most byte (line_of (next ∷ rest)) (tail_of (next ∷ rest)))))
+                        ∙ sym (whole
+                        ∙ ap trailers_end (one-more n most byte (line_of (next ∷ rest)) (tail_of (next ∷ rest)))))
                   ]
             ]
       ]
@@ -325,13 +325,13 @@ in_line size line cut = if nat_le (line + length cut.0 + 2) 4096 then Some (size
 abbrev in_blanks : ℕ → ℕ → List ℕ × List ℕ → Option (ℕ × List ℕ)
 in_blanks size line cut =
     if is_extension (trimmed_start tab_or_space cut.0) && nat_le (line + length cut.0 + 2) 4096
-        then Some (size, cut.1) else None
+    then Some (size, cut.1) else None
 
 abbrev in_digits : ℕ → ℕ → List ℕ × List ℕ → Option (ℕ × List ℕ)
 in_digits digits value cut =
     if nat_le 1 (digits + length (size_digits cut.0)) && nat_le (digits + length (size_digits cut.0)) 16
     && is_extension (trimmed_start tab_or_space (drop (length (size_digits cut.0)) cut.0))
-        && nat_le (digits + length cut.0 + 2) 4096
+    && nat_le (digits + length cut.0 + 2) 4096
     then Some (digits_value_after 16 value (size_digits cut.0), cut.1) else None
 
 -- at the end of the line
@@ -340,7 +340,7 @@ ends : (f : List ℕ × List ℕ → Option (ℕ × List ℕ)) (size : ℕ) (res
     → decoded_at (LineEnd size) rest ≡ behind_size chunks (option_and_then f (cut_line (13 ∷ rest)))
 ends f size rest same =
     line_end-decoded size rest
-        ∙ ap (behind_size chunks) (sym (ap (option_and_then f) (cut_line-cr rest) ∙ shown (behind_lf rest)))
+    ∙ ap (behind_size chunks) (sym (ap (option_and_then f) (cut_line-cr rest) ∙ shown (behind_lf rest)))
   where
     shown : (o : Option (List ℕ)) → option_and_then f (option_map (λ r. ([], r)) o) ≡ option_map (λ r. (size, r)) o
     shown None = refl
@@ -352,16 +352,16 @@ misfits : (f : List ℕ × List ℕ → Option (ℕ × List ℕ)) (byte : ℕ) (
     → broken ≡ behind_size chunks (option_and_then f (cut_line (byte ∷ rest)))
 misfits f byte rest no_cr no_lf none =
     ap (behind_size chunks) (sym (ap (option_and_then f) (cut_line-more byte rest no_cr no_lf)
-        ∙ nothing f (byte ∷ line_of rest) (tail_of rest) none))
+    ∙ nothing f (byte ∷ line_of rest) (tail_of rest) none))
 
 -- a line that goes on
 goes-on : (f g : List ℕ × List ℕ → Option (ℕ × List ℕ)) (byte : ℕ) (rest : List ℕ) → byte ≢ 13 → byte ≢ 10
     → ((r : List ℕ) → f (byte ∷ line_of rest, r) ≡ g (line_of rest, r))
     → behind_size chunks (option_and_then g (cut_line rest))
-        ≡ behind_size chunks (option_and_then f (cut_line (byte ∷ rest)))
+    ≡ behind_size chunks (option_and_then f (cut_line (byte ∷ rest)))
 goes-on f g byte rest no_cr no_lf same =
     ap (behind_size chunks) (sym (ap (option_and_then f) (cut_line-more byte rest no_cr no_lf)
-        ∙ through f g (byte ∷ line_of rest) (line_of rest) (tail_of rest) same))
+    ∙ through f g (byte ∷ line_of rest) (line_of rest) (tail_of rest) same))
 
 abbrev at_line_feed : (f : List ℕ × List ℕ → Option (ℕ × List ℕ)) (rest : List ℕ) → Type 0
 at_line_feed f rest = broken ≡ behind_size chunks (option_and_then f (cut_line (10 ∷ rest)))
@@ -421,7 +421,7 @@ extension-decoded (byte ∷ rest) size line within =
                       ap (behind rest) (in_extension-goes size line byte no_cr.1 no_lf.1 free.1)
                       ∙ extension-decoded rest size (line + 1) (omega (arith, free.1))
                       ∙ goes-on (in_line size line) (in_line size (line + 1)) byte rest no_cr.1 no_lf.1
-                          (λ r. in_line-more size line byte (line_of rest) r)
+                      (λ r. in_line-more size line byte (line_of rest) r)
                 ]
           ]
     ]
@@ -447,7 +447,7 @@ blanks-blank : (size line byte : ℕ) (text r : List ℕ) → (byte ≡ 9) ⊎ (
     → in_blanks size line (byte ∷ text, r) ≡ in_blanks size (line + 1) (text, r)
 blanks-blank size line byte text r blank =
     ap (given size r) (ap (λ t. is_extension t && nat_le (line + length (byte ∷ text) + 2) 4096)
-        (trimmed-blank byte text blank)
+    (trimmed-blank byte text blank)
     ∙ ap (λ b. is_extension (trimmed_start tab_or_space text) && b) (room-more line byte text))
 
 blanks-semicolon : (size line : ℕ) (text r : List ℕ) → in_blanks size line (59 ∷ text, r)
@@ -459,13 +459,13 @@ blanks-other : (size line byte : ℕ) (text r : List ℕ) → byte ≢ 9 → byt
     → in_blanks size line (byte ∷ text, r) ≡ None
 blanks-other size line byte text r no_tab no_space no_semicolon =
     ap (given size r) (ap (λ t. is_extension t && nat_le (line + length (byte ∷ text) + 2) 4096)
-        (trimmed-other byte text no_tab no_space)
+    (trimmed-other byte text no_tab no_space)
     ∙ ap (λ b. b && nat_le (line + length (byte ∷ text) + 2) 4096) (fails_eq byte 59 no_semicolon))
 
 blanks-none : (size line byte : ℕ) (text r : List ℕ) → 4094 ≤ line → in_blanks size line (byte ∷ text, r) ≡ None
 blanks-none size line byte text r full =
     ap (given size r) (ap (λ b. is_extension (trimmed_start tab_or_space (byte ∷ text))
-        && b) (room-none line byte text full) ∙ false-right (is_extension (trimmed_start tab_or_space (byte ∷ text))))
+    && b) (room-none line byte text full) ∙ false-right (is_extension (trimmed_start tab_or_space (byte ∷ text))))
 
 digits-full : (size line byte : ℕ) → byte ≢ 13 → 4094 ≤ line → behind_digits size line byte ≡ Broken
 digits-full size line byte no_cr full = rw (fails_eq byte 13 no_cr, holds_le 4094 line full) refl
@@ -483,8 +483,13 @@ digits-other : (size line byte : ℕ) → byte ≢ 13 → byte ≢ 9 → byte �
 digits-other size line byte no_cr no_tab no_space no_semicolon =
     elim (leb_tells 4094 line) [
       | inl full ↦ digits-full size line byte no_cr full.1
-      | inr free ↦ rw (fails_eq byte 13 no_cr, fails_le 4094 line free.1, fails_eq byte 9 no_tab,
-          fails_eq byte 32 no_space, fails_eq byte 59 no_semicolon) refl
+      | inr free ↦ rw (
+        fails_eq byte 13 no_cr,
+        fails_le 4094 line free.1,
+        fails_eq byte 9 no_tab,
+        fails_eq byte 32 no_space,
+        fails_eq byte 59 no_semicolon,
+      ) refl
     ]
 
 -- behind the digits, or behind blanks
@@ -507,11 +512,11 @@ blanks-decoded (byte ∷ rest) size line within =
                       ∙ misfits f byte rest no_cr.1 no_lf.1 (λ r. blanks-none size line byte (line_of rest) r full.1)
                   | inr free ↦
                       let blank : (byte ≡ 9) ⊎ (byte ≡ 32) → decoded_at (Blanks size line) (byte ∷ rest)
-                          ≡ behind_size chunks (option_and_then f (cut_line (byte ∷ rest))) =
+                      ≡ behind_size chunks (option_and_then f (cut_line (byte ∷ rest))) =
                       λ b. ap (behind rest) (digits-blank size line byte no_cr.1 free.1 b)
                       ∙ blanks-decoded rest size (line + 1) (omega (arith, free.1))
                       ∙ goes-on f (in_blanks size (line + 1)) byte rest no_cr.1 no_lf.1
-                          (λ r. blanks-blank size line byte (line_of rest) r b) in
+                      (λ r. blanks-blank size line byte (line_of rest) r b) in
                       elim (eqb_tells byte 9) [
                         | inl tab ↦ blank (inl tab.1)
                         | inr no_tab ↦
@@ -523,13 +528,13 @@ blanks-decoded (byte ∷ rest) size line within =
                                         rw semicolon.1 (ap (behind rest) (digits-semicolon size line free.1)
                                         ∙ extension-decoded rest size (line + 1) (omega (arith, free.1))
                                         ∙ goes-on f (in_line size (line + 1)) 59 rest (λ e. omega (arith, e))
-                                            (λ e. omega (arith, e)) (λ r. blanks-semicolon size line (line_of rest) r))
+                                        (λ e. omega (arith, e)) (λ r. blanks-semicolon size line (line_of rest) r))
                                     | inr no_semicolon ↦
                                         ap (behind rest)
-                                            (digits-other size line byte no_cr.1 no_tab.1 no_space.1 no_semicolon.1)
+                                        (digits-other size line byte no_cr.1 no_tab.1 no_space.1 no_semicolon.1)
                                         ∙ misfits f byte rest no_cr.1 no_lf.1
-                                            (λ r. blanks-other size line byte (line_of rest) r no_tab.1 no_space.1
-                                            no_semicolon.1)
+                                        (λ r. blanks-other size line byte (line_of rest) r no_tab.1 no_space.1
+                                        no_semicolon.1)
                                   ]
                             ]
                       ]
@@ -563,7 +568,7 @@ digit-more digits value byte text r digit =
     ∙ ap (given (digits_value_after 16 (value * 16 + digit_value byte) front) r)
     (ap (λ n. nat_le 1 n && nat_le n 16 && test && nat_le (digits + length (byte ∷ text) + 2) 4096) count
     ∙ ap (λ b. nat_le 1 (digits + 1 + length front) && nat_le (digits + 1 + length front) 16 && test
-        && b) (room-more digits byte text))
+    && b) (room-more digits byte text))
 
 digit-none : (value byte : ℕ) (text r : List ℕ) → is_ascii_hexdigit byte ≡ true → in_digits 16 value (byte ∷ text, r)
     ≡ None
@@ -572,11 +577,11 @@ digit-none value byte text r digit =
     let test : Bool = is_extension (trimmed_start tab_or_space (drop (length front) text)) in
     let more : Bool = nat_le (16 + length (byte ∷ text) + 2) 4096 in
     let full : nat_le (16 + length (byte ∷ front)) 16 ≡ false = fails_le (16 + length (byte ∷ front)) 16 (omega arith)
-        in
+    in
     ap (λ d. with_digits 16 value d (byte ∷ text, r)) (size_digits-more byte text digit)
     ∙ ap (given (digits_value_after 16 (value * 16 + digit_value byte) front) r)
     (ap (λ b. nat_le 1 (16 + length (byte ∷ front)) && b && test && more) full
-        ∙ ap (λ b. b && test && more) (false-right (nat_le 1 (16 + length (byte ∷ front)))))
+    ∙ ap (λ b. b && test && more) (false-right (nat_le 1 (16 + length (byte ∷ front)))))
 
 -- behind one digit or more what follows stands as behind blanks
 no-digit : (digits value : ℕ) (text r : List ℕ) → 1 ≤ digits → digits ≤ 16 → size_digits text ≡ []
@@ -586,7 +591,7 @@ no-digit digits value text r some few none =
     let second : nat_le (digits + 0) 16 ≡ true = holds_le (digits + 0) 16 (omega (arith, few)) in
     ap (λ d. with_digits digits value d (text, r)) none
     ∙ ap (given value r) (ap (λ b. b && nat_le (digits + 0) 16 && is_extension (trimmed_start tab_or_space text)
-        && nat_le (digits + length text + 2) 4096) first
+    && nat_le (digits + length text + 2) 4096) first
     ∙ ap (λ b. b && is_extension (trimmed_start tab_or_space text) && nat_le (digits + length text + 2) 4096) second)
 
 -- and without a digit nothing fits
@@ -638,12 +643,12 @@ size-cases digits value byte rest few later true digit =
           let same : digits ≡ 16 = full.1 in
           ap (λ d. behind rest (in_size d value byte)) same ∙ ap (behind rest) (in_size-full value byte digit)
           ∙ misfits f byte rest no_end.0 no_end.1 (λ r. ap (λ d. in_digits d value (byte ∷ line_of rest, r)) same
-              ∙ digit-none value byte (line_of rest) r digit)
+          ∙ digit-none value byte (line_of rest) r digit)
       | inr fewer ↦
           ap (behind rest) (in_size-digit digits value byte digit fewer.1)
           ∙ later (digits + 1) (value * 16 + digit_value byte) (omega (arith, few, fewer.1))
           ∙ goes-on f (in_digits (digits + 1) (value * 16 + digit_value byte)) byte rest no_end.0 no_end.1
-              (λ r. digit-more digits value byte (line_of rest) r digit)
+          (λ r. digit-more digits value byte (line_of rest) r digit)
     ]
 size-cases digits value byte rest few later false other =
     let f : List ℕ × List ℕ → Option (ℕ × List ℕ) = in_digits digits value in
@@ -653,16 +658,16 @@ size-cases digits value byte rest few later false other =
           let same : digits ≡ 0 = none.1 in
           ap (λ d. behind rest (in_size d value byte)) same ∙ ap (behind rest) (in_size-first value byte other)
           ∙ ap (behind_size chunks)
-              (sym (nothing f (line_of (byte ∷ rest)) (tail_of (byte ∷ rest))
-              (λ r. ap (λ d. in_digits d value (line_of (byte ∷ rest), r)) same
-              ∙ first-no-digit value (line_of (byte ∷ rest)) r front)))
+          (sym (nothing f (line_of (byte ∷ rest)) (tail_of (byte ∷ rest))
+          (λ r. ap (λ d. in_digits d value (line_of (byte ∷ rest), r)) same
+          ∙ first-no-digit value (line_of (byte ∷ rest)) r front)))
       | inr some ↦
           ap (behind rest) (in_size-behind digits value byte other some.1)
           ∙ blanks-decoded (byte ∷ rest) value digits (omega (arith, few))
           ∙ ap (behind_size chunks)
-              (sym (through f (in_blanks value digits) (line_of (byte ∷ rest)) (line_of (byte ∷ rest))
-              (tail_of (byte ∷ rest))
-              (λ r. no-digit digits value (line_of (byte ∷ rest)) r (omega (arith, some.1)) few front)))
+          (sym (through f (in_blanks value digits) (line_of (byte ∷ rest)) (line_of (byte ∷ rest))
+          (tail_of (byte ∷ rest))
+          (λ r. no-digit digits value (line_of (byte ∷ rest)) r (omega (arith, some.1)) few front)))
     ]
 
 size-decoded : (bytes : List ℕ) (digits value : ℕ) → digits ≤ 16 → InDigits digits value bytes
@@ -679,17 +684,17 @@ first-line cut =
     let whole : 0 + length cut.0 ≡ length cut.0 = omega arith in
     ap (given (digits_value_after 16 0 (size_digits cut.0)) cut.1)
     (ap (λ n. nat_le 1 n && nat_le n 16
-        && is_extension (trimmed_start tab_or_space (drop (length (size_digits cut.0)) cut.0))
-        && nat_le (0 + length cut.0 + 2) 4096) count
+    && is_extension (trimmed_start tab_or_space (drop (length (size_digits cut.0)) cut.0))
+    && nat_le (0 + length cut.0 + 2) 4096) count
     ∙ ap (λ n. nat_le 1 (length (size_digits cut.0)) && nat_le (length (size_digits cut.0)) 16
-        && is_extension (trimmed_start tab_or_space (drop (length (size_digits cut.0)) cut.0))
-        && nat_le (n + 2) 4096) whole)
+    && is_extension (trimmed_start tab_or_space (drop (length (size_digits cut.0)) cut.0))
+    && nat_le (n + 2) 4096) whole)
 
 chunks-step : (bytes : List ℕ) → chunks bytes ≡ behind_size chunks (cut_size bytes)
 chunks-step bytes =
     size-decoded bytes 0 0 (omega arith)
     ∙ ap (behind_size chunks) (through (in_digits 0 0) size_and_rest (line_of bytes) (line_of bytes) (tail_of bytes)
-        (λ r. first-line (line_of bytes, r)))
+    (λ r. first-line (line_of bytes, r)))
 
 -- two ways to go on that agree on what is shorter
 module _ (f g : List ℕ → Decoded) (most : ℕ) (same : (rest : List ℕ) → length rest ≤ most → f rest ≡ g rest) where
@@ -699,39 +704,39 @@ module _ (f g : List ℕ → Decoded) (most : ℕ) (same : (rest : List ℕ) →
   same-behind-data (byte ∷ []) room = refl
   same-behind-data (byte ∷ next ∷ rest) room =
       choice (λ o. behind_data f o ≡ behind_data g o) (byte == 13
-          && next == 10) (Some rest) None (λ _. same rest (omega (arith, room))) (λ _. refl)
+      && next == 10) (Some rest) None (λ _. same rest (omega (arith, room))) (λ _. refl)
 
   same-behind-size : (size : ℕ) (rest : List ℕ) → length rest ≤ most → behind_size f (Some (size, rest))
       ≡ behind_size g (Some (size, rest))
   same-behind-size size rest room =
       let shorter : length (drop size rest) ≤ most = omega (arith, room, length-drop size rest) in
       ap (λ d. if size == 0 then record { data_is = []; complete = has_trailers rest }
-          else onto (take size rest) d) (same-behind-data (drop size rest) shorter)
+      else onto (take size rest) d) (same-behind-data (drop size rest) shorter)
 
   same-behind-line : (line bytes : List ℕ) → length bytes ≤ suc most
       → behind_size f (option_and_then size_and_rest (option_map (λ r. (line, r)) (behind_crlf bytes)))
-          ≡ behind_size g (option_and_then size_and_rest (option_map (λ r. (line, r)) (behind_crlf bytes)))
+      ≡ behind_size g (option_and_then size_and_rest (option_map (λ r. (line, r)) (behind_crlf bytes)))
   same-behind-line line [] room = refl
   same-behind-line line (byte ∷ []) room = refl
   same-behind-line line (byte ∷ next ∷ rest) room =
       choice (λ o. behind_size f (option_and_then size_and_rest (option_map (λ r. (line, r)) o))
-          ≡ behind_size g (option_and_then size_and_rest (option_map (λ r. (line, r)) o)))
+      ≡ behind_size g (option_and_then size_and_rest (option_map (λ r. (line, r)) o)))
       (byte == 13 && next == 10) (Some rest) None
       (λ _. choice (λ o. behind_size f o ≡ behind_size g o) (is_size_line line) _ None
-          (λ _. same-behind-size _ rest (omega (arith, room))) (λ _. refl)) (λ _. refl)
+      (λ _. same-behind-size _ rest (omega (arith, room))) (λ _. refl)) (λ _. refl)
 
   same-step : (bytes : List ℕ) → length bytes ≤ suc most → behind_size f (cut_size bytes)
       ≡ behind_size g (cut_size bytes)
   same-step bytes room =
       same-behind-line (line_of bytes) (drop (length (line_of bytes)) bytes)
-          (omega (arith, room, length-drop (length (line_of bytes)) bytes))
+      (omega (arith, room, length-drop (length (line_of bytes)) bytes))
 
 decoded_from-chunks : (most : ℕ) (bytes : List ℕ) → length bytes ≤ most → decoded_from most bytes ≡ chunks bytes
 decoded_from-chunks zero [] room = refl
 decoded_from-chunks zero (byte ∷ bytes) room = absurd (omega (arith, room))
 decoded_from-chunks (suc most) bytes room =
     same-step (decoded_from most) chunks most (λ rest h. decoded_from-chunks most rest h) bytes room
-        ∙ sym (chunks-step bytes)
+    ∙ sym (chunks-step bytes)
 
 -- The bytes of a chunked body decode to what the reader's places make of them.
 pub decoded-chunks : (bytes : List ℕ) → decoded bytes ≡ decoded_at (Size 0 0) bytes

@@ -85,13 +85,13 @@ field-quiet before field none is = by_name field.name is.name.0 refl
     by_name [] some same = absurd (omega (arith, some))
     by_name (byte ∷ rest) some same =
         let each : IsLineText (byte ∷ rest) =
-            subst IsLineText same (line_text-all is_token_byte token-cr token-lf field.name is.name.1) in
+        subst IsLineText same (line_text-all is_token_byte token-cr token-lf field.name is.name.1) in
         let raw : IsLineText field.raw = line_text-all is_value_byte refl refl field.raw is.raw in
         subst (λ (l : List ℕ). IsBehindLine before l)
         (ap (λ (l : List ℕ). byte ∷ l) (append_assoc rest (58 ∷ field.raw) (print_end field.end))
-            ∙ ap (λ (l : List ℕ). l ++ (58 ∷ (field.raw ++ print_end field.end))) (sym same) ∙ sym (field-parts field))
+        ∙ ap (λ (l : List ℕ). l ++ (58 ∷ (field.raw ++ print_end field.end))) (sym same) ∙ sym (field-parts field))
         (line-quiet before byte (rest ++ 58
-            ∷ field.raw) field.end none each.0 (line_text-append rest (58 ∷ field.raw) each.1 (refl, raw)))
+        ∷ field.raw) field.end none each.0 (line_text-append rest (58 ∷ field.raw) each.1 (refl, raw)))
 
 -- one text behind another
 behind-both : (before text more : List ℕ) → IsBehindLine before text → IsBehindLine (before ++ text) more
@@ -110,7 +110,7 @@ fields-quiet before [] line each = record {
 fields-quiet before (field ∷ fields) line each =
     let one = field-quiet before field (ends_line-none before line) each.0 in
     behind-both before (print_field field) (flat_map print_field fields) one
-        (fields-quiet (before ++ print_field field) fields one.line each.1)
+    (fields-quiet (before ++ print_field field) fields one.line each.1)
 
 -- ---- the status line
 
@@ -164,13 +164,13 @@ regroup digits reason end fields last = simp (append_assoc, append-nil)
 -- the empty lines, the status line, the fields and the last empty line
 pub printed-parts : (head : ResponseHead) → print_response head
     ≡ (print_blank head.blank ++ ((72 ∷ (status_rest head ++ print_end head.line_end))
-        ++ flat_map print_field head.fields)) ++ print_end head.last
+    ++ flat_map print_field head.fields)) ++ print_end head.last
 printed-parts head =
     let rest : List ℕ = status_rest head ++ print_end head.line_end in
     let fields : List ℕ = flat_map print_field head.fields in
     sym (append-nil (print_response head)) ∙ print_response-append head []
     ∙ ap (λ (l : List ℕ). print_blank head.blank ++ (print_version head.minor ++ 32 ∷ l))
-        (regroup head.digits (print_reason head.reason) (print_end head.line_end) fields (print_end head.last))
+    (regroup head.digits (print_reason head.reason) (print_end head.line_end) fields (print_end head.last))
     ∙ ap (λ (l : List ℕ). print_blank head.blank ++ l) (sym (append_assoc (72 ∷ rest) fields (print_end head.last)))
     ∙ sym (append_assoc (print_blank head.blank) ((72 ∷ rest) ++ fields) (print_end head.last))
 
@@ -182,14 +182,14 @@ head-shortest head is =
     let line : List ℕ = 72 ∷ (status_rest head ++ print_end head.line_end) in
     let fields : List ℕ = flat_map print_field head.fields in
     let one : IsBehindLine blank line =
-        line-quiet blank 72 (status_rest head) head.line_end (no-line-byte blank (blank-none head.blank)) refl
-        (status-line head is) in
+    line-quiet blank 72 (status_rest head) head.line_end (no-line-byte blank (blank-none head.blank)) refl
+    (status-line head is) in
     let all : IsBehindLine blank (line ++ fields) =
-        behind-both blank line fields one
-        (fields-quiet (blank ++ line) head.fields one.line (recursion_from_All IsField head.fields is.fields)) in
+    behind-both blank line fields one
+    (fields-quiet (blank ++ line) head.fields one.line (recursion_from_All IsField head.fields is.fields)) in
     subst IsShortestBlock (sym (printed-parts head))
     (shortest-behind (blank ++ (line ++ fields)) head.last
-        (quiet-append [] blank (line ++ fields) (blank-quiet head.blank) all.quiet) all.line)
+    (quiet-append [] blank (line ++ fields) (blank-quiet head.blank) all.quiet) all.line)
 
 -- ---- two shortest blocks, or two heads, at one front
 

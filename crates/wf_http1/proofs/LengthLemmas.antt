@@ -10,7 +10,7 @@ use Rattle.std.specs.List.{list_all, slice_get}
 use Rattle.std.specs.Str.{bytes_eq}
 use Rattle.std.specs.Str.Parse.{digits_value, digits_value_after}
 use Rattle.wf_text.specs.Digits.{is_digits}
-use Rattle.wf_http1.specs.Lengths.{without_zeros}
+use Rattle.wf_http1.specs.Private.Lengths.{without_zeros}
 
 abbrev are_digits : List ℕ → Bool
 are_digits text = list_all is_ascii_digit text
@@ -38,7 +38,7 @@ stays-less m n (x ∷ a) [] less within digits = absurd (omega arith)
 stays-less m n (x ∷ a) (y ∷ b) less within digits =
     let digit = digit-value x (first-digit x a digits) in
     stays-less (m * 10 + digit_value x) (n * 10 + digit_value y) a b (omega (arith, digit.0, digit.1, digit.2))
-        (omega arith) (later-digits x a digits)
+    (omega arith) (later-digits x a digits)
 
 -- as many digits of one number are the same digits
 unique : (m : ℕ) (a b : List ℕ) → length a ≡ length b → are_digits a ≡ true → are_digits b ≡ true
@@ -56,21 +56,27 @@ unique m (x ∷ a) (y ∷ b) same digits_a digits_b equal =
     let n' : ℕ = m * 10 + digit_value y in
     elim (leb_tells (suc x) y) [
       | inl less ↦
-          absurd (omega (arith, equal,
-          stays-less m' n' a b (omega (arith, less.1, digit_x.0, digit_x.1, digit_y.0, digit_y.1)) (omega arith)
-          later_a))
+          absurd (omega (
+            arith,
+            equal,
+            stays-less m' n' a b (omega (arith, less.1, digit_x.0, digit_x.1, digit_y.0, digit_y.1)) (omega arith)
+                later_a,
+          ))
       | inr no_less ↦
           elim (eqb_tells x y) [
             | inl same_digit ↦
                 ap (λ c. c ∷ a) same_digit.1
                 ∙ ap (λ l. y
-                    ∷ l) (unique n' a b same_length later_a later_b
-                    (subst (λ (c : ℕ). digits_value_after 10 (m * 10 + digit_value c) a
-                    ≡ digits_value_after 10 n' b) same_digit.1 equal))
+                ∷ l) (unique n' a b same_length later_a later_b
+                (subst (λ (c : ℕ). digits_value_after 10 (m * 10 + digit_value c) a
+                ≡ digits_value_after 10 n' b) same_digit.1 equal))
             | inr other ↦
-                absurd (omega (arith, equal,
-                stays-less n' m' b a (omega (arith, no_less.1, other.1, digit_x.0, digit_x.1, digit_y.0, digit_y.1))
-                (omega arith) later_b))
+                absurd (omega (
+                  arith,
+                  equal,
+                  stays-less n' m' b a (omega (arith, no_less.1, other.1, digit_x.0, digit_x.1, digit_y.0, digit_y.1))
+                      (omega arith) later_b,
+                ))
           ]
     ]
 
@@ -96,14 +102,14 @@ fewer-digits a (byte ∷ text) digits_a digits fewer =
       | inl nought ↦
           let cut : without_zeros (byte ∷ text) ≡ without_zeros text = rw nought.0 refl in
           rw cut (fewer-digits a text digits_a (later-digits byte text digits)
-              (subst (λ (l : List ℕ). length a < length l) cut fewer))
+          (subst (λ (l : List ℕ). length a < length l) cut fewer))
       | inr other ↦
           let whole : without_zeros (byte ∷ text) ≡ byte ∷ text = rw other.0 refl in
           let digit = digit-value byte (first-digit byte text digits) in
           let within : length a ≤ length text = omega (arith, subst (λ (l : List ℕ). length a < length l) whole fewer)
-              in
+          in
           rw whole (stays-less 0 (0 * 10 + digit_value byte) a text (omega (arith, other.1, digit.0, digit.1)) within
-              digits_a)
+          digits_a)
     ]
 
 -- digits of one number are the same behind their zeros
@@ -138,7 +144,7 @@ pub same-number : (a b : List ℕ) → is_digits a ≡ true → is_digits b ≡ 
     → bytes_eq (without_zeros a) (without_zeros b) ≡ (digits_value 10 a == digits_value 10 b)
 same-number a b digits_a digits_b =
     same_from_decides _ _ (decides-equal a b (grind (arith, common_steps)) (grind (arith, common_steps)))
-        (Decides-eqb (digits_value 10 a) (digits_value 10 b))
+    (Decides-eqb (digits_value 10 a) (digits_value 10 b))
 
 -- the test of all, one element on
 all-next : {X : Type 0} (test : X → Bool) (xs : List X) (i : ℕ) (x : X) → slice_get xs i ≡ Some x

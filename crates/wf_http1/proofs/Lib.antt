@@ -11,3 +11,4 @@ pub mod PlaceLemmas
 pub mod ChunkLemmas
 pub mod TakingLemmas
 pub mod BodyLemmas
+pub mod OpenLemmas

@@ -54,7 +54,7 @@ end-quiet : (before : List ℕ) (byte : ℕ) (end : LineEnd) → is_line_byte by
     → IsQuiet (before ++ byte ∷ []) (print_end end)
 end-quiet before byte lf line =
     quiet-cons (before ++ byte ∷ []) 10 [] (no-block-line before byte line)
-        (quiet-nil ((before ++ byte ∷ []) ++ 10 ∷ []) (no-block-end before byte line))
+    (quiet-nil ((before ++ byte ∷ []) ++ 10 ∷ []) (no-block-end before byte line))
 end-quiet before byte crlf line =
     quiet-cons (before ++ byte ∷ []) 13 (10 ∷ []) (no-block-line before byte line)
     (quiet-cons ((before ++ byte ∷ []) ++ 13 ∷ []) 10 [] (no-block-push (before ++ byte ∷ []) 13 (differs 13 refl))
@@ -84,9 +84,9 @@ line-quiet before byte (next ∷ text) end none line each =
 pub ends_line-some : (text : List ℕ) → EndsLine text → list_any is_line_byte text ≡ true
 ends_line-some text end =
     ap (λ (l : List ℕ). list_any is_line_byte l) end.whole
-        ∙ list_any-append is_line_byte end.front (end.byte ∷ print_end end.end)
+    ∙ list_any-append is_line_byte end.front (end.byte ∷ print_end end.end)
     ∙ or-right (list_any is_line_byte end.front) (list_any is_line_byte (end.byte ∷ print_end end.end))
-        (ap (λ (b : Bool). b || list_any is_line_byte (print_end end.end)) end.line)
+    (ap (λ (b : Bool). b || list_any is_line_byte (print_end end.end)) end.line)
 
 -- and is no block
 pub ends_line-none : (text : List ℕ) → EndsLine text → is_block text ≡ false
@@ -109,19 +109,19 @@ block-behind : (front : List ℕ) (byte : ℕ) (end last : LineEnd) → is_line_
     → is_block ((front ++ byte ∷ print_end end) ++ print_end last) ≡ true
 block-behind front byte lf lf line =
     ap is_block (append_assoc front (byte ∷ 10 ∷ []) (10 ∷ []) ∙ sym (append_assoc front (byte ∷ []) (10 ∷ 10 ∷ [])))
-        ∙ is-block-lf (front ++ byte ∷ []) (some front byte line)
+    ∙ is-block-lf (front ++ byte ∷ []) (some front byte line)
 block-behind front byte lf crlf line =
     ap is_block (append_assoc front (byte ∷ 10 ∷ []) (13 ∷ 10 ∷ [])
-        ∙ sym (append_assoc front (byte ∷ []) (10 ∷ 13 ∷ 10 ∷ [])))
-        ∙ is-block-crlf (front ++ byte ∷ []) (some front byte line)
+    ∙ sym (append_assoc front (byte ∷ []) (10 ∷ 13 ∷ 10 ∷ [])))
+    ∙ is-block-crlf (front ++ byte ∷ []) (some front byte line)
 block-behind front byte crlf lf line =
     ap is_block (append_assoc front (byte ∷ 13 ∷ 10 ∷ []) (10 ∷ [])
-        ∙ sym (append_assoc front (byte ∷ 13 ∷ []) (10 ∷ 10 ∷ [])))
-        ∙ is-block-lf (front ++ byte ∷ 13 ∷ []) (some-2 front byte line)
+    ∙ sym (append_assoc front (byte ∷ 13 ∷ []) (10 ∷ 10 ∷ [])))
+    ∙ is-block-lf (front ++ byte ∷ 13 ∷ []) (some-2 front byte line)
 block-behind front byte crlf crlf line =
     ap is_block (append_assoc front (byte ∷ 13 ∷ 10 ∷ []) (13 ∷ 10 ∷ [])
-        ∙ sym (append_assoc front (byte ∷ 13 ∷ []) (10 ∷ 13 ∷ 10 ∷ [])))
-        ∙ is-block-crlf (front ++ byte ∷ 13 ∷ []) (some-2 front byte line)
+    ∙ sym (append_assoc front (byte ∷ 13 ∷ []) (10 ∷ 13 ∷ 10 ∷ [])))
+    ∙ is-block-crlf (front ++ byte ∷ 13 ∷ []) (some-2 front byte line)
 
 -- the front of an empty line, but for its LF
 abbrev short_end : LineEnd → List ℕ
@@ -145,11 +145,11 @@ shortest-behind text last quiet end = record {
       ∙ block-behind end.front end.byte end.end last end.line;
   shortest = λ n before.
       let whole : text ++ print_end last ≡ (text ++ short_end last) ++ 10 ∷ [] =
-          ap (λ (l : List ℕ). text ++ l) (end-is last) ∙ sym (append_assoc text (short_end last) (10 ∷ [])) in
+      ap (λ (l : List ℕ). text ++ l) (end-is last) ∙ sym (append_assoc text (short_end last) (10 ∷ [])) in
       let all : IsQuiet [] (text ++ short_end last) =
-          quiet-append [] text (short_end last) quiet (short-quiet text last (quiet-end [] text quiet)) in
+      quiet-append [] text (short_end last) quiet (short-quiet text last (quiet-end [] text quiet)) in
       ap (λ (l : List ℕ). is_block (take n l)) whole
       ∙ ap is_block (take-append-le n (text ++ short_end last) (10
-          ∷ []) (omega (arith, before, ap length whole, length-append (text ++ short_end last) (10 ∷ []))))
+      ∷ []) (omega (arith, before, ap length whole, length-append (text ++ short_end last) (10 ∷ []))))
       ∙ all n;
 }

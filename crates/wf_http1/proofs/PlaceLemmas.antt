@@ -10,8 +10,8 @@ use Rattle.wf_http1.specs.declared.place.Place.TheVariants.{Size, Blanks, Extens
 use Rattle.wf_http1.specs.declared.place.Place.TheVariants.{Trailer, TrailerEnd, LastEnd}
 use Rattle.wf_http1.specs.declared.place.Turn.{Turn}
 use Rattle.wf_http1.specs.declared.place.Turn.TheVariants.{To}
-use Rattle.wf_http1.specs.Places.{IsLive, turn, in_size, in_extension, behind_digits, behind_line, at_trailer}
-use Rattle.wf_http1.specs.Places.{line_feed}
+use Rattle.wf_http1.specs.Private.Places.{IsLive, turn, in_size, in_extension, behind_digits, behind_line, at_trailer}
+use Rattle.wf_http1.specs.Private.Places.{on_line_feed}
 
 pub digit-most : (byte : ℕ) → is_ascii_hexdigit byte ≡ true → digit_value byte ≤ 15
 digit-most byte digit = grind (arith, common_steps)
@@ -41,12 +41,18 @@ choice P true x y holds fails = holds refl
 choice P false x y holds fails = fails refl
 
 pub differs : (m n : ℕ) → (m == n) ≡ false → m ≢ n
-differs m n test = elim (eqb_tells m n) [ inl same ↦ absurd (grind (arith, nat_tests, test, same.0)) | inr other ↦
-    other.1 ]
+differs m n test = elim (eqb_tells m n) [
+  | inl same ↦ absurd (grind (arith, nat_tests, test, same.0))
+  | inr other ↦
+      other.1
+]
 
 pub exceeds : (m n : ℕ) → nat_le m n ≡ false → n < m
-exceeds m n test = elim (leb_tells m n) [ inl less ↦ absurd (grind (arith, nat_tests, test, less.0)) | inr more ↦
-    more.1 ]
+exceeds m n test = elim (leb_tells m n) [
+  | inl less ↦ absurd (grind (arith, nat_tests, test, less.0))
+  | inr more ↦
+      more.1
+]
 
 behind_digits-live : (size line byte : ℕ) → IsTurnLive (behind_digits size line byte)
 behind_digits-live size line byte =
@@ -54,13 +60,13 @@ behind_digits-live size line byte =
     choice IsTurnLive (nat_le 4094 line) _ _ (λ _. tt) (λ room.
     let within : line + 1 ≤ 4094 = omega (arith, exceeds 4094 line room) in
     choice IsTurnLive (byte == 9 || byte == 32) _ _ (λ _. within)
-        (λ _. choice IsTurnLive (byte == 59) _ _ (λ _. within) (λ _. tt))))
+    (λ _. choice IsTurnLive (byte == 59) _ _ (λ _. within) (λ _. tt))))
 
 in_size-live : (digits value byte : ℕ) → IsLive (Size digits value) → IsTurnLive (in_size digits value byte)
 in_size-live digits value byte live =
     choice IsTurnLive (is_ascii_hexdigit byte) _ _
     (λ digit. choice IsTurnLive (digits == 16) _ _ (λ _. tt)
-        (λ fewer. size-live digits value byte live.0 live.1 digit (differs digits 16 fewer)))
+    (λ fewer. size-live digits value byte live.0 live.1 digit (differs digits 16 fewer)))
     (λ _. choice IsTurnLive (digits == 0) _ _ (λ _. tt) (λ _. behind_digits-live value digits byte))
 
 in_extension-live : (size line byte : ℕ) → IsTurnLive (in_extension size line byte)
@@ -76,7 +82,7 @@ at_trailer-live byte bytes end live =
 behind_line-live : (size : ℕ) → IsLive (behind_line size)
 behind_line-live size = choice IsLive (size == 0) _ _ (λ _. omega arith) (λ _. tt)
 
-line_feed-live : (byte : ℕ) (to : Turn) → IsTurnLive to → IsTurnLive (line_feed byte to)
+line_feed-live : (byte : ℕ) (to : Turn) → IsTurnLive to → IsTurnLive (on_line_feed byte to)
 line_feed-live byte to live = choice IsTurnLive (byte == 10) _ _ (λ _. live) (λ _. tt)
 
 pub turn-live : (place : Place) (byte : ℕ) → IsLive place → IsTurnLive (turn place byte)

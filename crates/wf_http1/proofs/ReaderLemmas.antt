@@ -16,7 +16,7 @@ use Rattle.wf_types.specs.declared.hop.Head.{Head}
 use Rattle.wf_http1.specs.Answers.{Decides, HasBadBlock, IsDecidedAt, IsFinal, IsTooLong, IsUndecided, IsUnfinished}
 use Rattle.wf_http1.specs.Answers.{most_bytes}
 use Rattle.wf_http1.specs.Blocks.{is_block, is_line_byte, IsShortestBlock}
-use Rattle.wf_http1.specs.HeadReading.{IsJudged, IsLine, IsReading}
+use Rattle.wf_http1.specs.Private.HeadReading.{IsJudged, IsLine, IsReading}
 use Rattle.wf_http1.specs.declared.head.HeadReader.TheInside.{Inside}
 use Rattle.wf_http1.specs.declared.block.Judged.{Judged}
 use Rattle.wf_http1.specs.declared.block.Judged.TheVariants.{Final, NoHead, Skipped}
@@ -86,7 +86,7 @@ no_end-quiet before [] none free = quiet-nil before none
 no_end-quiet before (byte ∷ text) none free =
     let both = or-false (byte == 10) (list_any (λ (byte : ℕ). byte == 10) text) free in
     quiet-cons before byte text none
-        (no_end-quiet (before ++ byte ∷ []) text (no-block-push before byte (eqb-false byte 10 both.0)) both.1)
+    (no_end-quiet (before ++ byte ∷ []) text (no-block-push before byte (eqb-false byte 10 both.0)) both.1)
 
 front-quiet : (block line : List ℕ) → IsQuiet [] block → (is : IsLine line) → IsQuiet [] (block ++ is.front)
 front-quiet block line quiet is =
@@ -103,7 +103,7 @@ line-open block line quiet is none =
     subst (λ (l : List ℕ). IsQuiet [] l) (sym parts)
     (quiet-append [] (block ++ is.front) (is.last ∷ []) front
     (quiet-cons (block ++ is.front) is.last [] (quiet-end [] (block ++ is.front) front)
-        (quiet-nil ((block ++ is.front) ++ is.last ∷ []) (ap is_block (sym parts) ∙ none))))
+    (quiet-nil ((block ++ is.front) ++ is.last ∷ []) (ap is_block (sym parts) ∙ none))))
 
 pub line-shortest : (block line : List ℕ) → IsQuiet [] block → IsLine line → is_block (block ++ line) ≡ true
     → IsShortestBlock (block ++ line)
@@ -113,7 +113,7 @@ line-shortest block line quiet is whole = record {
       let parts = line-parts block line is in
       ap (λ (l : List ℕ). is_block (take n l)) parts
       ∙ ap is_block (take-append-le n (block ++ is.front) (is.last
-          ∷ []) (omega (arith, before, ap length parts, length-append (block ++ is.front) (is.last ∷ []))))
+      ∷ []) (omega (arith, before, ap length parts, length-append (block ++ is.front) (is.last ∷ []))))
       ∙ front-quiet block line quiet is n;
 }
 
@@ -123,8 +123,11 @@ block-lf : (text : List ℕ) → is_block text ≡ true → (front : List ℕ) �
 block-lf text block = by_cases (block-ends text block).1
   where
     last : (rest : List ℕ) → reverse text ≡ 10 ∷ rest → (front : List ℕ) × (text ≡ front ++ 10 ∷ [])
-    last rest same = (reverse rest, sym (reverse-reverse text) ∙ ap (λ (l : List ℕ). reverse l) same
-        ∙ reverse-append (10 ∷ []) rest)
+    last rest same = (
+      reverse rest,
+      sym (reverse-reverse text) ∙ ap (λ (l : List ℕ). reverse l) same
+          ∙ reverse-append (10 ∷ []) rest,
+    )
 
     by_cases : {rest : List ℕ} → (reverse text ≡ 10 ∷ 10 ∷ rest) ⊎ (reverse text ≡ 10 ∷ 13 ∷ 10 ∷ rest)
         → (front : List ℕ) × (text ≡ front ++ 10 ∷ [])
@@ -151,9 +154,9 @@ undecided-push bytes byte none other n decides = by_order (cases_lt (length byte
     by_order (inr le) = none n (subst Decides (take-append-le n bytes (byte ∷ []) le) decides)
     by_order (inl less) =
         let it = decides-lf (bytes ++ byte
-            ∷ [])
-            (subst Decides (take_all n (bytes ++ byte ∷ []) (omega (arith, less, length-append bytes (byte ∷ []))))
-            decides) in
+        ∷ [])
+        (subst Decides (take_all n (bytes ++ byte ∷ []) (omega (arith, less, length-append bytes (byte ∷ []))))
+        decides) in
         eqb-false byte 10 other (same_from_push bytes it.0 byte 10 it.1).1
 
 -- bytes other than LF decide nothing
@@ -163,7 +166,7 @@ undecided-more bytes [] none free = subst IsUndecided (sym (append-nil bytes)) n
 undecided-more bytes (byte ∷ text) none free =
     let both = or-false (byte == 10) (list_any (λ (byte : ℕ). byte == 10) text) free in
     subst IsUndecided (append_assoc bytes (byte ∷ []) text)
-        (undecided-more (bytes ++ byte ∷ []) text (undecided-push bytes byte none both.0) both.1)
+    (undecided-more (bytes ++ byte ∷ []) text (undecided-push bytes byte none both.0) both.1)
 
 -- ---- what the reader keeps
 
@@ -213,8 +216,13 @@ module _ {reader : Inside} {bytes line new : List ℕ} (added : IsAdded reader b
   added-seen = omega (arith, added.reading.seen_is, ap length added.new_is, length-append reader.block line)
 
   pub added-few : reader.seen_bytes + length line ≤ most_bytes
-  added-few = omega (arith, added.reading.seen_is, added.few, ap length added.whole,
-      length-append reader.past.bytes reader.block)
+  added-few = omega (
+    arith,
+    added.reading.seen_is,
+    added.few,
+    ap length added.whole,
+    length-append reader.past.bytes reader.block,
+  )
 
   pub added-line : (has : Bool) → has ≡ (reader.has_line_byte || list_any is_line_byte line) → has
       ≡ list_any is_line_byte new
@@ -260,9 +268,9 @@ module _ {reader : Inside} {bytes line new : List ℕ} (added : IsAdded reader b
   pub added-gone : IsJudged new Skipped → IsUnfinished (bytes ++ line)
   added-gone judged =
       reading-unfinished (reader.past.bytes ++ new) [] (bytes ++ line) (reader.seen_bytes + length line)
-          (added-past judged) (quiet-nil [] refl)
+      (added-past judged) (quiet-nil [] refl)
       (omega (arith, added-seen, length-append reader.past.bytes new)) added-few
-          (append-nil (reader.past.bytes ++ new) ∙ added-whole)
+      (append-nil (reader.past.bytes ++ new) ∙ added-whole)
 
 -- ---- what a line decides
 
@@ -279,7 +287,7 @@ decided-line bytes line rest none is few decides = record {
       subst (λ (l : List ℕ). ¬ (Decides l))
       (sym (take-append-le n (bytes ++ line) rest (omega (arith, before)) ∙ ap (λ (l : List ℕ). take n l) parts
       ∙ take-append-le n (bytes ++ is.front) (is.last
-          ∷ []) (omega (arith, before, ap length parts, length-append (bytes ++ is.front) (is.last ∷ [])))))
+      ∷ []) (omega (arith, before, ap length parts, length-append (bytes ++ is.front) (is.last ∷ [])))))
       (undecided-more bytes is.front none is.no_end n);
 }
 
@@ -297,20 +305,20 @@ pub long-line : (bytes line rest : List ℕ) (room : ℕ) → IsUndecided bytes 
 long-line bytes line rest room none is full less =
     let parts = line-parts bytes line is in
     let long : length (bytes ++ line) ≡ length (bytes ++ is.front) + 1 = ap length parts
-        ∙ length-append (bytes ++ is.front) (is.last ∷ []) in
+    ∙ length-append (bytes ++ is.front) (is.last ∷ []) in
     let within : room ≤ length is.front =
-        omega (arith, long, less, length-append bytes line, length-append bytes is.front) in
+    omega (arith, long, less, length-append bytes line, length-append bytes is.front) in
     let front : (bytes ++ take room is.front) ++ (drop room is.front ++ (is.last ∷ rest)) ≡ (bytes ++ line) ++ rest =
     append_assoc bytes (take room is.front) (drop room is.front ++ (is.last ∷ rest))
     ∙ ap (λ (l : List ℕ). bytes ++ l) (sym (append_assoc (take room is.front) (drop room is.front) (is.last ∷ rest))
-        ∙ ap (λ (l : List ℕ). l ++ (is.last ∷ rest)) (take-append-drop room is.front))
+    ∙ ap (λ (l : List ℕ). l ++ (is.last ∷ rest)) (take-append-drop room is.front))
     ∙ sym (append_assoc bytes is.front (is.last ∷ rest)) ∙ sym (append_assoc (bytes ++ is.front) (is.last ∷ []) rest)
-        ∙ ap (λ (l : List ℕ). l ++ rest) (sym parts) in
+    ∙ ap (λ (l : List ℕ). l ++ rest) (sym parts) in
     let most : take most_bytes ((bytes ++ line) ++ rest) ≡ bytes ++ take room is.front =
     ap (λ (l : List ℕ). take most_bytes l) (sym front)
-        ∙ take_at (bytes ++ take room is.front) (drop room is.front
-        ++ (is.last ∷ rest)) most_bytes
-        (omega (arith, full, within, length-append bytes (take room is.front), length-take room is.front)) in
+    ∙ take_at (bytes ++ take room is.front) (drop room is.front
+    ++ (is.last ∷ rest)) most_bytes
+    (omega (arith, full, within, length-append bytes (take room is.front), length-take room is.front)) in
     record {
       long = omega (arith, full, less, length-append (bytes ++ line) rest, length-append bytes line);
       undecided = subst IsUndecided (sym most)
@@ -330,8 +338,13 @@ module _ (bytes piece reader rest line behind : List ℕ) (whole : bytes ++ piec
       subst IsTooLong (sym fed-whole) (long-line reader line behind room none is full less)
 
   fed-end : length behind ≤ length piece → length (reader ++ line) ≡ length bytes + (length piece - length behind)
-  fed-end within = omega (arith, within, ap length fed-whole, length-append bytes piece,
-      length-append (reader ++ line) behind)
+  fed-end within = omega (
+    arith,
+    within,
+    ap length fed-whole,
+    length-append bytes piece,
+    length-append (reader ++ line) behind,
+  )
 
   fed-decided : (room : ℕ) → IsUndecided reader → IsLine line → room + length reader ≡ most_bytes → length line ≤ room
       → length behind ≤ length piece → Decides (reader ++ line)
@@ -339,7 +352,7 @@ module _ (bytes piece reader rest line behind : List ℕ) (whole : bytes ++ piec
   fed-decided room none is full few within decides =
       subst (λ (n : ℕ). IsDecidedAt (bytes ++ piece) n) (fed-end within)
       (subst (λ (l : List ℕ). IsDecidedAt l (length (reader ++ line))) (sym fed-whole)
-          (decided-line reader line behind none is (omega (arith, full, few)) decides))
+      (decided-line reader line behind none is (omega (arith, full, few)) decides))
 
   fed-front : length behind ≤ length piece → take (length bytes + (length piece - length behind)) (bytes ++ piece)
       ≡ reader ++ line

@@ -29,25 +29,35 @@ meet : (hs gs : List ResponseHead) (p q : List ℕ) → AllByRecursion IsSkipped
     → flat_map print_response hs ++ p ≡ flat_map print_response gs ++ q → (p ≡ q) ⊎ (BeginsSkipped p ⊎ BeginsSkipped q)
 meet [] [] p q each other same = inl same
 meet [] (g ∷ gs) p q each other same =
-    inr (inl (g, flat_map print_response gs ++ q, other.0, same
-    ∙ append_assoc (print_response g) (flat_map print_response gs) q))
+    inr (inl (
+      g,
+      flat_map print_response gs ++ q,
+      other.0,
+      same
+          ∙ append_assoc (print_response g) (flat_map print_response gs) q,
+    ))
 meet (h ∷ hs) [] p q each other same =
-    inr (inr (h, flat_map print_response hs ++ p, each.0, sym same
-    ∙ append_assoc (print_response h) (flat_map print_response hs) p))
+    inr (inr (
+      h,
+      flat_map print_response hs ++ p,
+      each.0,
+      sym same
+          ∙ append_assoc (print_response h) (flat_map print_response hs) p,
+    ))
 meet (h ∷ hs) (g ∷ gs) p q each other same =
     let behind : List ℕ = flat_map print_response hs ++ p in
     let later : List ℕ = flat_map print_response gs ++ q in
     let both : print_response h ++ behind ≡ print_response g ++ later =
-        sym (append_assoc (print_response h) (flat_map print_response hs) p) ∙ same
-        ∙ append_assoc (print_response g) (flat_map print_response gs) q in
+    sym (append_assoc (print_response h) (flat_map print_response hs) p) ∙ same
+    ∙ append_assoc (print_response g) (flat_map print_response gs) q in
     let one : h ≡ g = head-one h g behind later each.0.head.head other.0.head.head both in
     meet hs gs p q each.1 other.1 (append_cancel_left (print_response h) behind later (both
-        ∙ ap (λ (k : ResponseHead). print_response k ++ later) (sym one)))
+    ∙ ap (λ (k : ResponseHead). print_response k ++ later) (sym one)))
 
 pub skips-meet : (bytes p q : List ℕ) → Skips bytes p → Skips bytes q → (p ≡ q) ⊎ (BeginsSkipped p ⊎ BeginsSkipped q)
 skips-meet bytes p q one other =
     meet one.heads other.heads p q (recursion_from_All IsSkippedHead one.heads one.each)
-        (recursion_from_All IsSkippedHead other.heads other.each) (sym one.whole ∙ other.whole)
+    (recursion_from_All IsSkippedHead other.heads other.each) (sym one.whole ∙ other.whole)
 
 -- ---- a head at the front
 
@@ -71,7 +81,7 @@ begins-whole block rest shortest begins =
 block-front : (part text more : List ℕ) → IsQuiet [] part → part ≡ text ++ more → is_block text ≡ true → ⊥
 block-front part text more quiet same block =
     true≢false (sym block ∙ ap is_block (sym (take_at text more (length text) refl)
-        ∙ ap (λ (l : List ℕ). take (length text) l) (sym same)) ∙ quiet (length text))
+    ∙ ap (λ (l : List ℕ). take (length text) l) (sym same)) ∙ quiet (length text))
 
 begins-block : (part : List ℕ) → IsQuiet [] part → BeginsSkipped part → ⊥
 begins-block part quiet begins =
@@ -118,7 +128,7 @@ none-begins : (block : List ℕ) → IsShortestBlock block → IsNoHeadAtAll blo
 none-begins block shortest none begins =
     none begins.0 begins.2.head
     (shortest-one block (print_response begins.0) [] begins.1 shortest (head-shortest begins.0 begins.2.head.head)
-        (append-nil block ∙ begins.3))
+    (append-nil block ∙ begins.3))
 
 pub block-ends-there : (bytes block : List ℕ) → Skips bytes block → IsShortestBlock block → IsNoHeadAtAll block
     → EndsBlock bytes
@@ -152,8 +162,8 @@ final-one bytes a b one other =
         ⊎ (BeginsSkipped (print_response one.printed) ⊎ BeginsSkipped (print_response other.printed)) → a ≡ b
     by_meeting (inl same) =
         one.head_is
-            ∙ ap head_of (head-one one.printed other.printed [] [] one.valid.head other.valid.head
-            (ap (λ (l : List ℕ). l ++ []) same)) ∙ sym other.head_is
+        ∙ ap head_of (head-one one.printed other.printed [] [] one.valid.head other.valid.head
+        (ap (λ (l : List ℕ). l ++ []) same)) ∙ sym other.head_is
     by_meeting (inr (inl begins)) =
         absurd (final-not-skipped one.printed [] one.valid one.final
         (subst BeginsSkipped (sym (append-nil (print_response one.printed))) begins))

@@ -8,9 +8,9 @@ use Rattle.std.proofs.Math.Seq.{take-length}
 use Rattle.wf_types.specs.declared.response.BodyEnd.{BodyEnd}
 use Rattle.wf_types.specs.declared.response.BodyEnd.TheVariants.{TooBig}
 use Rattle.wf_http1.specs.Bodies.{ended}
-use Rattle.wf_http1.specs.BodyPlaces.{IsOn}
+use Rattle.wf_http1.specs.Private.BodyPlaces.{IsOn}
 use Rattle.wf_http1.specs.Chunks.{Decoded, onto}
-use Rattle.wf_http1.specs.Places.{decoded_at, behind_turn, data_left, turn}
+use Rattle.wf_http1.specs.Private.Places.{decoded_at, behind_turn, data_left, turn}
 use Rattle.wf_http1.specs.declared.framing.Framing.TheVariants.{Chunked}
 use Rattle.wf_http1.specs.declared.place.Place.{Place}
 use Rattle.wf_http1.specs.declared.place.Place.TheVariants.{Size, Blanks, Extension, LineEnd, Data, DataEnd, Trailers}
@@ -32,18 +32,18 @@ ended-beyond limit complete held more beyond =
     ]
 
 -- what is decoded behind what is held
-abbrev chunks_end : ℕ → List ℕ → Decoded → BodyEnd
+abbrev pub chunks_end : ℕ → List ℕ → Decoded → BodyEnd
 chunks_end limit held decoded = ended limit decoded.complete (held ++ decoded.data_is)
 
 -- ---- a byte that is no data
 
-turned : (place : Place) (byte : ℕ) (bytes : List ℕ) (to : Turn) → data_left place ≡ 0 → turn place byte ≡ to
+pub turned : (place : Place) (byte : ℕ) (bytes : List ℕ) (to : Turn) → data_left place ≡ 0 → turn place byte ≡ to
     → decoded_at place (byte ∷ bytes) ≡ behind_turn (λ next. decoded_at next bytes) to
 turned place byte bytes to none same =
     let test : (data_left place == 0) ≡ true =
-        elim (eqb_tells (data_left place) 0) [ inl h ↦ h.0 | inr other ↦ absurd (other.1 none) ] in
+    elim (eqb_tells (data_left place) 0) [ inl h ↦ h.0 | inr other ↦ absurd (other.1 none) ] in
     ap (λ b. if b then behind_turn (λ next. decoded_at next bytes) (turn place byte)
-        else onto (byte ∷ []) (decoded_at (Data (data_left place - 1)) bytes)) test
+    else onto (byte ∷ []) (decoded_at (Data (data_left place - 1)) bytes)) test
     ∙ ap (behind_turn (λ next. decoded_at next bytes)) same
 
 pub goes : (limit byte : ℕ) (after : List ℕ → BodyEnd) (held rest : List ℕ) (room : ℕ) (place next : Place)
@@ -59,7 +59,7 @@ goes limit byte after held rest room place next on none same = record {
 -- ---- data
 
 -- where data are left the place says no more than how many
-is-data : (place : Place) → 0 < data_left place → place ≡ Data (data_left place)
+pub is-data : (place : Place) → 0 < data_left place → place ≡ Data (data_left place)
 is-data (Data left) some = refl
 is-data (Size digits value) some = absurd (omega (arith, some))
 is-data (Blanks size line) some = absurd (omega (arith, some))
@@ -86,25 +86,25 @@ front-decoded : (limit count : ℕ) (after : List ℕ → BodyEnd) (held rest : 
     → IsOn Chunked limit after held room place rest
     → 0 < data_left place → count ≤ data_left place → count ≤ length rest → (more : List ℕ)
     → after more ≡ chunks_end limit (held
-        ++ take count rest) (decoded_at (Data (data_left place - count)) (drop count rest ++ more))
+    ++ take count rest) (decoded_at (Data (data_left place - count)) (drop count rest ++ more))
 front-decoded limit count after held rest room place on some within short more =
     let bytes : List ℕ = take count rest in
     let behind : List ℕ = drop count rest ++ more in
     let many : length bytes ≡ count = length-take-le count rest short in
     let whole : rest ++ more ≡ bytes ++ behind = ap (λ l. l ++ more) (sym (take-append-drop count rest))
-        ∙ append_assoc bytes (drop count rest) more in
+    ∙ append_assoc bytes (drop count rest) more in
     let d : Decoded = decoded_at (Data (data_left place - count)) behind in
     on.meaning more
     ∙ ap (chunks_end limit held) (ap (λ p. decoded_at p (rest ++ more)) (is-data place some)
-        ∙ ap (decoded_at (Data (data_left place))) whole
+    ∙ ap (decoded_at (Data (data_left place))) whole
     ∙ data-bytes bytes behind (data_left place) (omega (arith, many, within))
-        ∙ ap (λ n. onto bytes (decoded_at (Data (data_left place - n)) behind)) many)
+    ∙ ap (λ n. onto bytes (decoded_at (Data (data_left place - n)) behind)) many)
     ∙ ap (ended limit d.complete) (sym (append_assoc held bytes d.data_is))
 
 pub goes-data : (limit count : ℕ) (after : List ℕ → BodyEnd) (held rest : List ℕ) (room room' : ℕ) (place : Place)
     → IsOn Chunked limit after held room place rest
     → 0 < data_left place → count ≤ data_left place → count ≤ length rest → length (held ++ take count rest) ≤ limit
-        → limit ≤ room'
+    → limit ≤ room'
     → IsOn Chunked limit after (held ++ take count rest) room' (Data (data_left place - count)) (drop count rest)
 goes-data limit count after held rest room room' place on some within short fits reserved = record {
   meaning = λ more. front-decoded limit count after held rest room place on some within short more;
@@ -116,11 +116,11 @@ goes-data limit count after held rest room room' place on some within short fits
 pub exceeds-data : (limit count : ℕ) (after : List ℕ → BodyEnd) (held rest : List ℕ) (room : ℕ) (place : Place)
     → IsOn Chunked limit after held room place rest
     → 0 < data_left place → count ≤ data_left place → count ≤ length rest → limit < length (held ++ take count rest)
-        → (more : List ℕ) → after more ≡ TooBig
+    → (more : List ℕ) → after more ≡ TooBig
 exceeds-data limit count after held rest room place on some within short beyond more =
     let d : Decoded = decoded_at (Data (data_left place - count)) (drop count rest ++ more) in
     front-decoded limit count after held rest room place on some within short more
-        ∙ ended-beyond limit d.complete (held ++ take count rest) d.data_is beyond
+    ∙ ended-beyond limit d.complete (held ++ take count rest) d.data_is beyond
 
 -- ---- the same in the code's words
 
@@ -134,10 +134,10 @@ front-and-behind (byte ∷ rest) some =
 pub goes-front : (limit : ℕ) (after : List ℕ → BodyEnd) (held rest : List ℕ) (room : ℕ) (place next : Place)
     → IsOn Chunked limit after held room place rest
     → 1 ≤ length rest → data_left place ≡ 0 → turn place (get_or rest 0 0) ≡ To next
-        → IsOn Chunked limit after held room next (take (length rest - 1) (drop 1 rest))
+    → IsOn Chunked limit after held room next (take (length rest - 1) (drop 1 rest))
 goes-front limit after held rest room place next on some none same =
     goes limit (get_or rest 0 0) after held (take (length rest - 1) (drop 1 rest)) room place next
-        (subst (λ (l : List ℕ). IsOn Chunked limit after held room place l) (front-and-behind rest some) on) none same
+    (subst (λ (l : List ℕ). IsOn Chunked limit after held room place l) (front-and-behind rest some) on) none same
 
 -- a test of the room tells the length
 taken-length : (limit : ℕ) (held bytes front : List ℕ) → nat_le (length held + length bytes) limit ≡ true → bytes
@@ -156,27 +156,27 @@ over-length limit held bytes front test same =
 pub data-exceeds : (limit count left : ℕ) (after : List ℕ → BodyEnd) (held rest bytes : List ℕ) (room : ℕ)
     (place : Place) (fits : Bool) → IsOn Chunked limit after held room place rest
     → left ≡ data_left place → 0 < left → count ≡ min left (length rest) → bytes ≡ take count rest → fits
-        ≡ nat_le (length held + length bytes) limit → fits ≡ false
+    ≡ nat_le (length held + length bytes) limit → fits ≡ false
     → (more : List ℕ) → after more ≡ TooBig
 data-exceeds limit count left after held rest bytes room place fits on left_is some count_is bytes_are fits_is none =
     exceeds-data limit count after held rest room place on (omega (arith, left_is, some))
-        (omega (arith, left_is, count_is)) (omega (arith, count_is))
+    (omega (arith, left_is, count_is)) (omega (arith, count_is))
     (over-length limit held bytes (take count rest) (sym fits_is ∙ none) bytes_are)
 
 pub data-goes : (limit count left : ℕ) (after : List ℕ → BodyEnd) (held rest held' bytes behind : List ℕ)
     (room room' : ℕ) (place : Place) (fits : Bool) → IsOn Chunked limit after held room place rest
     → left ≡ data_left place → 0 < left → count ≡ min left (length rest) → bytes ≡ take count rest → behind
-        ≡ drop count rest → fits ≡ nat_le (length held + length bytes) limit → fits ≡ true
+    ≡ drop count rest → fits ≡ nat_le (length held + length bytes) limit → fits ≡ true
     → held' ≡ (if fits then held ++ bytes else held) → limit ≤ room'
-        → IsOn Chunked limit after held' room' (Data (left - length bytes)) behind
+    → IsOn Chunked limit after held' room' (Data (left - length bytes)) behind
 data-goes limit count left after held rest held' bytes behind room room' place fits on left_is some count_is bytes_are
     behind_is fits_is yes_fits held_is reserved =
     let short : count ≤ length rest = omega (arith, count_is) in
     let now_held : held' ≡ held ++ take count rest = held_is ∙ ap (λ b. if b then held ++ bytes else held) yes_fits
-        ∙ ap (λ l. held ++ l) bytes_are in
+    ∙ ap (λ l. held ++ l) bytes_are in
     let now_left : left - length bytes ≡ data_left place - count = ap (λ l. left - length l) bytes_are
-        ∙ ap (λ n. left - n) (length-take-le count rest short) ∙ ap (λ n. n - count) left_is in
+    ∙ ap (λ n. left - n) (length-take-le count rest short) ∙ ap (λ n. n - count) left_is in
     rw (now_held, now_left, behind_is)
     (goes-data limit count after held rest room room' place on (omega (arith, left_is, some))
-        (omega (arith, left_is, count_is)) short
-        (taken-length limit held bytes (take count rest) (sym fits_is ∙ yes_fits) bytes_are) reserved)
+    (omega (arith, left_is, count_is)) short
+    (taken-length limit held bytes (take count rest) (sym fits_is ∙ yes_fits) bytes_are) reserved)

@@ -17,7 +17,7 @@ use Rattle.wf_headers.specs.Headers.{appended}
 use Rattle.wf_headers.specs.declared.headers.Header.{Header}
 use Rattle.wf_text.specs.Trims.{http_whitespace, trimmed, trimmed_start}
 use Rattle.wf_http1.specs.Blocks.{is_line_byte}
-use Rattle.wf_http1.specs.HeadReading.{HasRoom, with_pairs}
+use Rattle.wf_http1.specs.Private.HeadReading.{HasRoom, with_pairs}
 use Rattle.wf_http1.specs.Heads.{IsHead, most_lines, with_lines}
 use Rattle.wf_http1.proofs.LineLemmas.{IsLineText}
 use Rattle.wf_http1.proofs.HeadLemmas.{line_text-all, line_text-append}
@@ -66,7 +66,7 @@ unfolding trim_ows
 trim-is text each =
     ap (λ (l : List ℕ). reverse (trimmed_start http_whitespace (reverse l))) (start-is text each)
     ∙ ap (λ (l : List ℕ). reverse l)
-        (start-is (reverse (skip_ows text)) (line_text-reverse (skip_ows text) (line_text-skip text each)))
+    (start-is (reverse (skip_ows text)) (line_text-reverse (skip_ows text) (line_text-skip text each)))
 
 -- ---- the header list
 
@@ -75,7 +75,7 @@ lines-are : (headers : List Header) (fields : List Field) → AllByRecursion IsF
 lines-are headers [] each = refl
 lines-are headers (field ∷ fields) each =
     ap (λ (value : List ℕ). with_pairs (appended field.name value headers) (map name_and_value fields))
-        (sym (trim-is field.raw (line_text-all is_value_byte refl refl field.raw each.0.raw)))
+    (sym (trim-is field.raw (line_text-all is_value_byte refl refl field.raw each.0.raw)))
     ∙ lines-are (appended field.name (trimmed http_whitespace field.raw) headers) fields each.1
 
 -- the header lines that the spans cover are those of the head
@@ -84,22 +84,28 @@ pub spans-lines : (block : List ℕ) (headers : List HeaderSpan) (spans : Respon
     ≡ with_lines [] head.fields
 spans-lines block headers spans head at =
     ap (λ (pairs : List (List ℕ × List ℕ)). with_pairs [] pairs) at.fields
-        ∙ lines-are [] head.fields (recursion_from_All IsField head.fields at.reads.0.fields)
+    ∙ lines-are [] head.fields (recursion_from_All IsField head.fields at.reads.0.fields)
 
 -- a head that is as long as the block is the block
 pub spans-block : (block : List ℕ) (headers : List HeaderSpan) (spans : ResponseSpans) (head : ResponseHead)
     → IsResponseAt block headers spans head → spans.len ≡ length block → block ≡ print_response head
 spans-block block headers spans head at long =
     at.reads.1 ∙ ap (λ (l : List ℕ). print_response head ++ l) (drop_all spans.len block (omega (arith, long)))
-        ∙ append-nil (print_response head)
+    ∙ append-nil (print_response head)
 
 -- and it has no more lines than there is room
 pub spans-few : (block : List ℕ) (headers : List HeaderSpan) (spans : ResponseSpans) (head : ResponseHead)
     → IsResponseAt block headers spans head → length headers ≤ most_lines → IsHead head
 spans-few block headers spans head at room = record {
   head = at.reads.0;
-  few = omega (arith, room, ap length at.fields, length-map (take spans.headers headers) (header_bytes block),
-      length-map head.fields name_and_value, length-take spans.headers headers);
+  few = omega (
+    arith,
+    room,
+    ap length at.fields,
+    length-map (take spans.headers headers) (header_bytes block),
+    length-map head.fields name_and_value,
+    length-take spans.headers headers,
+  );
 }
 
 -- a head that is the whole block is found

@@ -2,14 +2,17 @@
 -- at the end of its block is this project's profile.
 use Rattle.std.specs.Prelude.{◌≡◌, ℕ, ◌<◌, Bool, true, false, not, ◌||◌, ◌&&◌, ◌==◌, nat_eq, List, take, length, codes}
 use Rattle.std.specs.List.{list_any, ends_with}
+use Rattle.wf_text.specs.Ascii.{carriage_return, line_feed}
 
 -- a byte of a line: neither CR nor LF
 abbrev pub is_line_byte : ℕ → Bool
-is_line_byte byte = not (byte == 13 || byte == 10)
+is_line_byte byte = not (byte == carriage_return || byte == line_feed)
 
 -- the bytes hold more than line ends, and end in an empty line
 abbrev pub is_block : List ℕ → Bool
-is_block bytes = list_any is_line_byte bytes && (ends_with nat_eq bytes (codes "\n\n") || ends_with nat_eq bytes (codes "\n\r\n"))
+is_block bytes =
+    list_any is_line_byte bytes
+    && (ends_with nat_eq bytes (codes "\n\n") || ends_with nat_eq bytes (codes "\n\r\n"))
 
 -- a block, none of whose beginnings is one
 pub record IsShortestBlock (bytes : List ℕ) : Type 0 where

@@ -1,20 +1,23 @@
 -- The chunked transfer coding (RFC 9112, section 7.1), with limits on its lines.
-use Rattle.std.specs.Prelude.{ℕ, ◌+◌, Bool, true, false, ◌||◌, ◌&&◌, ◌==◌, zero, suc, nat_le, List, [], ◌∷◌, ◌++◌, take, drop, length, Option, Some, None, option_map, option_and_then, take_while, if◌then◌else◌}
+use Rattle.std.specs.Prelude.{ℕ, ◌+◌, Bool, true, false, ◌||◌, ◌&&◌, ◌==◌, zero, suc, nat_le, List, [], ◌∷◌, ◌++◌}
+use Rattle.std.specs.Prelude.{take, drop, length, Option, Some, None, option_map, option_and_then, take_while}
+use Rattle.std.specs.Prelude.{if◌then◌else◌}
 use Rattle.std.specs.List.{before_first}
 use Rattle.std.specs.Char.{is_ascii_hexdigit}
 use Rattle.std.specs.Str.Parse.{digits_value}
+use Rattle.wf_text.specs.Ascii.{carriage_return, line_feed, semicolon}
 use Rattle.wf_text.specs.Trims.{tab_or_space, trimmed_start}
 
 -- ---- lines
 
 -- what follows a CRLF; nothing where there is no CRLF at the front
 abbrev pub behind_crlf : List ℕ → Option (List ℕ)
-behind_crlf (cr ∷ lf ∷ rest) = if cr == 13 && lf == 10 then Some rest else None
+behind_crlf (cr ∷ lf ∷ rest) = if cr == carriage_return && lf == line_feed then Some rest else None
 behind_crlf _ = None
 
 -- the bytes up to the first CR or LF
 abbrev pub line_of : List ℕ → List ℕ
-line_of bytes = before_first (λ byte. byte == 13 || byte == 10) bytes
+line_of bytes = before_first (λ byte. byte == carriage_return || byte == line_feed) bytes
 
 -- the line at the front, and what follows its CRLF; nothing where no CRLF ends it
 abbrev pub cut_line : List ℕ → Option (List ℕ × List ℕ)
@@ -33,7 +36,7 @@ size_digits line = take_while is_ascii_hexdigit line
 -- what follows the digits and the blanks behind them is nothing or a semicolon and what the chunk extends by
 abbrev pub is_extension : List ℕ → Bool
 is_extension [] = true
-is_extension (byte ∷ rest) = byte == 59
+is_extension (byte ∷ rest) = byte == semicolon
 
 -- one to sixteen digits, blanks, and an extension
 abbrev pub is_size_line : List ℕ → Bool

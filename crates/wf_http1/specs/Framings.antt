@@ -1,5 +1,6 @@
 -- How the body of an answer is framed (RFC 9112, section 6.3; codings other than chunked are refused).
-use Rattle.std.specs.Prelude.{ℕ, ◌^◌, ◌-◌, Bool, ◌&&◌, ◌||◌, ◌==◌, min, List, [], ◌∷◌, codes, Option, Some, None, if◌then◌else◌}
+use Rattle.std.specs.Prelude.{ℕ, ◌^◌, ◌-◌, Bool, ◌&&◌, ◌||◌, ◌==◌, min, List, [], ◌∷◌, codes, Option, Some, None}
+use Rattle.std.specs.Prelude.{if◌then◌else◌}
 use Rattle.std.specs.List.{list_all}
 use Rattle.std.specs.Str.{str_eq_ignore_ascii_case}
 use Rattle.std.specs.Str.Parse.{digits_value}
@@ -24,8 +25,8 @@ writes number text = is_digits text && digits_value 10 text == number
 abbrev pub by_lengths : List (List ℕ) → Framing
 by_lengths [] = framing.Broken
 by_lengths (text ∷ texts) =
-    if list_all (writes (digits_value 10 text)) (text ∷ texts) then framing.Length (min (digits_value 10 text) (2 ^ 64 - 1))
-    else framing.Broken
+    if list_all (writes (digits_value 10 text)) (text ∷ texts)
+    then framing.Length (min (digits_value 10 text) (2 ^ 64 - 1)) else framing.Broken
 
 -- by the values of Content-Length, and to the end where there are none
 abbrev pub by_length : Option (List (List ℕ)) → Framing
@@ -38,7 +39,9 @@ of_content_length headers = by_length (split_values (codes "Content-Length") hea
 
 -- by the value of Transfer-Encoding: chunked alone is taken
 abbrev pub of_coding : List ℕ → Framing
-of_coding coding = if str_eq_ignore_ascii_case (trimmed tab_or_space coding) (codes "chunked") then framing.Chunked else framing.Broken
+of_coding coding =
+    if str_eq_ignore_ascii_case (trimmed tab_or_space coding) (codes "chunked") then framing.Chunked
+    else framing.Broken
 
 -- by Transfer-Encoding where it is there, and else by Content-Length
 abbrev pub by_coding : Option (List ℕ) → List Header → Framing

@@ -11,7 +11,8 @@ HeadsAreBlocks = (head : ResponseHead) → IsResponseHead head → IsShortestBlo
 
 -- the bytes have one final head at most, and one place where it ends
 abbrev pub HasOneHead : Type 0
-HasOneHead = (bytes : List ℕ) (a b : Head) (n m : ℕ) → IsFinal bytes a n → IsFinal bytes b m → (a ≡ b) × (n ≡ m)
+HasOneHead =
+    (bytes : List ℕ) (a b : Head) (n m : ℕ) → IsFinal bytes a n → IsFinal bytes b m → (a ≡ b) × (n ≡ m)
 
 -- what the head of an answer of these bytes comes to is one thing
 abbrev pub HasOneEnd : Type 0

@@ -44,7 +44,8 @@ pub record Skips (bytes rest : List ℕ) : Type 0 where
 
 -- the bytes begin with a skipped head
 abbrev pub BeginsSkipped : List ℕ → Type 0
-BeginsSkipped bytes = (head : ResponseHead) × (rest : List ℕ) × IsSkippedHead head × (bytes ≡ print_response head ++ rest)
+BeginsSkipped bytes =
+    (head : ResponseHead) × (rest : List ℕ) × IsSkippedHead head × (bytes ≡ print_response head ++ rest)
 
 -- a final head ends where the bytes end: it stands behind skipped ones
 pub record EndsFinal (bytes : List ℕ) (head : Head) : Type 0 where

@@ -3,7 +3,7 @@ ghost use Rattle.std.specs.List.{list_any};
 ghost use Rattle.httparse.specs.Spans.{header_bytes, IsHeaderWithin};
 ghost use Rattle.wf_http1.specs.Blocks as spec;
 ghost use Rattle.wf_http1.specs.Heads as heads;
-ghost use Rattle.wf_http1.specs.HeadReading.{HasRoom, IsJudged, line_ends as spec_line_ends, with_pairs};
+ghost use Rattle.wf_http1.specs.Private.HeadReading.{HasRoom, IsJudged, line_ends as spec_line_ends, with_pairs};
 
 use httparse::Status;
 use httparse::spans::{EMPTY_HEADER_SPAN, HeaderSpan, parse_response};
@@ -12,11 +12,11 @@ use wf_headers::HeaderList;
 use wf_text::OutOfMemory;
 use wf_types::Head;
 
-/// How many header lines a head has at most.
+// How many header lines a head has at most.
 const MOST_LINES: usize = 128;
 
-/// How many header lines most heads have at most: where a block has no more line ends, room for so many
-/// is made.
+// How many header lines most heads have at most: where a block has no more line ends, room for so many
+// is made.
 const FEW_LINES: usize = 16;
 
 /// What a block is.
@@ -37,14 +37,14 @@ fn has_line_byte(bytes: &[u8]) -> bool
     bytes.iter().any(|byte| !(*byte == b'\r' || *byte == b'\n'))
 }
 
-/// Whether there was a byte of a line, or one is among the bytes that follow.
+// Whether there was a byte of a line, or one is among the bytes that follow.
 pub(crate) fn had_or_has_line_byte(had: bool, bytes: &[u8]) -> bool
     ensures { result ≡ (had || list_any spec.is_line_byte bytes.now) }
 {
     had || has_line_byte(bytes)
 }
 
-/// Whether the bytes are a block.
+// Whether the bytes are a block.
 pub(crate) fn is_block(bytes: &[u8], has_line_byte: bool) -> bool
     requires { has_line_byte ≡ list_any spec.is_line_byte bytes.now }
     ensures { result ≡ spec.is_block bytes.now }
@@ -122,7 +122,7 @@ fn judge_many(alloc: Global, block: &[u8]) -> Result<Judged, OutOfMemory>
     judge_within(alloc, block, &mut [EMPTY_HEADER_SPAN; MOST_LINES])
 }
 
-/// What a block is: it is a head where the parser reads one that has just its bytes.
+// What a block is: it is a head where the parser reads one that has just its bytes.
 pub(crate) fn judge(alloc: Global, block: &[u8]) -> Result<Judged, OutOfMemory>
     ensures { IfOk result (λ judged. IsJudged block.now judged) }
 {

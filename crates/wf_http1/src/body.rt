@@ -1,7 +1,7 @@
 ghost use Rattle.std.specs.Prelude.{◌≡◌, ◌≤◌, [], length, IfOk};
 ghost use Rattle.wf_http1.specs.Bodies.{body_end};
 ghost use Rattle.wf_http1.specs.BodyFeeding.{IsFed};
-ghost use Rattle.wf_http1.specs.BodyPlaces.{IsKept, rest_end};
+ghost use Rattle.wf_http1.specs.Private.BodyPlaces.{IsKept, rest_end};
 ghost use Rattle.wf_http1.specs.Framings as spec;
 ghost use Rattle.wf_http1.specs.declared.place.Place.{Place};
 
@@ -33,11 +33,12 @@ impl Model for BodyReader {
 
     ghost Value = { BodyReading };
 
-    ghost use Rattle.wf_http1.specs.BodyPlaces.{IsReading};
+    ghost use Rattle.wf_http1.specs.Private.BodyPlaces.{IsReading};
 
     ghost view = { λ reader. record { framing = reader.framing; limit = reader.limit; bytes = reader.seen.bytes } };
 
-    ghost invariant = { λ reader. IsReading reader.framing reader.limit reader.seen.bytes reader.held.items (vec_capacity reader.held) reader.place };
+    ghost invariant = { λ reader. IsReading reader.framing reader.limit reader.seen.bytes reader.held.items
+        (vec_capacity reader.held) reader.place };
 }
 
 /// What a piece comes to.
@@ -52,7 +53,8 @@ pub enum BodyStep {
 impl BodyReader {
     /// A reader of the body behind a head, whose limit in bytes is reserved here.
     pub fn new(alloc: Global, head: &Head, limit: u32) -> Result<BodyReader, OutOfMemory>
-        ensures { IfOk result (λ reader. reader ≡ record { framing = spec.framing_of head.now; limit = limit; bytes = [] }) }
+        ensures { IfOk result (λ reader. reader
+            ≡ record { framing = spec.framing_of head.now; limit = limit; bytes = [] }) }
     {
         let framing = framing_of(alloc, head)?;
         BodyReader::framed(alloc, framing, limit)
@@ -75,7 +77,8 @@ impl BodyReader {
     /// Takes the next piece, which may be empty, and takes no memory. `Over` comes exactly where the
     /// bytes so far decide the body, whatever bytes follow: `Whole` with all of it, `Cut` with the number
     /// of bytes before what does not fit the framing, or `TooBig` with the byte after the limit (RFC
-    /// 9112, sections 6.3, 7.1 and 8).
+    /// 9112, sections 6.3, 7.1 and 8). A whole body keeps the room of the limit: `Bytes::fitted` gives
+    /// it back.
     pub fn feed(self, piece: &[u8]) -> BodyStep
         ensures { IsFed self piece.now result }
     {
@@ -102,7 +105,7 @@ impl BodyReader {
         }
     }
 
-    /// How the body comes to its end where the answer ends here.
+    /// How the body comes to its end where the answer ends here. It takes no memory.
     pub fn finish(self) -> BodyEnd
         ensures { result ≡ body_end self.framing self.limit self.bytes }
     {
@@ -110,16 +113,14 @@ impl BodyReader {
     }
 }
 
-/// A whole body. The room that was reserved for the limit and not used is given back.
+// A whole body, which keeps the room that was reserved.
 fn whole(held: Vec<u8>) -> BodyEnd
     ensures { result ≡ BodyEnd.Whole held.items }
 {
-    let mut held = held;
-    held.shrink_to_fit();
     BodyEnd::Whole(Bytes::from_vec(held))
 }
 
-/// How a body comes to its end behind the bytes that are held.
+// How a body comes to its end behind the bytes that are held.
 fn end_here(framing: Framing, limit: u32, held: Vec<u8>, place: Place) -> BodyEnd
     requires within { length held.items ≤ limit }
     requires kept { IsKept framing held.items place }

@@ -3,7 +3,7 @@ ghost use Rattle.std.specs.List.{list_all};
 ghost use Rattle.std.specs.Str.Parse.{digits_value};
 ghost use Rattle.wf_text.specs.Digits.{is_digits};
 ghost use Rattle.wf_http1.specs.Framings as spec;
-ghost use Rattle.wf_http1.specs.Lengths as lengths;
+ghost use Rattle.wf_http1.specs.Private.Lengths as lengths;
 
 use std::alloc::Global;
 use wf_headers::HeaderList;
@@ -39,14 +39,14 @@ pub fn framing_of(alloc: Global, head: &Head) -> Result<Framing, OutOfMemory>
     }
 }
 
-/// Whether an answer with this status has no body on the wire: No Content and Not Modified.
+// Whether an answer with this status has no body on the wire: No Content and Not Modified.
 fn has_no_body(status: u16) -> bool
     ensures { result ≡ spec.has_no_body status }
 {
     status == 204 || status == 304
 }
 
-/// By the value of Transfer-Encoding, of which chunked alone is taken.
+// By the value of Transfer-Encoding, of which chunked alone is taken.
 fn of_coding(coding: &[u8]) -> Framing
     ensures { result ≡ spec.of_coding coding.now }
 {
@@ -57,7 +57,7 @@ fn of_coding(coding: &[u8]) -> Framing
     }
 }
 
-/// By the values of Content-Length, and to the end where there are none.
+// By the values of Content-Length, and to the end where there are none.
 fn of_content_length(alloc: Global, headers: &HeaderList) -> Result<Framing, OutOfMemory>
     ensures { IfOk result (λ framing. framing ≡ spec.of_content_length headers.now) }
 {
@@ -67,7 +67,7 @@ fn of_content_length(alloc: Global, headers: &HeaderList) -> Result<Framing, Out
     }
 }
 
-/// So many bytes, where all texts are digits of one number.
+// So many bytes, where all texts are digits of one number.
 fn of_lengths(texts: &BytesList) -> Framing
     ensures { result ≡ spec.by_lengths texts.now }
 {
@@ -81,7 +81,7 @@ fn of_lengths(texts: &BytesList) -> Framing
     }
 }
 
-/// Whether all texts are digits of the number that these digits write.
+// Whether all texts are digits of the number that these digits write.
 fn all_write(texts: &BytesList, digits: &[u8]) -> bool
     requires { IsTrue (is_digits digits.now) }
     ensures { result ≡ list_all (spec.writes (digits_value 10 digits.now)) texts.now }
@@ -94,7 +94,7 @@ fn all_write(texts: &BytesList, digits: &[u8]) -> bool
     true
 }
 
-/// Whether the text is digits of the number that these digits write.
+// Whether the text is digits of the number that these digits write.
 fn writes_same(text: &[u8], digits: &[u8]) -> bool
     requires { IsTrue (is_digits digits.now) }
     ensures { result ≡ spec.writes (digits_value 10 digits.now) text.now }
@@ -102,7 +102,7 @@ fn writes_same(text: &[u8], digits: &[u8]) -> bool
     parse_digits(text, 0).is_some() && are_equal(text, digits)
 }
 
-/// Whether two texts of digits write one number, however many digits there are.
+// Whether two texts of digits write one number, however many digits there are.
 fn are_equal(text: &[u8], digits: &[u8]) -> bool
     requires text { IsTrue (is_digits text.now) }
     requires digits { IsTrue (is_digits digits.now) }
@@ -111,7 +111,7 @@ fn are_equal(text: &[u8], digits: &[u8]) -> bool
     without_zeros(text) == without_zeros(digits)
 }
 
-/// The digits from the first that is no zero on.
+// The digits from the first that is no zero on.
 fn without_zeros(digits: &[u8]) -> &[u8]
     ensures { result.now ≡ lengths.without_zeros digits.now }
 {

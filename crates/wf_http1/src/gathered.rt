@@ -19,7 +19,7 @@ impl Model for Gathered {
 }
 
 impl Gathered {
-    /// No bytes, with room for so many.
+    // No bytes, with room for so many.
     pub(crate) fn with_room(alloc: Global, room: usize) -> Result<Gathered, OutOfMemory>
         ensures { IfOk result (λ gathered. gathered ≡ []) }
     {
@@ -28,14 +28,14 @@ impl Gathered {
         })
     }
 
-    /// The bytes.
+    // The bytes.
     pub(crate) fn as_slice(&self) -> &[u8]
         ensures { result.now ≡ self.now }
     {
         self.bytes.as_slice()
     }
 
-    /// Adds bytes at the end.
+    // Adds bytes at the end.
     pub(crate) fn append(&mut self, more: &[u8]) -> Result<(), OutOfMemory>
         ensures { OnOk result (self.new ≡ self.old ++ more.now) }
     {
@@ -43,7 +43,7 @@ impl Gathered {
         Ok(())
     }
 
-    /// Drops the bytes and keeps the room.
+    // Drops the bytes and keeps the room.
     pub(crate) fn clear(&mut self)
         ensures { self.new ≡ [] }
     {

@@ -2,8 +2,8 @@ ghost use Rattle.std.specs.Prelude.{◌≡◌, ◌≤◌, ◌<◌, ◌+◌, ◌+
 ghost use Rattle.std.specs.List.{position};
 ghost use Rattle.wf_http1.specs.Answers.{IsUnfinished, most_bytes};
 ghost use Rattle.wf_http1.specs.HeadFeeding.{IsFed};
-ghost use Rattle.wf_http1.specs.HeadPushing.{IsPushed};
-ghost use Rattle.wf_http1.specs.HeadReading.{IsLine};
+ghost use Rattle.wf_http1.specs.Private.HeadPushing.{IsPushed};
+ghost use Rattle.wf_http1.specs.Private.HeadReading.{IsLine};
 
 use crate::block::{Judged, had_or_has_line_byte, is_block, judge};
 use crate::gathered::Gathered;
@@ -13,7 +13,7 @@ use std::marker::Model;
 use wf_text::OutOfMemory;
 use wf_types::Head;
 
-/// How many bytes the heads of an answer have at most.
+// How many bytes the heads of an answer have at most.
 const MOST_BYTES: usize = 65_536;
 
 /// Reads the heads of an answer from pieces, and is seen as all bytes so far, which decide nothing yet.
@@ -34,7 +34,7 @@ impl Model for HeadReader {
 
     ghost Value = { List ℕ };
 
-    ghost use Rattle.wf_http1.specs.HeadReading.{IsReading};
+    ghost use Rattle.wf_http1.specs.Private.HeadReading.{IsReading};
 
     ghost view = { λ reader. reader.past.bytes ++ reader.block };
 
@@ -95,9 +95,11 @@ impl HeadReader {
         })
     }
 
-    /// How many bytes of the answer were fed so far, skipped heads included. They decide nothing.
+    /// How many bytes of the answer were fed so far, skipped heads included: 65,536 at most. They
+    /// decide nothing.
     pub fn seen_bytes(&self) -> u32
         ensures value { result ≡ length self.now }
+        ensures few { result ≤ most_bytes }
         ensures unfinished { IsUnfinished self.now }
     {
         self.seen_bytes

@@ -1,3 +1,4 @@
+ghost use Rattle.wf_http1.specs.BodyLaws.{OpenBodiesAreShort};
 ghost use Rattle.wf_http1.specs.HeadLaws.{HasOneEnd, HasOneHead, HeadsAreBlocks};
 
 /// A head is a block, and no beginning of it is one.
@@ -13,4 +14,9 @@ pub fn law_one_head()
 /// The head of an answer comes to one thing: a final head and its end, no head, or too long a one.
 pub fn law_one_end()
     ensures { HasOneEnd }
+{}
+
+/// Bytes that leave a body open are so many at most, by its framing and its limit.
+pub fn law_open_bodies_are_short()
+    ensures { OpenBodiesAreShort }
 {}

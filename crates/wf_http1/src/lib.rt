@@ -2,25 +2,21 @@
 // body of an answer, which are fed pieces.
 #![tactic(auto)]
 
-#[cfg(test)]
-mod answer_tests;
 mod block;
 mod body;
-#[cfg(test)]
-mod body_tests;
 mod framing;
 mod gathered;
 mod head;
-#[cfg(test)]
-mod head_tests;
 mod laws;
 mod place;
 mod request;
 mod seen;
 mod taking;
+#[cfg(test)]
+mod tests;
 
 pub use body::{BodyReader, BodyStep};
 pub use framing::{Framing, framing_of};
 pub use head::{HeadReader, HeadStep};
-pub use laws::{law_heads_are_blocks, law_one_end, law_one_head};
+pub use laws::{law_heads_are_blocks, law_one_end, law_one_head, law_open_bodies_are_short};
 pub use request::write_request;

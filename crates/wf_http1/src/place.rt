@@ -1,14 +1,14 @@
 ghost use Rattle.std.specs.Prelude.{◌≡◌, IsTrue};
 ghost use Rattle.std.specs.Char.{digit_value, is_ascii_hexdigit};
-ghost use Rattle.wf_http1.specs.Places as spec;
+ghost use Rattle.wf_http1.specs.Private.Places as spec;
 
-/// The most bytes that the line of a chunk has before its CRLF.
+// The most bytes that the line of a chunk has before its CRLF.
 const MOST_LINE: u16 = 4094;
 
-/// The most bytes that the trailers have before the CRLF of their last line and that of the empty line.
+// The most bytes that the trailers have before the CRLF of their last line and that of the empty line.
 const MOST_TRAILERS: u16 = 8188;
 
-/// The most digits that the size of a chunk has.
+// The most digits that the size of a chunk has.
 const MOST_DIGITS: u8 = 16;
 
 /// Where a chunked body stands (RFC 9112, section 7.1).
@@ -48,7 +48,7 @@ pub(crate) enum Turn {
 }
 
 impl Place {
-    /// How many bytes of data are left of the chunk.
+    // How many bytes of data are left of the chunk.
     pub(crate) fn data_left(self) -> u64
         ensures { result ≡ spec.data_left self }
     {
@@ -58,7 +58,7 @@ impl Place {
         }
     }
 
-    /// What the next byte comes to, where no data are left.
+    // What the next byte comes to, where no data are left.
     pub(crate) fn turn(self, byte: u8) -> Turn
         requires { spec.IsLive self }
         ensures { result ≡ spec.turn self byte }
@@ -67,32 +67,32 @@ impl Place {
             Place::Size(digits, value) => in_size(digits, value, byte),
             Place::Blanks(size, line) => behind_digits(size, line, byte),
             Place::Extension(size, line) => in_extension(size, line, byte),
-            Place::LineEnd(size) => line_feed(byte, Turn::To(behind_line(size))),
-            Place::Data(_) => carriage_return(byte, Turn::To(Place::DataEnd)),
-            Place::DataEnd => line_feed(byte, Turn::To(Place::Size(0, 0))),
+            Place::LineEnd(size) => on_line_feed(byte, Turn::To(behind_line(size))),
+            Place::Data(_) => on_carriage_return(byte, Turn::To(Place::DataEnd)),
+            Place::DataEnd => on_line_feed(byte, Turn::To(Place::Size(0, 0))),
             Place::Trailers(bytes) => at_trailer(byte, bytes, Place::LastEnd),
             Place::Trailer(bytes) => at_trailer(byte, bytes, Place::TrailerEnd(bytes)),
-            Place::TrailerEnd(bytes) => line_feed(byte, Turn::To(Place::Trailers(bytes + 2))),
-            Place::LastEnd => line_feed(byte, Turn::Ended),
+            Place::TrailerEnd(bytes) => on_line_feed(byte, Turn::To(Place::Trailers(bytes + 2))),
+            Place::LastEnd => on_line_feed(byte, Turn::Ended),
         }
     }
 }
 
-/// LF alone fits.
-fn line_feed(byte: u8, turn: Turn) -> Turn
-    ensures { result ≡ spec.line_feed byte turn }
+// LF alone fits.
+fn on_line_feed(byte: u8, turn: Turn) -> Turn
+    ensures { result ≡ spec.on_line_feed byte turn }
 {
     if byte == b'\n' { turn } else { Turn::Broken }
 }
 
-/// CR alone fits.
-fn carriage_return(byte: u8, turn: Turn) -> Turn
-    ensures { result ≡ spec.carriage_return byte turn }
+// CR alone fits.
+fn on_carriage_return(byte: u8, turn: Turn) -> Turn
+    ensures { result ≡ spec.on_carriage_return byte turn }
 {
     if byte == b'\r' { turn } else { Turn::Broken }
 }
 
-/// A digit of the size, or what follows the digits.
+// A digit of the size, or what follows the digits.
 fn in_size(digits: u8, value: u64, byte: u8) -> Turn
     requires { spec.IsLive (Place.Size digits value) }
     ensures { result ≡ spec.in_size digits value byte }
@@ -109,7 +109,7 @@ fn in_size(digits: u8, value: u64, byte: u8) -> Turn
     }
 }
 
-/// The value of a hexadecimal digit.
+// The value of a hexadecimal digit.
 fn digit(byte: u8) -> u64
     requires { IsTrue (is_ascii_hexdigit byte) }
     ensures { result ≡ digit_value byte }
@@ -121,7 +121,7 @@ fn digit(byte: u8) -> u64
     }
 }
 
-/// A blank, a semicolon, or the end of the line.
+// A blank, a semicolon, or the end of the line.
 fn behind_digits(size: u64, line: u16, byte: u8) -> Turn
     ensures { result ≡ spec.behind_digits size line byte }
 {
@@ -134,7 +134,7 @@ fn behind_digits(size: u64, line: u16, byte: u8) -> Turn
     }
 }
 
-/// A byte of an extension, or the end of the line.
+// A byte of an extension, or the end of the line.
 fn in_extension(size: u64, line: u16, byte: u8) -> Turn
     ensures { result ≡ spec.in_extension size line byte }
 {
@@ -146,7 +146,7 @@ fn in_extension(size: u64, line: u16, byte: u8) -> Turn
     }
 }
 
-/// What follows the line of a chunk: its data, or the trailers behind the last chunk.
+// What follows the line of a chunk: its data, or the trailers behind the last chunk.
 fn behind_line(size: u64) -> Place
     ensures { result ≡ spec.behind_line size }
 {
@@ -157,7 +157,7 @@ fn behind_line(size: u64) -> Place
     }
 }
 
-/// A byte of a line of the trailers, or the CR that leads to this place.
+// A byte of a line of the trailers, or the CR that leads to this place.
 fn at_trailer(byte: u8, bytes: u16, end: Place) -> Turn
     ensures { result ≡ spec.at_trailer byte bytes end }
 {

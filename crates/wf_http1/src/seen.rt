@@ -16,7 +16,7 @@ impl Model for Seen {
 }
 
 impl Seen {
-    /// None yet.
+    // None yet.
     pub(crate) fn new() -> Seen
         ensures { result.bytes ≡ [] }
     {
@@ -25,7 +25,7 @@ impl Seen {
         }
     }
 
-    /// One more piece went by.
+    // One more piece went by.
     pub(crate) fn note(&mut self, _piece: &[u8])
         ensures { self.new.bytes ≡ self.old.bytes ++ _piece.now }
     {}

@@ -1,8 +1,9 @@
 // Takes pieces of a body: what they come to, and the bytes that are decoded of them.
-ghost use Rattle.std.specs.Prelude.{◌≡◌, ◌≤◌, ◌<◌, ◌+◌, ◌++◌, length, take, min, nat_le, vec_capacity, if◌then◌else◌, ℕ, List};
+ghost use Rattle.std.specs.Prelude.{◌≡◌, ◌≤◌, ◌<◌, ◌+◌, ◌++◌, length, take, min, nat_le, vec_capacity};
+ghost use Rattle.std.specs.Prelude.{if◌then◌else◌, ℕ, List};
 ghost use Rattle.wf_http1.specs.Bodies.{ended};
-ghost use Rattle.wf_http1.specs.BodyPlaces.{Comes, IsKept, rest_end};
-ghost use Rattle.wf_http1.specs.Places.{IsLive};
+ghost use Rattle.wf_http1.specs.Private.BodyPlaces.{Comes, IsKept, rest_end};
+ghost use Rattle.wf_http1.specs.Private.Places.{IsLive};
 ghost use Rattle.wf_http1.specs.declared.place.Place.{Place};
 
 use crate::framing::Framing;
@@ -23,7 +24,7 @@ pub(crate) enum Found {
     TooBig,
 }
 
-/// Takes bytes of the body where they do not exceed the limit, for which there is room.
+// Takes bytes of the body where they do not exceed the limit, for which there is room.
 fn take_data(held: &mut Vec<u8>, limit: u32, bytes: &[u8]) -> bool
     requires within { length held.old.items ≤ limit }
     requires reserved { limit ≤ vec_capacity held.old }
@@ -39,11 +40,12 @@ fn take_data(held: &mut Vec<u8>, limit: u32, bytes: &[u8]) -> bool
     true
 }
 
-/// Takes a piece of a body that goes to the end.
+// Takes a piece of a body that goes to the end.
 fn take_all(held: &mut Vec<u8>, limit: u32, piece: &[u8]) -> Found
     requires within { length held.old.items ≤ limit }
     requires reserved { limit ≤ vec_capacity held.old }
-    ensures { (place : Place) → Comes Framing.ToEnd limit (λ more. rest_end Framing.ToEnd limit held.old.items place (piece.now ++ more))
+    ensures { (place : Place) → Comes Framing.ToEnd limit
+        (λ more. rest_end Framing.ToEnd limit held.old.items place (piece.now ++ more))
         held.new.items (vec_capacity held.new) place result }
 {
     if take_data(held, limit, piece) {
@@ -53,12 +55,13 @@ fn take_all(held: &mut Vec<u8>, limit: u32, piece: &[u8]) -> Found
     }
 }
 
-/// Takes a piece of a body of so many bytes.
+// Takes a piece of a body of so many bytes.
 fn take_length(held: &mut Vec<u8>, limit: u32, total: u64, piece: &[u8]) -> Found
     requires within { length held.old.items ≤ limit }
     requires reserved { limit ≤ vec_capacity held.old }
     requires kept { length held.old.items ≤ total }
-    ensures { (place : Place) → Comes (Framing.Length total) limit (λ more. rest_end (Framing.Length total) limit held.old.items place (piece.now ++ more))
+    ensures { (place : Place) → Comes (Framing.Length total) limit
+        (λ more. rest_end (Framing.Length total) limit held.old.items place (piece.now ++ more))
         held.new.items (vec_capacity held.new) place result }
 {
     let missing = total - held.len() as u64;
@@ -73,19 +76,20 @@ fn take_length(held: &mut Vec<u8>, limit: u32, total: u64, piece: &[u8]) -> Foun
     }
 }
 
-/// The lesser of a count of bytes and of how many there are.
+// The lesser of a count of bytes and of how many there are.
 fn least(count: u64, len: usize) -> usize
     ensures { result ≡ min count len }
 {
     count.min(len as u64) as usize
 }
 
-/// Takes a piece of a body in chunks.
+// Takes a piece of a body in chunks.
 fn take_chunks(held: &mut Vec<u8>, place: &mut Place, limit: u32, piece: &[u8]) -> Found
     requires within { length held.old.items ≤ limit }
     requires reserved { limit ≤ vec_capacity held.old }
     requires kept { IsLive place.old }
-    ensures { Comes Framing.Chunked limit (λ more. rest_end Framing.Chunked limit held.old.items place.old (piece.now ++ more))
+    ensures { Comes Framing.Chunked limit
+        (λ more. rest_end Framing.Chunked limit held.old.items place.old (piece.now ++ more))
         held.new.items (vec_capacity held.new) place.new result }
 {
     let mut rest = piece;
@@ -110,7 +114,7 @@ fn take_chunks(held: &mut Vec<u8>, place: &mut Place, limit: u32, piece: &[u8]) 
     Found::Open
 }
 
-/// Takes a piece of a body with this framing.
+// Takes a piece of a body with this framing.
 pub(crate) fn take_piece(
     framing: Framing,
     held: &mut Vec<u8>,

@@ -78,6 +78,16 @@ impl Bytes {
         Bytes::of(alloc, self.as_slice())
     }
 
+    /// An equal text with no more room than it needs. Where memory is refused, the text is gone.
+    pub fn fitted(self, alloc: Global) -> Result<Bytes, OutOfMemory>
+        ensures { IfOk result (λ text. text ≡ self) }
+    {
+        if self.items.capacity() == self.items.len() {
+            return Ok(self);
+        }
+        self.copy(alloc)
+    }
+
     /// Adds the bytes at the end. Where memory is refused, the text is as it was.
     pub fn append(&mut self, piece: &[u8]) -> Result<(), OutOfMemory>
         ensures ok { OnOk result (self.new ≡ self.old ++ piece.now) }

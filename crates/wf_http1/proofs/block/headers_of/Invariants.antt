@@ -1,6 +1,6 @@
 use Rattle.std.proofs.Common.{◌≡◌, [], map, drop}
 use Rattle.httparse.specs.Spans.{header_bytes}
-use Rattle.wf_http1.specs.HeadReading.{with_pairs}
+use Rattle.wf_http1.specs.Private.HeadReading.{with_pairs}
 use Rattle.wf_http1.proofs.block.headers_of.Given as goal
 
 abbrev pub invariant-loop-line : goal.invariant-loop-line

@@ -7,4 +7,4 @@ use Rattle.wf_http1.proofs.framing.all_write.Given as goal
 abbrev pub invariant-loop-index : goal.invariant-loop-index
 invariant-loop-index l =
     list_all (writes (digits_value 10 l.digits)) l.texts
-        ≡ list_all (writes (digits_value 10 l.digits)) (drop l.index l.texts)
+    ≡ list_all (writes (digits_value 10 l.digits)) (drop l.index l.texts)

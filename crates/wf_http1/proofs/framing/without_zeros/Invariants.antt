@@ -1,5 +1,5 @@
 use Rattle.std.proofs.Common.{◌≡◌, length}
-use Rattle.wf_http1.specs.Lengths.{without_zeros}
+use Rattle.wf_http1.specs.Private.Lengths.{without_zeros}
 use Rattle.wf_http1.proofs.framing.without_zeros.Given as goal
 
 abbrev pub invariant-loop-rest : goal.invariant-loop-rest

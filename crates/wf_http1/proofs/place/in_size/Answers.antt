@@ -8,5 +8,9 @@ overflow_mul-result c =
 
 pub overflow_add-result-then-is_ascii_hexdigit : goal.overflow_add-result-then-is_ascii_hexdigit
 overflow_add-result-then-is_ascii_hexdigit c =
-    omega (arith, size-fits c.args.digits c.args.value c.requires.0 c.if-digits-eq-MOST_DIGITS.false c.requires.1,
-        c.digit.ensures, digit-most c.args.byte (sym c.is_ascii_hexdigit.ensures.value ∙ c.if-is_ascii_hexdigit.true))
+    omega (
+      arith,
+      size-fits c.args.digits c.args.value c.requires.0 c.if-digits-eq-MOST_DIGITS.false c.requires.1,
+      c.digit.ensures,
+      digit-most c.args.byte (sym c.is_ascii_hexdigit.ensures.value ∙ c.if-is_ascii_hexdigit.true),
+    )

@@ -2,41 +2,44 @@
 -- 9112, section 7.1). The coding itself stands in `Chunks`.
 use Rattle.std.specs.Prelude.{ℕ, ◌+◌, ◌-◌, ◌*◌, ◌^◌, ◌≤◌, ◌<◌, true, ◌||◌, ◌==◌, nat_le, List, [], ◌∷◌, if◌then◌else◌}
 use Rattle.std.specs.Char.{digit_value, is_ascii_hexdigit}
+use Rattle.wf_text.specs.Ascii.{carriage_return, line_feed, semicolon, space, tab}
 use Rattle.wf_http1.specs.Chunks.{Decoded, broken, onto}
 use Rattle.wf_http1.specs.declared.place.Place.{Place}
-use Rattle.wf_http1.specs.declared.place.Place.TheVariants.{Size, Blanks, Extension, LineEnd, Data, DataEnd, Trailers, Trailer, TrailerEnd, LastEnd}
+use Rattle.wf_http1.specs.declared.place.Place.TheVariants.{Size, Blanks, Extension, LineEnd, Data, DataEnd}
+use Rattle.wf_http1.specs.declared.place.Place.TheVariants.{Trailers, Trailer, TrailerEnd, LastEnd}
 use Rattle.wf_http1.specs.declared.place.Turn.{Turn}
 use Rattle.wf_http1.specs.declared.place.Turn.TheVariants.{To, Ended, Broken}
 
 -- LF alone fits
-abbrev pub line_feed : ℕ → Turn → Turn
-line_feed byte turn = if byte == 10 then turn else Broken
+abbrev pub on_line_feed : ℕ → Turn → Turn
+on_line_feed byte turn = if byte == line_feed then turn else Broken
 
 -- CR alone fits
-abbrev pub carriage_return : ℕ → Turn → Turn
-carriage_return byte turn = if byte == 13 then turn else Broken
+abbrev pub on_carriage_return : ℕ → Turn → Turn
+on_carriage_return byte turn = if byte == carriage_return then turn else Broken
 
 -- a blank, a semicolon, or the end of the line; 4,094 bytes leave room for its CRLF alone
 abbrev pub behind_digits : ℕ → ℕ → ℕ → Turn
 behind_digits size line byte =
-    if byte == 13 then To (LineEnd size)
+    if byte == carriage_return then To (LineEnd size)
     else if nat_le 4094 line then Broken
-    else if byte == 9 || byte == 32 then To (Blanks size (line + 1))
-    else if byte == 59 then To (Extension size (line + 1))
+    else if byte == tab || byte == space then To (Blanks size (line + 1))
+    else if byte == semicolon then To (Extension size (line + 1))
     else Broken
 
 -- a digit of the size, or what follows the digits
 abbrev pub in_size : ℕ → ℕ → ℕ → Turn
 in_size digits value byte =
-    if is_ascii_hexdigit byte then (if digits == 16 then Broken else To (Size (digits + 1) (value * 16 + digit_value byte)))
+    if is_ascii_hexdigit byte
+    then (if digits == 16 then Broken else To (Size (digits + 1) (value * 16 + digit_value byte)))
     else if digits == 0 then Broken
     else behind_digits value digits byte
 
 -- a byte of an extension, or the end of the line; 4,094 bytes leave room for its CRLF alone
 abbrev pub in_extension : ℕ → ℕ → ℕ → Turn
 in_extension size line byte =
-    if byte == 13 then To (LineEnd size)
-    else if byte == 10 then Broken
+    if byte == carriage_return then To (LineEnd size)
+    else if byte == line_feed then Broken
     else if nat_le 4094 line then Broken
     else To (Extension size (line + 1))
 
@@ -48,8 +51,8 @@ behind_line size = if size == 0 then Trailers 0 else Data size
 -- the line and that of the empty line alone
 abbrev pub at_trailer : ℕ → ℕ → Place → Turn
 at_trailer byte bytes end =
-    if byte == 13 then To end
-    else if byte == 10 then Broken
+    if byte == carriage_return then To end
+    else if byte == line_feed then Broken
     else if nat_le 8188 bytes then Broken
     else To (Trailer (bytes + 1))
 
@@ -58,13 +61,13 @@ abbrev pub turn : Place → ℕ → Turn
 turn (Size digits value) byte = in_size digits value byte
 turn (Blanks size line) byte = behind_digits size line byte
 turn (Extension size line) byte = in_extension size line byte
-turn (LineEnd size) byte = line_feed byte (To (behind_line size))
-turn (Data left) byte = carriage_return byte (To DataEnd)
-turn DataEnd byte = line_feed byte (To (Size 0 0))
+turn (LineEnd size) byte = on_line_feed byte (To (behind_line size))
+turn (Data left) byte = on_carriage_return byte (To DataEnd)
+turn DataEnd byte = on_line_feed byte (To (Size 0 0))
 turn (Trailers bytes) byte = at_trailer byte bytes LastEnd
 turn (Trailer bytes) byte = at_trailer byte bytes (TrailerEnd bytes)
-turn (TrailerEnd bytes) byte = line_feed byte (To (Trailers (bytes + 2)))
-turn LastEnd byte = line_feed byte Ended
+turn (TrailerEnd bytes) byte = on_line_feed byte (To (Trailers (bytes + 2)))
+turn LastEnd byte = on_line_feed byte Ended
 
 -- how many bytes of data are left of the chunk
 abbrev pub data_left : Place → ℕ

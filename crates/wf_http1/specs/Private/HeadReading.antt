@@ -2,6 +2,7 @@
 use Rattle.std.specs.Prelude.{◌≡◌, ◌==◌, ℕ, ◌≤◌, false, List, [], ◌∷◌, ◌++◌, ◌+◌, take, length}
 use Rattle.std.specs.List.{count_by, list_any}
 use Rattle.httparse.specs.Grammar.{ResponseHead, print_response, status_code}
+use Rattle.wf_text.specs.Ascii.{line_feed}
 use Rattle.wf_headers.specs.declared.headers.Header.{Header}
 use Rattle.wf_headers.specs.Headers.{appended}
 use Rattle.wf_http1.specs.Answers.{most_bytes}
@@ -24,7 +25,7 @@ pub record IsLine (line : List ℕ) : Type 0 where
   pub front : List ℕ
   pub last : ℕ
   pub whole : line ≡ front ++ last ∷ []
-  pub no_end : list_any (λ byte. byte == 10) front ≡ false
+  pub no_end : list_any (λ byte. byte == line_feed) front ≡ false
 
 -- header lines after these headers: names, and values as they are
 abbrev pub with_pairs : List Header → List (List ℕ × List ℕ) → List Header
@@ -33,11 +34,12 @@ with_pairs headers (pair ∷ pairs) = with_pairs (appended pair.0 pair.1 headers
 
 -- how many line ends there are
 abbrev pub line_ends : List ℕ → ℕ
-line_ends bytes = count_by (λ byte. byte == 10) bytes
+line_ends bytes = count_by (λ byte. byte == line_feed) bytes
 
 -- a head that the block is has so many header lines at most
 abbrev pub HasRoom : List ℕ → ℕ → Type 0
-HasRoom block room = (printed : ResponseHead) → IsHead printed → block ≡ print_response printed → length printed.fields ≤ room
+HasRoom block room =
+    (printed : ResponseHead) → IsHead printed → block ≡ print_response printed → length printed.fields ≤ room
 
 -- the block is no head, a skipped one, or a final one
 abbrev pub IsJudged : List ℕ → Judged → Type 0

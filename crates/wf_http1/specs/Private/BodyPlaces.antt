@@ -8,11 +8,12 @@ use Rattle.wf_http1.specs.declared.place.Place.{Place}
 use Rattle.wf_http1.specs.declared.taking.Found.{Found}
 use Rattle.wf_http1.specs.declared.taking.Found.TheVariants as found
 use Rattle.wf_http1.specs.Bodies.{body_end, ended}
-use Rattle.wf_http1.specs.Places.{decoded_at, IsLive}
+use Rattle.wf_http1.specs.Private.Places.{decoded_at, IsLive}
 
 -- what the bytes that follow come to, behind the bytes that are held and at a place
 abbrev pub rest_end : Framing → ℕ → List ℕ → Place → List ℕ → BodyEnd
-rest_end framing.Chunked limit held place more = ended limit (decoded_at place more).complete (held ++ (decoded_at place more).data_is)
+rest_end framing.Chunked limit held place more =
+    ended limit (decoded_at place more).complete (held ++ (decoded_at place more).data_is)
 rest_end how limit held place more = body_end how limit (held ++ more)
 
 -- what is held stays within the framing
@@ -41,7 +42,8 @@ pub record IsReading (how : Framing) (limit : ℕ) (bytes held : List ℕ) (room
 
 -- The body stays open, and what is left of a piece and the bytes that follow come to the same end as they
 -- do after the piece.
-pub record IsOn (how : Framing) (limit : ℕ) (after : List ℕ → BodyEnd) (held : List ℕ) (room : ℕ) (place : Place) (left : List ℕ) : Type 0 where
+pub record IsOn (how : Framing) (limit : ℕ) (after : List ℕ → BodyEnd) (held : List ℕ) (room : ℕ) (place : Place)
+    (left : List ℕ) : Type 0 where
   pub meaning : (more : List ℕ) → after more ≡ rest_end how limit held place (left ++ more)
   pub within : length held ≤ limit
   pub reserved : limit ≤ room

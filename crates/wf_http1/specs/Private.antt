@@ -1,0 +1,5 @@
+pub mod Lengths
+pub mod HeadReading
+pub mod HeadPushing
+pub mod Places
+pub mod BodyPlaces
