@@ -7,7 +7,8 @@ use Rattle.std.proofs.lemmas.List.Splits.{length-slice_split, slice_split_none}
 use Rattle.std.proofs.Math.Seq.{drop-append-add, drop-append_seam}
 use Rattle.std.specs.List.{join_with_byte, onto_first}
 use Rattle.url.proofs.InputLemmas.{All-drop_from_reads, split_around}
-use Rattle.wf_origin.specs.Names.{IsCutAtLastDot, labels, last_two, last_two_labels}
+use Rattle.wf_origin.specs.Private.Cut.{IsCutAtLastDot}
+use Rattle.wf_origin.specs.Names.{labels, last_two, last_two_labels}
 
 -- the byte is no dot
 abbrev IsNoDot : ℕ → Type 0
@@ -17,7 +18,7 @@ IsNoDot byte = byte ≢ 46
 pub labels-none : (name : List ℕ) → All IsNoDot name → labels name ≡ name ∷ []
 labels-none name none =
     slice_split_none (λ byte. byte == 46) name
-        (All-weaker IsNoDot (λ byte. (byte == 46) ≡ false) (λ byte differs. ne_eqb byte 46 differs) name none)
+    (All-weaker IsNoDot (λ byte. (byte == 46) ≡ false) (λ byte differs. ne_eqb byte 46 differs) name none)
 
 -- a byte before a list of labels, and before the same with one more label
 one-more : (byte : ℕ) (parts : List (List ℕ)) (last : List ℕ) → 0 < length parts
@@ -27,7 +28,7 @@ one-more byte [] last some = absurd (omega arith)
 one-more byte (part ∷ parts) last some =
     elim (byte == 46)
     as (λ v. cond v ([] ∷ (part ∷ parts ++ last ∷ [])) (onto_first byte (part ∷ parts ++ last ∷ []))
-        ≡ cond v ([] ∷ (part ∷ parts)) (onto_first byte (part ∷ parts)) ++ last ∷ [])
+    ≡ cond v ([] ∷ (part ∷ parts)) (onto_first byte (part ∷ parts)) ++ last ∷ [])
     [ true ↦ refl | false ↦ refl ]
 
 -- what stands after the last dot is the last label
@@ -55,7 +56,7 @@ last_two-append parts label last =
     let two : List (List ℕ) = label ∷ last ∷ [] in
     let before : length (parts ++ two) - 2 ≡ length parts = omega (arith, length-append parts two) in
     ap last_two (append_assoc parts (label ∷ []) (last ∷ [])) ∙ ap (λ n. drop n (parts ++ two)) before
-        ∙ drop-append_seam parts two
+    ∙ drop-append_seam parts two
 
 -- two cuts leave the last two labels
 pub last_two_labels-cut : (name front last before label : List ℕ) → IsCutAtLastDot name front last
@@ -68,4 +69,4 @@ last_two_labels-cut name front last before label cut again =
     let parts : labels name ≡ (labels before ++ label ∷ []) ++ last ∷ [] =
     cut.labels_are ∙ ap (λ l. l ++ last ∷ []) again.labels_are in
     left ∙ sym (ap (λ l. join_with_byte 46 (last_two l)) parts
-        ∙ ap (join_with_byte 46) (last_two-append (labels before) label last))
+    ∙ ap (join_with_byte 46) (last_two-append (labels before) label last))

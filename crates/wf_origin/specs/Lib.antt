@@ -1,4 +1,5 @@
 pub mod Names
 pub mod Origins
+pub mod Private
 pub mod Sites
 pub mod Trust

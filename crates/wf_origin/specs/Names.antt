@@ -1,5 +1,7 @@
 -- Domain names: their labels (RFC 1034, section 3.1), and localhost names (Secure Contexts, section 3.1).
-use Rattle.std.specs.Prelude.{◌≡◌, ℕ, Bool, ◌||◌, ◌==◌, ◌-◌, List, [], ◌∷◌, ◌++◌, length, take, drop, codes, nat_eq, bytes_eq, if◌then◌else◌}
+use Rattle.std.specs.Prelude.{ℕ, Bool, ◌||◌, ◌==◌, ◌-◌, List, length, take, drop, codes}
+use Rattle.std.specs.Prelude.{nat_eq, bytes_eq, if◌then◌else◌}
+use Rattle.wf_text.specs.Ascii.{dot}
 use Rattle.std.specs.List.{ends_with, join_with_byte, slice_split}
 
 -- the name without one last dot
@@ -16,7 +18,7 @@ is_local_name name = is_localhost_or_under (without_last_dot name)
 
 -- the labels of a name, which stand between its dots; a label may be empty
 abbrev pub labels : List ℕ → List (List ℕ)
-labels name = slice_split (λ byte. byte == 46) name
+labels name = slice_split (λ byte. byte == dot) name
 
 -- the last two labels, or all where there are fewer
 abbrev pub last_two : List (List ℕ) → List (List ℕ)
@@ -24,9 +26,4 @@ last_two parts = drop (length parts - 2) parts
 
 -- the last two labels of a name, with the dot between
 abbrev pub last_two_labels : List ℕ → List ℕ
-last_two_labels name = join_with_byte 46 (last_two (labels name))
-
--- the name is cut at its last dot: what stands after it is the last label
-pub record IsCutAtLastDot (name front last : List ℕ) : Type 0 where
-  pub parts : name ≡ front ++ 46 ∷ last
-  pub labels_are : labels name ≡ labels front ++ last ∷ []
+last_two_labels name = join_with_byte dot (last_two (labels name))

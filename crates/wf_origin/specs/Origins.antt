@@ -1,5 +1,6 @@
--- Origins of http and https URLs (HTML, section 7.1.1; URL, section 4.7).
-use Rattle.std.specs.Prelude.{ℕ, Bool, false, ◌||◌, ◌&&◌, ◌==◌, List, [], ◌++◌, codes, decimal, bytes_eq, Option, Some, None, unwrap_or, if◌then◌else◌}
+-- Origins of http and https URLs (HTML, section 7.1.1, "origin"; URL, section 4.7, "origin").
+use Rattle.std.specs.Prelude.{ℕ, Bool, false, ◌||◌, ◌&&◌, ◌==◌, List, [], ◌++◌, codes, decimal, bytes_eq}
+use Rattle.std.specs.Prelude.{Option, Some, None, unwrap_or, if◌then◌else◌}
 use Rattle.std.specs.Option.{option_or}
 use Rattle.std.specs.Int.{w32, w128, to_be_bytes}
 use Rattle.std.specs.Net.Addr.{ipv4_bits, ipv6_bits, segments_of}
@@ -42,11 +43,24 @@ same_host (kind.V4 a) (kind.V4 b) = a == b
 same_host (kind.V6 a) (kind.V6 b) = a == b
 same_host _ _ = false
 
+-- the host of the origin is that of the URL
+abbrev pub is_host_of : Origin → Parts → Bool
+is_host_of origin url = same_host origin.host (kind_of_host (nonempty_host url))
+
 -- "same origin": the schemes, the hosts and the ports are identical
 abbrev pub same_origin : Origin → Origin → Bool
 same_origin a b = bytes_eq a.scheme b.scheme && same_host a.host b.host && a.port == b.port
 
--- the host as a URL writes it: an IPv6 address in brackets, compressed (URL, section 3.5)
+-- the origin is this one, where there is one
+abbrev pub is_origin : Origin → Option Origin → Bool
+is_origin origin None = false
+is_origin origin (Some other) = same_origin origin other
+
+-- the origin is that of the URL, which has one
+abbrev pub is_origin_of : Origin → Parts → Bool
+is_origin_of origin url = is_origin origin (origin_of url)
+
+-- the host as a URL writes it: an IPv6 address in brackets, compressed (URL, "host serializer")
 abbrev pub host_text : HostKind → List ℕ
 host_text (kind.Domain name) = name
 host_text (kind.V4 bits) = ipv4_text (to_be_bytes w32 bits)

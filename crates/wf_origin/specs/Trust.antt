@@ -1,6 +1,8 @@
--- Potentially trustworthy origins (Secure Contexts, section 3.1).
-use Rattle.std.specs.Prelude.{Bool, ◌||◌, ◌==◌, ◌/◌, ◌^◌, codes, bytes_eq}
+-- Potentially trustworthy origins and URLs (Secure Contexts, section 3.1 and 3.2).
+use Rattle.std.specs.Prelude.{Bool, false, Option, None, Some, ◌||◌, ◌==◌, ◌/◌, ◌^◌, codes, bytes_eq}
+use Rattle.url.specs.Parts.{Parts}
 use Rattle.wf_origin.specs.Names.{is_local_name}
+use Rattle.wf_origin.specs.Origins.{origin_of}
 use Rattle.wf_origin.specs.declared.origin.HostKind.{HostKind}
 use Rattle.wf_origin.specs.declared.origin.HostKind.TheVariants as kind
 use Rattle.wf_origin.specs.declared.origin.Origin.{Origin}
@@ -15,3 +17,12 @@ is_loopback (kind.V6 bits) = bits == 1
 -- "is origin potentially trustworthy", for http and https
 abbrev pub is_trustworthy : Origin → Bool
 is_trustworthy origin = bytes_eq origin.scheme (codes "https") || is_loopback origin.host
+
+-- there is an origin, and it is potentially trustworthy
+abbrev pub is_trustworthy_origin : Option Origin → Bool
+is_trustworthy_origin None = false
+is_trustworthy_origin (Some origin) = is_trustworthy origin
+
+-- "is url potentially trustworthy", for http and https; another is not
+abbrev pub is_trustworthy_url : Parts → Bool
+is_trustworthy_url url = is_trustworthy_origin (origin_of url)

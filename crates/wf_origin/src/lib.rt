@@ -9,6 +9,8 @@ mod tests;
 mod trust;
 
 pub use names::is_local_name;
-pub use origin::{HostKind, Origin, origin_of, same_origin, serialize, tuple_origin};
+pub use origin::{
+    HostKind, Origin, is_host_of, is_origin_of, origin_of, same_origin, serialize, tuple_origin,
+};
 pub use site::same_site;
-pub use trust::is_trustworthy;
+pub use trust::{is_trustworthy, is_trustworthy_url};

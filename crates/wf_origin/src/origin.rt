@@ -1,6 +1,8 @@
-ghost use Rattle.std.specs.Prelude.{◌≡◌, ◌↔◌, ◌++◌, IsTrue, IfOk, OnOk, ◌||◌, codes, bytes_eq};
+ghost use Rattle.std.specs.Prelude.{◌≡◌, ◌↔◌, ◌++◌, IsTrue, IfOk, OnOk, ◌||◌, codes, bytes_eq, unwrap_or};
 ghost use Rattle.wf_origin.specs.Origins as spec;
+ghost use Rattle.std.specs.Option.{option_or};
 ghost use Rattle.url.specs.Parts.{nonempty_host};
+ghost use Rattle.url.specs.Scheme.{default_port};
 
 use std::alloc::Global;
 use std::net::{Ipv4Addr, Ipv6Addr};
@@ -48,12 +50,14 @@ impl Origin {
     }
 }
 
+// Whether the scheme is http or https.
 fn is_http(scheme: &str) -> bool
     ensures { result ≡ spec.is_http scheme.now }
 {
     scheme == "http" || scheme == "https"
 }
 
+// The host of a URL by its kind; one without a host has the empty domain.
 fn kind_of(alloc: Global, url: &Url) -> Result<HostKind, OutOfMemory>
     ensures { IfOk result (λ host. host ≡ spec.kind_of_host (nonempty_host url.now)) }
 {
@@ -65,18 +69,19 @@ fn kind_of(alloc: Global, url: &Url) -> Result<HostKind, OutOfMemory>
     }
 }
 
-/// The tuple of scheme, host and port that is the origin of an http or https URL (URL, section 4.7).
+/// The tuple of scheme, host and port that is the origin of an http or https URL (URL, section 4.7,
+/// "origin").
 pub fn tuple_origin(alloc: Global, url: &Url) -> Result<Origin, OutOfMemory>
     ensures { IfOk result (λ origin. origin ≡ spec.tuple_origin url.now) }
 {
     let scheme = Bytes::of(alloc, url.scheme().as_bytes())?;
     let host = kind_of(alloc, url)?;
-    let port = url.port_or_known_default().unwrap_or(0);
+    let port = port_of(url);
     Ok(Origin { scheme, host, port })
 }
 
-/// The origin of a URL, or nothing exactly where its scheme is neither http nor https
-/// (URL, section 4.7).
+/// The origin of a URL, or nothing exactly where its scheme is neither http nor https (URL, section
+/// 4.7, "origin").
 pub fn origin_of(alloc: Global, url: &Url) -> Result<Option<Origin>, OutOfMemory>
     ensures { IfOk result (λ origin. origin ≡ spec.origin_of url.now) }
 {
@@ -86,6 +91,7 @@ pub fn origin_of(alloc: Global, url: &Url) -> Result<Option<Origin>, OutOfMemory
     Ok(Some(tuple_origin(alloc, url)?))
 }
 
+// Whether two hosts are of one kind and identical.
 fn same_host(a: &HostKind, b: &HostKind) -> bool
     ensures { result ≡ spec.same_host a.now b.now }
 {
@@ -97,8 +103,8 @@ fn same_host(a: &HostKind, b: &HostKind) -> bool
     }
 }
 
-/// Whether two origins are the same: their schemes, hosts and ports are identical
-/// (HTML, section 7.1.1). It takes no memory.
+/// Whether two origins are the same: their schemes, hosts and ports are identical (HTML, section
+/// 7.1.1, "same origin"). It takes no memory.
 pub fn same_origin(a: &Origin, b: &Origin) -> bool
     ensures value { result ≡ spec.same_origin a.now b.now }
     ensures equal { IsTrue result ↔ (a.now ≡ b.now) }
@@ -106,6 +112,39 @@ pub fn same_origin(a: &Origin, b: &Origin) -> bool
     a.scheme.as_slice() == b.scheme.as_slice() && same_host(&a.host, &b.host) && a.port == b.port
 }
 
+/// Whether the host of an origin is that of a URL, whatever their schemes and ports. It takes no
+/// memory.
+pub fn is_host_of(origin: &Origin, url: &Url) -> bool
+    ensures { result ≡ spec.is_host_of origin.now url.now }
+{
+    match (&origin.host, url.host()) {
+        (HostKind::Domain(name), None) => name.is_empty(),
+        (HostKind::Domain(name), Some(Host::Domain(other))) => name.as_slice() == other.as_bytes(),
+        (HostKind::V4(bits), Some(Host::Ipv4(address))) => *bits == address.to_bits(),
+        (HostKind::V6(bits), Some(Host::Ipv6(address))) => *bits == address.to_bits(),
+        _ => false,
+    }
+}
+
+// The port of a URL, or the default one of its scheme where it has none.
+fn port_of(url: &Url) -> u16
+    ensures { result ≡ unwrap_or (option_or url.now.port (default_port url.now.scheme)) 0 }
+{
+    url.port_or_known_default().unwrap_or(0)
+}
+
+/// Whether a URL is http or https and has this origin: `origin_of` of the URL gives one that is the
+/// same. It takes no memory.
+pub fn is_origin_of(origin: &Origin, url: &Url) -> bool
+    ensures { result ≡ spec.is_origin_of origin.now url.now }
+{
+    is_http(url.scheme())
+        && origin.scheme.as_slice() == url.scheme().as_bytes()
+        && is_host_of(origin, url)
+        && origin.port == port_of(url)
+}
+
+// Whether the port is the default one of http or of https.
 fn is_default_port(scheme: &[u8], port: u16) -> bool
     ensures { result ≡ spec.is_default_port scheme.now port }
 {
@@ -144,7 +183,7 @@ fn add_port(alloc: Global, text: &mut Bytes, scheme: &[u8], port: u16) -> Result
 }
 
 /// The serialization of an origin: scheme, `://`, host, and `:` and the port where it is not the
-/// default port of http or https (HTML, section 7.1.1).
+/// default port of http or https (HTML, section 7.1.1, "serialization of an origin").
 pub fn serialize(alloc: Global, origin: &Origin) -> Result<Bytes, OutOfMemory>
     ensures { IfOk result (λ text. text ≡ spec.serialized origin.now) }
 {

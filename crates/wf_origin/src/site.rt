@@ -5,7 +5,7 @@ ghost use Rattle.wf_origin.specs.Names as names;
 use crate::names::{last_two_labels, without_last_dot};
 use crate::origin::{HostKind, Origin};
 
-/// The site of a domain.
+// The site of a domain.
 fn site_of_name(name: &[u8]) -> &[u8]
     ensures { result.now ≡ names.last_two_labels (names.without_last_dot name.now) }
 {
