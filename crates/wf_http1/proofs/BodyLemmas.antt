@@ -20,24 +20,6 @@ use Rattle.wf_http1.specs.declared.taking.Found.{Found}
 use Rattle.wf_http1.specs.declared.taking.Found.TheVariants.{Open}
 use Rattle.wf_http1.proofs.ChunkLemmas.{data-byte, decoded-chunks, fails_eq}
 
--- ---- for those who drive a reader
-
--- bytes that decide the body do so whatever follows
-pub decided : (how : Framing) (limit : ℕ) (bytes : List ℕ) (end : BodyEnd) → IsDecided how limit bytes end
-    → (more : List ℕ) → body_end how limit (bytes ++ more) ≡ end
-decided how limit bytes end decides more = decides more
-
--- and they are decided themselves
-pub decided-here : (how : Framing) (limit : ℕ) (bytes : List ℕ) (end : BodyEnd) → IsDecided how limit bytes end
-    → body_end how limit bytes ≡ end
-decided-here how limit bytes end decides = ap (body_end how limit) (sym (append-nil bytes)) ∙ decides []
-
--- more bytes decide it too, with the same end
-pub decided-on : (how : Framing) (limit : ℕ) (bytes more : List ℕ) (end : BodyEnd) → IsDecided how limit bytes end
-    → IsDecided how limit (bytes ++ more) end
-decided-on how limit bytes more end decides rest = ap (body_end how limit) (append_assoc bytes more rest)
-    ∙ decides (more ++ rest)
-
 -- ---- ends are told apart
 
 -- how far an end goes: by the bytes of the body, and then by whether they are all

@@ -39,14 +39,6 @@ abbrev behind_lf : List ℕ → Option (List ℕ)
 behind_lf [] = None
 behind_lf (byte ∷ rest) = if byte == 10 then Some rest else None
 
-behind_crlf-lf : (rest : List ℕ) → behind_crlf (13 ∷ rest) ≡ behind_lf rest
-behind_crlf-lf [] = refl
-behind_crlf-lf (byte ∷ rest) = refl
-
-behind_crlf-other : (byte : ℕ) (rest : List ℕ) → byte ≢ 13 → behind_crlf (byte ∷ rest) ≡ None
-behind_crlf-other byte [] other = refl
-behind_crlf-other byte (next ∷ rest) other = rw (fails_eq byte 13 other) refl
-
 -- what follows the line at the front
 abbrev tail_of : List ℕ → Option (List ℕ)
 tail_of bytes = behind_crlf (drop (length (line_of bytes)) bytes)

@@ -80,14 +80,6 @@ line-quiet before byte (next ∷ text) end none line each =
       line = subst EndsLine (append_assoc before (byte ∷ []) (next ∷ (text ++ print_end end))) more.line;
     }
 
--- what ends in a line holds a byte of one
-pub ends_line-some : (text : List ℕ) → EndsLine text → list_any is_line_byte text ≡ true
-ends_line-some text end =
-    ap (λ (l : List ℕ). list_any is_line_byte l) end.whole
-    ∙ list_any-append is_line_byte end.front (end.byte ∷ print_end end.end)
-    ∙ or-right (list_any is_line_byte end.front) (list_any is_line_byte (end.byte ∷ print_end end.end))
-    (ap (λ (b : Bool). b || list_any is_line_byte (print_end end.end)) end.line)
-
 -- and is no block
 pub ends_line-none : (text : List ℕ) → EndsLine text → is_block text ≡ false
 ends_line-none text end =

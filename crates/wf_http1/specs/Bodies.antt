@@ -22,10 +22,6 @@ body_end framing.ToEnd limit bytes = ended limit true bytes
 body_end (framing.Length n) limit bytes = ended limit (nat_le n (length bytes)) (take n bytes)
 body_end framing.Chunked limit bytes = ended limit (decoded bytes).complete (decoded bytes).data_is
 
--- the body of an answer whose head was this one, and whose bytes behind it are these
-abbrev pub body_of_answer : Head → ℕ → List ℕ → BodyEnd
-body_of_answer head limit bytes = body_end (framing_of head) limit bytes
-
 -- the bytes decide the body: whatever bytes follow, it comes to this end
 abbrev pub IsDecided : Framing → ℕ → List ℕ → BodyEnd → Type 0
 IsDecided how limit bytes end = (more : List ℕ) → body_end how limit (bytes ++ more) ≡ end

@@ -42,11 +42,6 @@ skip-left answer piece at text e left =
         no h = omega arith
     kept (byte ∷ rest) pieces h = refl
 
--- behind the last piece there is nothing
-pub skip-end : (answer : List (List ℕ)) (piece at : ℕ) → length answer ≤ piece
-    → skipped (behind at (drop piece answer)) ≡ behind at (drop piece answer)
-skip-end answer piece at past = rw (drop_of_length-le answer past) refl
-
 -- the piece at an index is in front
 pub front-at : (answer : List (List ℕ)) (piece : ℕ) (text : List ℕ) → slice_get answer piece ≡ Some text
     → front (drop piece answer) ≡ text

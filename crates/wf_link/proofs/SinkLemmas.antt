@@ -38,15 +38,6 @@ wrote-more a b c text rest n w le took = record {
       (take-add w.count n text ∙ ap (λ (l : List ℕ). take w.count text ++ take n l) (sym w.left));
 }
 
--- a part of what is left, or nothing, is a part of the text
-pub wrote-part : (a b c : Option (List ℕ)) (text rest : List ℕ) → Wrote a b text rest → TookPart b c rest
-    → TookPart a c text
-wrote-part a b c text rest w part = (
-  w.count + part.0,
-  took-again a b c (take w.count text) (take part.0 rest) (take (w.count + part.0) text) w.taken
-      part.1 (take-add w.count part.0 text ∙ ap (λ (l : List ℕ). take w.count text ++ take part.0 l) (sym w.left)),
-)
-
 -- the first text whole, and then a part of the second
 pub part-after : (a b c : Option (List ℕ)) (x y : List ℕ) → Took a b x → TookPart b c y → TookPart a c (x ++ y)
 part-after a b c x y took part = (

@@ -1,1 +1,2 @@
 pub mod Sim
+pub mod Laws

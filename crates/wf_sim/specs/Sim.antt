@@ -1,7 +1,8 @@
 -- Scripted servers on a link: what they take from a request's first line (RFC 9112, section 3), and what
 -- a receive gives of the answer.
-use Rattle.std.specs.Prelude.{ℕ, Bool, ◌==◌, not, min, drop, length, List, Option, None}
-use Rattle.std.specs.List.{after_first, before_first, list_all}
+use Rattle.std.specs.Prelude.{ℕ, Bool, ◌==◌, min, drop, length, List, Option, None}
+use Rattle.std.specs.List.{after_first, before_first}
+use Rattle.wf_text.specs.Ascii.{space}
 use Rattle.wf_link.specs.declared.target.Ask.{Ask}
 use Rattle.wf_script.specs.Servers.{answer}
 use Rattle.wf_script.specs.declared.types.Server.{Server}
@@ -10,11 +11,7 @@ use Rattle.wf_script.specs.declared.types.Server.{Server}
 
 -- SP, which parts a request's first line
 abbrev pub is_space : ℕ → Bool
-is_space byte = byte == 32
-
--- there is no space in the text
-abbrev pub lacks_space : List ℕ → Bool
-lacks_space text = list_all (λ byte. not (is_space byte)) text
+is_space byte = byte == space
 
 -- the method: what stands before the first space
 abbrev pub method_of : List ℕ → List ℕ

@@ -1,9 +1,11 @@
 // Scripted servers: a link whose answers stand in the scenario.
 #![tactic(auto)]
 
+mod laws;
 mod request;
 mod sim_link;
 #[cfg(test)]
 mod tests;
 
+pub use laws::law_answers_by_parts;
 pub use sim_link::SimLink;

@@ -62,15 +62,19 @@ impl<'a> Link for SimLink<'a> {
     ghost faults = { λ _. fault_count };
 
     /// Asks the scripted server of the target's origin. The answer is then to come: that of the
-    /// first rule for the request's method and target. It never fails.
+    /// first rule for the request's method and target, which its first line gives. It never fails.
     fn ask(&mut self, target: &Target, request: &[u8]) -> Result<(), Failed>
         ensures state { Some self.new.servers ≡ Some self.old.servers }
-        ensures answered { OnOk result (Some self.new.left ≡ Some (answer_to self.old.servers target.now.origin request.now)) }
-        ensures asked { OnOk result (Asked told_asks told_asks (record { origin = target.now.origin; request = request.now })) }
-        ensures failed { OnErr result (MayHaveAsked told_asks told_asks (record { origin = target.now.origin; request = request.now })) }
+        ensures answered { OnOk result (Some self.new.left
+            ≡ Some (answer_to self.old.servers target.now.origin request.now)) }
+        ensures asked { OnOk result (Asked told_asks told_asks
+            (record { origin = target.now.origin; request = request.now })) }
+        ensures failed { OnErr result (MayHaveAsked told_asks told_asks
+            (record { origin = target.now.origin; request = request.now })) }
         ensures cause { HasCause fault_count fault_count result }
         ensures answer { result ≡ Ok tt }
-        ensures after { self.new ≡ record self.old { left = answer_to self.old.servers target.now.origin request.now } }
+        ensures after { self.new
+            ≡ record self.old { left = answer_to self.old.servers target.now.origin request.now } }
     {
         let origin = target.origin.as_slice();
         self.left = self
