@@ -24,9 +24,10 @@ LegalFrom-snoc book t n (x ∷ xs) e legal low below turn is =
     (legal.0, legal.1, LegalFrom-snoc (after book x.op) (x.turn + 1) n xs e legal.2 next below.1 turn is)
 
 pub grown : GrowsByAnEntry
-grown opening turn history e legal below at is =
-    (LegalFrom-snoc opening 0 turn history e legal (omega arith) below at is,
-    book_after-append opening history (e ∷ []))
+grown opening turn history e legal below at is = (
+  LegalFrom-snoc opening 0 turn history e legal (omega arith) below at is,
+  book_after-append opening history (e ∷ []),
+)
 
 pub AllTurnsBelow-mono : (m n : ℕ) (history : List Entry) → m ≤ n → AllTurnsBelow m history → AllTurnsBelow n history
 AllTurnsBelow-mono m n [] le all = tt

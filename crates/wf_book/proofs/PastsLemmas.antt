@@ -28,8 +28,8 @@ module _ (law : PastReplies) (opening : Book) (document : ℕ) (key : List ℕ) 
       answer-by before e (pasts_from document key (before ++ e ∷ []) es) (entries_of document es)
       (e.document == document) legal.1
       (answer-from (e.turn + 1) (before ++ e ∷ []) es
-          (subst (λ (book : Book). LegalFrom book (e.turn + 1) es)
-          (sym (book_after-append opening before (e ∷ []))) legal.2))
+      (subst (λ (book : Book). LegalFrom book (e.turn + 1) es)
+      (sym (book_after-append opening before (e ∷ []))) legal.2))
       all
 
 pub pasts-answer : PastReplies → PastsAnswer

@@ -13,7 +13,7 @@ use Rattle.wf_precache.specs.Cache.{covers}
 use Rattle.wf_book.specs.Book.{after, reply, yes_or_no}
 use Rattle.wf_book.specs.Entries.{AllTurnsBelow, Extends, Legal, book_after, entry}
 use Rattle.wf_book.specs.Ops.{is_answer, is_question}
-use Rattle.wf_book.specs.Solo.{IsSolo}
+use Rattle.wf_book.specs.Private.Solo.{IsSolo}
 use Rattle.wf_book.proofs.EntryLemmas.{AllTurnsBelow-mono, AllTurnsBelow-snoc, LegalFrom-snoc, book_after-append}
 
 yes_or_no-answers : (b : Bool) → is_answer (yes_or_no b) ≡ true

@@ -13,6 +13,7 @@ use Rattle.wf_book.specs.declared.op.Reply.TheVariants.{Yes, No, Done}
 abbrev pub empty : Book
 empty = record { hosts = []; cache = [] }
 
+-- the reply to a question
 abbrev pub yes_or_no : Bool → Reply
 yes_or_no true = Yes
 yes_or_no false = No

@@ -6,6 +6,7 @@ use Rattle.wf_book.specs.declared.op.Op.{Op}
 use Rattle.wf_book.specs.declared.op.Reply.{Reply}
 use Rattle.wf_book.specs.Book.{reply, after}
 
+-- an entry
 abbrev pub entry : ℕ → ℕ → Op → Reply → Entry
 entry turn document op answer = record { turn = turn; document = document; op = op; reply = answer }
 
@@ -17,7 +18,8 @@ book_after book (e ∷ es) = book_after (after book e.op) es
 -- turn numbers rise from this one on, and each reply is that of the book after the entries before
 abbrev pub LegalFrom : Book → ℕ → List Entry → Type 0
 LegalFrom book turn [] = Unit {0}
-LegalFrom book turn (e ∷ es) = (turn ≤ e.turn) × (e.reply ≡ reply book e.op) × LegalFrom (after book e.op) (e.turn + 1) es
+LegalFrom book turn (e ∷ es) =
+    (turn ≤ e.turn) × (e.reply ≡ reply book e.op) × LegalFrom (after book e.op) (e.turn + 1) es
 
 -- a legal history of the book
 abbrev pub Legal : Book → List Entry → Type 0
@@ -26,8 +28,10 @@ Legal book history = LegalFrom book 0 history
 -- the entries of a document, in order
 abbrev pub entries_of : ℕ → List Entry → List Entry
 entries_of document [] = []
-entries_of document (e ∷ es) = if e.document == document then e ∷ entries_of document es else entries_of document es
+entries_of document (e ∷ es) =
+    if e.document == document then e ∷ entries_of document es else entries_of document es
 
+-- all turn numbers are below this one
 abbrev pub AllTurnsBelow : ℕ → List Entry → Type 0
 AllTurnsBelow turn [] = Unit {0}
 AllTurnsBelow turn (e ∷ es) = (e.turn < turn) × AllTurnsBelow turn es
@@ -38,7 +42,8 @@ StartsWith history seen = (rest : List Entry) × (history ≡ seen ++ rest)
 
 -- a call of the document added this op and reply, as the last entry of its own and of what it has
 -- seen, which is a legal history of the opening book
-pub record Extends (opening : Book) (document : ℕ) (op : Op) (answer : Reply) (own own' seen seen' : List Entry) : Type 0 where
+pub record Extends (opening : Book) (document : ℕ) (op : Op) (answer : Reply)
+    (own own' seen seen' : List Entry) : Type 0 where
   pub entry : Entry
   pub document_is : entry.document ≡ document
   pub op_is : entry.op ≡ op
@@ -51,9 +56,11 @@ pub record Extends (opening : Book) (document : ℕ) (op : Op) (answer : Reply) 
 -- a history that is legal stays so where an entry with the next turn and the book's reply is added,
 -- and the book is then the one after that entry's op
 abbrev pub GrowsByAnEntry : Type 0
-GrowsByAnEntry = (opening : Book) (turn : ℕ) (history : List Entry) (e : Entry) → Legal opening history → AllTurnsBelow turn history
+GrowsByAnEntry = (opening : Book) (turn : ℕ) (history : List Entry) (e : Entry)
+    → Legal opening history → AllTurnsBelow turn history
     → e.turn ≡ turn → e.reply ≡ reply (book_after opening history) e.op
-    → Legal opening (history ++ e ∷ []) × (book_after opening (history ++ e ∷ []) ≡ after (book_after opening history) e.op)
+    → Legal opening (history ++ e ∷ [])
+    × (book_after opening (history ++ e ∷ []) ≡ after (book_after opening history) e.op)
 
 -- an entry more is the last of its own document, and leaves the entries of every other one
 abbrev pub IsLastOfItsDocument : Type 0

@@ -2,4 +2,5 @@ pub mod Book
 pub mod Entries
 pub mod Ops
 pub mod Past
+pub mod Private
 pub mod Solo

@@ -15,6 +15,7 @@ pub struct Book {
     cache: Precache,
 }
 
+// The reply to a question.
 fn answer(yes: bool) -> Reply
     ensures { result ≡ yes_or_no yes }
 {

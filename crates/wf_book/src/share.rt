@@ -48,7 +48,8 @@ pub trait Share {
         ensures belongs { belongs self.now pass.new }
         ensures same { (document pass.new ≡ document pass.old) × (opening pass.new ≡ opening pass.old) }
         ensures left { left pass.new ≡ left pass.old - 1 }
-        ensures ok { IfOk result (λ answer. Extends (opening pass.old) (document pass.old) op answer (own pass.old) (own pass.new) (seen pass.old) (seen pass.new)) }
+        ensures ok { IfOk result (λ answer. Extends (opening pass.old) (document pass.old) op answer
+            (own pass.old) (own pass.new) (seen pass.old) (seen pass.new)) }
         ensures kind { IfOk result (λ answer. is_answer answer ≡ is_question op) }
         ensures err { OnErr result ((own pass.new ≡ own pass.old) × StartsWith (seen pass.new) (seen pass.old)) };
 }

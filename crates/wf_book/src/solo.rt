@@ -26,7 +26,8 @@ pub struct SoloPass {
 }
 
 impl Model for SoloPass {
-    ghost use Rattle.wf_book.specs.Solo.{IsSolo, Solo};
+    ghost use Rattle.wf_book.specs.Private.Solo.{IsSolo};
+    ghost use Rattle.wf_book.specs.Solo.{Solo};
 
     ghost Value = { Solo };
 

@@ -27,7 +27,7 @@ pub struct KnownHost {
 #[derive(Drop)]
 pub struct HstsList {
     alloc: Global,
-    pub(crate) index: Index,
+    index: Index,
 }
 
 impl Model for HstsList {

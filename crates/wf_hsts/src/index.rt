@@ -143,10 +143,3 @@ impl Index {
         }
     }
 }
-
-#[cfg(test)]
-impl Index {
-    pub(crate) fn terms(&self) -> &BTreeMap<Vec<u8>, Term> {
-        &self.terms
-    }
-}

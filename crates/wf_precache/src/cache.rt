@@ -4,9 +4,6 @@ ghost use Rattle.wf_precache.specs.Cache.{cleared, covers, learned};
 ghost use Rattle.wf_precache.specs.Keys.{IsCache, entries_of, with_entries};
 ghost use Rattle.wf_precache.specs.Private.Partitions.{key_cmp, listed};
 
-#[cfg(test)]
-mod tests;
-
 use crate::entry::CacheEntry;
 use crate::partition::{Partition, covers};
 use crate::question::{Lesson, Question};
@@ -105,6 +102,14 @@ impl Precache {
             alloc,
             partitions: BTreeMap::new(alloc),
         }
+    }
+
+    /// The entries of a key, in the order of their creation. It takes no memory.
+    pub fn entries_of(&self, key: &[u8]) -> &[CacheEntry]
+        ensures entries { result.now ≡ entries_of key.now self.now }
+        ensures cache { IsCache self.now }
+    {
+        entries_of(&self.partitions, key)
     }
 
     /// Whether the method, if the question has one, and each of its header names are matched by an
