@@ -1,17 +1,23 @@
 -- A fetch: main fetch and what it calls (Fetch, sections 4.1, 4.3 and 4.6), for requests in mode
 -- same-origin. Each rule hands what it came to on to `next`, as the standard's steps return to the step
 -- that called them.
-use Rattle.std.specs.Prelude.{ℕ, ◌==◌, ◌&&◌, ◌||◌, Bool, true, false, not, List, [], ◌∷◌, length, codes, bytes_eq, Option, Some, None, Result, Ok, Err, if◌then◌else◌}
+--
+-- Main fetch does not look yet at what no request of today's scripts has: an integrity text, a destination,
+-- a bad port, an http URL that is to be upgraded; nor HTTP fetch at a redirect status or at
+-- Strict-Transport-Security in a head. Such a head is handed over as any other.
+use Rattle.std.specs.Prelude.{ℕ, ◌==◌, ◌&&◌, ◌||◌, Bool, true, false, not, List, [], ◌∷◌, length, codes, bytes_eq}
+use Rattle.std.specs.Prelude.{Option, Some, None, Result, Ok, Err, if◌then◌else◌}
 use Rattle.std.specs.List.{list_any}
 use Rattle.url.specs.Parts.{Parts, serialize}
 use Rattle.wf_headers.specs.declared.headers.Header.{Header}
 use Rattle.wf_headers.specs.Headers.{without}
 use Rattle.wf_headers.specs.Split.{split_values}
-use Rattle.wf_origin.specs.Origins.{origin_of}
+use Rattle.wf_origin.specs.Origins.{is_origin_of}
 use Rattle.wf_types.specs.declared.client.Client.{Client}
 use Rattle.wf_types.specs.declared.client.Cookie.{Cookie}
 use Rattle.wf_types.specs.declared.error.NetError.{NetError}
-use Rattle.wf_types.specs.declared.error.NetError.TheVariants.{Scheme, SameOriginMode, Coding, LinkFault, BadHead, HeadTooBig}
+use Rattle.wf_types.specs.declared.error.NetError.TheVariants.{Scheme, SameOriginMode, Coding, LinkFault, BadHead}
+use Rattle.wf_types.specs.declared.error.NetError.TheVariants.{HeadTooBig}
 use Rattle.wf_types.specs.declared.hop.Head.{Head}
 use Rattle.wf_types.specs.declared.mode.ReferrerPolicy.{ReferrerPolicy}
 use Rattle.wf_types.specs.declared.mode.ReferrerPolicy.TheVariants as policy
@@ -23,7 +29,7 @@ use Rattle.wf_types.specs.declared.response.BodyEnd.TheVariants.{Null}
 use Rattle.wf_types.specs.declared.response.Response.{Response}
 use Rattle.wf_types.specs.declared.response.ResponseKind.TheVariants.{Basic}
 use Rattle.wf_types.specs.declared.response.Outcome.TheVariants.{Answer, Error}
-use Rattle.wf_types.specs.Requests.{current_url, is_http_url, is_origin}
+use Rattle.wf_types.specs.Requests.{current_url, is_http_url}
 use Rattle.wf_send.specs.Heads.{hop_of}
 use Rattle.wf_fetch.specs.declared.act.Act.TheVariants.{Send, ReadHead, ReadBody}
 use Rattle.wf_fetch.specs.declared.act.Input.{Input}
@@ -92,7 +98,7 @@ is_basic _ = false
 
 -- the request stands at a URL of its own origin, and its tainting is basic
 abbrev pub is_at_home : Request → Bool
-is_at_home request = is_basic request.tainting && is_origin request.origin (origin_of (current_url request))
+is_at_home request = is_basic request.tainting && is_origin_of request.origin (current_url request)
 
 -- the switch: a URL of the request's origin is fetched, and mode same-origin refuses another
 abbrev pub main_switch : Context → Then → Request → Process

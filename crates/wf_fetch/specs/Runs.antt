@@ -1,6 +1,7 @@
 -- A document's run: its script's commands in order, each fetch with what it shows and what it came to
 -- (Fetch, section 5.6, for each `fetch` of a script), and the limits at which a run ends early.
-use Rattle.std.specs.Prelude.{ℕ, ◌+◌, nat_le, nat_lt, List, [], ◌∷◌, ◌++◌, map, sum_by, length, Option, Some, None, Result, Ok, Err, if◌then◌else◌}
+use Rattle.std.specs.Prelude.{ℕ, ◌+◌, nat_le, nat_lt, List, [], ◌∷◌, ◌++◌, map, sum_by, length, Option, Some, None}
+use Rattle.std.specs.Prelude.{Result, Ok, Err, if◌then◌else◌}
 use Rattle.wf_text.specs.Trims.{http_whitespace, trimmed}
 use Rattle.wf_types.specs.declared.client.Client.{Client}
 use Rattle.wf_types.specs.declared.client.Cookie.{Cookie}
@@ -99,7 +100,8 @@ started progress = record progress { commands = progress.commands + 1; fetches =
 -- one command
 abbrev pub command_run : Context → Command → Next → Next
 command_run context (command.Fetch init) next progress =
-    showing (Fetch progress.fetches) (fetched context (new_request context.client (normalized_init init)) next) (started progress)
+    showing (Fetch progress.fetches) (fetched context (new_request context.client (normalized_init init)) next)
+        (started progress)
 
 -- the clock stands still
 abbrev pub ends : Ending → Play

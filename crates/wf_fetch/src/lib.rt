@@ -5,8 +5,6 @@ mod act;
 mod machine;
 mod normalize;
 mod place;
-#[cfg(test)]
-mod tests;
 
 pub use act::{Act, Input, fits};
 pub use normalize::normalized_init;

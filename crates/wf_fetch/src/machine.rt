@@ -1,9 +1,8 @@
 ghost use Rattle.std.specs.Prelude.{◌≡◌, ◌∷◌, IfOk, IsTrue, Ok, Err};
 ghost use Rattle.std.specs.List.{list_any};
-ghost use Rattle.wf_origin.specs.Origins.{origin_of as origin_in};
 ghost use Rattle.wf_types.specs.declared.client.Client.{Client as LentClient};
 ghost use Rattle.wf_types.specs.declared.mode.Mode.TheVariants.{SameOrigin};
-ghost use Rattle.wf_types.specs.Requests.{IsRequest, IsAtHttp, is_determined, is_http_url, is_origin};
+ghost use Rattle.wf_types.specs.Requests.{IsRequest, IsAtHttp, is_determined, is_http_url};
 ghost use Rattle.wf_fetch.specs.Fetch as spec;
 ghost use Rattle.wf_fetch.specs.Fetch.{Context, lent};
 ghost use Rattle.wf_fetch.specs.Process.{fits, run};
@@ -14,7 +13,7 @@ use crate::place::{Fetching, Place, Step};
 use std::alloc::Global;
 use url::{Position, Url};
 use wf_headers::HeaderList;
-use wf_origin::{Origin, origin_of, same_origin};
+use wf_origin::is_origin_of;
 use wf_send::hop_of;
 use wf_text::{Bytes, BytesList, OutOfMemory};
 use wf_types::{
@@ -200,25 +199,12 @@ fn http_fetch(alloc: Global, request: Request, cookies: &Cookies) -> Result<Step
     Ok(Step::Going(Fetching { request, place }, Act::Send(hop)))
 }
 
-// Whether the URL has that origin.
-fn has_origin(alloc: Global, url: &Url, origin: &Origin) -> Result<bool, OutOfMemory>
-    ensures { IfOk result (λ same. same ≡ is_origin origin.now (origin_in url.now)) }
-{
-    match origin_of(alloc, url)? {
-        None => Ok(false),
-        Some(other) => Ok(same_origin(origin, &other)),
-    }
-}
-
 // Whether the request stands at a URL of its own origin, and has stood at no other.
-fn is_at_home(alloc: Global, request: &Request) -> Result<bool, OutOfMemory>
+fn is_at_home(request: &Request) -> bool
     requires { IsRequest request.now }
-    ensures { IfOk result (λ home. home ≡ spec.is_at_home request.now) }
+    ensures { result ≡ spec.is_at_home request.now }
 {
-    if request.tainting != Tainting::Basic {
-        return Ok(false);
-    }
-    has_origin(alloc, request.current_url(), &request.origin)
+    request.tainting == Tainting::Basic && is_origin_of(&request.origin, request.current_url())
 }
 
 // The switch: a URL of the request's origin is fetched, and mode same-origin refuses another.
@@ -229,7 +215,7 @@ fn main_switch(alloc: Global, request: Request, cookies: &Cookies) -> Result<Ste
     ensures { (client : LentClient) → Leads (lent client cookies.now) result
         (spec.main_switch (lent client cookies.now) spec.finished request) }
 {
-    if is_at_home(alloc, &request)? {
+    if is_at_home(&request) {
         http_fetch(alloc, request, cookies)
     } else {
         finished(alloc, request, Err(NetError::SameOriginMode))

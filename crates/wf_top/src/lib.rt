@@ -7,8 +7,6 @@ mod play;
 mod program;
 mod running;
 mod status;
-#[cfg(test)]
-mod tests;
 mod words;
 
 pub use program::fetchplay;

@@ -69,7 +69,8 @@ fn verdict<S: Source, K: Sink>(
     input: &mut S,
     output: &mut K,
 ) -> Status
-    ensures { IsVerdict (spec.is_play (texts words.now)) (source_of S.left S.faults input.old) (source_of S.left S.faults input.new)
+    ensures { IsVerdict (spec.is_play (texts words.now))
+        (source_of S.left S.faults input.old) (source_of S.left S.faults input.new)
         (sink_of K.taken K.faults K.zeros output.old) (sink_of K.taken K.faults K.zeros output.new) result }
 {
     if !is_play(words) {

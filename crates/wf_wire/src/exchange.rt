@@ -44,6 +44,16 @@ fn broken_off(end: BodyEnd) -> BodyEnd {
     }
 }
 
+// The same end of a body, which holds no more room than it needs.
+fn fitted(alloc: Global, end: BodyEnd) -> Result<BodyEnd, OutOfMemory>
+    ensures { IfOk result (λ fitted. fitted ≡ end) }
+{
+    match end {
+        BodyEnd::Whole(bytes) => Ok(BodyEnd::Whole(bytes.fitted(alloc)?)),
+        other => Ok(other),
+    }
+}
+
 impl<'a> Wire<'a> {
     /// Does an act and answers what comes of it: a request is sent to the scripted servers; the head of
     /// their answer is read, of which the link gives 65,537 bytes at most; or the body behind it, which
@@ -55,7 +65,8 @@ impl<'a> Wire<'a> {
         limit: u32,
         act: &Act,
     ) -> Result<Input, OutOfMemory>
-        ensures came { IfOk result (λ input. spec.Exchanges limit (exchange_of self.old) act.now input (exchange_of self.new)) }
+        ensures came { IfOk result (λ input. spec.Exchanges limit (exchange_of self.old) act.now input
+            (exchange_of self.new)) }
         ensures fits { IfOk result (λ input. IsTrue (fits act.now input)) }
     {
         match act {
@@ -134,7 +145,7 @@ impl<'a> Wire<'a> {
     {
         let end = self.body(alloc, limit)?;
         self.close();
-        Ok(Input::BodyIs(end))
+        Ok(Input::BodyIs(fitted(alloc, end)?))
     }
 
     // How the body behind the last head comes to its end.

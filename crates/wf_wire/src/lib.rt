@@ -2,8 +2,6 @@
 #![tactic(auto)]
 
 mod exchange;
-#[cfg(test)]
-mod tests;
 mod wire;
 
 pub use wire::Wire;

@@ -1,4 +1,4 @@
-use std::alloc::AllocError;
+use std::alloc::{AllocError, AllocFailed};
 use std::io;
 use wf_text::OutOfMemory;
 
@@ -14,6 +14,12 @@ impl From<OutOfMemory> for Failed {
 
 impl From<AllocError> for Failed {
     fn from(_error: AllocError) -> Self {
+        Failed
+    }
+}
+
+impl<T: Drop> From<AllocFailed<T>> for Failed {
+    fn from(_error: AllocFailed<T>) -> Self {
         Failed
     }
 }

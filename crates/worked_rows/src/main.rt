@@ -29,8 +29,8 @@ fn line<R: Threads + Wait + Sync + Print + AllocGlobal>(rt: &R, line: &str) -> R
     Ok(())
 }
 
-fn run(rt: &HostRuntime) -> Result<(), Failed> {
-    let text = io::read_to_string(rt.alloc(), rt.stdin())?;
+// All lines, in order.
+fn lines<R: Threads + Wait + Sync + Print + AllocGlobal>(rt: &R, text: &str) -> Result<(), Failed> {
     for row in text.lines() {
         line(rt, row)?;
     }
@@ -38,7 +38,10 @@ fn run(rt: &HostRuntime) -> Result<(), Failed> {
 }
 
 fn main(rt: HostRuntime) -> ExitCode {
-    match run(&rt) {
+    let Ok(text) = io::read_to_string(rt.alloc(), rt.stdin()) else {
+        return ExitCode::FAILURE;
+    };
+    match lines(&rt, text.as_str()) {
         Ok(()) => ExitCode::SUCCESS,
         Err(_) => ExitCode::FAILURE,
     }
