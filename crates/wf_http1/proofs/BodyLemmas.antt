@@ -7,7 +7,7 @@ use Rattle.std.proofs.lemmas.List.{append-nil}
 use Rattle.wf_types.specs.declared.response.BodyEnd.{BodyEnd}
 use Rattle.wf_types.specs.declared.response.BodyEnd.TheVariants.{Whole, Cut, TooBig}
 use Rattle.wf_http1.specs.Bodies.{ended, body_end, IsDecided, IsOpen}
-use Rattle.wf_http1.specs.Private.BodyPlaces.{Comes, IsKept, IsOn, IsReading, IsWaiting, rest_end}
+use Rattle.wf_http1.specs.Private.BodyPlaces.{Comes, most_held, IsKept, IsOn, IsReading, IsWaiting, rest_end}
 use Rattle.wf_http1.specs.BodyReading.{BodyReading}
 use Rattle.wf_http1.specs.Chunks.{Decoded}
 use Rattle.wf_http1.specs.Private.Places.{decoded_at}
@@ -201,7 +201,8 @@ read-on how limit bytes piece held held' room room' place place' reading on = re
 }
 
 -- a reader that begins
-pub begins : (how : Framing) (limit : ℕ) (bytes held : List ℕ) (room : ℕ) → bytes ≡ [] → held ≡ [] → limit ≤ room
+pub begins : (how : Framing) (limit : ℕ) (bytes held : List ℕ) (room : ℕ) → bytes ≡ [] → held ≡ []
+    → most_held how limit ≤ room
     → IsReading how limit bytes held room (Size 0 0)
 begins how limit bytes held room no_bytes none reserved = rw (no_bytes, none) record {
   meaning = meaning how;

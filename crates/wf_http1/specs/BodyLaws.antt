@@ -17,4 +17,5 @@ most_open framing.Chunked limit = (most_line + 1 + 2) * limit + (most_line + (mo
 
 -- bytes that leave a body open are so many at most
 abbrev pub OpenBodiesAreShort : Type 0
-OpenBodiesAreShort = (how : Framing) (limit : ℕ) (bytes : List ℕ) → IsOpen how limit bytes → length bytes ≤ most_open how limit
+OpenBodiesAreShort =
+    (how : Framing) (limit : ℕ) (bytes : List ℕ) → IsOpen how limit bytes → length bytes ≤ most_open how limit

@@ -1,6 +1,7 @@
 ghost use Rattle.std.specs.Prelude.{◌≡◌, ◌≤◌, [], length, IfOk};
 ghost use Rattle.wf_http1.specs.Bodies.{body_end};
 ghost use Rattle.wf_http1.specs.BodyFeeding.{IsFed};
+ghost use Rattle.wf_http1.specs.Private.BodyPlaces as places;
 ghost use Rattle.wf_http1.specs.Private.BodyPlaces.{IsKept, rest_end};
 ghost use Rattle.wf_http1.specs.Framings as spec;
 ghost use Rattle.wf_http1.specs.declared.place.Place.{Place};
@@ -20,7 +21,7 @@ use wf_types::{BodyEnd, Head};
 pub struct BodyReader {
     framing: Framing,
     limit: u32,
-    /// The decoded bytes so far, with room for the limit.
+    /// The decoded bytes so far, with room for as many as there may be.
     held: Vec<u8>,
     /// Where a body in chunks stands.
     place: Place,
@@ -51,7 +52,8 @@ pub enum BodyStep {
 }
 
 impl BodyReader {
-    /// A reader of the body behind a head, whose limit in bytes is reserved here.
+    /// A reader of the body behind a head, for which as many bytes are reserved here as it may have: the
+    /// limit, or its length where the framing tells a lesser one.
     pub fn new(alloc: Global, head: &Head, limit: u32) -> Result<BodyReader, OutOfMemory>
         ensures { IfOk result (λ reader. reader
             ≡ record { framing = spec.framing_of head.now; limit = limit; bytes = [] }) }
@@ -60,11 +62,11 @@ impl BodyReader {
         BodyReader::framed(alloc, framing, limit)
     }
 
-    /// A reader of a body with this framing, whose limit in bytes is reserved here.
+    /// A reader of a body with this framing, for which as many bytes are reserved here as it may have.
     pub fn framed(alloc: Global, framing: Framing, limit: u32) -> Result<BodyReader, OutOfMemory>
         ensures { IfOk result (λ reader. reader ≡ record { framing = framing; limit = limit; bytes = [] }) }
     {
-        let held = Vec::with_capacity(alloc, limit as usize)?;
+        let held = Vec::with_capacity(alloc, most_held(framing, limit))?;
         Ok(BodyReader {
             framing,
             limit,
@@ -77,8 +79,8 @@ impl BodyReader {
     /// Takes the next piece, which may be empty, and takes no memory. `Over` comes exactly where the
     /// bytes so far decide the body, whatever bytes follow: `Whole` with all of it, `Cut` with the number
     /// of bytes before what does not fit the framing, or `TooBig` with the byte after the limit (RFC
-    /// 9112, sections 6.3, 7.1 and 8). A whole body keeps the room of the limit: `Bytes::fitted` gives
-    /// it back.
+    /// 9112, sections 6.3, 7.1 and 8). A whole body keeps the room that was reserved: `Bytes::fitted`
+    /// gives it back.
     pub fn feed(self, piece: &[u8]) -> BodyStep
         ensures { IsFed self piece.now result }
     {
@@ -110,6 +112,17 @@ impl BodyReader {
         ensures { result ≡ body_end self.framing self.limit self.bytes }
     {
         end_here(self.framing, self.limit, self.held, self.place)
+    }
+}
+
+// How many bytes a body with this framing and limit has at most.
+fn most_held(framing: Framing, limit: u32) -> usize
+    ensures { result ≡ places.most_held framing limit }
+{
+    match framing {
+        Framing::Nothing | Framing::Broken => 0,
+        Framing::Length(total) => total.min(u64::from(limit)) as usize,
+        Framing::ToEnd | Framing::Chunked => limit as usize,
     }
 }
 

@@ -2,7 +2,7 @@
 ghost use Rattle.std.specs.Prelude.{◌≡◌, ◌≤◌, ◌<◌, ◌+◌, ◌++◌, length, take, min, nat_le, vec_capacity};
 ghost use Rattle.std.specs.Prelude.{if◌then◌else◌, ℕ, List};
 ghost use Rattle.wf_http1.specs.Bodies.{ended};
-ghost use Rattle.wf_http1.specs.Private.BodyPlaces.{Comes, IsKept, rest_end};
+ghost use Rattle.wf_http1.specs.Private.BodyPlaces.{Comes, IsKept, most_held, rest_end};
 ghost use Rattle.wf_http1.specs.Private.Places.{IsLive};
 ghost use Rattle.wf_http1.specs.declared.place.Place.{Place};
 
@@ -24,18 +24,19 @@ pub(crate) enum Found {
     TooBig,
 }
 
-// Takes bytes of the body where they do not exceed the limit, for which there is room.
+// Takes bytes of the body where they do not exceed the limit. Then there is room for them.
 fn take_data(held: &mut Vec<u8>, limit: u32, bytes: &[u8]) -> bool
     requires within { length held.old.items ≤ limit }
-    requires reserved { limit ≤ vec_capacity held.old }
+    requires reserved { length held.old.items + length bytes.now ≤ limit
+        → length held.old.items + length bytes.now ≤ vec_capacity held.old }
     ensures fits { result ≡ nat_le (length held.old.items + length bytes.now) limit }
     ensures items { held.new.items ≡ (if result then held.old.items ++ bytes.now else held.old.items) }
-    ensures reserved { limit ≤ vec_capacity held.new }
+    ensures room { vec_capacity held.old ≤ vec_capacity held.new }
 {
     if bytes.len() > limit as usize - held.len() {
         return false;
     }
-    // There is room for the limit.
+    // There is room.
     let _ = held.extend_from_slice(bytes);
     true
 }
@@ -58,7 +59,7 @@ fn take_all(held: &mut Vec<u8>, limit: u32, piece: &[u8]) -> Found
 // Takes a piece of a body of so many bytes.
 fn take_length(held: &mut Vec<u8>, limit: u32, total: u64, piece: &[u8]) -> Found
     requires within { length held.old.items ≤ limit }
-    requires reserved { limit ≤ vec_capacity held.old }
+    requires reserved { most_held (Framing.Length total) limit ≤ vec_capacity held.old }
     requires kept { length held.old.items ≤ total }
     ensures { (place : Place) → Comes (Framing.Length total) limit
         (λ more. rest_end (Framing.Length total) limit held.old.items place (piece.now ++ more))
@@ -123,7 +124,7 @@ pub(crate) fn take_piece(
     piece: &[u8],
 ) -> Found
     requires within { length held.old.items ≤ limit }
-    requires reserved { limit ≤ vec_capacity held.old }
+    requires reserved { most_held framing limit ≤ vec_capacity held.old }
     requires kept { IsKept framing held.old.items place.old }
     ensures { Comes framing limit (λ more. rest_end framing limit held.old.items place.old (piece.now ++ more))
         held.new.items (vec_capacity held.new) place.new result }

@@ -27,7 +27,9 @@ fn a_request_is_its_lines_and_its_body(rt: HostRuntime) -> Result<(), Fail> {
         body: Some(Bytes::of(alloc, b"q")?),
     };
     let expected =
-        "PUT /x HTTP/1.1\r\nHost: a.test\r\nX-A: 1\r\nContent-Type: text/plain;charset=UTF-8\r\nAccept: */*\r\nUser-Agent: fetchplay/1\r\nAccept-Encoding: identity\r\nOrigin: https://a.test\r\nContent-Length: 1\r\nConnection: close\r\n\r\nq";
+        "PUT /x HTTP/1.1\r\nHost: a.test\r\nX-A: 1\r\nContent-Type: text/plain;charset=UTF-8\r\n\
+        Accept: */*\r\nUser-Agent: fetchplay/1\r\nAccept-Encoding: identity\r\n\
+        Origin: https://a.test\r\nContent-Length: 1\r\nConnection: close\r\n\r\nq";
     assert_eq!(rt; write_request(alloc, &hop)?.as_slice(), expected.as_bytes());
     Ok(())
 }

@@ -14,7 +14,9 @@ fn scenario(alloc: Global) -> Result<Option<Scenario>, OutOfMemory>
     ensures { IfOk result (λ read. IfSome read IsValid) }
 {
     let text =
-        br#"{"format":1,"servers":[{"origin":"https://a.test","rules":[{"method":"PUT","path":"/x","status":200,"body":"hello"},{"path":"/y","status":204}]}],"piece":7,"documents":[]}"#;
+        br#"{"format":1,"documents":[],"piece":7,"servers":[{"origin":"https://a.test","rules":[
+        {"method":"PUT","path":"/x","status":200,"body":"hello"},
+        {"path":"/y","status":204}]}]}"#;
     Ok(Scenario::read(alloc, text)?.ok())
 }
 

@@ -1,5 +1,5 @@
 -- What a reader of a body holds, what the bytes that follow come to there, and what a piece comes to.
-use Rattle.std.specs.Prelude.{◌≡◌, ℕ, ◌≤◌, ◌<◌, List, [], ◌++◌, length}
+use Rattle.std.specs.Prelude.{◌≡◌, ℕ, ◌≤◌, ◌<◌, min, List, [], ◌++◌, length}
 use Rattle.wf_types.specs.declared.response.BodyEnd.{BodyEnd}
 use Rattle.wf_types.specs.declared.response.BodyEnd.TheVariants as end
 use Rattle.wf_http1.specs.declared.framing.Framing.{Framing}
@@ -15,6 +15,14 @@ abbrev pub rest_end : Framing → ℕ → List ℕ → Place → List ℕ → Bo
 rest_end framing.Chunked limit held place more =
     ended limit (decoded_at place more).complete (held ++ (decoded_at place more).data_is)
 rest_end how limit held place more = body_end how limit (held ++ more)
+
+-- how many bytes are held at most
+abbrev pub most_held : Framing → ℕ → ℕ
+most_held framing.Nothing limit = 0
+most_held framing.Broken limit = 0
+most_held (framing.Length total) limit = min total limit
+most_held framing.ToEnd limit = limit
+most_held framing.Chunked limit = limit
 
 -- what is held stays within the framing
 abbrev pub IsKept : Framing → List ℕ → Place → Type 0
@@ -32,12 +40,12 @@ IsWaiting framing.ToEnd held place = Unit {0}
 IsWaiting (framing.Length total) held place = length held < total
 IsWaiting framing.Chunked held place = IsLive place
 
--- A reader of a body with this framing and limit, after these bytes, holds bytes with room for the limit
--- and stands at a place.
+-- A reader of a body with this framing and limit, after these bytes, holds bytes with room for all that it
+-- may hold and stands at a place.
 pub record IsReading (how : Framing) (limit : ℕ) (bytes held : List ℕ) (room : ℕ) (place : Place) : Type 0 where
   pub meaning : (more : List ℕ) → body_end how limit (bytes ++ more) ≡ rest_end how limit held place more
   pub within : length held ≤ limit
-  pub reserved : limit ≤ room
+  pub reserved : most_held how limit ≤ room
   pub kept : IsKept how held place
 
 -- The body stays open, and what is left of a piece and the bytes that follow come to the same end as they
@@ -46,7 +54,7 @@ pub record IsOn (how : Framing) (limit : ℕ) (after : List ℕ → BodyEnd) (he
     (left : List ℕ) : Type 0 where
   pub meaning : (more : List ℕ) → after more ≡ rest_end how limit held place (left ++ more)
   pub within : length held ≤ limit
-  pub reserved : limit ≤ room
+  pub reserved : most_held how limit ≤ room
   pub waiting : IsWaiting how held place
 
 -- The body is decided behind a piece, and these bytes are held.

@@ -14,7 +14,8 @@ loop-rest-preserved-then-left-gt0 c =
     data-goes c.args.limit c.least.result c.data_left-left.result _ _ c.loop-rest.rest.now _ c.split_at.result.0.now
     c.split_at.result.1.now _ _ c.loop-rest.place c.take_data.result c.loop-rest.invariant
     c.data_left-left.ensures c.if-left-gt0.true c.least.ensures c.split_at.ensures.front c.split_at.ensures.back
-    c.take_data.ensures.fits c.if-not-take_data.false c.take_data.ensures.items c.take_data.ensures.reserved
+    c.take_data.ensures.fits c.if-not-take_data.false c.take_data.ensures.items
+    (omega (arith, c.loop-rest.invariant.reserved, c.take_data.ensures.room))
 
 pub loop-rest-preserved : goal.loop-rest-preserved
 loop-rest-preserved c =
