@@ -12,8 +12,6 @@ mod place;
 mod request;
 mod seen;
 mod taking;
-#[cfg(test)]
-mod tests;
 
 pub use body::{BodyReader, BodyStep};
 pub use framing::{Framing, framing_of};

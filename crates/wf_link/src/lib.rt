@@ -14,8 +14,6 @@ mod sink;
 mod source;
 mod standard;
 mod target;
-#[cfg(test)]
-mod tests;
 
 pub use clock::{Clock, FixedClock};
 pub use link::Link;

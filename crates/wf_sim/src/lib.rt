@@ -4,8 +4,6 @@
 mod laws;
 mod request;
 mod sim_link;
-#[cfg(test)]
-mod tests;
 
 pub use laws::law_answers_by_parts;
 pub use sim_link::SimLink;

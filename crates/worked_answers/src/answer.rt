@@ -1,4 +1,6 @@
+use crate::cut::{Cut, cuts};
 use crate::failed::Failed;
+use crate::text::append_count;
 use std::alloc::Global;
 use wf_headers::HeaderList;
 use wf_http1::{BodyReader, BodyStep, HeadReader, HeadStep};
@@ -8,16 +10,36 @@ use wf_types::{BodyEnd, Head};
 /// How many bytes of a whole body are printed, and how many headers of a head.
 const SHOWN: usize = 16;
 
-// A text with a number at its end.
-fn counted(alloc: Global, text: &str, count: usize) -> Result<Bytes, Failed> {
-    let mut shown = Bytes::of(alloc, text.as_bytes())?;
-    shown.append(count.to_string(alloc)?.as_bytes())?;
+// A word and a number.
+fn counted(alloc: Global, word: &str, count: usize) -> Result<Bytes, Failed> {
+    let mut shown = Bytes::new(alloc);
+    append_count(&mut shown, alloc, word, count as u64)?;
     Ok(shown)
+}
+
+// What an answer comes to in pieces: its head, or its body where there is a limit.
+fn read_cut(alloc: Global, limit: Option<u32>, answer: &[u8], cut: Cut) -> Result<Bytes, Failed> {
+    let pieces = cut.pieces(alloc, answer)?;
+    match limit {
+        None => head(alloc, pieces.as_slice()),
+        Some(limit) => body(alloc, limit, pieces.as_slice()),
+    }
+}
+
+// What an answer comes to, however it is cut.
+pub(crate) fn read(alloc: Global, limit: Option<u32>, answer: &[u8]) -> Result<Bytes, Failed> {
+    let whole = read_cut(alloc, limit, answer, Cut::Whole)?;
+    for cut in cuts(alloc, answer.len())?.as_slice() {
+        if read_cut(alloc, limit, answer, *cut)?.as_slice() != whole.as_slice() {
+            return Ok(Bytes::of(alloc, b"DIFFERS")?);
+        }
+    }
+    Ok(whole)
 }
 
 // What the heads of an answer come to: the final head and how many bytes there are up to its end, or why
 // there is none.
-pub(crate) fn head(alloc: Global, pieces: &[&[u8]]) -> Result<Bytes, Failed> {
+fn head(alloc: Global, pieces: &[&[u8]]) -> Result<Bytes, Failed> {
     let mut reader = HeadReader::new(alloc)?;
     for piece in pieces {
         let before = reader.seen_bytes() as usize;
@@ -36,9 +58,9 @@ pub(crate) fn head(alloc: Global, pieces: &[&[u8]]) -> Result<Bytes, Failed> {
 // A final head: its status, where it ends, and its headers.
 fn shown_head(alloc: Global, head: &Head, end: usize) -> Result<Bytes, Failed> {
     let mut shown = counted(alloc, "final ", head.status as usize)?;
-    shown.append(counted(alloc, " after ", end)?.as_slice())?;
+    append_count(&mut shown, alloc, " after ", end as u64)?;
     if head.headers.len() > SHOWN {
-        shown.append(counted(alloc, ", headers: ", head.headers.len())?.as_slice())?;
+        append_count(&mut shown, alloc, ", headers: ", head.headers.len() as u64)?;
     } else {
         append_headers(&mut shown, &head.headers)?;
     }
@@ -93,7 +115,7 @@ fn fed(reader: BodyReader, piece: &[u8]) -> Reading {
 }
 
 // How the body of an answer comes to its end, of so many bytes at most.
-pub(crate) fn body(alloc: Global, limit: u32, pieces: &[&[u8]]) -> Result<Bytes, Failed> {
+fn body(alloc: Global, limit: u32, pieces: &[&[u8]]) -> Result<Bytes, Failed> {
     let mut reading = Reading::Head(HeadReader::new(alloc)?);
     for piece in pieces {
         reading = reading.feed(alloc, limit, piece)?;

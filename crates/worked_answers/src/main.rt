@@ -1,44 +1,46 @@
-// Reads worked answers, which stand one a line on the input, and prints for each what it comes to: whole,
-// cut in two at each place, and in pieces of one byte and of 4,096. Where these differ it prints `DIFFERS`. A line
-// that begins with `#` is a title, which is printed as it stands, and so is an empty line. Rows are
+// Plays worked rows of the wire, which stand one a line on the input, and prints each with what it comes
+// to. A line that begins with `#` is a title, which is printed as it stands, and so is an empty line.
+// Rows are
 //
-//     head TEXT          what the heads of this answer come to
-//     body LIMIT TEXT    how the body of this answer comes to its end, of so many bytes at most
+//     head TEXT            what the heads of this answer come to
+//     body LIMIT TEXT      how the body of this answer comes to its end, of so many bytes at most
+//     request METHOD TARGET BODY NAME: VALUE|NAME: VALUE      the bytes of this request, with no body for `-`
+//     link ROOM ASK RECEIVE ANSWERS CALLS      what calls of a link in memory answer: `link.rt`
+//     device               what calls of a failing device answer: `device.rt`
 //
-// `row.rt` says how a text is written.
+// An answer is read whole, cut in two at each place, and in pieces of one byte and of 4,096. Where what it
+// comes to differs, the row comes to `DIFFERS`. `text.rt` says how a text is written.
 #![tactic(auto)]
 
 mod answer;
 mod cut;
+mod device;
 mod failed;
-mod row;
+mod link;
+mod request;
+mod text;
 
-use crate::cut::{Cut, cuts};
 use crate::failed::Failed;
-use crate::row::Row;
 use std::alloc::Global;
 use std::io;
 use std::process::ExitCode;
-use wf_text::Bytes;
+use wf_text::{Bytes, after_byte, before_byte};
 
-// What the row's answer comes to where it comes in pieces.
-fn read(alloc: Global, row: &Row, cut: Cut) -> Result<Bytes, Failed> {
-    let pieces = cut.pieces(alloc, row.bytes.as_slice())?;
-    match row.limit {
-        None => answer::head(alloc, pieces.as_slice()),
-        Some(limit) => answer::body(alloc, limit, pieces.as_slice()),
-    }
-}
-
-// What the row's answer comes to, however it is cut.
-fn read_all(alloc: Global, row: &Row) -> Result<Bytes, Failed> {
-    let whole = read(alloc, row, Cut::Whole)?;
-    for cut in cuts(alloc, row.bytes.len())?.as_slice() {
-        if read(alloc, row, *cut)?.as_slice() != whole.as_slice() {
-            return Ok(Bytes::of(alloc, b"DIFFERS")?);
+// What a row comes to.
+fn came(alloc: Global, row: &[u8]) -> Result<Bytes, Failed> {
+    let rest = after_byte(row, b' ');
+    match before_byte(row, b' ') {
+        b"head" => answer::read(alloc, None, text::unescaped(alloc, rest)?.as_slice()),
+        b"body" => {
+            let limit = text::number(before_byte(rest, b' '))?;
+            let answer = text::unescaped(alloc, after_byte(rest, b' '))?;
+            answer::read(alloc, Some(limit), answer.as_slice())
         }
+        b"request" => request::request(alloc, rest),
+        b"link" => link::link(alloc, rest),
+        b"device" => device::calls(alloc),
+        _ => Err(Failed),
     }
-    Ok(whole)
 }
 
 // One line: a title, or a row.
@@ -47,8 +49,7 @@ fn line<R: Print + AllocGlobal>(rt: &R, line: &str) -> Result<(), Failed> {
         println!(rt; "{line}")?;
         return Ok(());
     }
-    let row = Row::of(rt.alloc(), line.as_bytes())?;
-    let came = read_all(rt.alloc(), &row)?;
+    let came = came(rt.alloc(), line.as_bytes())?;
     let came = String::from_utf8_lossy(rt.alloc(), came.as_slice())?;
     println!(rt; "{line} => {came}")?;
     Ok(())

@@ -1,43 +1,19 @@
+// How texts are written in rows and printed: `\r`, `\n`, `\t`, `\0` and `\\` stand for CR, LF, tab, NUL and
+// a backslash, and `{COUNT UNIT}` for so many times the unit.
 use crate::failed::Failed;
 use std::alloc::Global;
 use wf_text::{Bytes, after_byte, before_byte, parse_digits};
 
-/// An answer that is read: its bytes, and the limit of its body where the body is read too.
-#[derive(Drop)]
-pub(crate) struct Row {
-    pub(crate) limit: Option<u32>,
-    pub(crate) bytes: Bytes,
-}
-
-impl Row {
-    // The row of a line.
-    pub(crate) fn of(alloc: Global, line: &[u8]) -> Result<Row, Failed> {
-        let rest = after_byte(line, b' ');
-        match before_byte(line, b' ') {
-            b"head" => Ok(Row {
-                limit: None,
-                bytes: unescaped(alloc, rest)?,
-            }),
-            b"body" => Ok(Row {
-                limit: Some(number(before_byte(rest, b' '))?),
-                bytes: unescaped(alloc, after_byte(rest, b' '))?,
-            }),
-            _ => Err(Failed),
-        }
-    }
-}
-
 // The number that the digits write.
-fn number(digits: &[u8]) -> Result<u32, Failed> {
+pub(crate) fn number(digits: &[u8]) -> Result<u32, Failed> {
     match parse_digits(digits, u32::MAX as u64) {
         Some(number) => Ok(number as u32),
         None => Err(Failed),
     }
 }
 
-// The bytes of a text: `\r`, `\n`, `\t`, `\0` and `\\` stand for CR, LF, tab, NUL and a backslash, and
-// `{COUNT UNIT}` for so many times the unit.
-fn unescaped(alloc: Global, text: &[u8]) -> Result<Bytes, Failed> {
+// The bytes of a text.
+pub(crate) fn unescaped(alloc: Global, text: &[u8]) -> Result<Bytes, Failed> {
     let mut bytes = Bytes::new(alloc);
     let mut rest = text;
     for _ in 0..text.len() {
@@ -87,4 +63,29 @@ fn escape(letter: u8) -> Result<u8, Failed> {
         b'\\' => Ok(b'\\'),
         _ => Err(Failed),
     }
+}
+
+// A text as it is printed on one line.
+pub(crate) fn escaped(alloc: Global, bytes: &[u8]) -> Result<Bytes, Failed> {
+    let mut text = Bytes::new(alloc);
+    for byte in bytes {
+        match *byte {
+            b'\r' => text.append(b"\\r")?,
+            b'\n' => text.append(b"\\n")?,
+            other => text.append(&[other])?,
+        }
+    }
+    Ok(text)
+}
+
+// Adds a word and a number.
+pub(crate) fn append_count(
+    shown: &mut Bytes,
+    alloc: Global,
+    word: &str,
+    count: u64,
+) -> Result<(), Failed> {
+    shown.append(word.as_bytes())?;
+    shown.append(count.to_string(alloc)?.as_bytes())?;
+    Ok(())
 }
