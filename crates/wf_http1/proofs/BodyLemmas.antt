@@ -6,7 +6,7 @@ use Rattle.std.proofs.lemmas.Bool.Decides.{leb_tells}
 use Rattle.std.proofs.lemmas.List.{append-nil}
 use Rattle.wf_types.specs.declared.response.BodyEnd.{BodyEnd}
 use Rattle.wf_types.specs.declared.response.BodyEnd.TheVariants.{Whole, Cut, TooBig}
-use Rattle.wf_http1.specs.Bodies.{ended, body_end, IsDecided, IsOpen}
+use Rattle.wf_http1.specs.Bodies.{ended, body_end, IsOpen}
 use Rattle.wf_http1.specs.Private.BodyPlaces.{Comes, most_held, IsKept, IsOn, IsReading, IsWaiting, rest_end}
 use Rattle.wf_http1.specs.BodyReading.{BodyReading}
 use Rattle.wf_http1.specs.Chunks.{Decoded}

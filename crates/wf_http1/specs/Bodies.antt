@@ -3,10 +3,8 @@
 use Rattle.std.specs.Prelude.{◌≡◌, ℕ, Bool, true, nat_lt, nat_le, List, ◌++◌, take, length, if◌then◌else◌}
 use Rattle.wf_types.specs.declared.response.BodyEnd.{BodyEnd}
 use Rattle.wf_types.specs.declared.response.BodyEnd.TheVariants.{Null, Whole, Cut, TooBig}
-use Rattle.wf_types.specs.declared.hop.Head.{Head}
 use Rattle.wf_http1.specs.declared.framing.Framing.{Framing}
 use Rattle.wf_http1.specs.declared.framing.Framing.TheVariants as framing
-use Rattle.wf_http1.specs.Framings.{framing_of}
 use Rattle.wf_http1.specs.Chunks.{decoded}
 
 -- data that came so far: too big where they exceed the limit, else all of the body or a part of it
