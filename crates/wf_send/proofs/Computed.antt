@@ -13,9 +13,10 @@ use Rattle.wf_types.specs.declared.mode.Mode.TheVariants as mode
 use Rattle.wf_types.specs.declared.mode.RedirectMode.TheVariants.{Follow}
 use Rattle.wf_types.specs.declared.mode.ReferrerPolicy.TheVariants as policy
 use Rattle.wf_types.specs.Clients.{client_of}
-use Rattle.wf_send.specs.Heads.{header, head_lines}
+use Rattle.wf_send.specs.Heads.{head_lines}
+use Rattle.wf_types.specs.Lines.{header}
 use Rattle.wf_send.specs.Making.{made, new_request}
-use Rattle.wf_send.specs.Methods.{normalized}
+use Rattle.wf_types.specs.Methods.{normalized}
 
 -- https://a.test/
 abbrev pub root : Parts

@@ -1,3 +1,2 @@
-pub mod Methods
 pub mod Making
 pub mod Heads

@@ -25,7 +25,7 @@ use Rattle.wf_types.specs.declared.request.Referrer.{Referrer}
 use Rattle.wf_types.specs.declared.request.Referrer.TheVariants as referrer
 use Rattle.wf_types.specs.declared.request.Request.{Request}
 use Rattle.wf_types.specs.Urls.{url_against}
-use Rattle.wf_send.specs.Methods.{is_safelisted_method, is_get_or_head, normalized}
+use Rattle.wf_types.specs.Methods.{is_safelisted_method, is_get_or_head, normalized}
 
 -- ---- the URL
 

@@ -1,13 +1,12 @@
 ghost use Rattle.std.specs.Prelude.{◌≡◌, ◌+◌, ◌<◌, ◌^◌, nat_lt, length, sum_by};
 ghost use Rattle.url.specs.Parts as parts;
 ghost use Rattle.wf_send.specs.Making as spec;
-ghost use Rattle.wf_send.specs.Methods.{normalized};
+ghost use Rattle.wf_types.specs.Methods.{normalized};
 
-use crate::method::{is_get_or_head, is_safelisted_method};
 use url::Url;
 use wf_safelist::is_forbidden_method;
 use wf_text::{Bytes, is_token, is_value};
-use wf_types::{Init, Mode, Pair, TypeFault};
+use wf_types::{Init, Mode, Pair, TypeFault, is_get_or_head, is_safelisted_method};
 
 /// How many bytes the method and the headers may have together.
 const MOST_GIVEN: usize = 16_384;

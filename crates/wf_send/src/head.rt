@@ -1,104 +1,19 @@
 ghost use Rattle.std.specs.Prelude.{◌≡◌, codes, option_copied, IfOk, OnOk, None, if◌then◌else◌};
 ghost use Rattle.wf_origin.specs.Origins as origins;
 ghost use Rattle.wf_send.specs.Heads as spec;
-ghost use Rattle.wf_types.specs.Requests.{is_origin};
+ghost use Rattle.wf_types.specs.Lines.{all_appended, appended_where};
+ghost use Rattle.wf_types.specs.OriginHeader.{origin_value};
+ghost use Rattle.wf_types.specs.Targets.{origin_text};
 
 use crate::fill::contains;
-use crate::hop::host_value;
-use crate::method::{is_get_or_head, is_post_or_put};
 use std::alloc::Global;
 use url::Url;
 use wf_headers::{Header, HeaderList};
-use wf_origin::{Origin, origin_of, same_origin};
 use wf_text::{Bytes, OutOfMemory};
 use wf_types::{
-    Cookie, Credentials, Mode, Referrer, ReferrerPolicy, Request, Tainting, serialized_origin,
+    Cookie, Credentials, Request, Tainting, append_all, append_where, host_value, is_post_or_put,
+    origin_value, referrer_value,
 };
-
-fn is_cors_tainted(tainting: Tainting) -> bool
-    ensures { result ≡ spec.is_cors_tainted tainting }
-{
-    matches!(tainting, Tainting::Cors)
-}
-
-fn is_cors_mode(mode: Mode) -> bool
-    ensures { result ≡ spec.is_cors_mode mode }
-{
-    matches!(mode, Mode::Cors)
-}
-
-// Whether it goes from an https origin to a URL that is not https.
-fn is_downgrade(origin: &Origin, url: &Url) -> bool
-    ensures { result ≡ spec.is_downgrade origin.now url.now }
-{
-    origin.scheme.as_slice() == b"https".as_slice() && url.scheme() != "https"
-}
-
-// Whether the URL has the origin.
-fn is_origin_of(alloc: Global, origin: &Origin, url: &Url) -> Result<bool, OutOfMemory>
-    ensures { IfOk result (λ same. same ≡ is_origin origin.now (origins.origin_of url.now)) }
-{
-    match origin_of(alloc, url)? {
-        None => Ok(false),
-        Some(other) => Ok(same_origin(origin, &other)),
-    }
-}
-
-// Whether the policy keeps the origin from a URL.
-fn hides_origin(
-    alloc: Global,
-    policy: ReferrerPolicy,
-    origin: &Origin,
-    url: &Url,
-) -> Result<bool, OutOfMemory>
-    ensures { IfOk result (λ hidden. hidden ≡ spec.hides_origin policy origin.now url.now) }
-{
-    match policy {
-        ReferrerPolicy::NoReferrer => Ok(true),
-        ReferrerPolicy::NoReferrerWhenDowngrade
-        | ReferrerPolicy::StrictOrigin
-        | ReferrerPolicy::StrictOriginWhenCrossOrigin => Ok(is_downgrade(origin, url)),
-        ReferrerPolicy::SameOrigin => Ok(!is_origin_of(alloc, origin, url)?),
-        ReferrerPolicy::Empty
-        | ReferrerPolicy::Origin
-        | ReferrerPolicy::OriginWhenCrossOrigin
-        | ReferrerPolicy::UnsafeUrl => Ok(false),
-    }
-}
-
-// The origin as it is told to a URL, where the tainting is not cors.
-fn told_origin(alloc: Global, request: &Request, url: &Url) -> Result<Bytes, OutOfMemory>
-    ensures { IfOk result (λ text. text ≡ spec.told_origin request.now url.now) }
-{
-    if !is_cors_mode(request.mode) && hides_origin(alloc, request.policy, &request.origin, url)? {
-        Bytes::of(alloc, b"null")
-    } else {
-        serialized_origin(alloc, request)
-    }
-}
-
-// The value of Origin, where there is one.
-fn origin_value(alloc: Global, request: &Request, url: &Url) -> Result<Option<Bytes>, OutOfMemory>
-    ensures { IfOk result (λ value. value ≡ spec.origin_value request.now url.now) }
-{
-    if is_cors_tainted(request.tainting) {
-        Ok(Some(serialized_origin(alloc, request)?))
-    } else if is_get_or_head(request.method.as_slice()) {
-        Ok(None)
-    } else {
-        Ok(Some(told_origin(alloc, request, url)?))
-    }
-}
-
-// The text of a referrer that is a URL.
-fn referrer_value(referrer: &Referrer) -> Option<&[u8]>
-    ensures { option_copied result ≡ spec.referrer_value referrer.now }
-{
-    match referrer {
-        Referrer::Address(url) => Some(url.as_str().as_bytes()),
-        Referrer::NoReferrer | Referrer::Client => None,
-    }
-}
 
 /// Whether credentials are included: in mode include, and in mode same-origin while the tainting is
 /// basic (Fetch, section 4.6). It takes no memory.
@@ -147,31 +62,6 @@ fn user_agent_value(headers: &[Header]) -> Option<&'static [u8]>
     }
 }
 
-// Appends each header of a list, in order.
-fn append_all(headers: &mut HeaderList, more: &[Header]) -> Result<(), OutOfMemory>
-    ensures { OnOk result (headers.new ≡ spec.all_appended more.now headers.old) }
-{
-    for header in more {
-        headers.append(header.name.as_slice(), header.value.as_slice())?;
-    }
-    Ok(())
-}
-
-// Appends a header, where there is a value.
-fn append_where(
-    headers: &mut HeaderList,
-    name: &[u8],
-    value: Option<&[u8]>,
-) -> Result<(), OutOfMemory>
-    ensures { OnOk result (headers.new
-        ≡ spec.all_appended (spec.header_where name.now (option_copied value.entry)) headers.old) }
-{
-    match value {
-        None => Ok(()),
-        Some(value) => headers.append(name, value),
-    }
-}
-
 // Appends Origin, where the request has one.
 fn append_origin(
     alloc: Global,
@@ -180,7 +70,7 @@ fn append_origin(
     url: &Url,
 ) -> Result<(), OutOfMemory>
     ensures { OnOk result (headers.new
-        ≡ spec.all_appended (spec.header_where (codes "Origin") (spec.origin_value request.now url.now)) headers.old) }
+        ≡ appended_where (codes "Origin") (origin_value request.now url.now) headers.old) }
 {
     match origin_value(alloc, request, url)? {
         None => Ok(()),
@@ -196,7 +86,7 @@ fn append_length(
     body: &Option<Bytes>,
 ) -> Result<(), OutOfMemory>
     ensures { OnOk result (headers.new
-        ≡ spec.all_appended (spec.header_where (codes "Content-Length") (spec.length_value method.now body.now)) headers.old) }
+        ≡ appended_where (codes "Content-Length") (spec.length_value method.now body.now) headers.old) }
 {
     match body {
         Some(body) => {
@@ -217,9 +107,9 @@ fn append_added(
     url: &Url,
     origin: &[u8],
 ) -> Result<(), OutOfMemory>
-    requires { origin.now ≡ spec.origin_text (origins.origin_of url.now) }
+    requires { origin.now ≡ origin_text (origins.origin_of url.now) }
     ensures { OnOk result (headers.new
-        ≡ spec.all_appended (spec.added_headers cookies.now request.now url.now) headers.old) }
+        ≡ all_appended (spec.added_headers cookies.now request.now url.now) headers.old) }
 {
     append_where(
         headers,
@@ -243,7 +133,7 @@ pub(crate) fn head_lines(
     url: &Url,
     origin: &[u8],
 ) -> Result<HeaderList, OutOfMemory>
-    requires { origin.now ≡ spec.origin_text (origins.origin_of url.now) }
+    requires { origin.now ≡ origin_text (origins.origin_of url.now) }
     ensures { IfOk result (λ headers. headers ≡ spec.head_lines cookies.now request.now url.now) }
 {
     let mut headers = HeaderList::new(alloc);

@@ -1,41 +1,12 @@
 ghost use Rattle.std.specs.Prelude.{◌≡◌, IfOk, IsTrue};
-ghost use Rattle.wf_origin.specs.Origins as origins;
 ghost use Rattle.wf_send.specs.Heads as spec;
 ghost use Rattle.wf_types.specs.Requests.{IsAtHttp, IsRequest, is_determined};
 
 use crate::head::head_lines;
 use crate::make::copy_of;
 use std::alloc::Global;
-use url::{Position, Url};
-use wf_origin::{origin_of, serialize};
 use wf_text::{Bytes, OutOfMemory};
-use wf_types::{Cookies, Hop, Request};
-
-/// The request target in origin form: the path, and the query where there is one (RFC 9112, section
-/// 3.2.1). It takes no memory.
-pub fn target_of(url: &Url) -> &str
-    ensures { result.now ≡ spec.target_of url.now }
-{
-    url.slice(Position::BeforePath, Position::AfterQuery)
-}
-
-/// The value of Host: the host, and the port where the URL has one (RFC 9112, section 3.2). It takes
-/// no memory.
-pub fn host_value(url: &Url) -> &str
-    ensures { result.now ≡ spec.host_value url.now }
-{
-    url.slice(Position::BeforeHost, Position::AfterPort)
-}
-
-/// The serialised origin of a URL, or `null` where it has none (HTML, section 7.1.1).
-pub fn origin_text(alloc: Global, url: &Url) -> Result<Bytes, OutOfMemory>
-    ensures { IfOk result (λ text. text ≡ spec.origin_text (origins.origin_of url.now)) }
-{
-    match origin_of(alloc, url)? {
-        None => Bytes::of(alloc, b"null"),
-        Some(origin) => serialize(alloc, &origin),
-    }
-}
+use wf_types::{Cookies, Hop, Request, origin_text, target_of};
 
 /// The request as it is sent to its current URL (Fetch, section 4.6; RFC 9112, section 3.2): the
 /// target of its request line, and its header list from Host on. Behind Host stand the request's own

@@ -1,16 +1,16 @@
 ghost use Rattle.std.specs.Prelude.{◌≡◌, ◌∷◌, ◌<◌, ◌^◌, [], length, IfOk};
 ghost use Rattle.wf_send.specs.Making as spec;
-ghost use Rattle.wf_send.specs.Methods.{normalized};
+ghost use Rattle.wf_types.specs.Methods.{normalized};
 ghost use Rattle.wf_types.specs.Requests.{IsClient, IsRequest};
 
 use crate::fault::fault_of;
 use crate::fill::header_list;
-use crate::method::normalized_method;
 use std::alloc::Global;
 use url::Url;
 use wf_text::{Bytes, OutOfMemory};
 use wf_types::{
-    Client, Destination, Init, Referrer, Request, Tainting, TypeFault, Urls, url_against,
+    Client, Destination, Init, Referrer, Request, Tainting, TypeFault, Urls, normalized_method,
+    url_against,
 };
 
 /// How many bytes the text of a URL may have.

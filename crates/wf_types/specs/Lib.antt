@@ -1,5 +1,9 @@
 pub mod Clients
 pub mod Errors
+pub mod Lines
+pub mod Methods
 pub mod Names
+pub mod OriginHeader
 pub mod Requests
+pub mod Targets
 pub mod Urls

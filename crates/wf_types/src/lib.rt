@@ -1,5 +1,5 @@
 // What a fetch speaks of: requests and what they are made of, hops, heads, responses, errors and
-// violations.
+// violations; and the rules that every request that is sent shares.
 #![tactic(auto)]
 
 mod client;
@@ -7,11 +7,15 @@ mod error;
 mod fault;
 mod hop;
 mod init;
+mod lines;
+mod method;
 mod mode;
 mod origin;
+mod origin_header;
 mod policy;
 mod request;
 mod response;
+mod target;
 #[cfg(test)]
 mod tests;
 mod urls;
@@ -21,9 +25,13 @@ pub use error::NetError;
 pub use fault::TypeFault;
 pub use hop::{Head, Hop};
 pub use init::{CrossOrigin, Init, LoadInit, Pair, Pairs};
+pub use lines::{append_all, append_where};
+pub use method::{is_get_or_head, is_post_or_put, is_safelisted_method, normalized_method};
 pub use mode::{Credentials, Mode, RedirectMode, ReferrerPolicy, Tainting};
 pub use origin::serialized_origin;
+pub use origin_header::{origin_value, referrer_value};
 pub use policy::{Destination, Directive, Violation};
 pub use request::{Referrer, Request, Urls};
 pub use response::{BodyEnd, Outcome, Response, ResponseKind};
+pub use target::{host_value, origin_text, target_of};
 pub use urls::{url_against, url_alone, utf8_text};

@@ -1,15 +1,15 @@
 ghost use Rattle.std.specs.Prelude.{◌≡◌, IfOk};
 ghost use Rattle.std.specs.List.{list_any};
 ghost use Rattle.std.specs.Str.{str_eq_ignore_ascii_case, str_to_ascii_uppercase};
-ghost use Rattle.wf_send.specs.Methods as spec;
+ghost use Rattle.wf_types.specs.Methods as spec;
 
 use std::alloc::Global;
 use wf_text::{Bytes, OutOfMemory, eq_fold};
 
-/// The CORS-safelisted methods.
+// The CORS-safelisted methods.
 const SAFELISTED_METHODS: [&[u8]; 3] = [b"GET", b"HEAD", b"POST"];
 
-/// The methods that are in upper case.
+// The methods that are in upper case.
 const NORMALIZED_METHODS: [&[u8]; 6] = [b"DELETE", b"GET", b"HEAD", b"OPTIONS", b"POST", b"PUT"];
 
 /// Whether a method is CORS-safelisted: GET, HEAD or POST, in this case (Fetch, section 2.2.1). It
@@ -34,6 +34,7 @@ fn is_normalized(method: &[u8]) -> bool
     is_among(&NORMALIZED_METHODS, method)
 }
 
+// The text in upper case.
 fn in_upper_case(alloc: Global, text: &[u8]) -> Result<Bytes, OutOfMemory>
     ensures { IfOk result (λ upper. upper ≡ str_to_ascii_uppercase text.now) }
 {
@@ -54,15 +55,17 @@ pub fn normalized_method(alloc: Global, method: &[u8]) -> Result<Bytes, OutOfMem
     }
 }
 
-// Whether the method is GET or HEAD, whose requests have no body.
-pub(crate) fn is_get_or_head(method: &[u8]) -> bool
+/// Whether the method is GET or HEAD, whose requests have no body (Fetch, section 5.4). It takes no
+/// memory.
+pub fn is_get_or_head(method: &[u8]) -> bool
     ensures { result ≡ spec.is_get_or_head method.now }
 {
     method == b"GET".as_slice() || method == b"HEAD".as_slice()
 }
 
-// Whether the method is POST or PUT, with which an empty body is told.
-pub(crate) fn is_post_or_put(method: &[u8]) -> bool
+/// Whether the method is POST or PUT, with which an empty body is told (Fetch, section 4.6). It takes
+/// no memory.
+pub fn is_post_or_put(method: &[u8]) -> bool
     ensures { result ≡ spec.is_post_or_put method.now }
 {
     method == b"POST".as_slice() || method == b"PUT".as_slice()

@@ -3,6 +3,7 @@ use Rattle.std.specs.Prelude.{ℕ, Bool, ◌||◌, List, [], ◌∷◌, codes, b
 use Rattle.std.specs.List.{list_any}
 use Rattle.std.specs.Str.{str_eq_ignore_ascii_case, str_to_ascii_uppercase}
 
+-- the methods that need no preflight
 abbrev pub safelisted_methods : List (List ℕ)
 safelisted_methods = codes "GET" ∷ codes "HEAD" ∷ codes "POST" ∷ []
 
@@ -10,6 +11,7 @@ safelisted_methods = codes "GET" ∷ codes "HEAD" ∷ codes "POST" ∷ []
 abbrev pub is_safelisted_method : List ℕ → Bool
 is_safelisted_method method = list_any (λ listed. bytes_eq listed method) safelisted_methods
 
+-- the methods that are written in upper case whatever their case
 abbrev pub normalized_methods : List (List ℕ)
 normalized_methods =
     codes "DELETE" ∷ codes "GET" ∷ codes "HEAD" ∷ codes "OPTIONS" ∷ codes "POST" ∷ codes "PUT" ∷ []

@@ -1,0 +1,28 @@
+-- Header lines: which stand where a value is there, and how they are appended to a list, as those of a request are
+-- that is sent (Fetch, section 4.6).
+use Rattle.std.specs.Prelude.{ℕ, List, [], ◌∷◌, Option, Some, None, option_map}
+use Rattle.std.specs.List.{filter_map}
+use Rattle.wf_headers.specs.declared.headers.Header.{Header}
+use Rattle.wf_headers.specs.Headers.{appended}
+
+-- a header of this name and value
+abbrev pub header : List ℕ → List ℕ → Header
+header name value = record { name = name; value = value }
+
+-- a header of this name, where there is a value
+abbrev pub header_where : List ℕ → Option (List ℕ) → Option Header
+header_where name value = option_map (header name) value
+
+-- the headers that are there, in order
+abbrev pub present : List (Option Header) → List Header
+present lines = filter_map (λ line. line) lines
+
+-- headers appended to a list, in order
+abbrev pub all_appended : List Header → List Header → List Header
+all_appended [] headers = headers
+all_appended (one ∷ more) headers = all_appended more (appended one.name one.value headers)
+
+-- the header appended to a list, where there is a value
+abbrev pub appended_where : List ℕ → Option (List ℕ) → List Header → List Header
+appended_where name None headers = headers
+appended_where name (Some value) headers = appended name value headers

@@ -1,0 +1,66 @@
+-- The headers that tell where a request comes from: Origin ("append a request `Origin` header", Fetch,
+-- section 3.2), and Referer (Fetch, section 4.6).
+use Rattle.std.specs.Prelude.{ℕ, ◌&&◌, Bool, true, false, not, List, codes, bytes_eq, Option, Some, None, if◌then◌else◌}
+use Rattle.url.specs.Parts.{Parts, serialize}
+use Rattle.wf_origin.specs.declared.origin.Origin.{Origin}
+use Rattle.wf_origin.specs.Origins.{origin_of}
+use Rattle.wf_types.specs.declared.mode.Mode.{Mode}
+use Rattle.wf_types.specs.declared.mode.Mode.TheVariants as mode
+use Rattle.wf_types.specs.declared.mode.ReferrerPolicy.{ReferrerPolicy}
+use Rattle.wf_types.specs.declared.mode.ReferrerPolicy.TheVariants as policy
+use Rattle.wf_types.specs.declared.mode.Tainting.{Tainting}
+use Rattle.wf_types.specs.declared.mode.Tainting.TheVariants as tainting
+use Rattle.wf_types.specs.declared.request.Referrer.{Referrer}
+use Rattle.wf_types.specs.declared.request.Referrer.TheVariants as referrer
+use Rattle.wf_types.specs.declared.request.Request.{Request}
+use Rattle.wf_types.specs.Methods.{is_get_or_head}
+use Rattle.wf_types.specs.Requests.{is_origin, serialized_request_origin}
+
+-- ---- Origin
+
+-- the tainting is cors
+abbrev pub is_cors_tainted : Tainting → Bool
+is_cors_tainted tainting.Cors = true
+is_cors_tainted _ = false
+
+-- the mode is cors
+abbrev pub is_cors_mode : Mode → Bool
+is_cors_mode mode.Cors = true
+is_cors_mode _ = false
+
+-- a text that is the scheme https
+abbrev pub is_https : List ℕ → Bool
+is_https scheme = bytes_eq scheme (codes "https")
+
+-- from an https origin to a URL that is not https
+abbrev pub is_downgrade : Origin → Parts → Bool
+is_downgrade origin url = is_https origin.scheme && not (is_https url.scheme)
+
+-- the policy keeps the origin from a URL
+abbrev pub hides_origin : ReferrerPolicy → Origin → Parts → Bool
+hides_origin policy.NoReferrer origin url = true
+hides_origin policy.NoReferrerWhenDowngrade origin url = is_downgrade origin url
+hides_origin policy.StrictOrigin origin url = is_downgrade origin url
+hides_origin policy.StrictOriginWhenCrossOrigin origin url = is_downgrade origin url
+hides_origin policy.SameOrigin origin url = not (is_origin origin (origin_of url))
+hides_origin _ origin url = false
+
+-- the origin as it is told to a URL, where the tainting is not cors
+abbrev pub told_origin : Request → Parts → List ℕ
+told_origin request url =
+    if not (is_cors_mode request.mode) && hides_origin request.policy request.origin url then codes "null"
+    else serialized_request_origin request
+
+-- the value of Origin, where there is one
+abbrev pub origin_value : Request → Parts → Option (List ℕ)
+origin_value request url =
+    if is_cors_tainted request.tainting then Some (serialized_request_origin request)
+    else if is_get_or_head request.method then None
+    else Some (told_origin request url)
+
+-- ---- Referer
+
+-- the text of a referrer that is a URL
+abbrev pub referrer_value : Referrer → Option (List ℕ)
+referrer_value (referrer.Address url) = Some (serialize url)
+referrer_value _ = None

@@ -1,0 +1,30 @@
+-- Where a request is sent: the request target, the value of Host (RFC 9112, section 3.2), and the text of an
+-- origin (HTML, section 7.1.1).
+use Rattle.std.specs.Prelude.{ℕ, List, [], ◌++◌, codes, decimal, Option, Some, None}
+use Rattle.url.specs.Host.{host_text}
+use Rattle.url.specs.Parts.{Parts, host_or_empty}
+use Rattle.wf_origin.specs.declared.origin.Origin.{Origin}
+use Rattle.wf_origin.specs.Origins.{serialized}
+
+-- the query behind its question mark, where there is one
+abbrev pub query_text : Option (List ℕ) → List ℕ
+query_text None = []
+query_text (Some query) = codes "?" ++ query
+
+-- the request target in origin form: the path, and the query where there is one
+abbrev pub target_of : Parts → List ℕ
+target_of url = url.path ++ query_text url.query
+
+-- the port behind its colon, where there is one
+abbrev pub port_text : Option ℕ → List ℕ
+port_text None = []
+port_text (Some port) = codes ":" ++ decimal port
+
+-- the value of Host: the host, and the port where the URL has one
+abbrev pub host_value : Parts → List ℕ
+host_value url = host_text (host_or_empty url) ++ port_text url.port
+
+-- the serialised origin, or null for an opaque one
+abbrev pub origin_text : Option Origin → List ℕ
+origin_text None = codes "null"
+origin_text (Some origin) = serialized origin

@@ -1,0 +1,106 @@
+ghost use Rattle.std.specs.Prelude.{◌≡◌, option_copied, IfOk};
+ghost use Rattle.wf_origin.specs.Origins as origins;
+ghost use Rattle.wf_types.specs.OriginHeader as spec;
+ghost use Rattle.wf_types.specs.Requests.{is_origin};
+
+use crate::method::is_get_or_head;
+use crate::mode::{Mode, ReferrerPolicy, Tainting};
+use crate::origin::serialized_origin;
+use crate::request::{Referrer, Request};
+use std::alloc::Global;
+use url::Url;
+use wf_origin::{Origin, origin_of, same_origin};
+use wf_text::{Bytes, OutOfMemory};
+
+fn is_cors_tainted(tainting: Tainting) -> bool
+    ensures { result ≡ spec.is_cors_tainted tainting }
+{
+    matches!(tainting, Tainting::Cors)
+}
+
+fn is_cors_mode(mode: Mode) -> bool
+    ensures { result ≡ spec.is_cors_mode mode }
+{
+    matches!(mode, Mode::Cors)
+}
+
+// Whether it goes from an https origin to a URL that is not https.
+fn is_downgrade(origin: &Origin, url: &Url) -> bool
+    ensures { result ≡ spec.is_downgrade origin.now url.now }
+{
+    origin.scheme.as_slice() == b"https".as_slice() && url.scheme() != "https"
+}
+
+// Whether the URL has the origin.
+fn is_origin_of(alloc: Global, origin: &Origin, url: &Url) -> Result<bool, OutOfMemory>
+    ensures { IfOk result (λ same. same ≡ is_origin origin.now (origins.origin_of url.now)) }
+{
+    match origin_of(alloc, url)? {
+        None => Ok(false),
+        Some(other) => Ok(same_origin(origin, &other)),
+    }
+}
+
+// Whether the policy keeps the origin from a URL.
+fn hides_origin(
+    alloc: Global,
+    policy: ReferrerPolicy,
+    origin: &Origin,
+    url: &Url,
+) -> Result<bool, OutOfMemory>
+    ensures { IfOk result (λ hidden. hidden ≡ spec.hides_origin policy origin.now url.now) }
+{
+    match policy {
+        ReferrerPolicy::NoReferrer => Ok(true),
+        ReferrerPolicy::NoReferrerWhenDowngrade
+        | ReferrerPolicy::StrictOrigin
+        | ReferrerPolicy::StrictOriginWhenCrossOrigin => Ok(is_downgrade(origin, url)),
+        ReferrerPolicy::SameOrigin => Ok(!is_origin_of(alloc, origin, url)?),
+        ReferrerPolicy::Empty
+        | ReferrerPolicy::Origin
+        | ReferrerPolicy::OriginWhenCrossOrigin
+        | ReferrerPolicy::UnsafeUrl => Ok(false),
+    }
+}
+
+// The origin as it is told to a URL, where the tainting is not cors.
+fn told_origin(alloc: Global, request: &Request, url: &Url) -> Result<Bytes, OutOfMemory>
+    ensures { IfOk result (λ text. text ≡ spec.told_origin request.now url.now) }
+{
+    if !is_cors_mode(request.mode) && hides_origin(alloc, request.policy, &request.origin, url)? {
+        Bytes::of(alloc, b"null")
+    } else {
+        serialized_origin(alloc, request)
+    }
+}
+
+/// The value of Origin in a request that is sent to a URL, where it has one ("append a request
+/// `Origin` header", Fetch, section 3.2): the serialised request origin where the tainting is cors;
+/// none for another GET or HEAD; else the same text, or `null` where the mode is not cors and the
+/// referrer policy keeps the origin from the URL.
+pub fn origin_value(
+    alloc: Global,
+    request: &Request,
+    url: &Url,
+) -> Result<Option<Bytes>, OutOfMemory>
+    ensures { IfOk result (λ value. value ≡ spec.origin_value request.now url.now) }
+{
+    if is_cors_tainted(request.tainting) {
+        Ok(Some(serialized_origin(alloc, request)?))
+    } else if is_get_or_head(request.method.as_slice()) {
+        Ok(None)
+    } else {
+        Ok(Some(told_origin(alloc, request, url)?))
+    }
+}
+
+/// The value of Referer: the text of a referrer that is a URL (Fetch, section 4.6). It takes no
+/// memory.
+pub fn referrer_value(referrer: &Referrer) -> Option<&[u8]>
+    ensures { option_copied result ≡ spec.referrer_value referrer.now }
+{
+    match referrer {
+        Referrer::Address(url) => Some(url.as_str().as_bytes()),
+        Referrer::NoReferrer | Referrer::Client => None,
+    }
+}

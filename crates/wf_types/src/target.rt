@@ -1,0 +1,34 @@
+ghost use Rattle.std.specs.Prelude.{◌≡◌, IfOk};
+ghost use Rattle.wf_origin.specs.Origins as origins;
+ghost use Rattle.wf_types.specs.Targets as spec;
+
+use std::alloc::Global;
+use url::{Position, Url};
+use wf_origin::{origin_of, serialize};
+use wf_text::{Bytes, OutOfMemory};
+
+/// The request target in origin form: the path, and the query where there is one (RFC 9112, section
+/// 3.2.1). It takes no memory.
+pub fn target_of(url: &Url) -> &str
+    ensures { result.now ≡ spec.target_of url.now }
+{
+    url.slice(Position::BeforePath, Position::AfterQuery)
+}
+
+/// The value of Host: the host, and the port where the URL has one (RFC 9112, section 3.2). It takes
+/// no memory.
+pub fn host_value(url: &Url) -> &str
+    ensures { result.now ≡ spec.host_value url.now }
+{
+    url.slice(Position::BeforeHost, Position::AfterPort)
+}
+
+/// The serialised origin of a URL, or `null` where it has none (HTML, section 7.1.1).
+pub fn origin_text(alloc: Global, url: &Url) -> Result<Bytes, OutOfMemory>
+    ensures { IfOk result (λ text. text ≡ spec.origin_text (origins.origin_of url.now)) }
+{
+    match origin_of(alloc, url)? {
+        None => Bytes::of(alloc, b"null"),
+        Some(origin) => serialize(alloc, &origin),
+    }
+}
