@@ -21,7 +21,7 @@ use Rattle.wf_types.specs.declared.response.BodyEnd.TheVariants.{Whole, Null}
 use Rattle.wf_types.specs.declared.response.Outcome.{Outcome}
 use Rattle.wf_types.specs.declared.response.Outcome.TheVariants.{Answer, Error}
 use Rattle.wf_types.specs.declared.response.ResponseKind.TheVariants.{Basic}
-use Rattle.wf_send.specs.Heads.{header}
+use Rattle.wf_types.specs.Lines.{header}
 use Rattle.wf_send.specs.Making.{new_request}
 use Rattle.wf_script.specs.declared.types.Command.TheVariants as command
 use Rattle.wf_script.specs.declared.types.Document.{Document}

@@ -3,9 +3,8 @@ ghost use Rattle.wf_send.specs.Heads as spec;
 ghost use Rattle.wf_types.specs.Requests.{IsAtHttp, IsRequest, is_determined};
 
 use crate::head::head_lines;
-use crate::make::copy_of;
 use std::alloc::Global;
-use wf_text::{Bytes, OutOfMemory};
+use wf_text::{Bytes, OutOfMemory, copy_of};
 use wf_types::{Cookies, Hop, Request, origin_text, target_of};
 
 /// The request as it is sent to its current URL (Fetch, section 4.6; RFC 9112, section 3.2): the

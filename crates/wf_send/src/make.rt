@@ -7,7 +7,7 @@ use crate::fault::fault_of;
 use crate::fill::header_list;
 use std::alloc::Global;
 use url::Url;
-use wf_text::{Bytes, OutOfMemory};
+use wf_text::{Bytes, OutOfMemory, copy_of};
 use wf_types::{
     Client, Destination, Init, Referrer, Request, Tainting, TypeFault, Urls, normalized_method,
     url_against,
@@ -33,16 +33,6 @@ fn referrer_of(client_referrer: bool) -> Referrer
         Referrer::Client
     } else {
         Referrer::NoReferrer
-    }
-}
-
-// A copy of a body, where there is one.
-pub(crate) fn copy_of(alloc: Global, body: &Option<Bytes>) -> Result<Option<Bytes>, OutOfMemory>
-    ensures { IfOk result (λ copy. copy ≡ body.now) }
-{
-    match body {
-        None => Ok(None),
-        Some(body) => Ok(Some(body.copy(alloc)?)),
     }
 }
 

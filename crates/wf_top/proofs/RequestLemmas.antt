@@ -17,7 +17,7 @@ use Rattle.wf_types.specs.declared.request.Request.{Request}
 use Rattle.wf_types.specs.Requests.{IsRequest, is_determined}
 use Rattle.wf_send.specs.Making.{fault_or, fault_where, faults, first_bad, first_fault, is_navigate, is_no_cors}
 use Rattle.wf_send.specs.Making.{is_too_long, made, new_request, request_for, url_given}
-use Rattle.wf_send.specs.Methods.{is_get_or_head, is_safelisted_method, normalized}
+use Rattle.wf_types.specs.Methods.{is_get_or_head, is_safelisted_method, normalized}
 use Rattle.wf_script.specs.Valid.{IsValidInit, is_opened_mode}
 use Rattle.wf_fetch.specs.Runs.{normalized_init}
 use Rattle.wf_top.specs.Private.Runs.{IsFetchable}

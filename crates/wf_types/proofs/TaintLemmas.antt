@@ -10,7 +10,7 @@ abbrev pub tainted_after : Origin → Option Origin → List Parts → Bool
 tainted_after origin earlier [] = false
 tainted_after origin earlier (next ∷ urls) =
     (not (are_same earlier (origin_of next)) && not (is_origin origin earlier))
-        || tainted_after origin (origin_of next) urls
+    || tainted_after origin (origin_of next) urls
 
 pub tainted_from-after : (origin : Origin) (url : Parts) (urls : List Parts) → tainted_from origin url urls
     ≡ tainted_after origin (origin_of url) urls

@@ -1,10 +1,8 @@
 ghost use Rattle.std.specs.Prelude.{◌≡◌, IfOk};
-ghost use Rattle.std.specs.List.{list_any};
-ghost use Rattle.std.specs.Str.{str_eq_ignore_ascii_case, str_to_ascii_uppercase};
 ghost use Rattle.wf_types.specs.Methods as spec;
 
 use std::alloc::Global;
-use wf_text::{Bytes, OutOfMemory, eq_fold};
+use wf_text::{Bytes, OutOfMemory, in_upper_case, is_among, is_among_fold};
 
 // The CORS-safelisted methods.
 const SAFELISTED_METHODS: [&[u8]; 3] = [b"GET", b"HEAD", b"POST"];
@@ -17,30 +15,14 @@ const NORMALIZED_METHODS: [&[u8]; 6] = [b"DELETE", b"GET", b"HEAD", b"OPTIONS", 
 pub fn is_safelisted_method(method: &[u8]) -> bool
     ensures { result ≡ spec.is_safelisted_method method.now }
 {
-    SAFELISTED_METHODS.iter().any(|listed| *listed == method)
-}
-
-// Whether the method is one of these, in any ASCII case.
-fn is_among(methods: &[&[u8]], method: &[u8]) -> bool
-    ensures { result ≡ list_any (λ listed. str_eq_ignore_ascii_case listed.now method.now) methods.now }
-{
-    methods.iter().any(|listed| eq_fold(listed, method))
+    is_among(&SAFELISTED_METHODS, method)
 }
 
 // Whether the method is written in upper case whatever its case.
 fn is_normalized(method: &[u8]) -> bool
     ensures { result ≡ spec.is_normalized method.now }
 {
-    is_among(&NORMALIZED_METHODS, method)
-}
-
-// The text in upper case.
-fn in_upper_case(alloc: Global, text: &[u8]) -> Result<Bytes, OutOfMemory>
-    ensures { IfOk result (λ upper. upper ≡ str_to_ascii_uppercase text.now) }
-{
-    let mut upper = Vec::from_slice(alloc, text)?;
-    upper.make_ascii_uppercase();
-    Ok(Bytes::from_vec(upper))
+    is_among_fold(&NORMALIZED_METHODS, method)
 }
 
 /// "normalize" a method: DELETE, GET, HEAD, OPTIONS, POST and PUT, in any ASCII case, are in upper

@@ -1,63 +1,58 @@
-//! Numbers and names that printed text relies on, and origins along redirects.
+//! Each public call once.
 use crate::{
-    Credentials, Destination, Directive, Mode, NetError, RedirectMode, Referrer, ReferrerPolicy,
-    Request, ResponseKind, Tainting, TypeFault, Urls, serialized_origin, url_against,
+    Credentials, Destination, Mode, NetError, RedirectMode, Referrer, ReferrerPolicy, Request,
+    Tainting, TypeFault, Urls, append_all, append_where, host_value, is_get_or_head,
+    is_post_or_put, is_safelisted_method, normalized_method, origin_text, origin_value,
+    referrer_value, serialized_origin, target_of, url_against,
 };
 use std::alloc::Global;
 use std::test::Fail;
 use url::Url;
 use wf_headers::HeaderList;
-use wf_origin::{Origin, origin_of};
+use wf_origin::{Origin, tuple_origin};
 use wf_text::Bytes;
 
 #[test]
-fn tells_errors_by_number_and_name(rt: HostRuntime) -> Result<(), Fail> {
-    let header = NetError::PreflightHeader(Bytes::of(rt.alloc(), b"authorization")?);
-    for (error, number, name) in [
-        (&NetError::Scheme, 1, "Scheme"),
-        (&header, 11, "PreflightHeader"),
-        (&NetError::CorsCheck, 12, "CorsCheck"),
-        (&NetError::CspResponse, 19, "CspResponse"),
-        (&NetError::HeadTooBig, 26, "HeadTooBig"),
-    ] {
-        assert_eq!(rt; error.number(), number, "of {name}");
-        assert_eq!(rt; error.name(), name);
-    }
-    for (fault, number, name) in [
-        (TypeFault::BadUrl, 1, "BadUrl"),
-        (TypeFault::BadHeader(3), 7, "BadHeader"),
-        (TypeFault::TooLong, 9, "TooLong"),
-    ] {
-        assert_eq!(rt; fault.number(), number, "of {name}");
-        assert_eq!(rt; fault.name(), name);
-    }
+fn tells_errors_by_number_and_name(rt: HostRuntime) {
+    assert_eq!(rt; NetError::CorsCheck.number(), 12);
+    assert_eq!(rt; NetError::HeadTooBig.name(), "HeadTooBig");
+    assert_eq!(rt; TypeFault::BadHeader(3).number(), 7);
+    assert_eq!(rt; TypeFault::TooLong.name(), "TooLong");
+    assert_eq!(rt; Destination::Manifest.name(), "manifest");
+}
+
+#[test]
+fn tells_methods_apart(rt: HostRuntime) -> Result<(), Fail> {
+    let normalized = normalized_method(rt.alloc(), b"pUt")?;
+    assert_eq!(rt; normalized.as_slice(), b"PUT".as_slice());
+    assert!(rt; is_safelisted_method(b"HEAD") && !is_safelisted_method(b"head"));
+    assert!(rt; is_get_or_head(b"HEAD") && is_post_or_put(b"PUT"));
     Ok(())
 }
 
 #[test]
-fn names_destinations_directives_and_response_types(rt: HostRuntime) {
-    assert_eq!(rt; Destination::Manifest.name(), "manifest");
-    assert_eq!(rt; Directive::StyleSrcElem.name(), "style-src-elem");
-    assert_eq!(rt; ResponseKind::OpaqueRedirect.name(), "opaqueredirect");
+fn gives_the_url_against_a_base(rt: HostRuntime) -> Result<(), Fail> {
+    let alloc = rt.alloc();
+    let base = Url::parse(alloc, "https://a.test:8080/x/y")?;
+    let url = url_against(alloc, &base, b"../z?q#f")?.ok_or("no URL")?;
+    assert_eq!(rt; host_value(&url), "a.test:8080");
+    assert_eq!(rt; target_of(&url), "/z?q");
+    assert_eq!(rt;
+        origin_text(alloc, &url)?.as_slice(),
+        b"https://a.test:8080".as_slice()
+    );
+    assert!(rt; url_against(alloc, &base, b"\xff")?.is_none());
+    Ok(())
 }
 
-fn origin_at(alloc: Global, address: &str) -> Result<Origin, Fail> {
-    let url = Url::parse(alloc, address)?;
-    Ok(origin_of(alloc, &url)?.ok_or("neither http nor https")?)
-}
-
-// A GET of a document of http://a.test that came to the last of these addresses.
-fn request_along(alloc: Global, addresses: &[&str]) -> Result<Request, Fail> {
-    let mut urls = Urls::new(alloc);
-    for address in addresses {
-        urls.push(Url::parse(alloc, address)?)?;
-    }
+// A GET of a document of this origin that came to the last of these URLs.
+fn request_along(alloc: Global, origin: Origin, urls: Urls) -> Result<Request, Fail> {
     Ok(Request {
         method: Bytes::of(alloc, b"GET")?,
         urls,
         headers: HeaderList::new(alloc),
         body: None,
-        origin: origin_at(alloc, "http://a.test/")?,
+        origin,
         mode: Mode::Cors,
         credentials: Credentials::Omit,
         redirect: RedirectMode::Follow,
@@ -75,37 +70,24 @@ fn request_along(alloc: Global, addresses: &[&str]) -> Result<Request, Fail> {
 }
 
 #[test]
-fn a_detour_over_another_origin_taints_the_request(rt: HostRuntime) -> Result<(), Fail> {
+fn tells_where_a_request_comes_from(rt: HostRuntime) -> Result<(), Fail> {
     let alloc = rt.alloc();
-    for (addresses, text) in [
-        (["http://b.test/1"].as_slice(), "http://a.test"),
-        (&["http://b.test/1", "http://c.test/2"], "null"),
-        (
-            &["http://b.test/1", "http://c.test/2", "http://a.test/3"],
-            "null",
-        ),
-        (
-            &["http://a.test/1", "http://a.test/2", "http://b.test/3"],
-            "http://a.test",
-        ),
-        (
-            &["http://a.test/1", "http://b.test/2", "http://c.test/3"],
-            "null",
-        ),
-        (&["http://b.test/1", "http://b.test:80/2"], "http://a.test"),
-    ] {
-        let request = request_along(alloc, addresses)?;
-        let serialized = serialized_origin(alloc, &request)?;
-        assert_eq!(rt; serialized.as_slice(), text.as_bytes());
-    }
-    Ok(())
-}
-
-#[test]
-fn gives_the_url_against_a_base(rt: HostRuntime) -> Result<(), Fail> {
-    let base = Url::parse(rt.alloc(), "https://a.test/x/y")?;
-    let url = url_against(rt.alloc(), &base, b"../z")?.ok_or("no URL")?;
-    assert_eq!(rt; url.as_str(), "https://a.test/z");
-    assert!(rt; url_against(rt.alloc(), &base, b"\xff")?.is_none());
+    let target = Url::parse(alloc, "http://b.test/")?;
+    let origin = tuple_origin(alloc, &Url::parse(alloc, "http://a.test/")?)?;
+    let mut urls = Urls::new(alloc);
+    urls.push(Url::parse(alloc, "http://b.test/1")?)?;
+    urls.push(Url::parse(alloc, "http://c.test/2")?)?;
+    let request = request_along(alloc, origin, urls)?;
+    assert_eq!(rt;
+        serialized_origin(alloc, &request)?.as_slice(),
+        b"null".as_slice()
+    );
+    let value = origin_value(alloc, &request, &target)?.ok_or("no Origin")?;
+    assert_eq!(rt; value.as_slice(), b"null".as_slice());
+    assert!(rt; referrer_value(&request.referrer).is_none());
+    let mut headers = HeaderList::new(alloc);
+    append_where(&mut headers, b"Origin", Some(value.as_slice()))?;
+    append_all(&mut headers, request.headers.as_slice())?;
+    assert_eq!(rt; headers.len(), 1usize);
     Ok(())
 }
