@@ -1,10 +1,16 @@
 -- The definitions computed on worked examples: methods, the faults of requests in their order, and the head
 -- of a PUT.
-use Rattle.std.proofs.Common.{◌≡◌, refl, false, [], ◌∷◌, codes, Some, None, Ok, Err}
+use Rattle.std.proofs.Common.{◌≡◌, ◌+◌, ◌||◌, refl, ap, ℕ, List, true, false, [], ◌∷◌, codes, Some, None, Ok, Err}
+use Rattle.std.specs.Prelude.{nat_lt, replicate}
+use Rattle.std.proofs.lemmas.List.{length-replicate}
 use Rattle.url.proofs.OnLiterals.{url_on_literals}
 use Rattle.url.specs.declared.host.Host.TheVariants.{Domain}
 use Rattle.url.specs.Parts.{Parts}
 use Rattle.wf_types.specs.declared.client.Client.{Client}
+use Rattle.wf_types.specs.declared.client.Cookie.{Cookie}
+use Rattle.wf_types.specs.declared.mode.Tainting.TheVariants.{Cors}
+use Rattle.wf_types.specs.declared.request.Referrer.TheVariants.{Address}
+use Rattle.wf_types.specs.declared.request.Request.{Request}
 use Rattle.wf_types.specs.declared.fault.TypeFault.TheVariants.{BadUrl, UrlCredentials, BadMethod, ForbiddenMethod}
 use Rattle.wf_types.specs.declared.fault.TypeFault.TheVariants.{BodyWithGet, NoCorsMethod, BadHeader, NavigateMode}
 use Rattle.wf_types.specs.declared.init.Init.{Init}
@@ -15,7 +21,7 @@ use Rattle.wf_types.specs.declared.mode.ReferrerPolicy.TheVariants as policy
 use Rattle.wf_types.specs.Clients.{client_of}
 use Rattle.wf_send.specs.Heads.{head_lines}
 use Rattle.wf_types.specs.Lines.{header}
-use Rattle.wf_send.specs.Making.{made, new_request}
+use Rattle.wf_send.specs.Making.{is_long_body, is_too_long, made, new_request}
 use Rattle.wf_types.specs.Methods.{normalized}
 
 -- https://a.test/
@@ -71,9 +77,12 @@ pub faults_in_order : (new_request client (record put { url = codes "http://" })
     × (new_request client (record put { method = codes "tRaCe"; mode = mode.NoCors }) ≡ Err ForbiddenMethod)
     × (new_request client (record put { method = codes "get"; mode = mode.Navigate }) ≡ Err BodyWithGet)
     × (new_request client (record put { mode = mode.NoCors; headers = record { name = []; value = [] } ∷ [] })
-        ≡ Err NoCorsMethod)
-    × (new_request client (record asked { mode = mode.Navigate; headers = record { name = codes "a"; value = [] }
-        ∷ record { name = codes "a b"; value = [] } ∷ [] }) ≡ Err (BadHeader 1))
+    ≡ Err NoCorsMethod)
+    × (new_request client (record asked {
+      mode = mode.Navigate;
+      headers = record { name = codes "a"; value = [] }
+          ∷ record { name = codes "a b"; value = [] } ∷ [];
+    }) ≡ Err (BadHeader 1))
     × (new_request client (record asked { mode = mode.Navigate }) ≡ Err NavigateMode)
 unfolding url_on_literals
 faults_in_order = (refl, refl, refl, refl, refl, refl, refl, refl)
@@ -101,3 +110,49 @@ pub put_sent : head_lines [] (made client put target) target
     ∷ []
 unfolding url_on_literals
 put_sent = refl
+
+-- a body of so many letters is too long from 65,537 on, a method from 16,385 on
+abbrev letters : ℕ → List ℕ
+letters count = replicate count 65
+
+body-of-letters : (count : ℕ) → is_long_body (Some (letters count)) ≡ nat_lt 65536 count
+body-of-letters count = ap (nat_lt 65536) (length-replicate count 65)
+
+method-of-letters : (count : ℕ) → is_too_long (record asked { method = letters count })
+    ≡ (nat_lt 16384 (count + 0) || false)
+method-of-letters count = ap (λ (size : ℕ). nat_lt 16384 (size + 0) || false) (length-replicate count 65)
+
+long_body : (is_long_body (Some (letters 65536)) ≡ false) × (is_long_body (Some (letters 65537)) ≡ true)
+long_body = (body-of-letters 65536, body-of-letters 65537)
+
+long_method : (is_too_long (record asked { method = letters 16384 }) ≡ false)
+    × (is_too_long (record asked { method = letters 16385 }) ≡ true)
+long_method = (method-of-letters 16384, method-of-letters 16385)
+
+-- a GET of another origin, behind the CORS protocol, with credentials and a referrer
+abbrev foreign : Parts
+foreign = record root { host = Some (Domain (codes "b.test")); port = Some 8080; path = codes "/y"; query = Some (codes "z") }
+
+abbrev foreign_get : Request
+foreign_get = record (made client asked foreign) {
+  referrer = Address root;
+  tainting = Cors;
+  credentials = credentials.Include;
+}
+
+abbrev cookies : List Cookie
+cookies = record { origin = codes "https://b.test"; value = codes "a=1" }
+    ∷ record { origin = codes "https://b.test:8080"; value = codes "b=2" } ∷ []
+
+foreign_sent : head_lines cookies foreign_get foreign
+    ≡ header (codes "Host") (codes "b.test:8080")
+    ∷ header (codes "Accept") (codes "*/*")
+    ∷ header (codes "User-Agent") (codes "fetchplay/1")
+    ∷ header (codes "Accept-Encoding") (codes "identity")
+    ∷ header (codes "Referer") (codes "https://a.test/")
+    ∷ header (codes "Origin") (codes "https://a.test")
+    ∷ header (codes "Cookie") (codes "b=2")
+    ∷ header (codes "Connection") (codes "close")
+    ∷ []
+unfolding url_on_literals
+foreign_sent = refl

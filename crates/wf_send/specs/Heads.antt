@@ -1,11 +1,10 @@
 -- A request as it is sent (Fetch, section 4.6 "HTTP-network-or-cache fetch"; RFC 9112, section 3.2).
 use Rattle.std.specs.Prelude.{ℕ, Bool, true, false, List, [], ◌∷◌, ◌++◌, length, codes, decimal, bytes_eq, Option}
 use Rattle.std.specs.Prelude.{Some, None, if◌then◌else◌}
-use Rattle.std.specs.List.{list_any}
 use Rattle.url.specs.Parts.{Parts}
 use Rattle.wf_origin.specs.Origins.{origin_of}
 use Rattle.wf_headers.specs.declared.headers.Header.{Header}
-use Rattle.wf_headers.specs.Headers.{is_named}
+use Rattle.wf_headers.specs.Headers.{all_appended, contains}
 use Rattle.wf_types.specs.declared.client.Cookie.{Cookie}
 use Rattle.wf_types.specs.declared.hop.Hop.{Hop}
 use Rattle.wf_types.specs.declared.mode.Credentials.{Credentials}
@@ -13,7 +12,7 @@ use Rattle.wf_types.specs.declared.mode.Credentials.TheVariants as credentials
 use Rattle.wf_types.specs.declared.mode.Tainting.{Tainting}
 use Rattle.wf_types.specs.declared.mode.Tainting.TheVariants as tainting
 use Rattle.wf_types.specs.declared.request.Request.{Request}
-use Rattle.wf_types.specs.Lines.{all_appended, header, header_where, present}
+use Rattle.wf_types.specs.Lines.{header, header_where, present}
 use Rattle.wf_types.specs.Methods.{is_post_or_put}
 use Rattle.wf_types.specs.OriginHeader.{origin_value, referrer_value}
 use Rattle.wf_types.specs.Requests.{current_url}
@@ -47,7 +46,7 @@ length_value method None = if is_post_or_put method then Some (codes "0") else N
 -- the user agent's own name, where the request gives none
 abbrev pub user_agent_value : List Header → Option (List ℕ)
 user_agent_value headers =
-    if list_any (is_named (codes "User-Agent")) headers then None else Some (codes "fetchplay/1")
+    if contains (codes "User-Agent") headers then None else Some (codes "fetchplay/1")
 
 -- ---- the head
 
@@ -55,7 +54,7 @@ user_agent_value headers =
 abbrev pub added_headers : List Cookie → Request → Parts → List Header
 added_headers cookies request url =
     present
-    ( header_where (codes "User-Agent") (user_agent_value request.headers)
+    (header_where (codes "User-Agent") (user_agent_value request.headers)
     ∷ Some (header (codes "Accept-Encoding") (codes "identity"))
     ∷ header_where (codes "Referer") (referrer_value request.referrer)
     ∷ header_where (codes "Origin") (origin_value request url)

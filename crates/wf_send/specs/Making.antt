@@ -1,12 +1,11 @@
 -- The request that a script's `fetch` makes (Fetch, sections 5.4 "new Request" and 5.6), or why it makes
 -- none: the first of nine faults.
 use Rattle.std.specs.Prelude.{ℕ, ◌+◌, ◌&&◌, ◌||◌, Bool, true, false, not, nat_le, nat_lt, List, [], ◌∷◌, length, sum_by, codes, Option, Some, None, is_some, option_map, Result, Ok, Err, if◌then◌else◌}
-use Rattle.std.specs.List.{list_any}
 use Rattle.url.specs.Parts.{Parts, has_credentials, serialize}
 use Rattle.wf_text.specs.Tokens.{is_token}
 use Rattle.wf_text.specs.Values.{is_header_value}
 use Rattle.wf_headers.specs.declared.headers.Header.{Header}
-use Rattle.wf_headers.specs.Headers.{appended, is_named}
+use Rattle.wf_headers.specs.Headers.{appended, contains}
 use Rattle.wf_safelist.specs.Forbidden.{is_forbidden_method}
 use Rattle.wf_safelist.specs.Guards.{outcome, list_after}
 use Rattle.wf_safelist.specs.declared.guard.Guard.{Guard}
@@ -115,7 +114,7 @@ filled guard (pair ∷ pairs) headers =
 -- the header, appended where the list has none of its name
 abbrev pub unless_there : List ℕ → List ℕ → List Header → List Header
 unless_there name value headers =
-    if list_any (is_named name) headers then headers else appended name value headers
+    if contains name headers then headers else appended name value headers
 
 -- the type of a body that is a text, where no other is given
 abbrev pub with_body_type : Option (List ℕ) → List Header → List Header

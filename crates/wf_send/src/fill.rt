@@ -1,12 +1,10 @@
 ghost use Rattle.std.specs.Prelude.{◌≡◌, IfOk, OnOk};
-ghost use Rattle.std.specs.List.{list_any};
-ghost use Rattle.wf_headers.specs.Headers.{is_named};
 ghost use Rattle.wf_send.specs.Making as spec;
 
 use std::alloc::Global;
-use wf_headers::{Header, HeaderList};
+use wf_headers::HeaderList;
 use wf_safelist::{Guard, guarded_append};
-use wf_text::{Bytes, OutOfMemory, eq_fold};
+use wf_text::{Bytes, OutOfMemory};
 use wf_types::{Destination, Init, Mode, Pair};
 
 // The guard of the headers of a request in this mode.
@@ -40,15 +38,6 @@ fn fill(
     Ok(())
 }
 
-// Whether one of the headers has this name.
-pub(crate) fn contains(headers: &[Header], name: &[u8]) -> bool
-    ensures { result ≡ list_any (is_named name.now) headers.now }
-{
-    headers
-        .iter()
-        .any(|header| eq_fold(header.name.as_slice(), name))
-}
-
 // Appends a header, unless the list has one of its name.
 fn append_unless_there(
     headers: &mut HeaderList,
@@ -57,7 +46,7 @@ fn append_unless_there(
 ) -> Result<(), OutOfMemory>
     ensures { OnOk result (headers.new ≡ spec.unless_there name.now value.now headers.old) }
 {
-    if contains(headers.as_slice(), name) {
+    if headers.contains(name) {
         Ok(())
     } else {
         headers.append(name, value)

@@ -1,18 +1,18 @@
 ghost use Rattle.std.specs.Prelude.{◌≡◌, codes, option_copied, IfOk, OnOk, None, if◌then◌else◌};
 ghost use Rattle.wf_origin.specs.Origins as origins;
 ghost use Rattle.wf_send.specs.Heads as spec;
-ghost use Rattle.wf_types.specs.Lines.{all_appended, appended_where};
+ghost use Rattle.wf_headers.specs.Headers.{all_appended};
+ghost use Rattle.wf_types.specs.Lines.{appended_where};
 ghost use Rattle.wf_types.specs.OriginHeader.{origin_value};
 ghost use Rattle.wf_types.specs.Targets.{origin_text};
 
-use crate::fill::contains;
 use std::alloc::Global;
 use url::Url;
-use wf_headers::{Header, HeaderList};
+use wf_headers::HeaderList;
 use wf_text::{Bytes, OutOfMemory};
 use wf_types::{
-    Cookie, Credentials, Request, Tainting, append_all, append_where, host_value, is_post_or_put,
-    origin_value, referrer_value,
+    Cookie, Credentials, Request, Tainting, append_where, host_value, is_post_or_put, origin_value,
+    referrer_value,
 };
 
 /// Whether credentials are included: in mode include, and in mode same-origin while the tainting is
@@ -52,10 +52,10 @@ fn cookie_value<'a>(cookies: &'a [Cookie], request: &Request, origin: &[u8]) -> 
 }
 
 // The value of User-Agent, where the request gives none.
-fn user_agent_value(headers: &[Header]) -> Option<&'static [u8]>
+fn user_agent_value(headers: &HeaderList) -> Option<&'static [u8]>
     ensures { option_copied result ≡ spec.user_agent_value headers.now }
 {
-    if contains(headers, b"User-Agent") {
+    if headers.contains(b"User-Agent") {
         None
     } else {
         Some(b"fetchplay/1")
@@ -111,11 +111,7 @@ fn append_added(
     ensures { OnOk result (headers.new
         ≡ all_appended (spec.added_headers cookies.now request.now url.now) headers.old) }
 {
-    append_where(
-        headers,
-        b"User-Agent",
-        user_agent_value(request.headers.as_slice()),
-    )?;
+    append_where(headers, b"User-Agent", user_agent_value(&request.headers))?;
     headers.append(b"Accept-Encoding", b"identity")?;
     append_where(headers, b"Referer", referrer_value(&request.referrer))?;
     append_origin(alloc, headers, request, url)?;
@@ -138,7 +134,7 @@ pub(crate) fn head_lines(
 {
     let mut headers = HeaderList::new(alloc);
     headers.append(b"Host", host_value(url).as_bytes())?;
-    append_all(&mut headers, request.headers.as_slice())?;
+    headers.append_all(request.headers.as_slice())?;
     append_added(alloc, &mut headers, cookies, request, url, origin)?;
     Ok(headers)
 }

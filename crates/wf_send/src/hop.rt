@@ -1,5 +1,6 @@
 ghost use Rattle.std.specs.Prelude.{◌≡◌, IfOk, IsTrue};
 ghost use Rattle.wf_send.specs.Heads as spec;
+ghost use Rattle.wf_text.specs.Ascii.{lacks_space};
 ghost use Rattle.wf_types.specs.Requests.{IsAtHttp, IsRequest, is_determined};
 
 use crate::head::head_lines;
@@ -10,12 +11,14 @@ use wf_types::{Cookies, Hop, Request, origin_text, target_of};
 /// The request as it is sent to its current URL (Fetch, section 4.6; RFC 9112, section 3.2): the
 /// target of its request line, and its header list from Host on. Behind Host stand the request's own
 /// headers, and behind those, where there is a value, User-Agent, Accept-Encoding, Referer, Origin,
-/// Cookie, Content-Length and Connection. The credentials and the fragment of a URL are not sent.
+/// Cookie, Content-Length and Connection. The credentials and the fragment of a URL are not sent. The
+/// target has no space.
 pub fn hop_of(alloc: Global, request: &Request, cookies: &Cookies) -> Result<Hop, OutOfMemory>
     requires request { IsRequest request.now }
     requires at_http { IsAtHttp request.now }
     requires determined { IsTrue (is_determined request.now.referrer) }
-    ensures { IfOk result (λ hop. hop ≡ spec.hop_of cookies.now request.now) }
+    ensures hop { IfOk result (λ hop. hop ≡ spec.hop_of cookies.now request.now) }
+    ensures target { IfOk result (λ hop. IsTrue (lacks_space hop.url)) }
 {
     let url = request.current_url();
     let origin = origin_text(alloc, url)?;

@@ -6,8 +6,6 @@ mod fill;
 mod head;
 mod hop;
 mod make;
-#[cfg(test)]
-mod tests;
 
 pub use head::includes_credentials;
 pub use hop::hop_of;

@@ -2,6 +2,7 @@
 use Rattle.std.proofs.Common.{◌≡◌, ◌∙◌, ℕ, Bool, true, not, ◌==◌, List, [], ◌∷◌, All, ⊎_elim, refl, ap}
 use Rattle.std.proofs.lemmas.Bool.{cases_Bool}
 use Rattle.std.proofs.lemmas.List.Elements.{All-head, All-tail}
+use Rattle.std.proofs.lemmas.List.Folds.{list_all-append}
 use Rattle.std.proofs.lemmas.Slice.Eq.{bytes_eq-Decides}
 use Rattle.std.specs.Prelude.{IsTrue, bytes_eq, codes, Option, Some, None, IfSome, unwrap_or}
 use Rattle.percent_encoding.specs.declared.ascii_set.AsciiSet.{AsciiSet}
@@ -14,6 +15,7 @@ use Rattle.url.proofs.SetLemmas.{outside_pass, passes_from_kept}
 use Rattle.url.proofs.ValidLemmas.{base_from_authority, hierarchical, segment_list_kept, special_has_authority}
 use Rattle.wf_text.specs.Ascii.{lacks_space, space}
 use Rattle.wf_types.specs.Requests.{is_http_url}
+use Rattle.wf_types.specs.Targets.{query_text, target_of}
 
 abbrev is_no_space : ℕ → Bool
 is_no_space byte = not (byte == space)
@@ -24,7 +26,7 @@ kept-lacks_space : (set : AsciiSet) → outside_pass set is_no_space ≡ true �
 kept-lacks_space set inside [] kept = refl
 kept-lacks_space set inside (byte ∷ text) kept =
     rw (passes_from_kept set is_no_space inside byte (All-head (IsKept set) byte text kept))
-        (kept-lacks_space set inside text (All-tail (IsKept set) byte text kept))
+    (kept-lacks_space set inside text (All-tail (IsKept set) byte text kept))
 
 http-kind : scheme_type (codes "http") ≡ SpecialNotFile
 unfolding scheme_type default_port
@@ -38,8 +40,8 @@ https-kind = refl
 pub http-special : (url : Parts) → IsTrue (is_http_url url) → kind_of url ≡ SpecialNotFile
 http-special url http =
     ⊎_elim (λ is. ap scheme_type ((bytes_eq-Decides url.scheme (codes "http")).0 is) ∙ http-kind)
-        (λ other. ap scheme_type ((bytes_eq-Decides url.scheme (codes "https")).0 (rw other at http)) ∙ https-kind)
-        (cases_Bool (bytes_eq url.scheme (codes "http")))
+    (λ other. ap scheme_type ((bytes_eq-Decides url.scheme (codes "https")).0 (rw other at http)) ∙ https-kind)
+    (cases_Bool (bytes_eq url.scheme (codes "http")))
 
 -- the path has no space
 pub path-lacks_space : (url : Parts) → IsValid url → IsTrue (is_http_url url) → IsTrue (lacks_space url.path)
@@ -58,3 +60,14 @@ pub query-lacks_space : (url : Parts) → IsValid url → IsTrue (is_http_url ur
     → IsTrue (lacks_space (unwrap_or url.query []))
 query-lacks_space url valid http =
     kept-query url.query (rw (http-special url http) at valid.query)
+
+query_text-lacks_space : (query : Option (List ℕ)) → lacks_space (unwrap_or query []) ≡ true
+    → lacks_space (query_text query) ≡ true
+query_text-lacks_space None lacks = refl
+query_text-lacks_space (Some text) lacks = lacks
+
+-- the request target has no space
+pub target-lacks_space : (url : Parts) → IsValid url → IsTrue (is_http_url url) → IsTrue (lacks_space (target_of url))
+target-lacks_space url valid http =
+    rw (list_all-append is_no_space url.path (query_text url.query), path-lacks_space url valid http)
+    (query_text-lacks_space url.query (query-lacks_space url valid http))

@@ -1,6 +1,5 @@
--- Header lines: which stand where a value is there, and how they are appended to a list, as those of a request are
--- that is sent (Fetch, section 4.6).
-use Rattle.std.specs.Prelude.{ℕ, List, [], ◌∷◌, Option, Some, None, option_map}
+-- Header lines that stand where there is a value, as in a request that is sent (Fetch, section 4.6).
+use Rattle.std.specs.Prelude.{ℕ, List, Option, Some, None, option_map}
 use Rattle.std.specs.List.{filter_map}
 use Rattle.wf_headers.specs.declared.headers.Header.{Header}
 use Rattle.wf_headers.specs.Headers.{appended}
@@ -16,11 +15,6 @@ header_where name value = option_map (header name) value
 -- the headers that are there, in order
 abbrev pub present : List (Option Header) → List Header
 present lines = filter_map (λ line. line) lines
-
--- headers appended to a list, in order
-abbrev pub all_appended : List Header → List Header → List Header
-all_appended [] headers = headers
-all_appended (one ∷ more) headers = all_appended more (appended one.name one.value headers)
 
 -- the header appended to a list, where there is a value
 abbrev pub appended_where : List ℕ → Option (List ℕ) → List Header → List Header

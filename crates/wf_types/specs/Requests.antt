@@ -5,6 +5,7 @@ use Rattle.std.specs.List.{last_or}
 use Rattle.url.specs.Parts.{Parts}
 use Rattle.wf_origin.specs.declared.origin.Origin.{Origin}
 use Rattle.wf_origin.specs.Origins.{is_http, origin_of, same_origin, serialized}
+use Rattle.wf_text.specs.Tokens.{is_token}
 use Rattle.wf_types.specs.declared.client.Client.{Client}
 use Rattle.wf_types.specs.declared.mode.ReferrerPolicy.{ReferrerPolicy}
 use Rattle.wf_types.specs.declared.mode.ReferrerPolicy.TheVariants as policy
@@ -75,9 +76,10 @@ is_http_referrer NoReferrer = true
 is_http_referrer TheClient = true
 is_http_referrer (Address url) = is_http_url url
 
--- A request that there can be: its URL list is not empty and its earlier URLs are http or https, it
--- was redirected at most 20 times, and a URL as its referrer is http or https.
+-- A request that there can be: its method is a token, its URL list is not empty and its earlier URLs are http or
+-- https, it was redirected at most 20 times, and a URL as its referrer is http or https.
 pub record IsRequest (request : Request) : Type 0 where
+  pub method : IsTrue (is_token request.method)
   pub urls : IsTrue (were_http request.urls)
   pub redirects : request.redirects ≤ 20
   pub referrer : IsTrue (is_http_referrer request.referrer)

@@ -16,8 +16,6 @@ mod policy;
 mod request;
 mod response;
 mod target;
-#[cfg(test)]
-mod tests;
 mod urls;
 
 pub use client::{Client, Cookie, Cookies};
@@ -25,7 +23,7 @@ pub use error::NetError;
 pub use fault::TypeFault;
 pub use hop::{Head, Hop};
 pub use init::{CrossOrigin, Init, LoadInit, Pair, Pairs};
-pub use lines::{append_all, append_where};
+pub use lines::append_where;
 pub use method::{is_get_or_head, is_post_or_put, is_safelisted_method, normalized_method};
 pub use mode::{Credentials, Mode, RedirectMode, ReferrerPolicy, Tainting};
 pub use origin::serialized_origin;

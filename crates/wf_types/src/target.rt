@@ -1,5 +1,8 @@
-ghost use Rattle.std.specs.Prelude.{◌≡◌, IfOk};
+ghost use Rattle.std.specs.Prelude.{◌≡◌, IfOk, IsTrue};
+ghost use Rattle.url.specs.Parts.{IsValid};
 ghost use Rattle.wf_origin.specs.Origins as origins;
+ghost use Rattle.wf_text.specs.Ascii.{lacks_space};
+ghost use Rattle.wf_types.specs.Requests.{is_http_url};
 ghost use Rattle.wf_types.specs.Targets as spec;
 
 use std::alloc::Global;
@@ -7,12 +10,21 @@ use url::{Position, Url};
 use wf_origin::{origin_of, serialize};
 use wf_text::{Bytes, OutOfMemory};
 
-/// The request target in origin form: the path, and the query where there is one (RFC 9112, section
-/// 3.2.1). It takes no memory.
-pub fn target_of(url: &Url) -> &str
-    ensures { result.now ≡ spec.target_of url.now }
+// The path, and the query where there is one; every URL is valid.
+fn path_and_query(url: &Url) -> &str
+    ensures value { result.now ≡ spec.target_of url.now }
+    ensures valid { IsValid url.now }
 {
     url.slice(Position::BeforePath, Position::AfterQuery)
+}
+
+/// The request target in origin form: the path, and the query where there is one (RFC 9112, section
+/// 3.2.1). That of an http or https URL has no space. It takes no memory.
+pub fn target_of(url: &Url) -> &str
+    ensures value { result.now ≡ spec.target_of url.now }
+    ensures no_space { IsTrue (is_http_url url.now) → IsTrue (lacks_space result.now) }
+{
+    path_and_query(url)
 }
 
 /// The value of Host: the host, and the port where the URL has one (RFC 9112, section 3.2). It takes
