@@ -1,7 +1,7 @@
 -- What escaping does to runs of plain bytes, and to texts one after the other.
-use Rattle.std.proofs.Common.{◌≡◌, ◌+◌, ℕ, Bool, true, false, List, [], ◌∷◌, ◌++◌, take, drop, length, suc, refl, ap}
+use Rattle.std.proofs.Common.{◌≡◌, ◌+◌, ◌&&◌, ℕ, Bool, true, false, List, [], ◌∷◌, ◌++◌, take, drop, length, suc, refl, ap}
 use Rattle.std.proofs.Common.{sym, ◌∙◌, arith, cond, subst}
-use Rattle.std.specs.List.{flat_map, prefix_len}
+use Rattle.std.specs.List.{flat_map, list_all, prefix_len}
 use Rattle.std.proofs.lemmas.List.{append-nil, nil_from_length}
 use Rattle.wf_print.specs.Escapes.{escaped, hex_escape, is_plain}
 
@@ -64,3 +64,14 @@ escaped_plain text run n is front back =
     flat_map-kept is_plain hex_escape text
         ∙ ap (λ (l : List ℕ). take (prefix_len is_plain text) text ++ escaped l) behind
         ∙ append-nil (take (prefix_len is_plain text) text) ∙ before
+
+-- a text of plain bytes alone stands for itself
+pub escaped-all_plain : (text : List ℕ) → list_all is_plain text ≡ true → escaped text ≡ text
+escaped-all_plain [] all = refl
+escaped-all_plain (byte ∷ text) all = split (is_plain byte) refl (escaped-all_plain text) all
+  where
+    split : (v : Bool) → is_plain byte ≡ v → (list_all is_plain text ≡ true → escaped text ≡ text)
+        → (v && list_all is_plain text) ≡ true
+        → cond (is_plain byte) (byte ∷ []) (hex_escape byte) ++ escaped text ≡ byte ∷ text
+    split true is more all = rw is (ap (λ (l : List ℕ). byte ∷ l) (more all))
+    split false is more all = cc

@@ -1,15 +1,30 @@
 ghost use Rattle.std.specs.Prelude.{◌≡◌, ◌<◌, ◌++◌, OnOk};
-ghost use Rattle.std.specs.List.{prefix_len};
+ghost use Rattle.std.specs.List.{list_all, prefix_len};
 ghost use Rattle.std.specs.Char.{digit_char};
 ghost use Rattle.wf_print.specs.Escapes as spec;
 
 use crate::output::Output;
 
+// How many bytes are looked at together.
+const BLOCK: usize = 128;
+
 // Whether the byte stands for itself in an escaped text.
 fn is_plain(byte: u8) -> bool
     ensures { result ≡ spec.is_plain byte }
 {
-    (0x20..=0x7e).contains(&byte) && byte != b'\\'
+    (0x20..=0x7e).contains(&byte) & (byte != b'\\')
+}
+
+// Whether each byte stands for itself. It looks at all of them, so that it is compiled to steps on many
+// bytes at once.
+fn are_plain(bytes: &[u8]) -> bool
+    ensures { result ≡ list_all spec.is_plain bytes.now }
+{
+    let mut plain = true;
+    for byte in bytes {
+        plain &= is_plain(*byte);
+    }
+    plain
 }
 
 // How many bytes at the front stand for themselves.
@@ -44,7 +59,7 @@ fn hex_escape(byte: u8) -> [u8; 4]
 }
 
 // Adds a piece, escaped. Bytes that stand for themselves are added a run at a time.
-pub fn add_escaped<W: Output>(text: &mut W, piece: &[u8]) -> Result<(), W::Error>
+fn add_runs<W: Output>(text: &mut W, piece: &[u8]) -> Result<(), W::Error>
     ensures { OnOk result (text.new ≡ W.after text.old (spec.escaped piece.now)) }
 {
     let mut rest = piece;
@@ -57,4 +72,28 @@ pub fn add_escaped<W: Output>(text: &mut W, piece: &[u8]) -> Result<(), W::Error
         text.add(&hex_escape(*byte))?;
         rest = after;
     }
+}
+
+// Adds a block, escaped: as it is, where each of its bytes stands for itself.
+fn add_block<W: Output>(text: &mut W, block: &[u8]) -> Result<(), W::Error>
+    ensures { OnOk result (text.new ≡ W.after text.old (spec.escaped block.now)) }
+{
+    if are_plain(block) {
+        text.add(block)
+    } else {
+        add_runs(text, block)
+    }
+}
+
+// Adds a piece, escaped, a block at a time.
+pub(crate) fn add_escaped<W: Output>(text: &mut W, piece: &[u8]) -> Result<(), W::Error>
+    ensures { OnOk result (text.new ≡ W.after text.old (spec.escaped piece.now)) }
+{
+    let mut rest = piece;
+    while !rest.is_empty() {
+        let (block, after) = rest.split_at(rest.len().min(BLOCK));
+        add_block(text, block)?;
+        rest = after;
+    }
+    Ok(())
 }

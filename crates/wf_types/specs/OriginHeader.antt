@@ -3,7 +3,7 @@
 use Rattle.std.specs.Prelude.{ℕ, ◌&&◌, Bool, true, false, not, List, codes, bytes_eq, Option, Some, None, if◌then◌else◌}
 use Rattle.url.specs.Parts.{Parts, serialize}
 use Rattle.wf_origin.specs.declared.origin.Origin.{Origin}
-use Rattle.wf_origin.specs.Origins.{origin_of}
+use Rattle.wf_origin.specs.Origins.{is_origin_of}
 use Rattle.wf_types.specs.declared.mode.Mode.{Mode}
 use Rattle.wf_types.specs.declared.mode.Mode.TheVariants as mode
 use Rattle.wf_types.specs.declared.mode.ReferrerPolicy.{ReferrerPolicy}
@@ -14,7 +14,7 @@ use Rattle.wf_types.specs.declared.request.Referrer.{Referrer}
 use Rattle.wf_types.specs.declared.request.Referrer.TheVariants as referrer
 use Rattle.wf_types.specs.declared.request.Request.{Request}
 use Rattle.wf_types.specs.Methods.{is_get_or_head}
-use Rattle.wf_types.specs.Requests.{is_origin, serialized_request_origin}
+use Rattle.wf_types.specs.Requests.{serialized_request_origin}
 
 -- ---- Origin
 
@@ -42,7 +42,7 @@ hides_origin policy.NoReferrer origin url = true
 hides_origin policy.NoReferrerWhenDowngrade origin url = is_downgrade origin url
 hides_origin policy.StrictOrigin origin url = is_downgrade origin url
 hides_origin policy.StrictOriginWhenCrossOrigin origin url = is_downgrade origin url
-hides_origin policy.SameOrigin origin url = not (is_origin origin (origin_of url))
+hides_origin policy.SameOrigin origin url = not (is_origin_of origin url)
 hides_origin _ origin url = false
 
 -- the origin as it is told to a URL, where the tainting is not cors

@@ -1,38 +1,28 @@
-ghost use Rattle.std.specs.Prelude.{◌≡◌, ◌&&◌, not, IfOk};
+ghost use Rattle.std.specs.Prelude.{◌≡◌, IfOk};
+ghost use Rattle.wf_origin.specs.Origins.{origin_of as origin_at};
 ghost use Rattle.wf_types.specs.Requests as spec;
 
 use crate::request::Request;
 use std::alloc::Global;
 use url::Url;
-use wf_origin::{Origin, origin_of, same_origin, serialize};
+use wf_origin::{Origin, is_origin_of, origin_of, serialize};
 use wf_text::{Bytes, OutOfMemory};
 
-// Whether an origin is that of a URL, where this has one.
-fn is_origin(origin: &Origin, other: &Option<Origin>) -> bool
-    ensures { result ≡ spec.is_origin origin.now other.now }
-{
-    match other {
-        None => false,
-        Some(other) => same_origin(origin, other),
-    }
-}
-
 // Whether two URLs have an origin, and it is the same.
-fn are_same(origin: &Option<Origin>, other: &Option<Origin>) -> bool
-    ensures { result ≡ spec.are_same origin.now other.now }
+fn are_same(alloc: Global, url: &Url, next: &Url) -> Result<bool, OutOfMemory>
+    ensures { IfOk result (λ same. same ≡ spec.are_same (origin_at url.now) (origin_at next.now)) }
 {
-    match origin {
-        None => false,
-        Some(origin) => is_origin(origin, other),
+    match origin_of(alloc, url)? {
+        None => Ok(false),
+        Some(origin) => Ok(is_origin_of(&origin, next)),
     }
 }
 
-// Whether a redirect from one origin to the next taints the request's.
-fn taints(origin: &Origin, earlier: &Option<Origin>, next: &Option<Origin>) -> bool
-    ensures { result
-        ≡ (not (spec.are_same earlier.now next.now) && not (spec.is_origin origin.now earlier.now)) }
+// Whether a redirect from one URL to the next taints the request's origin.
+fn taints(alloc: Global, origin: &Origin, url: &Url, next: &Url) -> Result<bool, OutOfMemory>
+    ensures { IfOk result (λ tainted. tainted ≡ spec.taints origin.now url.now next.now) }
 {
-    !are_same(earlier, next) && !is_origin(origin, earlier)
+    Ok(!are_same(alloc, url, next)? && !is_origin_of(origin, url))
 }
 
 // Whether a URL and those after it taint the request's origin.
@@ -44,10 +34,9 @@ fn tainted_from(
 ) -> Result<bool, OutOfMemory>
     ensures { IfOk result (λ tainted. tainted ≡ spec.tainted_from origin.now url.now urls.now) }
 {
-    let mut earlier = origin_of(alloc, url)?;
-    for url in urls {
-        let next = origin_of(alloc, url)?;
-        if taints(origin, &earlier, &next) {
+    let mut earlier = url;
+    for next in urls {
+        if taints(alloc, origin, earlier, next)? {
             return Ok(true);
         }
         earlier = next;

@@ -1,7 +1,5 @@
 ghost use Rattle.std.specs.Prelude.{◌≡◌, option_copied, IfOk};
-ghost use Rattle.wf_origin.specs.Origins as origins;
 ghost use Rattle.wf_types.specs.OriginHeader as spec;
-ghost use Rattle.wf_types.specs.Requests.{is_origin};
 
 use crate::method::is_get_or_head;
 use crate::mode::{Mode, ReferrerPolicy, Tainting};
@@ -9,7 +7,7 @@ use crate::origin::serialized_origin;
 use crate::request::{Referrer, Request};
 use std::alloc::Global;
 use url::Url;
-use wf_origin::{Origin, origin_of, same_origin};
+use wf_origin::{Origin, is_origin_of};
 use wf_text::{Bytes, OutOfMemory};
 
 fn is_cors_tainted(tainting: Tainting) -> bool
@@ -31,35 +29,20 @@ fn is_downgrade(origin: &Origin, url: &Url) -> bool
     origin.scheme.as_slice() == b"https".as_slice() && url.scheme() != "https"
 }
 
-// Whether the URL has the origin.
-fn is_origin_of(alloc: Global, origin: &Origin, url: &Url) -> Result<bool, OutOfMemory>
-    ensures { IfOk result (λ same. same ≡ is_origin origin.now (origins.origin_of url.now)) }
-{
-    match origin_of(alloc, url)? {
-        None => Ok(false),
-        Some(other) => Ok(same_origin(origin, &other)),
-    }
-}
-
 // Whether the policy keeps the origin from a URL.
-fn hides_origin(
-    alloc: Global,
-    policy: ReferrerPolicy,
-    origin: &Origin,
-    url: &Url,
-) -> Result<bool, OutOfMemory>
-    ensures { IfOk result (λ hidden. hidden ≡ spec.hides_origin policy origin.now url.now) }
+fn hides_origin(policy: ReferrerPolicy, origin: &Origin, url: &Url) -> bool
+    ensures { result ≡ spec.hides_origin policy origin.now url.now }
 {
     match policy {
-        ReferrerPolicy::NoReferrer => Ok(true),
+        ReferrerPolicy::NoReferrer => true,
         ReferrerPolicy::NoReferrerWhenDowngrade
         | ReferrerPolicy::StrictOrigin
-        | ReferrerPolicy::StrictOriginWhenCrossOrigin => Ok(is_downgrade(origin, url)),
-        ReferrerPolicy::SameOrigin => Ok(!is_origin_of(alloc, origin, url)?),
+        | ReferrerPolicy::StrictOriginWhenCrossOrigin => is_downgrade(origin, url),
+        ReferrerPolicy::SameOrigin => !is_origin_of(origin, url),
         ReferrerPolicy::Empty
         | ReferrerPolicy::Origin
         | ReferrerPolicy::OriginWhenCrossOrigin
-        | ReferrerPolicy::UnsafeUrl => Ok(false),
+        | ReferrerPolicy::UnsafeUrl => false,
     }
 }
 
@@ -67,7 +50,7 @@ fn hides_origin(
 fn told_origin(alloc: Global, request: &Request, url: &Url) -> Result<Bytes, OutOfMemory>
     ensures { IfOk result (λ text. text ≡ spec.told_origin request.now url.now) }
 {
-    if !is_cors_mode(request.mode) && hides_origin(alloc, request.policy, &request.origin, url)? {
+    if !is_cors_mode(request.mode) && hides_origin(request.policy, &request.origin, url) {
         Bytes::of(alloc, b"null")
     } else {
         serialized_origin(alloc, request)

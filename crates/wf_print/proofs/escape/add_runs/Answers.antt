@@ -3,7 +3,7 @@ use Rattle.std.proofs.lemmas.List.Sums.{prefix_len-le-length}
 use Rattle.wf_print.specs.Escapes as spec
 use Rattle.wf_print.proofs.EscapeLemmas.{escaped_run, escaped_plain}
 use Rattle.wf_print.proofs.OutputLemmas.{one_added}
-use Rattle.wf_print.proofs.escape.add_escaped.Goals as goal
+use Rattle.wf_print.proofs.escape.add_runs.Goals as goal
 
 pub split_at-requires : goal.split_at-requires
 split_at-requires g c = rw c.plain_len.ensures (prefix_len-le-length spec.is_plain c.loop-byte.rest.now)
