@@ -1,17 +1,21 @@
 -- The definition of the printed text, computed on plays that were written down by hand.
-use Rattle.std.proofs.Common.{◌≡◌, ℕ, List, [], ◌∷◌, codes, Some, None, false, refl}
+use Rattle.std.proofs.Common.{◌≡◌, ℕ, List, [], ◌∷◌, ◌++◌, codes, Some, None, false, true, refl}
 use Rattle.std.specs.Fmt.{digits}
 use Rattle.wf_headers.specs.declared.headers.Header.{Header}
+use Rattle.wf_types.specs.declared.error.NetError.TheVariants.{CorsCheck, Mime, PreflightHeader}
+use Rattle.wf_types.specs.declared.fault.TypeFault.TheVariants.{BadHeader, BadUrl, ForbiddenMethod}
 use Rattle.wf_types.specs.declared.hop.Hop.{Hop}
-use Rattle.wf_types.specs.declared.response.BodyEnd.TheVariants.{Whole}
-use Rattle.wf_types.specs.declared.response.Outcome.TheVariants.{Answer}
+use Rattle.wf_types.specs.declared.policy.Destination.TheVariants.{Image}
+use Rattle.wf_types.specs.declared.policy.Directive.TheVariants.{ConnectSrc, ImgSrc}
+use Rattle.wf_types.specs.declared.response.BodyEnd.TheVariants.{Whole, Cut, Null}
+use Rattle.wf_types.specs.declared.response.Outcome.TheVariants.{Answer, Error, Loaded}
 use Rattle.wf_types.specs.declared.response.Response.{Response}
-use Rattle.wf_types.specs.declared.response.ResponseKind.TheVariants.{Basic}
-use Rattle.wf_print.specs.declared.events.Ending.TheVariants.{Finished}
+use Rattle.wf_types.specs.declared.response.ResponseKind.TheVariants.{Basic, Cors, Opaque}
+use Rattle.wf_print.specs.declared.events.Ending.TheVariants.{Finished, Fetches, Text}
 use Rattle.wf_print.specs.declared.events.Event.TheVariants as event
 use Rattle.wf_print.specs.declared.events.Transcript.{Transcript}
 use Rattle.wf_print.specs.Escapes.{escaped}
-use Rattle.wf_print.specs.Text.{play_text}
+use Rattle.wf_print.specs.Text.{play_text, transcript_text}
 
 abbrev header : List ℕ → List ℕ → Header
 header name value = record { name = name; value = value }
@@ -50,10 +54,100 @@ transcript = record {
 
 -- a play of one document that fetches once
 own_fetch : play_text (transcript ∷ [])
-    ≡ codes
-    "fetchplay 1\ndocument 0 https://a.test\nfetch 0\nsend https://a.test\n  GET / HTTP/1.1\n  Host: a.test\n  Accept: */*\n  User-Agent: fetchplay/1\n  Accept-Encoding: identity\n  Connection: close\nresult basic 200 https://a.test/\n  body whole 2: hi\nend finished\nhistory\ndone\n"
+    ≡ codes "fetchplay 1\ndocument 0 https://a.test\nfetch 0\nsend https://a.test\n  GET / HTTP/1.1\n"
+    ++ codes "  Host: a.test\n  Accept: */*\n  User-Agent: fetchplay/1\n  Accept-Encoding: identity\n"
+    ++ codes "  Connection: close\nresult basic 200 https://a.test/\n  body whole 2: hi\nend finished\n"
+    ++ codes "history\ndone\n"
 unfolding digits
 own_fetch = refl
+
+-- requests with bodies, their answers, and what policies told
+abbrev other_answers : Transcript
+other_answers = record {
+  document = 1;
+  key = codes "https://shop.test";
+  events =
+      event.Sent (record hop {
+        origin = codes "https://api.test";
+        url = codes "/v1/cart";
+        method = codes "POST";
+        headers = header (codes "Host") (codes "api.test") ∷ header (codes "Content-Length") (codes "7") ∷ [];
+        body = Some (codes "{\"q\":1}");
+      })
+      ∷ event.Result (Answer (record response {
+        kind = Cors;
+        url = Some (codes "https://api.test/v1/cart");
+        headers = header (codes "Content-Type") (codes "application/json") ∷ [];
+        body = Whole (codes "{\"ok\":true}");
+      }))
+      ∷ event.Sent (record hop {
+        origin = codes "http://b.test";
+        url = codes "/?\\";
+        method = codes "PUT";
+        headers = [];
+        body = Some (97 ∷ 92 ∷ 98 ∷ 127 ∷ 10 ∷ 126 ∷ 195 ∷ 169 ∷ []);
+      })
+      ∷ event.Result (Answer (record response {
+        kind = Cors;
+        url = Some (codes "http://b.test/?\\");
+        body = Cut 2;
+      }))
+      ∷ event.Result (Answer (record response { kind = Opaque; status = 0; url = None; body = Null }))
+      ∷ event.Told (record {
+        policy = 0;
+        enforced = true;
+        directive = ConnectSrc;
+        url = codes "https://h.test/";
+      })
+      ∷ event.Told (record {
+        policy = 0;
+        enforced = false;
+        directive = ImgSrc;
+        url = codes "http://b.test/i.png";
+      })
+      ∷ [];
+  ending = Fetches;
+  clock = 0;
+}
+
+other_answers_printed : transcript_text other_answers
+    ≡ codes "document 1 https://shop.test\nsend https://api.test\n  POST /v1/cart HTTP/1.1\n"
+    ++ codes "  Host: api.test\n  Content-Length: 7\n  body 7: {\"q\":1}\n"
+    ++ codes "result cors 200 https://api.test/v1/cart\n  Content-Type: application/json\n"
+    ++ codes "  body whole 11: {\"ok\":true}\nsend http://b.test\n  PUT /?\\x5c HTTP/1.1\n"
+    ++ codes "  body 8: a\\x5cb\\x7f\\x0a~\\xc3\\xa9\nresult cors 200 http://b.test/?\\\n"
+    ++ codes "  body cut 2\nresult opaque 0 ()\n  body none\n"
+    ++ codes "violation 0 enforce connect-src https://h.test/\n"
+    ++ codes "violation 0 report img-src http://b.test/i.png\nend limit fetches\n"
+unfolding digits
+other_answers_printed = refl
+
+-- errors, faults and loads
+abbrev other_ends : Transcript
+other_ends = record {
+  document = 2;
+  key = codes "http://a.test";
+  events =
+      event.Result (Error (PreflightHeader (codes "authorization")))
+      ∷ event.Result (Error CorsCheck)
+      ∷ event.TypeError ForbiddenMethod
+      ∷ event.TypeError (BadHeader 1)
+      ∷ event.Load 7 Image
+      ∷ event.Result Loaded
+      ∷ event.LoadFailed Mime
+      ∷ event.LoadError BadUrl
+      ∷ [];
+  ending = Text;
+  clock = 0;
+}
+
+other_ends_printed : transcript_text other_ends
+    ≡ codes "document 2 http://a.test\nresult error 11 PreflightHeader authorization\n"
+    ++ codes "result error 12 CorsCheck\nresult type-error 4 ForbiddenMethod\n"
+    ++ codes "result type-error 7 BadHeader 1\nload 7 image\nresult loaded\nresult failed 20 Mime\n"
+    ++ codes "result failed type-error 1 BadUrl\nend limit text\n"
+unfolding digits
+other_ends_printed = refl
 
 -- a play without documents
 no_documents : play_text [] ≡ codes "fetchplay 1\nhistory\ndone\n"

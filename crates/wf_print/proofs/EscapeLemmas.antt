@@ -25,7 +25,7 @@ flat_map-kept test other (byte ∷ text) = split (test byte) refl (flat_map-kept
     split true is more =
         let n : suc (prefix_len test text) ≡ 1 + prefix_len test text = omega arith in
         subst (λ (m : ℕ). byte ∷ flat_map f text ≡ take m (byte ∷ text)
-            ++ flat_map f (drop m (byte ∷ text))) n (ap (λ (l : List ℕ). byte ∷ l) more)
+        ++ flat_map f (drop m (byte ∷ text))) n (ap (λ (l : List ℕ). byte ∷ l) more)
     split false is more = ap (λ (b : Bool). cond b (byte ∷ []) (other byte) ++ flat_map f text) (sym is)
 
 -- it does not hold for the byte behind them
@@ -46,24 +46,24 @@ pub escaped_run : (text run after : List ℕ) (byte n : ℕ) → n ≡ prefix_le
     → drop n text ≡ byte ∷ after → escaped text ≡ run ++ (hex_escape byte ++ escaped after)
 escaped_run text run after byte n is front back =
     let behind : drop (prefix_len is_plain text) text ≡ byte ∷ after =
-        subst (λ (m : ℕ). drop m text ≡ byte ∷ after) is back in
+    subst (λ (m : ℕ). drop m text ≡ byte ∷ after) is back in
     let before : take (prefix_len is_plain text) text ≡ run = ap (λ (m : ℕ). take m text) (sym is) ∙ sym front in
     flat_map-kept is_plain hex_escape text
-        ∙ ap (λ (l : List ℕ). l ++ escaped (drop (prefix_len is_plain text) text)) before
-        ∙ ap (λ (l : List ℕ). run ++ l) (ap escaped behind
-        ∙ ap (λ (b : Bool). cond b (byte ∷ []) (hex_escape byte)
-        ++ escaped after) (behind_kept is_plain text byte after behind))
+    ∙ ap (λ (l : List ℕ). l ++ escaped (drop (prefix_len is_plain text) text)) before
+    ∙ ap (λ (l : List ℕ). run ++ l) (ap escaped behind
+    ∙ ap (λ (b : Bool). cond b (byte ∷ []) (hex_escape byte)
+    ++ escaped after) (behind_kept is_plain text byte after behind))
 
 -- plain bytes alone
 pub escaped_plain : (text run : List ℕ) (n : ℕ) → n ≡ prefix_len is_plain text → run ≡ take n text
     → length (drop n text) ≡ 0 → escaped text ≡ run
 escaped_plain text run n is front back =
     let behind : drop (prefix_len is_plain text) text ≡ [] =
-        subst (λ (m : ℕ). drop m text ≡ []) is (nil_from_length (drop n text) back) in
+    subst (λ (m : ℕ). drop m text ≡ []) is (nil_from_length (drop n text) back) in
     let before : take (prefix_len is_plain text) text ≡ run = ap (λ (m : ℕ). take m text) (sym is) ∙ sym front in
     flat_map-kept is_plain hex_escape text
-        ∙ ap (λ (l : List ℕ). take (prefix_len is_plain text) text ++ escaped l) behind
-        ∙ append-nil (take (prefix_len is_plain text) text) ∙ before
+    ∙ ap (λ (l : List ℕ). take (prefix_len is_plain text) text ++ escaped l) behind
+    ∙ append-nil (take (prefix_len is_plain text) text) ∙ before
 
 -- a text of plain bytes alone stands for itself
 pub escaped-all_plain : (text : List ℕ) → list_all is_plain text ≡ true → escaped text ≡ text

@@ -18,7 +18,7 @@ header_lines-drop (header ∷ headers) zero name value n v =
     let a : header.name ≡ name = cc in
     let b : header.value ≡ value = cc in
     ap (λ (l : List ℕ). escaped_line (l ++ codes ": " ++ header.value) ++ header_lines headers) a
-        ∙ ap (λ (l : List ℕ). escaped_line (name ++ codes ": " ++ l) ++ header_lines headers) b
+    ∙ ap (λ (l : List ℕ). escaped_line (name ++ codes ": " ++ l) ++ header_lines headers) b
 header_lines-drop (header ∷ headers) (suc i) name value n v = header_lines-drop headers i name value n v
 
 -- the texts of the first items, and those of the rest
@@ -30,5 +30,9 @@ flat_map-split f xs i = ap (λ l. flat_map f l) (sym (take-append-drop i xs)) �
 pub flat_map-take : {X : Type 0} (f : X → List ℕ) (xs : List X) (i : ℕ) (x : X) → i < length xs → x ≡ get_or xs i x
     → flat_map f (take (i + 1) xs) ≡ flat_map f (take i xs) ++ f x
 flat_map-take f xs i x h is =
-    rw (add-one, take-suc xs i x h, flat_map-append f (take i xs) (get_or xs i x ∷ []),
-        append-nil (f (get_or xs i x))) (ap (λ y. flat_map f (take i xs) ++ f y) (sym is))
+    rw (
+      add-one,
+      take-suc xs i x h,
+      flat_map-append f (take i xs) (get_or xs i x ∷ []),
+      append-nil (f (get_or xs i x)),
+    ) (ap (λ y. flat_map f (take i xs) ++ f y) (sym is))

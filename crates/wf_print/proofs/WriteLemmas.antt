@@ -15,13 +15,13 @@ pub writes-append : {K A B : Type 0} {taken : K → Option (List ℕ)} {faults z
     → Writes taken faults zeros old new (x ++ y) result
 writes-append {taken = taken} {faults = faults} {zeros = zeros} {old = old} {mid = mid} {new = new} {x = x} {y =
     y} {result = result} first second = record {
-  ok = ok-after result (taken old) (taken mid) (taken new) x y first.ok second.ok;
-  err = err-after result (taken old) (taken mid) (taken new) x y first.ok second.err;
-  faults_stay = omega (arith, first.faults_stay, second.faults_stay);
-  zeros_stay = omega (arith, first.zeros_stay, second.zeros_stay);
-  fault = λ e. let rose : Rose (faults mid) (faults new) = second.fault e in omega (arith, first.faults_stay, rose);
-  nothing = λ e. let rose : Rose (zeros mid) (zeros new) = second.nothing e in omega (arith, first.zeros_stay, rose);
-}
+      ok = ok-after result (taken old) (taken mid) (taken new) x y first.ok second.ok;
+      err = err-after result (taken old) (taken mid) (taken new) x y first.ok second.err;
+      faults_stay = omega (arith, first.faults_stay, second.faults_stay);
+      zeros_stay = omega (arith, first.zeros_stay, second.zeros_stay);
+      fault = λ e. let rose : Rose (faults mid) (faults new) = second.fault e in omega (arith, first.faults_stay, rose);
+      nothing = λ e. let rose : Rose (zeros mid) (zeros new) = second.nothing e in omega (arith, first.zeros_stay, rose);
+    }
 
 -- more text behind one that was not written whole
 pub writes-before : {K A : Type 0} {taken : K → Option (List ℕ)} {faults zeros : K

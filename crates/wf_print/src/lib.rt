@@ -8,8 +8,6 @@ mod length;
 mod lines;
 mod output;
 mod play;
-#[cfg(test)]
-mod tests;
 
 pub use events::{Ending, Event, Events, Transcript, Transcripts};
 pub use failure::Failure;

@@ -18,9 +18,9 @@ returns-in_default g c =
 pub loop-byte-preserved : goal.loop-byte-preserved
 loop-byte-preserved g c =
     let run = escaped_run c.loop-byte.rest.now _ c.in-Some.after.now c.in-Some.byte.now c.plain_len.result
-        c.plain_len.ensures c.split_at.ensures.front
+    c.plain_len.ensures c.split_at.ensures.front
     (sym c.split_at.ensures.back ∙ c.in-Some.ensures.cases.0) in
     let added = one_added g.W.Output.after g.met.W.Output.after_after _ _ _ _ _ _ c.loop-byte.invariant run
-        c.in_ok-add.ensures in
+    c.in_ok-add.ensures in
     one_added g.W.Output.after g.met.W.Output.after_after _ _ _ _ _ _ added refl
-        (rw c.hex_escape.ensures at c.in_ok-add-2.ensures)
+    (rw c.hex_escape.ensures at c.in_ok-add-2.ensures)

@@ -8,6 +8,6 @@ pub loop-index-preserved : goal.loop-index-preserved
 loop-index-preserved g c =
     rw add-one
     (one_added g.W.Output.after g.met.W.Output.after_after _ _ _ _
-        (spec.escaped_line (c.name_at.result.now ++ codes ": " ++ c.value_at.result.now)) _ c.loop-index.invariant
+    (spec.escaped_line (c.name_at.result.now ++ codes ": " ++ c.value_at.result.now)) _ c.loop-index.invariant
     (header_lines-drop c.args.headers.now c.loop-index.index c.name_at.result.now c.value_at.result.now
-        c.name_at.ensures c.value_at.ensures) c.in_ok-add_header.ensures)
+    c.name_at.ensures c.value_at.ensures) c.in_ok-add_header.ensures)

@@ -5,4 +5,4 @@ use Rattle.wf_print.proofs.lines.add_headers.Given as goal
 abbrev pub invariant-loop-index : goal.invariant-loop-index
 invariant-loop-index g l =
     g.W.Output.after l.text (spec.header_lines (drop l.index l.headers))
-        ≡ g.W.Output.after l.fn.text (spec.header_lines l.headers)
+    ≡ g.W.Output.after l.fn.text (spec.header_lines l.headers)

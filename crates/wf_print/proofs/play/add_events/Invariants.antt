@@ -6,4 +6,4 @@ use Rattle.wf_print.proofs.play.add_events.Given as goal
 abbrev pub invariant-loop-event : goal.invariant-loop-event
 invariant-loop-event g l =
     g.W.Output.after l.text (flat_map spec.event_text (drop l.event-index l.events))
-        ≡ g.W.Output.after l.fn.text (flat_map spec.event_text l.events)
+    ≡ g.W.Output.after l.fn.text (flat_map spec.event_text l.events)

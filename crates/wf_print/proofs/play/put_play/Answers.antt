@@ -8,13 +8,13 @@ pub returns-in_err-put : goal.returns-in_err-put
 returns-in_err-put g c =
     writes-failed c.from_residual.result c.from_residual.ensures.1
     (writes-before (flat_map spec.transcript_text c.args.transcripts.now ++ codes "history\n"
-        ++ codes "done\n") c.in_err-put.ensures)
+    ++ codes "done\n") c.in_err-put.ensures)
 
 pub returns-in_err-put_transcripts : goal.returns-in_err-put_transcripts
 returns-in_err-put_transcripts g c =
     writes-failed c.from_residual-in_err-put_transcripts.result c.from_residual-in_err-put_transcripts.ensures.1
     (writes-before (codes "done\n")
-        (writes-before (codes "history\n") (writes-append c.in_ok-put.ensures c.in_err-put_transcripts.ensures)))
+    (writes-before (codes "history\n") (writes-append c.in_ok-put.ensures c.in_err-put_transcripts.ensures)))
 
 pub returns : goal.returns
 returns g c =

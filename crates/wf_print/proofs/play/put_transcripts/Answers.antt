@@ -9,7 +9,7 @@ pub returns-in_err-text : goal.returns-in_err-text
 returns-in_err-text g c =
     rw (flat_map-split spec.transcript_text c.args.transcripts.now c.loop-transcript.transcript-index)
     (writes-refused (flat_map spec.transcript_text (drop c.loop-transcript.transcript-index c.args.transcripts.now))
-        c.from_residual.result c.from_residual.ensures.1 c.loop-transcript.invariant)
+    c.from_residual.result c.from_residual.ensures.1 c.loop-transcript.invariant)
 
 pub returns-in_err-put : goal.returns-in_err-put
 returns-in_err-put g c =
@@ -22,8 +22,8 @@ returns-in_err-put g c =
       ← c.as_slice.ensures,
     )
     (writes-before (flat_map spec.transcript_text
-        (drop (c.loop-transcript.transcript-index + 1) c.args.transcripts.now))
-        (writes-append c.loop-transcript.invariant c.in_err-put.ensures)))
+    (drop (c.loop-transcript.transcript-index + 1) c.args.transcripts.now))
+    (writes-append c.loop-transcript.invariant c.in_err-put.ensures)))
 
 pub loop-transcript-preserved : goal.loop-transcript-preserved
 loop-transcript-preserved g c =

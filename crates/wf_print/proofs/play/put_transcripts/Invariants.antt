@@ -9,4 +9,4 @@ abbrev pub invariant-loop-transcript : goal.invariant-loop-transcript
 invariant-loop-transcript g l =
     let done : Result (Unit {0}) Failure = Ok tt in
     Writes g.K.Sink.taken g.K.Sink.faults g.K.Sink.zeros l.fn.sink l.sink
-        (flat_map spec.transcript_text (take l.transcript-index l.transcripts)) done
+    (flat_map spec.transcript_text (take l.transcript-index l.transcripts)) done
