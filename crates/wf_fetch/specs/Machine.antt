@@ -12,7 +12,7 @@ use Rattle.wf_fetch.specs.declared.place.Place.{Place}
 use Rattle.wf_fetch.specs.declared.place.Place.TheVariants.{Sending, HeadReading, BodyReading}
 use Rattle.wf_fetch.specs.declared.place.Step.{Step}
 use Rattle.wf_fetch.specs.declared.place.Step.TheVariants.{Going, Over}
-use Rattle.wf_fetch.specs.Process.{Process, ended, act, Run, run, began, followed}
+use Rattle.wf_fetch.specs.Process.{Process, ended, act, IsPlain, Run, run, began, followed}
 use Rattle.wf_fetch.specs.Fetch.{Context, Then, after_sent, after_head, after_body, finished}
 
 -- how it goes on from an input at a place
@@ -40,6 +40,11 @@ abbrev pub Does : Context → Step → Process → Type 0
 Does context (Going fetching first) process =
     (last_act context fetching ≡ first) × (process ≡ act fetching.request first (rest fetching))
 Does context (Over outcome) process = process ≡ ended outcome
+
+-- what the step asks for is plain
+abbrev pub AsksPlainly : Step → Type 0
+AsksPlainly (Going fetching first) = IsPlain first
+AsksPlainly (Over outcome) = Unit {0}
 
 -- The step is what the process does first, unless memory was refused.
 abbrev pub Leads : Context → Result Step OutOfMemory → Process → Type 0

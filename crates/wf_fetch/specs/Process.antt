@@ -1,6 +1,7 @@
 -- A fetch as a tree of acts: what is done next, and how it goes on from each input that comes
 -- (Fetch, section 4, where the algorithm waits for the network).
-use Rattle.std.specs.Prelude.{Bool, true, false, List, [], ◌∷◌, Option, Some, None, if◌then◌else◌}
+use Rattle.std.specs.Prelude.{Bool, true, false, List, [], ◌∷◌, Option, Some, None, IsTrue, if◌then◌else◌}
+use Rattle.wf_text.specs.Ascii.{lacks_space}
 use Rattle.wf_types.specs.declared.request.Request.{Request}
 use Rattle.wf_types.specs.declared.response.Outcome.{Outcome}
 use Rattle.wf_fetch.specs.declared.act.Act.{Act}
@@ -24,6 +25,12 @@ fits ReadHead HeadLong = true
 fits ReadHead Fault = true
 fits ReadBody (BodyIs end) = true
 fits _ _ = false
+
+-- what is sent has no space in its method and its target, so its first line has three parts (RFC 9112, section 3)
+abbrev pub IsPlain : Act → Type 0
+IsPlain (Send hop) = IsTrue (lacks_space hop.method) × IsTrue (lacks_space hop.url)
+IsPlain ReadHead = Unit {0}
+IsPlain ReadBody = Unit {0}
 
 -- What a run has done, and its outcome where it came to one.
 pub record Run : Type 0 where

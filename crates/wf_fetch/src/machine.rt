@@ -6,7 +6,7 @@ ghost use Rattle.wf_types.specs.Requests.{IsRequest, IsAtHttp, is_determined, is
 ghost use Rattle.wf_fetch.specs.Fetch as spec;
 ghost use Rattle.wf_fetch.specs.Fetch.{Context, lent};
 ghost use Rattle.wf_fetch.specs.Process.{fits, run};
-ghost use Rattle.wf_fetch.specs.Machine.{Does, Leads, RunsAs, last_act, rest, rest_of};
+ghost use Rattle.wf_fetch.specs.Machine.{AsksPlainly, Does, Leads, RunsAs, last_act, rest, rest_of};
 
 use crate::act::{Act, Input};
 use crate::place::{Fetching, Place, Step};
@@ -119,7 +119,8 @@ fn handed_over(
     body: BodyEnd,
 ) -> Result<Step, OutOfMemory>
     requires { IsRequest request }
-    ensures { (context : Context) → Leads context result (spec.handed_over request head body) }
+    ensures process { (context : Context) → Leads context result (spec.handed_over request head body) }
+    ensures plain { IfOk result AsksPlainly }
 {
     let url = Bytes::of(alloc, without_fragment(request.current_url()).as_bytes())?;
     Ok(Step::Over(Outcome::Answer(Response {
@@ -134,7 +135,8 @@ fn handed_over(
 // The body is read, unless it is coded.
 fn read_body(alloc: Global, request: Request, head: Head) -> Result<Step, OutOfMemory>
     requires { IsRequest request }
-    ensures { (context : Context) → Leads context result (spec.read_body request head) }
+    ensures process { (context : Context) → Leads context result (spec.read_body request head) }
+    ensures plain { IfOk result AsksPlainly }
 {
     if is_coded(alloc, &head)? {
         return Ok(Step::Over(Outcome::Error(NetError::Coding)));
@@ -151,7 +153,8 @@ fn finished(
     came: Result<Head, NetError>,
 ) -> Result<Step, OutOfMemory>
     requires { IsRequest request }
-    ensures { (context : Context) → Leads context result (spec.finished request came) }
+    ensures process { (context : Context) → Leads context result (spec.finished request came) }
+    ensures plain { IfOk result AsksPlainly }
 {
     match came {
         Err(error) => Ok(Step::Over(Outcome::Error(error))),
@@ -168,7 +171,8 @@ fn finished(
 // The head of the answer is read.
 fn read_head(request: Request) -> Step
     requires { IsRequest request }
-    ensures { (context : Context) → Does context result (spec.read_head spec.finished request) }
+    ensures process { (context : Context) → Does context result (spec.read_head spec.finished request) }
+    ensures plain { AsksPlainly result }
 {
     let place = Place::HeadReading;
     Step::Going(Fetching { request, place }, Act::ReadHead)
@@ -177,7 +181,8 @@ fn read_head(request: Request) -> Step
 // The request is on its way, or the link failed.
 fn after_sent(alloc: Global, request: Request, input: Input) -> Result<Step, OutOfMemory>
     requires { IsRequest request }
-    ensures { (context : Context) → Leads context result (spec.after_sent spec.finished request input) }
+    ensures process { (context : Context) → Leads context result (spec.after_sent spec.finished request input) }
+    ensures plain { IfOk result AsksPlainly }
 {
     if was_sent(&input) {
         Ok(read_head(request))
@@ -191,8 +196,9 @@ fn http_fetch(alloc: Global, request: Request, cookies: &Cookies) -> Result<Step
     requires valid { IsRequest request }
     requires http { IsAtHttp request }
     requires determined { IsTrue (is_determined request.referrer) }
-    ensures { (client : LentClient) → Leads (lent client cookies.now) result
+    ensures process { (client : LentClient) → Leads (lent client cookies.now) result
         (spec.http_fetch (lent client cookies.now) spec.finished request) }
+    ensures plain { IfOk result AsksPlainly }
 {
     let hop = hop_of(alloc, &request, cookies)?;
     let place = Place::Sending;
@@ -212,8 +218,9 @@ fn main_switch(alloc: Global, request: Request, cookies: &Cookies) -> Result<Ste
     requires valid { IsRequest request }
     requires http { IsAtHttp request }
     requires determined { IsTrue (is_determined request.referrer) }
-    ensures { (client : LentClient) → Leads (lent client cookies.now) result
+    ensures process { (client : LentClient) → Leads (lent client cookies.now) result
         (spec.main_switch (lent client cookies.now) spec.finished request) }
+    ensures plain { IfOk result AsksPlainly }
 {
     if is_at_home(&request) {
         http_fetch(alloc, request, cookies)
@@ -248,8 +255,9 @@ fn main_level(
 ) -> Result<Step, OutOfMemory>
     requires valid { IsRequest request }
     requires determined { IsTrue (is_determined request.referrer) }
-    ensures { Leads (lent client.now cookies.now) result
+    ensures process { Leads (lent client.now cookies.now) result
         (spec.main_level (lent client.now cookies.now) spec.finished request) }
+    ensures plain { IfOk result AsksPlainly }
 {
     if !is_http(request.current_url()) {
         return finished(alloc, request, Err(NetError::Scheme));
@@ -264,7 +272,7 @@ impl Fetching {
     /// (Fetch, section 4.1). It is over at once with the network error `Scheme` exactly where the
     /// request's current URL is neither http nor https, and else with `SameOriginMode` exactly where
     /// that URL has another origin than the request or the request is tainted; otherwise the request
-    /// is to be sent.
+    /// is to be sent, whose method and target have no space.
     pub fn start(
         alloc: Global,
         request: Request,
@@ -278,6 +286,7 @@ impl Fetching {
             (spec.main_fetch (lent client.now cookies.now) request) }
         ensures runs { IfOk result (λ step. RunsAs (lent client.now cookies.now) step
             (run (spec.main_fetch (lent client.now cookies.now) request))) }
+        ensures plain { IfOk result AsksPlainly }
     {
         main_level(alloc, request, client, cookies)
     }
@@ -299,13 +308,15 @@ impl Fetching {
         ensures process { Leads (lent client.now cookies.now) result (rest self input) }
         ensures runs { IfOk result (λ step. RunsAs (lent client.now cookies.now) step
             (λ tape. rest_of (lent client.now cookies.now) self (input ∷ tape))) }
+        ensures plain { IfOk result AsksPlainly }
     {
         self.go_on(alloc, input)
     }
 
     // Goes on from an input, whatever it is.
     fn go_on(self, alloc: Global, input: Input) -> Result<Step, OutOfMemory>
-        ensures { (context : Context) → Leads context result (rest self input) }
+        ensures process { (context : Context) → Leads context result (rest self input) }
+        ensures plain { IfOk result AsksPlainly }
     {
         let Fetching { request, place } = self;
         match place {

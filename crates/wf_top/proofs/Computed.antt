@@ -4,10 +4,8 @@ use Rattle.std.proofs.Common.{◌≡◌, refl, true, false, inr, List, [], ◌�
 use Rattle.url.proofs.OnLiterals.{url_on_literals}
 use Rattle.wf_types.specs.declared.response.Outcome.TheVariants.{Error}
 use Rattle.wf_types.specs.declared.error.NetError.TheVariants.{BadHead}
-use Rattle.wf_script.specs.Servers.{answer_bytes}
+use Rattle.wf_script.specs.Servers.{answer, answer_bytes}
 use Rattle.wf_script.specs.declared.types.Server.{Server}
-use Rattle.wf_sim.specs.Sim.{answer_to}
-use Rattle.wf_http1.specs.Requests.{request_bytes}
 use Rattle.wf_http1.proofs.AnswerLemmas.{nothing-unfinished}
 use Rattle.wf_print.specs.declared.events.Ending.TheVariants.{Finished}
 use Rattle.wf_print.specs.declared.events.Event.TheVariants as event
@@ -29,13 +27,12 @@ servers =
           ∷ [];
     } ∷ []
 
--- the second rule answers the document's request, by its bytes
-pub second_rule : answer_to servers hop.origin (request_bytes hop) ≡ answer_bytes 200 [] (codes "hi")
+-- the second rule answers the document's request
+pub second_rule : answer servers hop.origin hop.method hop.url ≡ answer_bytes 200 [] (codes "hi")
 second_rule = refl
 
 -- without a rule the status is 404, and without a server the answer is empty
-pub without_a_rule : answer_to (record { origin = codes "https://a.test"; rules = [] }
-    ∷ []) hop.origin (request_bytes hop)
+pub without_a_rule : answer (record { origin = codes "https://a.test"; rules = [] } ∷ []) hop.origin hop.method hop.url
     ≡ codes "HTTP/1.1 404 Scripted\r\n\r\n"
 without_a_rule = refl
 

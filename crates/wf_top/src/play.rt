@@ -7,7 +7,7 @@ ghost use Rattle.wf_types.specs.Requests.{IsClient};
 ghost use Rattle.wf_send.specs.Making.{new_request as request_of};
 ghost use Rattle.wf_fetch.specs.Fetch.{lent, main_fetch};
 ghost use Rattle.wf_fetch.specs.Play.{events_of};
-ghost use Rattle.wf_fetch.specs.Process.{fits};
+ghost use Rattle.wf_fetch.specs.Process.{IsPlain, fits};
 ghost use Rattle.wf_fetch.specs.Runs.{command_run, script_run, fetched, finished, limit_before};
 ghost use Rattle.wf_fetch.specs.Runs.{normalized_init as normal_init};
 ghost use Rattle.wf_top.specs.Plays.{IsPlay, IsTranscript};
@@ -41,6 +41,7 @@ fn exchange(
     running: &mut Running<'_>,
     act: Act,
 ) -> Result<Input, OutOfMemory>
+    requires { IsPlain act }
     ensures came { IfOk result (λ input. Exchanges limit (exchange_of running.old.wire) act input
         (exchange_of running.new.wire)) }
     ensures fits { IfOk result (λ input. IsTrue (fits act input)) }

@@ -5,6 +5,7 @@ use Rattle.std.specs.Prelude.{slice_range}
 use Rattle.std.proofs.lemmas.List.{append-nil, drop-append-le, drop-drop, drop-take, length-take}
 use Rattle.std.proofs.Math.Seq.{drop-append-add}
 use Rattle.wf_types.specs.declared.hop.Head.{Head}
+use Rattle.wf_types.specs.declared.hop.Hop.{Hop}
 use Rattle.wf_types.specs.declared.response.BodyEnd.{BodyEnd}
 use Rattle.wf_http1.specs.declared.framing.Framing.{Framing}
 use Rattle.wf_http1.specs.Answers.{HasBadBlock, IsFinal, IsHeadEnd, IsTooLong, IsUnfinished, final, bad, long}
@@ -19,10 +20,15 @@ use Rattle.wf_http1.specs.declared.body.BodyStep.TheVariants as bodies
 use Rattle.wf_http1.specs.declared.head.HeadStep.{HeadStep}
 use Rattle.wf_http1.specs.declared.head.HeadStep.TheVariants as heads
 use Rattle.wf_script.specs.declared.types.Server.{Server}
-use Rattle.wf_fetch.specs.declared.act.Input.TheVariants.{HeadIs}
+use Rattle.wf_http1.specs.Requests.{request_bytes}
+use Rattle.wf_sim.specs.Laws.{IsSendable}
+use Rattle.wf_sim.specs.Sim.{answer_to}
+use Rattle.wf_sim.proofs.SimLemmas.{answers-by_parts}
+use Rattle.wf_fetch.specs.declared.act.Input.{Input}
+use Rattle.wf_fetch.specs.declared.act.Input.TheVariants.{Sent, HeadIs}
 use Rattle.wf_wire.specs.declared.exchange.Found.TheVariants as found
 use Rattle.wf_wire.specs.declared.wire.Wire.{Wire}
-use Rattle.wf_wire.specs.Exchanges.{Exchange, IsHeadRead}
+use Rattle.wf_wire.specs.Exchanges.{Exchange, IsHeadRead, IsSent, idle}
 use Rattle.wf_wire.specs.Private.Heads.{Finds}
 use Rattle.wf_wire.specs.Wires.{window_of}
 use Rattle.wf_http1.proofs.AnswerLemmas.{bad-more, final-more, long-more}
@@ -71,6 +77,15 @@ pub body-over : (framing : Framing) (limit : ℕ) (whole reader window left : Li
     ++ (window ++ left) ≡ whole → IsDecided framing limit (reader ++ window) end → end ≡ body_end framing limit whole
 body-over framing limit whole reader window left end is decided =
     sym (ap (λ (l : List ℕ). body_end framing limit l) (sym (joined whole reader window left is)) ∙ decided left)
+
+-- ---- the request
+
+-- a request that was sent by its bytes is answered by its method and its target
+pub request-sent : (old new : Exchange) (hop : Hop) (origin request : List ℕ) (input : Input) → IsSendable hop
+    → origin ≡ hop.origin → request ≡ request_bytes hop → input ≡ Sent
+    → new ≡ record (idle old.servers) { coming = answer_to old.servers origin request } → IsSent old hop input new
+request-sent old new hop origin request input plain same_origin bytes sent stands =
+    (sent, stands ∙ rw same_origin (rw bytes (rw (answers-by_parts old.servers hop plain) refl)))
 
 -- ---- the head
 

@@ -1,13 +1,12 @@
--- What comes of the acts of a fetch over the scripted servers of a scenario: the bytes of a request go
--- out, and a head and a body are read from the bytes of the answer (RFC 9112).
+-- What comes of the acts of a fetch over the scripted servers of a scenario: a request is answered by its
+-- method and its target, and a head and a body are read from the bytes of the answer (RFC 9112).
 use Rattle.std.specs.Prelude.{◌≡◌, ℕ, List, [], drop}
 use Rattle.wf_types.specs.declared.hop.Hop.{Hop}
+use Rattle.wf_script.specs.Servers.{answer}
 use Rattle.wf_script.specs.declared.types.Server.{Server}
-use Rattle.wf_sim.specs.Sim.{answer_to}
 use Rattle.wf_http1.specs.Answers.{IsHeadEnd, final, bad, long}
 use Rattle.wf_http1.specs.Bodies.{body_end}
 use Rattle.wf_http1.specs.Framings.{framing_of}
-use Rattle.wf_http1.specs.Requests.{request_bytes}
 use Rattle.wf_http1.specs.declared.framing.Framing.{Framing}
 use Rattle.wf_http1.specs.declared.framing.Framing.TheVariants.{Nothing}
 use Rattle.wf_fetch.specs.declared.act.Act.{Act}
@@ -26,11 +25,11 @@ pub record Exchange : Type 0 where
 abbrev pub idle : List Server → Exchange
 idle servers = record { servers = servers; coming = []; framing = Nothing }
 
--- the request was sent: the servers' answer to its bytes is to come
+-- the request was sent: the servers' answer to its method and its target is to come
 abbrev pub IsSent : Exchange → Hop → Input → Exchange → Type 0
 IsSent old hop input new =
     (input ≡ Sent)
-    × (new ≡ record (idle old.servers) { coming = answer_to old.servers hop.origin (request_bytes hop) })
+    × (new ≡ record (idle old.servers) { coming = answer old.servers hop.origin hop.method hop.url })
 
 -- the head was read: the final one, behind which the body's bytes follow; or what came is none, or too
 -- long a one, and then nothing is to come

@@ -2,7 +2,9 @@
 ghost use Rattle.std.specs.Prelude.{◌≡◌, ◌≤◌, ◌+◌, length, IfOk, IsTrue};
 ghost use Rattle.wf_http1.specs.Answers.{most_bytes};
 ghost use Rattle.wf_http1.specs.Bodies.{body_end};
-ghost use Rattle.wf_fetch.specs.Process.{fits};
+ghost use Rattle.wf_fetch.specs.Process.{IsPlain, fits};
+ghost use Rattle.wf_sim.specs.Laws.{IsSendable};
+ghost use Rattle.wf_sim.specs.Sim.{answer_to};
 ghost use Rattle.wf_wire.specs.Exchanges as spec;
 ghost use Rattle.wf_wire.specs.Exchanges.{idle};
 ghost use Rattle.wf_wire.specs.Private.Heads.{Finds};
@@ -65,6 +67,7 @@ impl<'a> Wire<'a> {
         limit: u32,
         act: &Act,
     ) -> Result<Input, OutOfMemory>
+        requires { IsPlain act.now }
         ensures came { IfOk result (λ input. spec.Exchanges limit (exchange_of self.old) act.now input
             (exchange_of self.new)) }
         ensures fits { IfOk result (λ input. IsTrue (fits act.now input)) }
@@ -78,17 +81,28 @@ impl<'a> Wire<'a> {
 
     // Sends a request. Its answer is to come.
     fn send(&mut self, alloc: Global, hop: &Hop) -> Result<Input, OutOfMemory>
+        requires { IsSendable hop.now }
         ensures { IfOk result (λ input. spec.IsSent (exchange_of self.old) hop.now input (exchange_of self.new)) }
     {
         let request = write_request(alloc, hop)?;
         let target = Target {
             origin: hop.origin.copy(alloc)?,
         };
+        Ok(self.ask(&target, request.as_slice()))
+    }
+
+    // Asks for the answer to the bytes of a request, and for nothing that was to come before.
+    fn ask(&mut self, target: &Target, request: &[u8]) -> Input
+        ensures sent { result ≡ Input.Sent }
+        ensures coming { exchange_of self.new ≡ record (idle (exchange_of self.old).servers) {
+          coming = answer_to (exchange_of self.old).servers target.now.origin request.now;
+        } }
+    {
         self.close();
-        Ok(match self.link.ask(&target, request.as_slice()) {
+        match self.link.ask(target, request) {
             Ok(()) => Input::Sent,
             Err(Failed) => Input::Fault,
-        })
+        }
     }
 
     // Reads the head of the answer. Where none came the wire is closed.
