@@ -15,7 +15,7 @@ checks() {
         name=${words#*--crate-name }
         kind=proofs
         case " $words " in *" --test "*) kind=tests ;; esac
-        case "$(readlink "/proc/$process/cwd") $words" in *rt-edits-*) kind=edits ;; esac
+        case "$(readlink "/proc/$process/cwd") $words" in *rt-edit*) kind=edits ;; esac
         printf '%s %s %s %s\n' "$process" "$seconds" "${name%% *}" "$kind"
     done < <(ps -eo pid=,cputimes=,args= | grep -e '/bin/rattle .*--crate-name' | grep -v grep)
 }
