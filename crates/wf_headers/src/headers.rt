@@ -1,4 +1,4 @@
-ghost use Rattle.std.specs.Prelude.{ℕ, List, ◌≤◌, vec_len, vec_capacity, ◌≡◌, ◌≢◌, ◌↔◌, ◌<◌, ◌++◌, [], length, IsTrue};
+ghost use Rattle.std.specs.Prelude.{ℕ, List, ◌≤◌, vec_len, vec_capacity, ◌≡◌, ◌≢◌, ◌↔◌, ◌<◌, ◌++◌, [], length, take, IsTrue};
 ghost use Rattle.std.specs.Prelude.{IfOk, OnOk, OnErr, MatchOption, Some, slice_get, option_map, codes, if◌then◌else◌};
 ghost use Rattle.wf_headers.specs.Headers.{all_appended, appended, combined, contains, first_of, has_value, spelling, with_only, without};
 ghost use Rattle.wf_headers.specs.Private.Joining.{behind_value};
@@ -282,14 +282,28 @@ impl HeaderList {
         take_out(&mut self.headers, name);
     }
 
-    /// Appends each of these headers, in order. Where memory is refused, those before it are there.
-    pub fn append_all(&mut self, more: &[Header]) -> Result<(), OutOfMemory>
-        ensures { OnOk result (self.new ≡ all_appended more.now self.old) }
+    // Appends each of these headers, in order. Where memory is refused, those before it are there.
+    fn append_each(&mut self, more: &[Header]) -> Result<(), OutOfMemory>
+        ensures ok { OnOk result (self.new ≡ all_appended more.now self.old) }
+        ensures err { OnErr result (take (length self.old) self.new ≡ self.old) }
     {
         for header in more {
             self.append(header.name.as_slice(), header.value.as_slice())?;
         }
         Ok(())
+    }
+
+    /// Appends each of these headers, in order, or none of them where memory is refused.
+    pub fn append_all(&mut self, more: &[Header]) -> Result<(), OutOfMemory>
+        ensures ok { OnOk result (self.new ≡ all_appended more.now self.old) }
+        ensures err { OnErr result (self.new ≡ self.old) }
+    {
+        let before = self.headers.len();
+        let appended = self.append_each(more);
+        if appended.is_err() {
+            self.headers.truncate(before);
+        }
+        appended
     }
 
     /// An equal list.
