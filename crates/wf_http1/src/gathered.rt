@@ -4,7 +4,7 @@ use std::alloc::Global;
 use std::marker::Model;
 use wf_text::OutOfMemory;
 
-/// The bytes of the block that has begun, in a buffer that is reserved first.
+/// The bytes of the block that has begun.
 #[derive(Drop)]
 pub(crate) struct Gathered {
     bytes: Vec<u8>,

@@ -16,6 +16,9 @@ use wf_types::Head;
 // How many bytes the heads of an answer have at most.
 const MOST_BYTES: usize = 65_536;
 
+// How many bytes most heads have at most, for which room is made first.
+const FEW_BYTES: usize = 4_096;
+
 /// Reads the heads of an answer from pieces, and is seen as all bytes so far, which decide nothing yet.
 #[derive(Drop)]
 pub struct HeadReader {
@@ -54,7 +57,7 @@ pub enum HeadStep {
     TooBig,
 }
 
-// What a line comes to.
+/// What a line comes to.
 #[derive(Drop)]
 enum Pushed {
     More(HeadReader),
@@ -83,13 +86,14 @@ fn line_length(bytes: &[u8]) -> usize
 }
 
 impl HeadReader {
-    /// A reader of the heads of an answer, which reserves 65,536 bytes here.
+    /// A reader of the heads of an answer. Room for 4,096 bytes is made here, and more where a head
+    /// needs it.
     pub fn new(alloc: Global) -> Result<HeadReader, OutOfMemory>
         ensures { IfOk result (λ reader. reader ≡ []) }
     {
         Ok(HeadReader {
             past: Seen::new(),
-            block: Gathered::with_room(alloc, MOST_BYTES)?,
+            block: Gathered::with_room(alloc, FEW_BYTES)?,
             has_line_byte: false,
             seen_bytes: 0,
         })

@@ -7,6 +7,9 @@ use wf_headers::Header;
 use wf_text::{Bytes, OutOfMemory};
 use wf_types::Hop;
 
+// How many bytes most requests have at most, for which room is made first.
+const FEW_BYTES: usize = 512;
+
 // Adds the method, the request target and the version.
 fn add_request_line(text: &mut Bytes, hop: &Hop) -> Result<(), OutOfMemory>
     ensures { OnOk result (text.new ≡ text.old ++ request_line hop.now) }
@@ -52,7 +55,7 @@ fn add_body(text: &mut Bytes, body: &Option<Bytes>) -> Result<(), OutOfMemory>
 pub fn write_request(alloc: Global, hop: &Hop) -> Result<Bytes, OutOfMemory>
     ensures { IfOk result (λ bytes. bytes ≡ request_bytes hop.now) }
 {
-    let mut text = Bytes::new(alloc);
+    let mut text = Bytes::from_vec(Vec::with_capacity(alloc, FEW_BYTES)?);
     add_request_line(&mut text, hop)?;
     add_header_lines(&mut text, hop.headers.as_slice())?;
     text.append(b"\r\n")?;

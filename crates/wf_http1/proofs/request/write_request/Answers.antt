@@ -16,7 +16,7 @@ returns c =
     let hop = c.args.hop.now in
     in-four (request_line hop) (flat_map header_line hop.headers) (codes "\r\n") (unwrap_or hop.body [])
     c.add_request_line.new.text c.add_header_lines.new.text c.append.new.self c.add_body.new.text
-    (c.in_ok-add_request_line.ensures ∙ ap (λ (l : List ℕ). l ++ request_line hop) c.new-text.ensures)
+    (c.in_ok-add_request_line.ensures ∙ ap (λ (l : List ℕ). l ++ request_line hop) (c.from_vec-text.ensures ∙ c.in_ok-with_capacity.ensures.items))
     (c.in_ok-add_header_lines.ensures
     ∙ ap (λ (l : List Header). c.add_request_line.new.text ++ flat_map header_line l) c.as_slice.ensures)
     c.in_ok-append.ensures.ok c.in_ok-add_body.ensures
