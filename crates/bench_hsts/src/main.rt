@@ -46,6 +46,7 @@ fn name(alloc: Global, label: &[u8], number: u64) -> Result<Bytes, Failed> {
     Ok(name)
 }
 
+// A list of so many hosts.
 fn filled(alloc: Global, hosts: u64) -> Result<HstsList, Failed> {
     let mut list = HstsList::new(alloc);
     for number in 0..hosts {

@@ -79,6 +79,7 @@ fn question(alloc: Global, key: u64) -> Result<Question, Failed> {
     })
 }
 
+// A cache of so many keys.
 fn filled(alloc: Global, keys: u64) -> Result<Precache, Failed> {
     let mut cache = Precache::new(alloc);
     for key in 0..keys {

@@ -48,10 +48,12 @@ struct Row<P> {
     answered: u64,
 }
 
+// A text.
 fn text(alloc: Global, from: &str) -> Result<Bytes, OutOfMemory> {
     Bytes::of(alloc, from.as_bytes())
 }
 
+// Whether a request is covered.
 fn covers(alloc: Global, now: u64) -> Result<Op, OutOfMemory>
     requires { now < 2 ^ 48 }
     ensures { IfOk result (λ op. InRange op) }
@@ -67,6 +69,7 @@ fn covers(alloc: Global, now: u64) -> Result<Op, OutOfMemory>
     Ok(Op::Covers(question, now))
 }
 
+// A lesson of it for five seconds.
 fn learn(alloc: Global, now: u64) -> Result<Op, OutOfMemory>
     requires { now < 2 ^ 48 }
     ensures { IfOk result (λ op. InRange op) }
@@ -85,6 +88,7 @@ fn learn(alloc: Global, now: u64) -> Result<Op, OutOfMemory>
     Ok(Op::Learn(lesson, now))
 }
 
+// Clears what the lesson taught.
 fn clear(alloc: Global, now: u64) -> Result<Op, OutOfMemory>
     requires { now < 2 ^ 48 }
     ensures { IfOk result (λ op. InRange op) }
@@ -95,6 +99,7 @@ fn clear(alloc: Global, now: u64) -> Result<Op, OutOfMemory>
     Ok(Op::Clear(key, origin, url, now))
 }
 
+// A lesson, a question or a clear by turns, whose time is its number.
 fn numbered(alloc: Global, number: u64) -> Result<Op, OutOfMemory>
     requires { number < 2 ^ 48 }
     ensures { IfOk result (λ op. InRange op) }
@@ -161,7 +166,8 @@ fn open_rows(
 ) -> Result<Vec<Row<TurnPass>>, OutOfMemory>
     requires belongs { first.old.seat.table_id ≡ book.now.table.shared.table_id }
     requires first { (first.old.document ≡ 4294967295) × (made_of first.old ≡ []) }
-    ensures { IfOk result (λ rows. All (λ row. (row.pass.seat.table_id ≡ book.now.table.shared.table_id) × (left_of row.pass ≡ 4294967295)) rows.items) }
+    ensures { IfOk result (λ rows. All (λ row. (row.pass.seat.table_id ≡ book.now.table.shared.table_id)
+        × (left_of row.pass ≡ 4294967295)) rows.items) }
 {
     let mut rows = Vec::new(alloc);
     for document in 0..documents {
@@ -171,6 +177,7 @@ fn open_rows(
     Ok(rows)
 }
 
+// How many calls were answered.
 fn answered<P>(rows: &[Row<P>]) -> u64 {
     let mut answered = 0u64;
     for row in rows {

@@ -8,8 +8,6 @@ mod laws;
 mod op;
 mod share;
 mod solo;
-#[cfg(test)]
-mod tests;
 
 pub use book::Book;
 pub use entry::Entry;

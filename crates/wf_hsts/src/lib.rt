@@ -7,8 +7,6 @@ mod index;
 mod laws;
 mod pieces;
 mod sts;
-#[cfg(test)]
-mod tests;
 
 pub use hosts::{HstsList, KnownHost};
 pub use laws::{law_ages, law_sts_grammar};

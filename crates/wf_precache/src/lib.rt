@@ -6,8 +6,6 @@ mod entry;
 mod laws;
 mod partition;
 mod question;
-#[cfg(test)]
-mod tests;
 
 pub use cache::Precache;
 pub use entry::{Allowed, CacheEntry};

@@ -16,9 +16,10 @@ use Rattle.wf_book.specs.declared.book.Book.{Book}
 use Rattle.wf_book.specs.declared.entry.Entry.{Entry}
 use Rattle.wf_book.specs.Entries.{book_after, Legal, entries_of, AllTurnsBelow, StartsWith}
 use Rattle.wf_turn.specs.Counts.{total, one, times}
-use Rattle.wf_turn.specs.Rule.{HasDocument, desk, drawn}
-use Rattle.wf_turn.specs.Steps.{ending, joined}
-use Rattle.wf_turn.specs.Passes.{is_of, calls_of, IsWhole, IsOneHistory, endings, taken_in}
+use Rattle.wf_turn.specs.Private.Rule.{HasDocument, desk, drawn}
+use Rattle.wf_turn.specs.Private.Steps.{ending, joined}
+use Rattle.wf_turn.specs.Passes.{is_of, calls_of, IsWhole, IsOneHistory}
+use Rattle.wf_turn.specs.Private.Taken.{endings, taken_in}
 use Rattle.wf_turn.specs.declared.pass.TurnPass.{TurnPass}
 use Rattle.wf_turn.specs.declared.desk.Desk.{Desk}
 use Rattle.wf_turn.specs.declared.view.View.{View}
@@ -78,10 +79,10 @@ met-once : (docs : List ℕ) (ps : List TurnPass) → ((d : ℕ) → times d doc
 met-once docs [] once = let z : total (met []) docs ≡ 0 = total-zero docs in omega arith
 met-once docs (p ∷ ps) once =
     let split : total (met (p ∷ ps)) docs ≡ total (λ (d : ℕ). one (is_of d p)) docs + total (met ps) docs =
-        total-plus (λ (d : ℕ). one (is_of d p)) (met ps) docs in
+    total-plus (λ (d : ℕ). one (is_of d p)) (met ps) docs in
     let same : total (λ (d : ℕ). one (is_of d p)) docs ≡ times p.document docs =
-        total-same (λ (d : ℕ). one (is_of d p)) (λ (d : ℕ). one (eqb d p.document)) docs
-        (λ d. ap one (eqb-sym p.document d)) in
+    total-same (λ (d : ℕ). one (is_of d p)) (λ (d : ℕ). one (eqb d p.document)) docs
+    (λ d. ap one (eqb-sym p.document d)) in
     omega (arith, once p.document, met-once docs ps once)
 
 met-none : (docs : List ℕ) (ps : List TurnPass) (d : ℕ) → times d docs ≡ 0 → All (λ p. 0 < times p.document docs) ps
@@ -91,8 +92,8 @@ met-none docs (p ∷ ps) d none-there known =
     let P : TurnPass → Type 0 = λ q. 0 < times q.document docs in
     let here : 0 < times p.document docs = All-head P p ps known in
     let z : one (is_of d p) ≡ 0 =
-        ap one (ne_eqb p.document d (λ e. let q : times p.document docs ≡ times d docs =
-        ap (λ (k : ℕ). times k docs) e in absurd (omega arith))) in
+    ap one (ne_eqb p.document d (λ e. let q : times p.document docs ≡ times d docs =
+    ap (λ (k : ℕ). times k docs) e in absurd (omega arith))) in
     omega (arith, met-none docs ps d none-there (All-tail P p ps known))
 
 -- as many passes as documents, which are all different and each have one: no document has two
@@ -130,12 +131,12 @@ module _ (passes rest : List TurnPass) (first : TurnPass) (same : IsPermutation 
       × (get_elem? v.ended k ≡ some e) × (e.document ≡ d)
   whole-here d ne h =
       let counted = made-here d h in let moved =
-          sum_by-IsPermutation (λ (q : TurnPass). cond (is_of d q) 1 0) passes (first ∷ rest) same in
+      sum_by-IsPermutation (λ (q : TurnPass). cond (is_of d q) 1 0) passes (first ∷ rest) same in
       let z : one (eqb first.document d) ≡ 0 = ap one (ne_eqb first.document d (λ e. ne (sym e ∙ is-first))) in
       let later : 0 < count_by (is_of d) rest =
-          omega (arith, sum_by-cons (λ (q : TurnPass). cond (is_of d q) 1 0) first rest) in
+      omega (arith, sum_by-cons (λ (q : TurnPass). cond (is_of d q) 1 0) first rest) in
       let r = find rest first.seat.me.0.ended d later in let kept : v.ended ≡ endings rest ++ first.seat.me.0.ended =
-          ap (λ (x : View). x.ended) taken in
+      ap (λ (x : View). x.ended) taken in
       (r.0, r.1, ap (λ (l : List Ended). get_elem? l r.0) kept ∙ r.2, r.3)
 
   pub one_history : (xs : List (Option Desk)) (cl : Closes v xs) (book : Book) (history : List Entry) → get_elem? xs 0
@@ -144,67 +145,77 @@ module _ (passes rest : List TurnPass) (first : TurnPass) (same : IsPermutation 
       let d : Desk = desk book history in let e : Desk = desk (book_after v.opening cl.history) cl.history in
       let is-desk : d ≡ e = some_desk d e (some-injective (Some d) (Some e) (sym there ∙ cl.desk_is)) in
       let h : history ≡ cl.history = ap (λ (x : Desk). x.history) is-desk in let b : book
-          ≡ book_after v.opening cl.history = ap (λ (x : Desk). x.book) is-desk in
+      ≡ book_after v.opening cl.history = ap (λ (x : Desk). x.book) is-desk in
       let opening : v.opening ≡ first.seat.me.0.opening = ap (λ (x : View). x.opening) taken in
       let kept : v.ended ≡ endings rest ++ first.seat.me.0.ended = ap (λ (x : View). x.ended) taken in
       let empty : first.seat.me.0.ended ≡ [] = none-ended first.seat.me.0.ended first.rests.6 in
       let document : v.document ≡ first.document = ap (λ (x : View). x.document) taken ∙ first.rests.1 in
       let back : (Q : TurnPass → Type 0) → Q first → All Q rest → All Q passes =
-          λ Q q qs. All-permutation Q (first ∷ rest) passes (IsPermutation-sym passes (first ∷ rest) same)
-          (All-cons Q first rest q qs) in
+      λ Q q qs. All-permutation Q (first ∷ rest) passes (IsPermutation-sym passes (first ∷ rest) same)
+      (All-cons Q first rest q qs) in
       let P : Ended → Type 0 = λ e. (entries_of e.document cl.history ≡ e.own) × StartsWith cl.history e.seen
-          × (v.document ≢ e.document) × (0 < times e.document (4294967295 ∷ v.made)) in
+      × (v.document ≢ e.document) × (0 < times e.document (4294967295 ∷ v.made)) in
       let those : (k : ℕ) (e : Ended) → get_elem? (endings rest ++ first.seat.me.0.ended) k ≡ some e → P e =
-          λ k e at. cl.ended k e (ap (λ (l : List Ended). get_elem? l k) kept ∙ at) in
+      λ k e at. cl.ended k e (ap (λ (l : List Ended). get_elem? l k) kept ∙ at) in
       let Legals : TurnPass → Type 0 = λ p. p.document ≡ 4294967295 → Legal p.seat.me.0.opening history
-          × (book ≡ book_after p.seat.me.0.opening history) in
+      × (book ≡ book_after p.seat.me.0.opening history) in
       let Owns : TurnPass → Type 0 = λ p. entries_of p.document history ≡ p.seat.me.0.own in
       let Sees : TurnPass → Type 0 = λ p. StartsWith history p.seat.me.0.seen in
       let drawn-is : drawn v ≡ sum_by calls_of passes =
       let a : v.draws ≡ first.seat.me.0.draws = ap (λ (x : View). x.draws) taken in
       let c : total (λ e. e.draws) v.ended ≡ total (λ e. e.draws) (endings rest ++ []) =
-          ap (λ (l : List Ended). total (λ e. e.draws) l) (kept ∙ ap (λ (l : List Ended). endings rest ++ l) empty) in
-      omega (arith, sum-of rest, sum_by-cons calls_of first rest,
-          sum_by-IsPermutation calls_of passes (first ∷ rest) same) in
+      ap (λ (l : List Ended). total (λ e. e.draws) l) (kept ∙ ap (λ (l : List Ended). endings rest ++ l) empty) in
+      omega (
+        arith,
+        sum-of rest,
+        sum_by-cons calls_of first rest,
+        sum_by-IsPermutation calls_of passes (first ∷ rest) same,
+      ) in
       let docs : List ℕ = 4294967295 ∷ v.made in
       let Known : TurnPass → Type 0 = λ p. 0 < times p.document docs in
       let known : All Known (first ∷ rest) =
-          All-cons Known first rest (subst (λ (k : ℕ). 0 < times k docs) (sym is-first) (times-here 4294967295 v.made))
+      All-cons Known first rest (subst (λ (k : ℕ). 0 < times k docs) (sym is-first) (times-here 4294967295 v.made))
       (each P Known rest first.seat.me.0.ended (λ p q. subst (λ (k : ℕ). 0 < times k docs) p.rests.1 q.3) those) in
       let counts : (d : ℕ) → count_by (is_of d) passes ≡ met (first ∷ rest) d =
-          λ d. (let Weight : TurnPass → ℕ = λ q. cond (is_of d q) 1 0 in
+      λ d. (let Weight : TurnPass → ℕ = λ q. cond (is_of d q) 1 0 in
       let a : sum_by Weight passes ≡ sum_by Weight (first ∷ rest) =
-          sym (sum_by-IsPermutation Weight passes (first ∷ rest) same) in
+      sym (sum_by-IsPermutation Weight passes (first ∷ rest) same) in
       let b : sum_by Weight (first ∷ rest) ≡ met (first ∷ rest) d = sum-total Weight (first ∷ rest) in a ∙ b) in
       let has : (d : ℕ) → 0 < times d docs → 0 < count_by (is_of d) passes =
-          λ d some-there. dite (ℕ_discrete 4294967295 d)
+      λ d some-there. dite (ℕ_discrete 4294967295 d)
       (λ (z : 4294967295 ≡ d). subst (λ (k : ℕ). 0 < count_by (is_of k) passes) z all.first)
       (λ ne. let z : one (eqb 4294967295 d) ≡ 0 = ap one (ne_eqb 4294967295 d ne) in made-here d (omega arith)) in
       let long : length (first ∷ rest) ≡ length docs =
       let a : one v.live ≡ 1 = ap one (ap (λ (x : View). x.live) taken ∙ first.rests.2) in
       let b : length v.ended ≡ length rest + length first.seat.me.0.ended = ap (λ (l : List Ended). length l) kept
-          ∙ endings-long rest first.seat.me.0.ended in
+      ∙ endings-long rest first.seat.me.0.ended in
       omega (arith, cl.count, first.rests.6) in
       record {
         apart = λ d. let a = counts d in
-            omega (arith, met-apart docs (first ∷ rest) cl.once known (λ x h. let b = counts x in let c = has x h in
-            omega arith) long d);
+            omega (
+              arith,
+              met-apart docs (first ∷ rest) cl.once known (λ x h. let b = counts x in let c = has x h in
+                  omega arith) long d,
+            );
         legal = back Legals
-            (λ _. (subst (λ (x : List Entry). Legal first.seat.me.0.opening x) (sym h)
-                (subst (λ (x : Book). Legal x cl.history) opening cl.legal), b
-                ∙ (ap (λ (x : Book). book_after x cl.history) opening
-                ∙ ap (book_after first.seat.me.0.opening) (sym h))))
+            (λ _. (
+              subst (λ (x : List Entry). Legal first.seat.me.0.opening x) (sym h)
+                  (subst (λ (x : Book). Legal x cl.history) opening cl.legal),
+              b
+                  ∙ (ap (λ (x : Book). book_after x cl.history) opening
+                  ∙ ap (book_after first.seat.me.0.opening) (sym h)),
+            ))
             (each P Legals rest first.seat.me.0.ended
-                (λ p q z. absurd (q.2 ((document ∙ is-first) ∙ sym (p.rests.1 ∙ z)))) those);
+            (λ p q z. absurd (q.2 ((document ∙ is-first) ∙ sym (p.rests.1 ∙ z)))) those);
         own = back Owns (ap (entries_of first.document) h
             ∙ (ap (λ (k : ℕ). entries_of k cl.history) (sym document) ∙ (cl.own ∙ ap (λ (x : View). x.own) taken)))
             (each P Owns rest first.seat.me.0.ended (λ p q. ap (entries_of p.document) h
-                ∙ (ap (λ (k : ℕ). entries_of k cl.history) (sym p.rests.1) ∙ q.0)) those);
+            ∙ (ap (λ (k : ℕ). entries_of k cl.history) (sym p.rests.1) ∙ q.0)) those);
         seen =
             back Sees (subst (λ (x : List Entry). StartsWith x first.seat.me.0.seen) (sym h)
             (subst (λ (x : List Entry). StartsWith cl.history x) (ap (λ (x : View). x.seen) taken) cl.seen))
             (each P Sees rest first.seat.me.0.ended
-                (λ p q. subst (λ (x : List Entry). StartsWith x p.seat.me.0.seen) (sym h) q.1) those);
+            (λ p q. subst (λ (x : List Entry). StartsWith x p.seat.me.0.seen) (sym h) q.1) those);
         named = subst (λ (x : List Entry). All (λ e. 0 < count_by (is_of e.document) passes) x) (sym h)
             (named-all passes docs cl.history has cl.named);
         turns = subst (λ (x : List Entry). All (λ e. e.turn < sum_by calls_of passes) x) (sym h)

@@ -30,11 +30,11 @@ turns_are : (b : Book) (t n : ℕ) (h : List Entry) → n ≡ t + length h → L
 turns_are b t n [] is legal below i e at = absurd (some-ne-none e (sym at))
 turns_are b t n (x ∷ xs) is legal below zero e at =
     let l₀ = legal.0 in let b₀ = below.0 in let r =
-        turns_fit (after b x.op) (x.turn + 1) n xs legal.2 below.1 (omega arith) in
+    turns_fit (after b x.op) (x.turn + 1) n xs legal.2 below.1 (omega arith) in
     let same : x.turn ≡ e.turn = ap (λ (y : Entry). y.turn) (some-injective x e at) in omega arith
 turns_are b t n (x ∷ xs) is legal below (suc i) e at =
     let l₀ = legal.0 in let b₀ = below.0 in let r =
-        turns_fit (after b x.op) (x.turn + 1) n xs legal.2 below.1 (omega arith) in
+    turns_fit (after b x.op) (x.turn + 1) n xs legal.2 below.1 (omega arith) in
     let here : x.turn ≡ t = omega arith in
     let q = turns_are (after b x.op) (x.turn + 1) n xs (omega arith) legal.2 below.1 i e at in omega arith
 
@@ -56,7 +56,7 @@ entries-counted ps (e ∷ es) apart named =
     let P : Entry → Type 0 = λ x. 0 < count_by (is_of x.document) ps in
     let some-there : 0 < count_by (is_of e.document) ps = All-head P e es named in
     let here : count_by (is_of e.document) ps ≡ total (λ (p : TurnPass). one (is_of e.document p)) ps =
-        sum-total (λ (p : TurnPass). one (is_of e.document p)) ps in
+    sum-total (λ (p : TurnPass). one (is_of e.document p)) ps in
     let split = total-plus (λ (p : TurnPass). one (is_of e.document p)) (mine es) ps in
     let same = total-same (mine (e ∷ es)) (λ (p : TurnPass). one (is_of e.document p) + mine es p) ps (one-mine e es) in
     omega (arith, apart e.document, entries-counted ps es apart (All-tail P e es named))
@@ -76,13 +76,13 @@ first-of P (p ∷ ps) all some-there =
     (λ (ne : p.document ≢ 4294967295).
     let z : one (eqb p.document 4294967295) ≡ 0 = ap one (ne_eqb p.document 4294967295 ne) in
     first-of P ps (All-tail Q p ps all)
-        (omega (arith, sum_by-cons (λ (q : TurnPass). cond (is_of 4294967295 q) 1 0) p ps)))
+    (omega (arith, sum_by-cons (λ (q : TurnPass). cond (is_of 4294967295 q) 1 0) p ps)))
 
 lengths : (ps : List TurnPass) (h : List Entry) → All (λ p. entries_of p.document h ≡ own_of p) ps
     → All (λ p. mine h p ≡ length (own_of p)) ps
 lengths ps h own =
     let P : TurnPass → Type 0 = λ p. entries_of p.document h ≡ own_of p in let Q : TurnPass → Type 0 = λ p. mine h p
-        ≡ length (own_of p) in
+    ≡ length (own_of p) in
     All-weaker P Q (λ p e. ap (λ (l : List Entry). length l) e) ps own
 
 pub turns-are-places : TurnsArePlaces
@@ -90,10 +90,10 @@ turns-are-places passes book history whole some-first none-refused i e at =
     let P : TurnPass → Type 0 = λ p. Legal (opening_of p) history × (book ≡ book_after (opening_of p) history) in
     let first = first-of P passes whole.legal some-first in
     let own = total-alike (mine history) (λ (p : TurnPass). length (own_of p)) passes
-        (lengths passes history whole.own) in
+    (lengths passes history whole.own) in
     let made = total-alike calls_of (λ (p : TurnPass). length (own_of p)) passes none-refused in
     let calls = sum-total calls_of passes in
     let entries = entries-counted passes history whole.apart whole.named in
     let n : ℕ = sum_by calls_of passes in
     let r = turns_are (opening_of first.0) 0 n history (omega arith) first.1.0 (all-below n history whole.turns) i e
-        at in omega arith
+    at in omega arith

@@ -12,7 +12,7 @@ use Rattle.wf_book.specs.declared.entry.Entry.{Entry}
 use Rattle.wf_book.specs.Entries.{book_after, Legal, entries_of, AllTurnsBelow, StartsWith}
 use Rattle.wf_book.proofs.EntryLemmas.{AllTurnsBelow-mono}
 use Rattle.wf_turn.specs.Counts.{total, one, times}
-use Rattle.wf_turn.specs.Rule.{desk, first_view, drawn, passes_of, HasDocument, Fits, Keeps}
+use Rattle.wf_turn.specs.Private.Rule.{desk, first_view, drawn, passes_of, HasDocument, Fits, Keeps}
 use Rattle.wf_turn.specs.declared.desk.Desk.{Desk}
 use Rattle.wf_turn.specs.declared.view.View.{View}
 use Rattle.wf_turn.specs.declared.view.Ended.{Ended}
@@ -87,38 +87,38 @@ pub record Closes (v : View) (xs : List (Option Desk)) : Type 0 where
 pub closes : (id : ℕ) (v : View) (ws : List ℕ) (xs : List (Option Desk)) → Final (Seen Keeps id v) ws xs → v.live
     ≡ true → v.document ≡ 4294967295 → v.served ≡ false
     → ((d : ℕ) → d ≢ 4294967295 → 0 < times d v.made → (k : ℕ) × (e : Ended) × (get_elem? v.ended k ≡ some e)
-        × (e.document ≡ d)) → Closes v xs
+    × (e.document ≡ d)) → Closes v xs
 closes id v ws xs final live first unserved whole =
     let s = final.0 in let o = final.1.0 in let me = final.1.1 in
     let t : ℕ = get_or s.words 0 0 in let n : ℕ = get_or s.words 1 0 in let f = o.fits id v me in let l = f.live live in
     let was : o.docs ≡ 4294967295 ∷ v.made = l.made first in
     let dead : (j : ℕ) (u : View) → j ≢ id → get_elem? s.views j ≡ some u → u.live ≡ false =
-        λ j u ne e. ⊎_elim (λ (z : u.live ≡ true).
+    λ j u ne e. ⊎_elim (λ (z : u.live ≡ true).
     let k = ((o.fits j u e).live z).known in let a = o.apart j id u v ne e me in
     let not-first : u.document ≢ 4294967295 = λ h. a.documents z live (h ∙ sym first) in
     let zero-first : one (eqb 4294967295 u.document) ≡ 0 =
-        ap one (ne_eqb 4294967295 u.document (λ h. not-first (sym h))) in
+    ap one (ne_eqb 4294967295 u.document (λ h. not-first (sym h))) in
     let some-made : 0 < times u.document v.made = let q = ap (times u.document) was in omega arith in
     let r = whole u.document not-first some-made in
     absurd (a.ended z r.0 r.1 r.2 (sym r.3))) (λ (z : u.live ≡ false). z) (either_way u.live) in
     let none-served : (j : ℕ) (u : View) → get_elem? s.views j ≡ some u → u.served ≡ false =
-        λ j u e. dite (ℕ_discrete j id)
+    λ j u e. dite (ℕ_discrete j id)
     (λ (is-me : j ≡ id). let same : u ≡ v = some-injective u v (sym e ∙ (ap (get_elem? s.views) is-me ∙ me)) in
-        ap (λ (y : View). y.served) same ∙ unserved)
+    ap (λ (y : View). y.served) same ∙ unserved)
     (λ (other : j ≢ id). ⊎_elim (λ (z : u.served ≡ true). no u.live ((o.fits j u e).served z).live_is
-        (dead j u other e)) (λ (z : u.served ≡ false). z) (either_way u.served)) in
+    (dead j u other e)) (λ (z : u.served ≡ false). z) (either_way u.served)) in
     let home = o.home none-served in
     let alone : total drawn s.views ≡ drawn v =
-        total-only drawn s.views id v me (λ j u ne e. let g = o.fits j u e in let z : one u.live ≡ 0 =
-        ap one (dead j u ne e) in
+    total-only drawn s.views id v me (λ j u ne e. let g = o.fits j u e in let z : one u.live ≡ 0 =
+    ap one (dead j u ne e) in
     let none-kept : u.ended ≡ [] = g.leads (λ h. no u.live h (dead j u ne e)) in
-        let zero-draws : total (λ e. e.draws) u.ended ≡ 0 = ap (λ (x : List Ended). total (λ e. e.draws) x) none-kept
-        in omega (arith, g.few)) in
+    let zero-draws : total (λ e. e.draws) u.ended ≡ 0 = ap (λ (x : List Ended). total (λ e. e.draws) x) none-kept
+    in omega (arith, g.few)) in
     let lone : total passes_of s.views ≡ passes_of v =
-        total-only passes_of s.views id v me (λ j u ne e. let g = o.fits j u e in let z : one u.live ≡ 0 =
-        ap one (dead j u ne e) in
+    total-only passes_of s.views id v me (λ j u ne e. let g = o.fits j u e in let z : one u.live ≡ 0 =
+    ap one (dead j u ne e) in
     let none-kept : u.ended ≡ [] = g.leads (λ h. no u.live h (dead j u ne e)) in let zero-kept : length u.ended ≡ 0 =
-        ap (λ (x : List Ended). length x) none-kept in omega arith) in
+    ap (λ (x : List Ended). length x) none-kept in omega arith) in
     record {
       history = o.history;
       desk_is = final.4 0 (Some (desk (book_after v.opening o.history) o.history)) (home

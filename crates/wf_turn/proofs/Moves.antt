@@ -19,8 +19,8 @@ use Rattle.wf_book.proofs.EntryLemmas.{StartsWith-refl, StartsWith-trans, Starts
 use Rattle.wf_book.proofs.EntryLemmas.{AllTurnsBelow-mono, AllTurnsBelow-snoc, entries_of-snoc_same}
 use Rattle.wf_book.proofs.EntryLemmas.{entries_of-snoc_other}
 use Rattle.wf_turn.specs.Counts.{one, times}
-use Rattle.wf_turn.specs.Rule.{desk, HasDocument, Fits, Keeps}
-use Rattle.wf_turn.specs.Steps.{Sat, drew, Draws, Looks, held, noting, Notes, passed, Passes}
+use Rattle.wf_turn.specs.Private.Rule.{desk, HasDocument, Fits, Keeps}
+use Rattle.wf_turn.specs.Private.Steps.{Sat, drew, Draws, Looks, held, noting, Notes, passed, Passes}
 use Rattle.wf_turn.specs.declared.desk.Desk.{Desk}
 use Rattle.wf_turn.specs.declared.view.View.{View}
 use Rattle.wf_turn.proofs.Keeping.{St, no, either_way, set_at, moved, unmoved, roomy}
@@ -43,7 +43,7 @@ pub draws : (z id : ℕ) (m : Sat) → m.0.live ≡ true → m.0.waits ≡ false
 draws slots id m live idle unserved room s o wide me _ =
     let t : ℕ = get_or s.words 0 0 in let n : ℕ = get_or s.words 1 0 in let v = m.0 in let w : View = drew v t in
     let f = o.fits id v me in let lone : one v.live ≡ 1 = ap one live in let zero-waits : one v.waits ≡ 0 =
-        ap one idle in
+    ap one idle in
     let few : v.draws + 1 ≤ 4294967295 * one v.live = omega arith in
     let lt : t + 1 < 18446744073709551616 = omega (arith, roomy s o id v w me refl (omega (arith, f.few_ended))) in
     let is : (t + 1) % 18446744073709551616 ≡ t + 1 = omega arith in
@@ -56,7 +56,7 @@ draws slots id m live idle unserved room s o wide me _ =
           (length-set s.words 0 ((t + 1) % 2 ^ 64)
           ∙ o.two) (get_or-set_same s.words 0 ((t + 1) % 2 ^ 64) 0 (omega arith) ∙ is)
           (get_or-set_other s.words 0 1 ((t + 1) % 2 ^ 64) 0 (λ e. omega arith)) o.legal o.turns o.named (omega arith)
-              (omega arith) refl
+          (omega arith) refl
           record {
             live = f.live;
             few = few;
@@ -69,17 +69,25 @@ draws slots id m live idle unserved room s o wide me _ =
           }
           (λ j u ne e a b g. fits_wider t (t + 1) n o.opening o.history o.docs u (omega arith) g)
           (λ j u ne e a b g. (
-            record { documents = a.documents; tickets = λ _ z same. let r = (g.waits z).1 in omega arith; ended =
-                a.ended },
-            record { documents = b.documents; tickets = λ z _ same. let r = (g.waits z).1 in omega arith; ended =
-                b.ended },
+            record {
+              documents = a.documents;
+              tickets = λ _ z same. let r = (g.waits z).1 in omega arith;
+              ended =
+                  a.ended;
+            },
+            record {
+              documents = b.documents;
+              tickets = λ z _ same. let r = (g.waits z).1 in omega arith;
+              ended =
+                  b.ended;
+            },
           ))
           (λ none-served. o.home
-              (λ j u e. ⊎_elim (λ (z : u.served ≡ true). ⊎_elim (λ (is-me : j ≡ id). let same : u ≡ v =
-              some-injective u v (sym e ∙ (ap (get_elem? s.views) is-me ∙ me)) in ap (λ (x : View). x.served) same
-              ∙ unserved)
+          (λ j u e. ⊎_elim (λ (z : u.served ≡ true). ⊎_elim (λ (is-me : j ≡ id). let same : u ≡ v =
+          some-injective u v (sym e ∙ (ap (get_elem? s.views) is-me ∙ me)) in ap (λ (x : View). x.served) same
+          ∙ unserved)
           (λ (other : j ≢ id). none-served j u (Rattle.atomic_table.proofs.Lists.set_else s.views id j w other ∙ e))
-              (dite (ℕ_discrete j id) inl inr)) (λ (z : u.served ≡ false). z) (either_way u.served))),
+          (dite (ℕ_discrete j id) inl inr)) (λ (z : u.served ≡ false). z) (either_way u.served))),
       (lt, refl),
     )
 
@@ -90,16 +98,16 @@ none-served : (s : St) (o : Keeps s) (id : ℕ) (v : View) → get_elem? s.views
 none-served s o id v me waits unserved mine j u e = ⊎_elim (λ (z : u.served ≡ true).
     let g = (o.fits j u e).served z in
     dite (ℕ_discrete id j) (λ (is-me : id ≡ j). let same : u ≡ v =
-        some-injective u v (sym e ∙ (ap (get_elem? s.views) (sym is-me) ∙ me)) in ap (λ (x : View). x.served) same
-        ∙ unserved)
+    some-injective u v (sym e ∙ (ap (get_elem? s.views) (sym is-me) ∙ me)) in ap (λ (x : View). x.served) same
+    ∙ unserved)
     (λ (other : id ≢ j). absurd ((o.apart id j v u other me e).tickets waits g.waits_is (sym mine
-        ∙ sym g.ticket_is)))) (λ (z : u.served ≡ false). z) (either_way u.served)
+    ∙ sym g.ticket_is)))) (λ (z : u.served ≡ false). z) (either_way u.served)
 
 pub looks : (z id : ℕ) (m : Sat) → m.0.live ≡ true → m.0.waits ≡ true → m.0.served ≡ false
     → Allows Keeps z id m 1 (λ n. n) (Looks (step z 1 0 0 none) m)
 looks slots id m live waits unserved s o wide me _ =
     let t : ℕ = get_or s.words 0 0 in let n : ℕ = get_or s.words 1 0 in let v = m.0 in let f = o.fits id v me in
-        let l = f.live live in
+    let l = f.live live in
     let same-words = set-get_or s.words 1 0 in let ws : List ℕ = set s.words 1 n in
     dite (ℕ_discrete n v.ticket)
     (λ (hit : n ≡ v.ticket).
@@ -107,8 +115,8 @@ looks slots id m live waits unserved s o wide me _ =
     let d : Desk = desk (book_after v.opening h) h in
     let none-yet = none-served s o id v me waits unserved hit in
     let there : get_elem? s.homes 0 ≡ some (some (Some d)) =
-        subst (λ (b : Book). get_elem? s.homes 0 ≡ some (some (Some (desk (book_after b h) h)))) (sym l.opening_is)
-        (o.home none-yet) in (
+    subst (λ (b : Book). get_elem? s.homes 0 ≡ some (some (Some (desk (book_after b h) h)))) (sym l.opening_is)
+    (o.home none-yet) in (
       w,
       takes 0 (Some d),
       there,
@@ -116,8 +124,13 @@ looks slots id m live waits unserved s o wide me _ =
           ∙ o.two) (ap (λ (x : List ℕ). get_or x 0 0) same-words) (ap (λ (x : List ℕ). get_or x 1 0) same-words)
           o.legal o.turns o.named refl refl refl
           record {
-            live = λ _. record { opening_is = l.opening_is; own = l.own; seen = StartsWith-refl h; known = l.known;
-                made = l.made };
+            live = λ _. record {
+              opening_is = l.opening_is;
+              own = l.own;
+              seen = StartsWith-refl h;
+              known = l.known;
+              made = l.made;
+            };
             few = f.few;
             few_ended = f.few_ended;
             ended = f.ended;
@@ -157,20 +170,20 @@ pub record Grows (v : View) (h : List Entry) : Type 0 where
 pub passes_at : (z id : ℕ) (v : View) (new : ℕ) (h : List Entry) → v.live ≡ true → v.waits ≡ true → v.served ≡ true
     → new ≡ v.ticket + 1 → Grows v h
     → 0 < z → let m : Sat = (v, (0, Some (desk (book_after v.opening h) h)) ∷ []) in
-        Allows Keeps z id m 1 (λ _. new) (λ _. Passes (step z 1 new 0 none) m new)
+    Allows Keeps z id m 1 (λ _. new) (λ _. Passes (step z 1 new 0 none) m new)
 passes_at slots id v new h live waits served next grows some-slot s o wide me _ =
     let t : ℕ = get_or s.words 0 0 in let n : ℕ = get_or s.words 1 0 in let f = o.fits id v me in let l = f.live live
-        in let sv = f.served served in
+    in let sv = f.served served in
     let w : View = passed v in let ws : List ℕ = set s.words 1 new in
     let ticket : v.ticket ≡ n = sv.ticket_is in let saw : v.seen ≡ o.history = sv.seen in
     let range = f.waits waits in let lone : one v.waits ≡ 1 = ap one waits in
     let is-n : new ≡ n + 1 = omega arith in
     let long = o.two in
     let later : (seen : List Entry) → StartsWith o.history seen → StartsWith h seen =
-        λ seen p. StartsWith-trans h v.seen seen grows.later
-        (subst (λ (x : List Entry). StartsWith x seen) (sym saw) p) in
+    λ seen p. StartsWith-trans h v.seen seen grows.later
+    (subst (λ (x : List Entry). StartsWith x seen) (sym saw) p) in
     let same : (d : ℕ) → d ≢ v.document → entries_of d h ≡ entries_of d o.history = λ d ne. grows.others d ne
-        ∙ ap (entries_of d) saw in
+    ∙ ap (entries_of d) saw in
     let had : Desk = desk (book_after v.opening h) h in (
       w,
       gives,
@@ -179,18 +192,29 @@ passes_at slots id v new h live waits served next grows some-slot s o wide me _ 
           ∙ o.two) (get_or-set_other s.words 1 0 new 0 (λ e. omega arith))
           (get_or-set_same s.words 1 new 0 (omega arith) ∙ is-n)
           (subst (λ (b : Book). Legal b h) l.opening_is grows.legal)
-              (subst (λ (k : ℕ). AllTurnsBelow (k + 1) h) ticket grows.turns)
+          (subst (λ (k : ℕ). AllTurnsBelow (k + 1) h) ticket grows.turns)
           (grows.named o.docs l.known (subst (λ (x : List Entry). HasDocument x o.docs) (sym saw) o.named))
-              (omega arith) refl refl
+          (omega arith) refl refl
           record {
-            live = λ _. record { opening_is = l.opening_is; own = grows.own
-                ∙ ap (λ (x : List Entry). x ++ v.item) (ap (entries_of v.document) saw ∙ l.own); seen =
-                subst (StartsWith h) grows.item (StartsWith-refl h); known = l.known; made = l.made };
+            live = λ _. record {
+              opening_is = l.opening_is;
+              own = grows.own
+                  ∙ ap (λ (x : List Entry). x ++ v.item) (ap (entries_of v.document) saw ∙ l.own);
+              seen =
+                  subst (StartsWith h) grows.item (StartsWith-refl h);
+              known = l.known;
+              made = l.made;
+            };
             few = f.few;
             few_ended = f.few_ended;
             ended = λ k e at. let g = f.ended k e at in
-                record { own = same e.document (λ z. g.apart (sym z)) ∙ g.own; seen = later e.seen g.seen; known =
-                g.known; apart = g.apart };
+                record {
+                  own = same e.document (λ z. g.apart (sym z)) ∙ g.own;
+                  seen = later e.seen g.seen;
+                  known =
+                      g.known;
+                  apart = g.apart;
+                };
             waits = λ z. no false z refl;
             served = λ z. no false z refl;
             noted = λ z. no false z refl;
@@ -198,13 +222,22 @@ passes_at slots id v new h live waits served next grows some-slot s o wide me _ 
           }
           (λ j u ne e a b g. record {
             live = λ z. let k = g.live z in
-                record { opening_is = k.opening_is; own = same u.document (λ x. a.documents live z (sym x)) ∙ k.own;
-                seen = later u.seen k.seen; known = k.known; made = k.made };
+                record {
+                  opening_is = k.opening_is;
+                  own = same u.document (λ x. a.documents live z (sym x)) ∙ k.own;
+                  seen = later u.seen k.seen;
+                  known = k.known;
+                  made = k.made;
+                };
             few = g.few;
             few_ended = g.few_ended;
             ended = λ k x at. let q = g.ended k x at in
-                record { own = same x.document (λ z. a.ended live k x at (sym z)) ∙ q.own; seen = later x.seen q.seen;
-                known = q.known; apart = q.apart };
+                record {
+                  own = same x.document (λ z. a.ended live k x at (sym z)) ∙ q.own;
+                  seen = later x.seen q.seen;
+                  known = q.known;
+                  apart = q.apart;
+                };
             waits = λ z. let r = g.waits z in let apart : v.ticket ≢ u.ticket = a.tickets waits z in let r₀ = r.0 in
                 let r₁ = r.1 in (omega arith, r₁);
             served = λ z. let q = g.served z in absurd (a.tickets waits q.waits_is (ticket ∙ sym q.ticket_is));
@@ -216,19 +249,21 @@ passes_at slots id v new h live waits served next grows some-slot s o wide me _ 
             record { documents = b.documents; tickets = λ _ z _. no false z refl; ended = b.ended },
           ))
           (λ _. subst (λ (b : Book). get_elem? (set s.homes 0 (some (Some had))) 0
-              ≡ some (some (Some (desk (book_after b h) h)))) l.opening_is
-              (set_here s.homes 0 (some (Some had)) (omega arith))),
+          ≡ some (some (Some (desk (book_after b h) h)))) l.opening_is
+          (set_here s.homes 0 (some (Some had)) (omega arith))),
       refl,
     )
 
 pub passes : (z id : ℕ) (m : Sat) (new : ℕ) (h : List Entry) → m.0.live ≡ true → m.0.waits ≡ true → m.0.served ≡ true
     → new ≡ m.0.ticket + 1
     → m.1 ≡ (0, Some (desk (book_after m.0.opening h) h)) ∷ [] → Grows m.0 h → 0 < z
-        → Allows Keeps z id m 1 (λ _. new) (λ _. Passes (step z 1 new 0 none) m new)
+    → Allows Keeps z id m 1 (λ _. new) (λ _. Passes (step z 1 new 0 none) m new)
 passes slots id m new h live waits served next holds grows some-slot =
-    subst (λ (c : List (ℕ × Option Desk)). Allows Keeps slots id (m.0,
-        c) 1 (λ _. new) (λ _. Passes (step slots 1 new 0 none) (m.0, c) new)) (sym holds)
-        (passes_at slots id m.0 new h live waits served next grows some-slot)
+    subst (λ (c : List (ℕ × Option Desk)). Allows Keeps slots id (
+      m.0,
+      c,
+    ) 1 (λ _. new) (λ _. Passes (step slots 1 new 0 none) (m.0, c) new)) (sym holds)
+    (passes_at slots id m.0 new h live waits served next grows some-slot)
 
 -- a skip: the history is what was seen
 pub grows_skip : (v : View) → v.item ≡ [] → Legal v.opening v.seen → AllTurnsBelow v.ticket v.seen → Grows v v.seen
@@ -269,7 +304,7 @@ grows_entry v e item legal turns turn document is = record {
 pub notes : (z id : ℕ) (m : Sat) → m.0.served ≡ true → Allows Keeps z id m 1 (λ n. n) (Notes (step z 1 0 0 none) m)
 notes slots id m served s o wide me _ =
     let t : ℕ = get_or s.words 0 0 in let n : ℕ = get_or s.words 1 0 in let v = m.0 in let f = o.fits id v me in
-        let w : View = noting v (held m.1) in
+    let w : View = noting v (held m.1) in
     let same-words = set-get_or s.words 1 0 in (
       w,
       keeps,
@@ -277,11 +312,22 @@ notes slots id m served s o wide me _ =
       moved s o id v w (set s.words 1 n) s.homes o.history t n me (length-set s.words 1 n
           ∙ o.two) (ap (λ (x : List ℕ). get_or x 0 0) same-words) (ap (λ (x : List ℕ). get_or x 1 0) same-words)
           o.legal o.turns o.named refl refl refl
-          record { live = f.live; few = f.few; few_ended = f.few_ended; ended = f.ended; waits = f.waits; served =
-              f.served; noted = λ _. served; leads = f.leads }
+          record {
+            live = f.live;
+            few = f.few;
+            few_ended = f.few_ended;
+            ended = f.ended;
+            waits = f.waits;
+            served =
+                f.served;
+            noted = λ _. served;
+            leads = f.leads;
+          }
           (λ j u ne e a b g. g)
-          (λ j u ne e a b g. (record { documents = a.documents; tickets = a.tickets; ended = a.ended },
-              record { documents = b.documents; tickets = b.tickets; ended = b.ended }))
+          (λ j u ne e a b g. (
+            record { documents = a.documents; tickets = a.tickets; ended = a.ended },
+            record { documents = b.documents; tickets = b.tickets; ended = b.ended },
+          ))
           (λ none-now. no v.served served (none-now id w (set_at s.views id v w me))),
       refl,
     )

@@ -13,8 +13,8 @@ use Rattle.wf_book.specs.declared.op.Reply.{Reply}
 use Rattle.wf_text.specs.declared.memory.OutOfMemory.{OutOfMemory}
 use Rattle.wf_book.specs.Entries.{entry, book_after, Legal, AllTurnsBelow, StartsWith, Extends}
 use Rattle.wf_book.proofs.EntryLemmas.{book_after-append, LegalFrom-snoc}
-use Rattle.wf_turn.specs.Rule.{desk, Keeps}
-use Rattle.wf_turn.specs.Steps.{Sat, drew, Served, held, noting, passed, Passes, Made}
+use Rattle.wf_turn.specs.Private.Rule.{desk, Keeps}
+use Rattle.wf_turn.specs.Private.Steps.{Sat, drew, Served, held, noting, passed, Passes, Made}
 use Rattle.wf_turn.specs.declared.desk.Desk.{Desk}
 use Rattle.wf_turn.specs.declared.view.View.{View}
 use Rattle.wf_turn.proofs.Moves.{grows_skip, grows_entry, passes_at}
@@ -32,7 +32,7 @@ nothing_held (x ∷ xs) e = absurd (omega arith)
 first_held : (a b : Option Desk) (xs ys : List (ℕ × Option Desk)) → (0, a) ∷ xs ≡ (0, b) ∷ ys → a ≡ b
 first_held a b xs ys e =
     let x : ℕ × Option Desk = (0, a) in let y : ℕ × Option Desk = (0, b) in let p : x ≡ y = cc in
-        ap (λ (q : ℕ × Option Desk). q.1) p
+    ap (λ (q : ℕ × Option Desk). q.1) p
 
 pub some_desk : (a b : Desk) → Some a ≡ Some b → a ≡ b
 some_desk a b e = cc
@@ -44,22 +44,22 @@ taken_is m₀ m₁ m₂ t h found d e₁ sv there is =
     let opening : m₁.0.opening ≡ m₀.0.opening = ap (λ (m : Sat). m.0.opening) e₁ in
     let here : m₂.1 ≡ (0, Some (desk (book_after m₁.0.opening h) h)) ∷ m₁.1 = ap (λ (m : Sat). m.1) sv.is in
     let same : found ≡ Some (desk (book_after m₁.0.opening h) h) =
-        first_held found (Some (desk (book_after m₁.0.opening h) h)) (rest m₂.1) m₁.1 (sym there ∙ here) in
+    first_held found (Some (desk (book_after m₁.0.opening h) h)) (rest m₂.1) m₁.1 (sym there ∙ here) in
     some_desk d (desk (book_after m₀.0.opening h) h) (sym is
-        ∙ (same ∙ ap (λ (b : Book). Some (desk (book_after b h) h)) opening))
+    ∙ (same ∙ ap (λ (b : Book). Some (desk (book_after b h) h)) opening))
 
 pub held_is : (m₀ m₁ m₂ m₃ m₄ : Sat) (t : ℕ) (h : List Entry) (d : Desk) → length m₀.1 ≡ 0 → m₁ ≡ (drew m₀.0 t, m₀.1)
     → Served m₁ h m₂ → m₃ ≡ (m₂.0, (0, None) ∷ rest m₂.1) → m₄ ≡ (m₃.0, (0, Some d) ∷ rest m₃.1)
     → m₄ ≡ (served_view m₀.0 t h, (0, Some d) ∷ [])
 held_is m₀ m₁ m₂ m₃ m₄ t h d empty e₁ sv e₃ e₄ =
     let v₂ : m₂.0 ≡ served_view m₀.0 t h = ap (λ (m : Sat). m.0) sv.is
-        ∙ ap (λ (m : Sat). record m.0 { served = true; seen = h }) e₁ in
+    ∙ ap (λ (m : Sat). record m.0 { served = true; seen = h }) e₁ in
     let c₁ : m₁.1 ≡ [] = ap (λ (m : Sat). m.1) e₁ ∙ nothing_held m₀.1 empty in
     let c₂ : rest m₂.1 ≡ [] = ap (λ (m : Sat). rest m.1) sv.is ∙ c₁ in
     let v₃ : m₃.0 ≡ served_view m₀.0 t h = ap (λ (m : Sat). m.0) e₃ ∙ v₂ in
     let c₃ : rest m₃.1 ≡ [] = ap (λ (m : Sat). rest m.1) e₃ ∙ c₂ in
     e₄ ∙ (ap (λ (v : View). (v, (0, Some d) ∷ rest m₃.1)) v₃
-        ∙ ap (λ (c : List (ℕ × Option Desk)). (served_view m₀.0 t h, (0, Some d) ∷ c)) c₃)
+    ∙ ap (λ (c : List (ℕ × Option Desk)). (served_view m₀.0 t h, (0, Some d) ∷ c)) c₃)
 
 module _ (z id : ℕ) (v : View) (new document : ℕ) (op : Op) (d : Desk) (live : v.live ≡ true) (waits : v.waits
     ≡ true) (served : v.served ≡ true) (document-is : v.document ≡ document) (legal : Legal v.opening v.seen)
@@ -68,41 +68,50 @@ module _ (z id : ℕ) (v : View) (new document : ℕ) (op : Op) (d : Desk) (live
   -- whether the op was made or refused, the turn can be passed
   pub may_pass : (answer : Result Reply OutOfMemory)
       → Made v.ticket document op (desk (book_after v.opening v.seen) v.seen) d answer
-      → Allows Keeps z id (v, (0, Some d)
-          ∷ []) 1 (λ _. new) (λ _. Passes (step z 1 new 0 none) (v, (0, Some d) ∷ []) new)
+      → Allows Keeps z id (
+        v,
+        (0, Some d)
+            ∷ [],
+      ) 1 (λ _. new) (λ _. Passes (step z 1 new 0 none) (v, (0, Some d) ∷ []) new)
   may_pass (Ok r) made =
       let b = book_after v.opening v.seen in let e : Entry = entry v.ticket document op r in
       let h : List Entry = v.seen ++ e ∷ [] in
       let is : d ≡ desk (book_after v.opening h) h = made.1
-          ∙ ap (λ (x : Book). desk x h) (sym (book_after-append v.opening v.seen (e ∷ []))) in
-      subst (λ (x : Desk). Allows Keeps z id (v, (0, Some x)
-          ∷ []) 1 (λ _. new) (λ _. Passes (step z 1 new 0 none) (v, (0, Some x) ∷ []) new)) (sym is)
+      ∙ ap (λ (x : Book). desk x h) (sym (book_after-append v.opening v.seen (e ∷ []))) in
+      subst (λ (x : Desk). Allows Keeps z id (
+        v,
+        (0, Some x)
+            ∷ [],
+      ) 1 (λ _. new) (λ _. Passes (step z 1 new 0 none) (v, (0, Some x) ∷ []) new)) (sym is)
       (passes_at z id v new h live waits served next
-          (grows_entry v e (item
-          ∙ (ap (λ (x : Desk). drop (length v.seen) x.history) made.1 ∙ drop-append_seam v.seen (e ∷ []))) legal turns
-          refl (sym document-is) made.0) some-slot)
+      (grows_entry v e (item
+      ∙ (ap (λ (x : Desk). drop (length v.seen) x.history) made.1 ∙ drop-append_seam v.seen (e ∷ []))) legal turns
+      refl (sym document-is) made.0) some-slot)
   may_pass (Err x) made =
-      subst (λ (x : Desk). Allows Keeps z id (v, (0, Some x)
-      ∷ []) 1 (λ _. new) (λ _. Passes (step z 1 new 0 none) (v, (0, Some x) ∷ []) new)) (sym made)
+      subst (λ (x : Desk). Allows Keeps z id (
+        v,
+        (0, Some x)
+            ∷ [],
+      ) 1 (λ _. new) (λ _. Passes (step z 1 new 0 none) (v, (0, Some x) ∷ []) new)) (sym made)
       (passes_at z id v new v.seen live waits served next
-          (grows_skip v (item ∙ (ap (λ (x : Desk). drop (length v.seen) x.history) made ∙ drop-length v.seen)) legal
-          turns) some-slot)
+      (grows_skip v (item ∙ (ap (λ (x : Desk). drop (length v.seen) x.history) made ∙ drop-length v.seen)) legal
+      turns) some-slot)
 
 -- an op that was made stands as the last entry of what the pass has seen, and is one more of its own
 pub extends_if : (v₀ v : View) (document : ℕ) (op : Op) (d : Desk) (m₄ m₅ : Sat) → v.opening ≡ v₀.opening → v.own
     ≡ v₀.own → StartsWith v.seen v₀.seen → Legal v.opening v.seen → AllTurnsBelow v.ticket v.seen
     → v.item ≡ drop (length v.seen) d.history → m₄ ≡ (v, (0, Some d) ∷ []) → m₅ ≡ (passed m₄.0, [])
     → (answer : Result Reply OutOfMemory)
-        → Made v.ticket document op (desk (book_after v.opening v.seen) v.seen) d answer
+    → Made v.ticket document op (desk (book_after v.opening v.seen) v.seen) d answer
     → IfOk answer (λ r. Extends v₀.opening document op r v₀.own m₅.0.own v₀.seen m₅.0.seen)
 extends_if v₀ v document op d m₄ m₅ opening own later legal turns item is₄ is₅ (Err x) made = tt
 extends_if v₀ v document op d m₄ m₅ opening own later legal turns item is₄ is₅ (Ok r) made =
     let e : Entry = entry v.ticket document op r in let h : List Entry = v.seen ++ e ∷ [] in
     let one : v.item ≡ e ∷ [] = item
-        ∙ (ap (λ (x : Desk). drop (length v.seen) x.history) made.1 ∙ drop-append_seam v.seen (e ∷ [])) in
+    ∙ (ap (λ (x : Desk). drop (length v.seen) x.history) made.1 ∙ drop-append_seam v.seen (e ∷ [])) in
     let now : m₅.0 ≡ passed v = ap (λ (m : Sat). m.0) is₅ ∙ ap (λ (m : Sat). passed m.0) is₄ in
     let mine : m₅.0.own ≡ v₀.own ++ e ∷ [] = ap (λ (x : View). x.own) now
-        ∙ (ap (λ (x : List Entry). v.own ++ x) one ∙ ap (λ (x : List Entry). x ++ e ∷ []) own) in
+    ∙ (ap (λ (x : List Entry). v.own ++ x) one ∙ ap (λ (x : List Entry). x ++ e ∷ []) own) in
     let saw : m₅.0.seen ≡ h = ap (λ (x : View). x.seen) now ∙ ap (λ (x : List Entry). v.seen ++ x) one in
     record {
       entry = e;
@@ -130,7 +139,7 @@ pub ready : (m₀ m₁ m₂ m₃ m₄ n₄ : Sat) (t document : ℕ) (h : List E
     (answer : Result Reply OutOfMemory) → length m₀.1 ≡ 0 → m₁ ≡ (drew m₀.0 t, m₀.1) → Served m₁ h m₂ → m₂.1
     ≡ (0, found) ∷ rest m₂.1 → found ≡ Some d₀
     → m₃ ≡ (m₂.0, (0, None) ∷ rest m₂.1) → m₄ ≡ (m₃.0, (0, Some d) ∷ rest m₃.1) → n₄ ≡ (noting m₄.0 (held m₄.1), m₄.1)
-        → Made t document op d₀ d answer → Ready m₀ n₄ t document h op d answer
+    → Made t document op d₀ d answer → Ready m₀ n₄ t document h op d answer
 ready m₀ m₁ m₂ m₃ m₄ n₄ t document h op d₀ d found answer empty e₁ sv there is e₃ e₄ e₅ made = record {
   is = e₅ ∙ ap (λ (m : Sat). (noting m.0 (held m.1), m.1)) (held_is m₀ m₁ m₂ m₃ m₄ t h d empty e₁ sv e₃ e₄);
   legal = subst (λ (b : Book). Legal b h) (ap (λ (m : Sat). m.0.opening) e₁) sv.legal;
@@ -145,8 +154,8 @@ pub ready_passes : (z id new : ℕ) (m₀ m₄ : Sat) (t document : ℕ) (h : Li
     → Allows Keeps z id m₄ 1 (λ _. new) (λ _. Passes (step z 1 new 0 none) m₄ new)
 ready_passes z id new m₀ m₄ t document h op d answer r live document-is next some-slot =
     subst (λ (m : Sat). Allows Keeps z id m 1 (λ _. new) (λ _. Passes (step z 1 new 0 none) m new)) (sym r.is)
-        (may_pass z id (noted_view m₀.0 t h d) new document op d live refl refl document-is r.legal r.turns next
-        some-slot refl answer r.made)
+    (may_pass z id (noted_view m₀.0 t h d) new document op d live refl refl document-is r.legal r.turns next
+    some-slot refl answer r.made)
 
 pub ready_extends : (m₀ m₄ m₅ : Sat) (t document : ℕ) (h : List Entry) (op : Op) (d : Desk)
     (answer : Result Reply OutOfMemory) → Ready m₀ m₄ t document h op d answer → m₅ ≡ (passed m₄.0, [])

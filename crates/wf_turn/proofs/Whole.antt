@@ -16,7 +16,7 @@ whole_of t first ps mine is-first others whole =
     let Others : TurnPass → Type 0 = λ p. (p.seat.table_id ≡ t) × (p.document ≢ 4294967295) in
     let Belongs : TurnPass → Type 0 = λ p. p.seat.table_id ≡ t in
     let Whole : TurnPass → Type 0 = λ p. p.document ≡ 4294967295 → (d : ℕ) → 0 < times d (made_of p)
-        → 0 < count_by (is_of d) (first ∷ ps) in
+    → 0 < count_by (is_of d) (first ∷ ps) in
     record {
       belong = All-cons Belongs first ps mine (All-weaker Others Belongs (λ p o. o.0) ps others);
       first = let z : one (eqb first.document 4294967295) ≡ 1 = ap one (eq-eqb first.document 4294967295 is-first) in

@@ -1,15 +1,12 @@
 -- Passes of a book, and what is known once all have come back.
-use Rattle.std.specs.Prelude.{◌≡◌, ℕ, ◌-◌, ◌<◌, ◌≤◌, Bool, List, ◌++◌, ◌==◌, map}
+use Rattle.std.specs.Prelude.{◌≡◌, ℕ, ◌-◌, ◌<◌, ◌≤◌, Bool, List, ◌==◌}
 use Rattle.std.specs.List.{All, count_by, sum_by}
 use Rattle.atomic_table.specs.Seated.{TableId}
 use Rattle.wf_book.specs.declared.book.Book.{Book}
 use Rattle.wf_book.specs.declared.entry.Entry.{Entry}
 use Rattle.wf_book.specs.Entries.{book_after, Legal, entries_of, StartsWith}
 use Rattle.wf_turn.specs.Counts.{times}
-use Rattle.wf_turn.specs.Steps.{ending}
 use Rattle.wf_turn.specs.declared.pass.TurnPass.{TurnPass}
-use Rattle.wf_turn.specs.declared.view.View.{View}
-use Rattle.wf_turn.specs.declared.view.Ended.{Ended}
 
 -- the book that its shared book was opened with, the entries of its own calls, and the history that it
 -- has seen: up to its last turn
@@ -33,6 +30,7 @@ calls_of pass = pass.seat.me.0.draws
 abbrev pub left_of : TurnPass → ℕ
 left_of pass = 4294967295 - calls_of pass
 
+-- the pass is of this document
 abbrev pub is_of : ℕ → TurnPass → Bool
 is_of document pass = pass.document == document
 
@@ -40,21 +38,16 @@ is_of document pass = pass.document == document
 pub record IsWhole (id : TableId) (passes : List TurnPass) : Type 0 where
   pub belong : All (λ p. p.seat.table_id ≡ id) passes
   pub first : 0 < count_by (is_of 4294967295) passes
-  pub whole : All (λ p. p.document ≡ 4294967295 → (d : ℕ) → 0 < times d (made_of p) → 0 < count_by (is_of d) passes) passes
+  pub whole : All (λ p. p.document ≡ 4294967295 → (d : ℕ) → 0 < times d (made_of p)
+      → 0 < count_by (is_of d) passes) passes
 
 -- one legal history from the opening book to this book: it has just the entries of the passes' own, no two
 -- passes are of one document, and each has seen a beginning of it
 pub record IsOneHistory (passes : List TurnPass) (book : Book) (history : List Entry) : Type 0 where
-  pub legal : All (λ p. p.document ≡ 4294967295 → Legal (opening_of p) history × (book ≡ book_after (opening_of p) history)) passes
+  pub legal : All (λ p. p.document ≡ 4294967295
+      → Legal (opening_of p) history × (book ≡ book_after (opening_of p) history)) passes
   pub own : All (λ p. entries_of p.document history ≡ own_of p) passes
   pub seen : All (λ p. StartsWith history (seen_of p)) passes
   pub named : All (λ e. 0 < count_by (is_of e.document) passes) history
   pub apart : (d : ℕ) → count_by (is_of d) passes ≤ 1
   pub turns : All (λ e. e.turn < sum_by calls_of passes) history
-
-abbrev pub endings : List TurnPass → List Ended
-endings passes = map (λ p. ending p.seat.me.0) passes
-
--- the first view, once it has taken in these passes
-abbrev pub taken_in : View → List TurnPass → View
-taken_in v passes = record v { ended = endings passes ++ v.ended }

@@ -28,7 +28,8 @@ impl TurnBook {
     /// Opens the book to threads, and gives its first pass, with document `FIRST`.
     pub fn new(alloc: Global, book: Book) -> Result<(TurnBook, TurnPass), OutOfMemory>
         ensures belongs { IfOk result (λ r. r.1.seat.table_id ≡ r.0.table.shared.table_id) }
-        ensures first { IfOk result (λ r. (r.1.document ≡ 4294967295) × (opening_of r.1 ≡ book) × (left_of r.1 ≡ 4294967295)) }
+        ensures first { IfOk result (λ r.
+            (r.1.document ≡ 4294967295) × (opening_of r.1 ≡ book) × (left_of r.1 ≡ 4294967295)) }
         ensures new { IfOk result (λ r. (own_of r.1 ≡ []) × (seen_of r.1 ≡ []) × (made_of r.1 ≡ [])) }
     {
         let key = Snapshot::of(&book);
@@ -60,10 +61,15 @@ impl TurnBook {
         requires belongs { parent.old.seat.table_id ≡ self.now.table.shared.table_id }
         requires first { parent.old.document ≡ 4294967295 }
         requires fresh { (document ≢ 4294967295) × (times document (made_of parent.old) ≡ 0) }
-        ensures belongs { (parent.new.seat.table_id ≡ parent.old.seat.table_id) × IfOk result (λ pass. pass.seat.table_id ≡ self.now.table.shared.table_id) }
-        ensures new { IfOk result (λ pass. (pass.document ≡ document) × (opening_of pass ≡ opening_of parent.old) × (own_of pass ≡ []) × (seen_of pass ≡ seen_of parent.old) × (left_of pass ≡ 4294967295)) }
+        ensures belongs { (parent.new.seat.table_id ≡ parent.old.seat.table_id)
+            × IfOk result (λ pass. pass.seat.table_id ≡ self.now.table.shared.table_id) }
+        ensures new { IfOk result (λ pass.
+            (pass.document ≡ document) × (opening_of pass ≡ opening_of parent.old) × (own_of pass ≡ [])
+            × (seen_of pass ≡ seen_of parent.old) × (left_of pass ≡ 4294967295)) }
         ensures made { IfOk result (λ pass. made_of parent.new ≡ document ∷ made_of parent.old) }
-        ensures same { (parent.new.document ≡ parent.old.document) × (opening_of parent.new ≡ opening_of parent.old) × (own_of parent.new ≡ own_of parent.old) × (seen_of parent.new ≡ seen_of parent.old) × (left_of parent.new ≡ left_of parent.old) }
+        ensures same { (parent.new.document ≡ parent.old.document) × (opening_of parent.new ≡ opening_of parent.old)
+            × (own_of parent.new ≡ own_of parent.old) × (seen_of parent.new ≡ seen_of parent.old)
+            × (left_of parent.new ≡ left_of parent.old) }
         ensures err { OnErr result (made_of parent.new ≡ made_of parent.old) }
     {
         let shared = &self.table.shared;
@@ -109,9 +115,11 @@ impl Share for TurnBook {
         ensures same { (pass.new.document ≡ pass.old.document) × (opening_of pass.new ≡ opening_of pass.old) }
         ensures made { made_of pass.new ≡ made_of pass.old }
         ensures left { left_of pass.new ≡ left_of pass.old - 1 }
-        ensures ok { IfOk result (λ answer. Extends (opening_of pass.old) pass.old.document op answer (own_of pass.old) (own_of pass.new) (seen_of pass.old) (seen_of pass.new)) }
+        ensures ok { IfOk result (λ answer. Extends (opening_of pass.old) pass.old.document op answer
+            (own_of pass.old) (own_of pass.new) (seen_of pass.old) (seen_of pass.new)) }
         ensures kind { IfOk result (λ answer. is_answer answer ≡ is_question op) }
-        ensures err { OnErr result ((own_of pass.new ≡ own_of pass.old) × StartsWith (seen_of pass.new) (seen_of pass.old)) }
+        ensures err { OnErr result
+            ((own_of pass.new ≡ own_of pass.old) × StartsWith (seen_of pass.new) (seen_of pass.old)) }
     {
         take_turn(
             rt,

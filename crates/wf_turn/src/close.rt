@@ -1,7 +1,8 @@
 ghost use Rattle.std.specs.Prelude.{◌≡◌, ◌<◌, ◌∷◌, true, length, slice_index_or};
 ghost use Rattle.std.specs.List.{All, count_by};
 ghost use Rattle.std.specs.List.Sorted.{IsPermutation};
-ghost use Rattle.wf_turn.specs.Passes.{IsOneHistory, IsWhole, is_of, taken_in};
+ghost use Rattle.wf_turn.specs.Passes.{IsOneHistory, IsWhole, is_of};
+ghost use Rattle.wf_turn.specs.Private.Taken.{taken_in};
 
 use crate::book::TurnBook;
 use crate::desk::Desk;
@@ -17,6 +18,7 @@ pub struct Closed {
     pub history: History,
 }
 
+// Where the first pass stands.
 fn first_at(passes: &[TurnPass]) -> usize
     requires { 0 < count_by (is_of 4294967295) passes.now }
     ensures bound { result < length passes.now }
@@ -30,6 +32,7 @@ fn first_at(passes: &[TurnPass]) -> usize
     unreachable!()
 }
 
+// Takes the first pass out.
 fn take_first(passes: &mut Vec<TurnPass>) -> TurnPass
     requires { 0 < count_by (is_of 4294967295) passes.old.items }
     ensures first { result.document ≡ 4294967295 }

@@ -7,8 +7,6 @@ mod desk;
 mod laws;
 mod pass;
 mod steps;
-#[cfg(test)]
-mod tests;
 mod turn;
 mod view;
 

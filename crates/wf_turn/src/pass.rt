@@ -1,4 +1,4 @@
-ghost use Rattle.wf_turn.specs.Rest.{IsAtRest};
+ghost use Rattle.wf_turn.specs.Private.Rest.{IsAtRest};
 
 use crate::turn::Held;
 

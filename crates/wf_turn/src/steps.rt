@@ -1,6 +1,7 @@
 // The rule of the table, and what its steps tell.
-ghost use Rattle.wf_turn.specs.Rule.{Keeps, first_view};
-ghost use Rattle.wf_turn.specs.Steps.{Draws, Looks, Names, Notes, Passes, forked_left, forked_right, joined, spent};
+ghost use Rattle.wf_turn.specs.Private.Rule.{Keeps, first_view};
+ghost use Rattle.wf_turn.specs.Private.Steps.{Draws, Looks, Names, Notes, Passes, forked_left, forked_right};
+ghost use Rattle.wf_turn.specs.Private.Steps.{joined, spent};
 
 use crate::desk::Desk;
 use crate::view::View;

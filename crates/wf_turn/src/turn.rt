@@ -2,8 +2,8 @@
 ghost use Rattle.std.specs.Prelude.{◌≡◌, ◌+◌, ◌<◌, true, false, IfOk, OnErr};
 ghost use Rattle.wf_book.specs.Entries.{Extends, StartsWith};
 ghost use Rattle.wf_book.specs.Ops.{InRange, is_answer, is_question};
-ghost use Rattle.wf_turn.specs.Rest.{IsAtRest};
-ghost use Rattle.wf_turn.specs.Steps.{Made, Served};
+ghost use Rattle.wf_turn.specs.Private.Rest.{IsAtRest};
+ghost use Rattle.wf_turn.specs.Private.Steps.{Made, Served};
 
 use crate::desk::Desk;
 use crate::steps::{Draw, Look, Note, Pass, Turns};
@@ -29,7 +29,8 @@ fn low_half(number: u64) -> u32 {
 // Looks until the ticket is served. Between two looks the thread sleeps until a turn is passed.
 fn wait<R: Wait>(rt: &R, shared: &Common, seat: &mut Held, ticket: u64)
     requires table { (seat.old.table_id ≡ shared.now.table_id) × (shared.now.table_id.words ≡ 2) }
-    requires waits { (seat.old.me.0.live ≡ true) × (seat.old.me.0.waits ≡ true) × (seat.old.me.0.served ≡ false) × (seat.old.me.0.ticket ≡ ticket) }
+    requires waits { (seat.old.me.0.live ≡ true) × (seat.old.me.0.waits ≡ true)
+        × (seat.old.me.0.served ≡ false) × (seat.old.me.0.ticket ≡ ticket) }
     ensures table { (seat.new.table_id ≡ seat.old.table_id) × (seat.new.id ≡ seat.old.id) }
     ensures served { Served seat.old.me seat.new.me.0.seen seat.new.me }
 {
@@ -78,16 +79,20 @@ pub(crate) fn take_turn<R: Wait>(
     document: u32,
     op: Op,
 ) -> Result<Reply, OutOfMemory>
-    requires table { (seat.old.table_id ≡ shared.now.table_id) × (shared.now.table_id.words ≡ 2) × (shared.now.table_id.slots ≡ 1) }
+    requires table { (seat.old.table_id ≡ shared.now.table_id)
+        × (shared.now.table_id.words ≡ 2) × (shared.now.table_id.slots ≡ 1) }
     requires rest { IsAtRest seat.old.me document }
     requires left { seat.old.me.0.draws < 4294967295 }
     requires range { InRange op }
     ensures table { (seat.new.table_id ≡ seat.old.table_id) × (seat.new.id ≡ seat.old.id) }
     ensures rest { IsAtRest seat.new.me document }
-    ensures same { (seat.new.me.0.opening ≡ seat.old.me.0.opening) × (seat.new.me.0.made ≡ seat.old.me.0.made) × (seat.new.me.0.draws ≡ seat.old.me.0.draws + 1) }
-    ensures ok { IfOk result (λ answer. Extends seat.old.me.0.opening document op answer seat.old.me.0.own seat.new.me.0.own seat.old.me.0.seen seat.new.me.0.seen) }
+    ensures same { (seat.new.me.0.opening ≡ seat.old.me.0.opening) × (seat.new.me.0.made ≡ seat.old.me.0.made)
+        × (seat.new.me.0.draws ≡ seat.old.me.0.draws + 1) }
+    ensures ok { IfOk result (λ answer. Extends seat.old.me.0.opening document op answer
+        seat.old.me.0.own seat.new.me.0.own seat.old.me.0.seen seat.new.me.0.seen) }
     ensures kind { IfOk result (λ answer. is_answer answer ≡ is_question op) }
-    ensures err { OnErr result ((seat.new.me.0.own ≡ seat.old.me.0.own) × StartsWith seat.new.me.0.seen seat.old.me.0.seen) }
+    ensures err { OnErr result
+        ((seat.new.me.0.own ≡ seat.old.me.0.own) × StartsWith seat.new.me.0.seen seat.old.me.0.seen) }
 {
     let ticket = shared.fetch_add::<Draw>(seat, 0, 1);
     wait(rt, shared, seat, ticket);

@@ -10,7 +10,7 @@ pub join_seat-requires : goal.join_seat-requires
 join_seat-requires c =
     let r = c.in-Some.pass.rests in let i = c.loop-pass.invariant in
     let mine = All-pop (λ (p : TurnPass). p.seat.table_id ≡ c.args.shared.now.table_id) c.loop-pass.passes.items
-        c.pop.new.self.items (Some c.in-Some.pass) c.in-Some.ensures.items i.belong in (
+    c.pop.new.self.items (Some c.in-Some.pass) c.in-Some.ensures.items i.belong in (
       i.same ∙ c.requires.table.0,
       mine.1,
       nothing_held c.in-Some.pass.seat.me.1 r.0,

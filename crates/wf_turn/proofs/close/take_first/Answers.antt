@@ -6,8 +6,8 @@ use Rattle.wf_turn.proofs.close.take_first.Goals as goal
 pub returns-clause-rest : goal.returns-clause-rest
 returns-clause-rest c =
     let at : c.first_at-at.result < length c.args.passes.now.items =
-        subst (λ (l : List TurnPass). c.first_at-at.result < length l) c.as_slice.ensures.value
-        c.first_at-at.ensures.bound in
+    subst (λ (l : List TurnPass). c.first_at-at.result < length l) c.as_slice.ensures.value
+    c.first_at-at.ensures.bound in
     rw c.swap_remove.ensures.items
-        (IsPermutation-swap_remove c.args.passes.now.items c.first_at-at.result c.swap_remove.result at
-        c.swap_remove.ensures.value)
+    (IsPermutation-swap_remove c.args.passes.now.items c.first_at-at.result c.swap_remove.result at
+    c.swap_remove.ensures.value)

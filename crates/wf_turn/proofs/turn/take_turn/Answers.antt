@@ -2,8 +2,8 @@ use Rattle.std.proofs.Common.{rules, ◌≡◌, ◌∙◌, ℕ, sym, ap, refl, �
 use Rattle.std.specs.declared.option.Option.{Option}
 use Rattle.atomic_table.specs.Table.{rest}
 use Rattle.wf_book.specs.Entries.{book_after}
-use Rattle.wf_turn.specs.Rule.{desk}
-use Rattle.wf_turn.specs.Steps.{Sat}
+use Rattle.wf_turn.specs.Private.Rule.{desk}
+use Rattle.wf_turn.specs.Private.Steps.{Sat}
 use Rattle.wf_turn.specs.declared.desk.Desk.{Desk}
 use Rattle.wf_turn.proofs.Moves.{draws, notes}
 use Rattle.wf_turn.proofs.Turns.{held_is, ready, ready_passes, ready_extends}
@@ -24,8 +24,8 @@ pub load-requires : goal.load-requires
 load-requires g c =
     let r = c.requires.rest in
     let is = held_is c.args.seat.now.me c.fetch_add-ticket.new.seat.me c.wait.new.seat.me c.exchange.new.seat.me
-        c.exchange-2.new.seat.me c.fetch_add-ticket.result c.wait.new.seat.me.0.seen c.work-answer.new.desk r.0
-        c.fetch_add-ticket.ensures.2.1 c.wait.ensures.served c.exchange.ensures.3 c.exchange-2.ensures.3 in
+    c.exchange-2.new.seat.me c.fetch_add-ticket.result c.wait.new.seat.me.0.seen c.work-answer.new.desk r.0
+    c.fetch_add-ticket.ensures.2.1 c.wait.ensures.served c.exchange.ensures.3 c.exchange-2.ensures.3 in
     (search rules, search rules, notes _ _ _ (ap (λ (m : Sat). m.0.served) is))
 
 pub store-requires : goal.store-requires
@@ -35,18 +35,18 @@ store-requires g c = let r = c.requires.rest in let z : 0 < c.args.shared.now.ta
   ready_passes _ _ _ c.args.seat.now.me c.load.new.seat.me c.fetch_add-ticket.result c.args.document
       c.wait.new.seat.me.0.seen c.args.op c.work-answer.new.desk c.work-answer.result
       (ready c.args.seat.now.me c.fetch_add-ticket.new.seat.me c.wait.new.seat.me c.exchange.new.seat.me
-          c.exchange-2.new.seat.me c.load.new.seat.me _ _ _ _ c.in-Some.desk c.work-answer.new.desk c.exchange.result
-          c.work-answer.result
+      c.exchange-2.new.seat.me c.load.new.seat.me _ _ _ _ c.in-Some.desk c.work-answer.new.desk c.exchange.result
+      c.work-answer.result
       r.0 c.fetch_add-ticket.ensures.2.1 c.wait.ensures.served c.exchange.ensures.2 c.in-Some.is c.exchange.ensures.3
-          c.exchange-2.ensures.3 c.load.ensures.2 c.work-answer.ensures.made) r.2 r.1 refl z,
+      c.exchange-2.ensures.3 c.load.ensures.2 c.work-answer.ensures.made) r.2 r.1 refl z,
 )
 
 pub returns-clause-ok : goal.returns-clause-ok
 returns-clause-ok g c = let r = c.requires.rest in
     ready_extends c.args.seat.now.me c.load.new.seat.me c.store.new.seat.me c.fetch_add-ticket.result c.args.document
-        c.wait.new.seat.me.0.seen c.args.op c.work-answer.new.desk c.work-answer.result
+    c.wait.new.seat.me.0.seen c.args.op c.work-answer.new.desk c.work-answer.result
     (ready c.args.seat.now.me c.fetch_add-ticket.new.seat.me c.wait.new.seat.me c.exchange.new.seat.me
-        c.exchange-2.new.seat.me c.load.new.seat.me _ _ _ _ c.in-Some.desk c.work-answer.new.desk c.exchange.result
-        c.work-answer.result
+    c.exchange-2.new.seat.me c.load.new.seat.me _ _ _ _ c.in-Some.desk c.work-answer.new.desk c.exchange.result
+    c.work-answer.result
     r.0 c.fetch_add-ticket.ensures.2.1 c.wait.ensures.served c.exchange.ensures.2 c.in-Some.is c.exchange.ensures.3
-        c.exchange-2.ensures.3 c.load.ensures.2 c.work-answer.ensures.made) c.store.ensures.2
+    c.exchange-2.ensures.3 c.load.ensures.2 c.work-answer.ensures.made) c.store.ensures.2

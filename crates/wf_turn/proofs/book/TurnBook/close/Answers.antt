@@ -23,25 +23,25 @@ close_with-closed-requires c = let P = λ (p : TurnPass). p.seat.table_id ≡ c.
 pub unreachable-requires : goal.unreachable-requires
 unreachable-requires c =
     let first = c.take_first-first.result in let rest = c.take_first-first.new.passes.items in let v =
-        c.gather.new.first.me.0 in let r = first.rests in
+    c.gather.new.first.me.0 in let r = first.rests in
     let taken = c.gather.ensures.taken in
     let cl = closes _ v _ _ c.close_with-closed.ensures.values.2 (ap (λ (x : View). x.live) taken
-        ∙ r.2) (ap (λ (x : View). x.document) taken ∙ (r.1 ∙ c.take_first-first.ensures.first))
-        (ap (λ (x : View). x.served) taken ∙ r.4)
+    ∙ r.2) (ap (λ (x : View). x.document) taken ∙ (r.1 ∙ c.take_first-first.ensures.first))
+    (ap (λ (x : View). x.served) taken ∙ r.4)
     (whole-here c.args.passes.items rest first c.take_first-first.ensures.rest c.take_first-first.ensures.first
-        c.args.self.table.shared.table_id c.requires v taken) in
+    c.args.self.table.shared.table_id c.requires v taken) in
     c.in_default.not-Some _ (some-injective _ _ (sym c.take-taken.ensures.value ∙ cl.desk_is))
 
 pub returns : goal.returns
 returns c =
     let first = c.take_first-first.result in let rest = c.take_first-first.new.passes.items in let v =
-        c.gather.new.first.me.0 in let r = first.rests in
+    c.gather.new.first.me.0 in let r = first.rests in
     let taken = c.gather.ensures.taken in
     let cl = closes _ v _ _ c.close_with-closed.ensures.values.2 (ap (λ (x : View). x.live) taken
-        ∙ r.2) (ap (λ (x : View). x.document) taken ∙ (r.1 ∙ c.take_first-first.ensures.first))
-        (ap (λ (x : View). x.served) taken ∙ r.4)
+    ∙ r.2) (ap (λ (x : View). x.document) taken ∙ (r.1 ∙ c.take_first-first.ensures.first))
+    (ap (λ (x : View). x.served) taken ∙ r.4)
     (whole-here c.args.passes.items rest first c.take_first-first.ensures.rest c.take_first-first.ensures.first
-        c.args.self.table.shared.table_id c.requires v taken) in
+    c.args.self.table.shared.table_id c.requires v taken) in
     one_history c.args.passes.items rest first c.take_first-first.ensures.rest c.take_first-first.ensures.first
-        c.args.self.table.shared.table_id c.requires v taken _ cl _ _ (c.take-taken.ensures.value
-        ∙ ap some c.in-Some.is)
+    c.args.self.table.shared.table_id c.requires v taken _ cl _ _ (c.take-taken.ensures.value
+    ∙ ap some c.in-Some.is)

@@ -1,6 +1,7 @@
--- The rule of the turn lock. Word 0 is the ticket that is drawn next, word 1 the one that is served, and the slot has the desk.
--- The number 4294967295 is the document of the first pass, and the most calls on a pass.
-use Rattle.std.specs.Prelude.{◌≡◌, ◌≢◌, ℕ, ◌+◌, ◌*◌, Bool, ◌<◌, ◌≤◌, true, false, List, [], ◌∷◌, length, slice_index, Some}
+-- The rule of the turn lock. Word 0 is the ticket that is drawn next, word 1 the one that is served, and the
+-- slot has the desk. The number 4294967295 is the document of the first pass, and the most calls on a pass.
+use Rattle.std.specs.Prelude.{◌≡◌, ◌≢◌, ℕ, ◌+◌, ◌*◌, Bool, ◌<◌, ◌≤◌, true, false, List, [], ◌∷◌, length}
+use Rattle.std.specs.Prelude.{slice_index, Some}
 use Rattle.std.specs.declared.option.Option.{Option}
 use mathlib.Core.Option.{some}
 use lib.ListN.{get_elem?}
@@ -13,11 +14,28 @@ use Rattle.wf_turn.specs.declared.desk.Desk.{Desk}
 use Rattle.wf_turn.specs.declared.view.View.{View}
 use Rattle.wf_turn.specs.declared.view.Ended.{Ended}
 
+-- the desk with this book and this history
 abbrev pub desk : Book → List Entry → Desk
 desk book history = record { book = book; history = history }
 
+-- what the first pass knows at first
 abbrev pub first_view : Book → View
-first_view opening = record { live = true; document = 4294967295; opening = opening; draws = 0; waits = false; ticket = 0; served = false; noted = false; item = []; own = []; seen = []; made = []; ended = []; next = 0 }
+first_view opening = record {
+  live = true;
+  document = 4294967295;
+  opening = opening;
+  draws = 0;
+  waits = false;
+  ticket = 0;
+  served = false;
+  noted = false;
+  item = [];
+  own = [];
+  seen = [];
+  made = [];
+  ended = [];
+  next = 0;
+}
 
 -- what a view and the ended passes that it keeps have drawn, and how many passes they are
 abbrev pub drawn : View → ℕ
@@ -26,9 +44,11 @@ drawn v = v.draws + total (λ e. e.draws) v.ended
 abbrev pub passes_of : View → ℕ
 passes_of v = one v.live + length v.ended
 
+-- whether it waits, as a number
 abbrev pub waiting : View → ℕ
 waiting v = one v.waits
 
+-- each entry is of one of these documents
 abbrev pub HasDocument : List Entry → List ℕ → Type 0
 HasDocument [] docs = Unit {0}
 HasDocument (e ∷ es) docs = (0 < times e.document docs) × HasDocument es docs
@@ -41,19 +61,23 @@ pub record FitsEnded (history : List Entry) (docs : List ℕ) (document : ℕ) (
   pub apart : document ≢ e.document
 
 -- what a live pass knows, part by part
-pub record FitsLive (opening : Book) (history : List Entry) (docs : List ℕ) (knows : Book) (document : ℕ) (mine view : List Entry) (others : List ℕ) : Type 0 where
+pub record FitsLive (opening : Book) (history : List Entry) (docs : List ℕ) (knows : Book) (document : ℕ)
+    (mine view : List Entry) (others : List ℕ) : Type 0 where
   pub opening_is : knows ≡ opening
   pub own : entries_of document history ≡ mine
   pub seen : StartsWith history view
   pub known : 0 < times document docs
   pub made : document ≡ 4294967295 → docs ≡ 4294967295 ∷ others
 
-pub record FitsServed (now : ℕ) (history : List Entry) (live waits : Bool) (ticket : ℕ) (view : List Entry) : Type 0 where
+-- a pass that has its turn
+pub record FitsServed (now : ℕ) (history : List Entry) (live waits : Bool) (ticket : ℕ)
+    (view : List Entry) : Type 0 where
   pub live_is : live ≡ true
   pub waits_is : waits ≡ true
   pub ticket_is : ticket ≡ now
   pub seen : view ≡ history
 
+-- what each pass knows
 pub record Fits (tickets now : ℕ) (opening : Book) (history : List Entry) (docs : List ℕ) (v : View) : Type 0 where
   pub live : v.live ≡ true → FitsLive opening history docs v.opening v.document v.own v.seen v.made
   pub few : v.draws ≤ 4294967295 * one v.live
@@ -71,6 +95,7 @@ pub record Apart (v w : View) : Type 0 where
   pub tickets : v.waits ≡ true → w.waits ≡ true → v.ticket ≢ w.ticket
   pub ended : v.live ≡ true → (k : ℕ) (e : Ended) → get_elem? w.ended k ≡ some e → v.document ≢ e.document
 
+-- what holds between any two steps
 pub record Keeps (s : State (Option Desk) View) : Type 0 where
   pub opening : Book
   pub history : List Entry
@@ -85,7 +110,10 @@ pub record Keeps (s : State (Option Desk) View) : Type 0 where
   pub count : total passes_of s.views ≡ length docs
   pub once : (d : ℕ) → times d docs ≤ 1
   pub small : (d : ℕ) → 4294967296 ≤ d → times d docs ≡ 0
-  pub fits : (i : ℕ) (v : View) → get_elem? s.views i ≡ some v → Fits (slice_index s.words 0) (slice_index s.words 1) opening history docs v
-  pub apart : (i j : ℕ) (v w : View) → i ≢ j → get_elem? s.views i ≡ some v → get_elem? s.views j ≡ some w → Apart v w
+  pub fits : (i : ℕ) (v : View) → get_elem? s.views i ≡ some v
+      → Fits (slice_index s.words 0) (slice_index s.words 1) opening history docs v
+  pub apart : (i j : ℕ) (v w : View) → i ≢ j → get_elem? s.views i ≡ some v → get_elem? s.views j ≡ some w
+      → Apart v w
   -- where no pass is served, the desk is at home
-  pub home : ((i : ℕ) (v : View) → get_elem? s.views i ≡ some v → v.served ≡ false) → get_elem? s.homes 0 ≡ some (some (Some (desk (book_after opening history) history)))
+  pub home : ((i : ℕ) (v : View) → get_elem? s.views i ≡ some v → v.served ≡ false)
+      → get_elem? s.homes 0 ≡ some (some (Some (desk (book_after opening history) history)))
