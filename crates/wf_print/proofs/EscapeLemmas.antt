@@ -1,5 +1,6 @@
 -- What escaping does to runs of plain bytes, and to texts one after the other.
-use Rattle.std.proofs.Common.{◌≡◌, ◌+◌, ◌&&◌, ℕ, Bool, true, false, List, [], ◌∷◌, ◌++◌, take, drop, length, suc, refl, ap}
+use Rattle.std.proofs.Common.{◌≡◌, ◌+◌, ◌&&◌, ℕ, Bool, true, false, List, [], ◌∷◌, ◌++◌, take, drop, length, suc}
+use Rattle.std.proofs.Common.{refl, ap}
 use Rattle.std.proofs.Common.{sym, ◌∙◌, arith, cond, subst}
 use Rattle.std.specs.List.{flat_map, list_all, prefix_len}
 use Rattle.std.proofs.lemmas.List.{append-nil, nil_from_length}

@@ -6,7 +6,7 @@ use Rattle.wf_link.specs.Counts.{Rose}
 use Rattle.wf_link.proofs.SinkLemmas.{part-before, ok-after, err-after}
 use Rattle.wf_print.specs.declared.failure.Failure.{Failure}
 use Rattle.wf_print.specs.declared.failure.Failure.TheVariants.{OutOfMemory}
-use Rattle.wf_print.specs.Writes.{Writes}
+use Rattle.wf_print.specs.Private.Writes.{Writes}
 
 -- a text behind one that was written whole
 pub writes-append : {K A B : Type 0} {taken : K → Option (List ℕ)} {faults zeros : K
@@ -20,7 +20,8 @@ writes-append {taken = taken} {faults = faults} {zeros = zeros} {old = old} {mid
       faults_stay = omega (arith, first.faults_stay, second.faults_stay);
       zeros_stay = omega (arith, first.zeros_stay, second.zeros_stay);
       fault = λ e. let rose : Rose (faults mid) (faults new) = second.fault e in omega (arith, first.faults_stay, rose);
-      nothing = λ e. let rose : Rose (zeros mid) (zeros new) = second.nothing e in omega (arith, first.zeros_stay, rose);
+      nothing = λ e.
+          let rose : Rose (zeros mid) (zeros new) = second.nothing e in omega (arith, first.zeros_stay, rose);
     }
 
 -- more text behind one that was not written whole

@@ -1,11 +1,14 @@
--- Escaped text: printable ASCII as it is, every other byte and the backslash by two hexadecimal digits (the printed text of a play).
-use Rattle.std.specs.Prelude.{ℕ, ◌/◌, ◌%◌, Bool, not, ◌&&◌, ◌==◌, nat_le, List, [], ◌∷◌, ◌++◌, codes, if◌then◌else◌}
+-- Escaped text: printable ASCII as it is, every other byte and the backslash by two hexadecimal digits (the printed
+-- text of a play).
+use Rattle.std.specs.Prelude.{ℕ, ◌/◌, ◌%◌, Bool, not, ◌&&◌, ◌==◌, nat_le, nat_lt, List, [], ◌∷◌, ◌++◌, codes}
+use Rattle.std.specs.Prelude.{if◌then◌else◌}
 use Rattle.std.specs.List.{flat_map}
 use Rattle.std.specs.Char.{digit_char}
+use Rattle.wf_text.specs.Ascii.{backslash, delete_byte, space}
 
 -- the byte stands for itself: it is printable ASCII, and no backslash
 abbrev pub is_plain : ℕ → Bool
-is_plain byte = nat_le 0x20 byte && nat_le byte 0x7e && not (byte == 0x5c)
+is_plain byte = nat_le space byte && nat_lt byte delete_byte && not (byte == backslash)
 
 -- a byte by its two hexadecimal digits, in lower case
 abbrev pub hex_escape : ℕ → List ℕ

@@ -1,7 +1,6 @@
 -- Lengths of printed texts, up to the greatest number of 64 bits (the text limit of a document).
-use Rattle.std.specs.Prelude.{ℕ, ◌+◌, ◌-◌, ◌^◌, List, length, min}
+use Rattle.std.specs.Prelude.{ℕ, ◌-◌, ◌^◌, length, min}
 use Rattle.wf_print.specs.declared.events.Event.{Event}
-use Rattle.wf_print.specs.declared.output.Length.{Length}
 use Rattle.wf_print.specs.Text.{event_text}
 
 -- a length as far as 64 bits tell it
@@ -11,7 +10,3 @@ capped n = min n (2 ^ 64 - 1)
 -- the length of an event's lines
 abbrev pub event_length : Event → ℕ
 event_length event = capped (length (event_text event))
-
--- the length with that of a text more
-abbrev pub longer : Length → List ℕ → Length
-longer sofar text = record { bytes = sofar.bytes + min (length text) (2 ^ 64 - 1 - sofar.bytes) }

@@ -1,6 +1,5 @@
 pub mod Escapes
-pub mod Text
-pub mod Writes
 pub mod Failures
 pub mod Lengths
-pub mod LengthLaws
+pub mod Private
+pub mod Text

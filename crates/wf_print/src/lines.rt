@@ -220,7 +220,8 @@ fn add_outcome<W: Output>(text: &mut W, outcome: &Outcome) -> Result<(), W::Erro
 
 // Adds the start of a load.
 fn add_load<W: Output>(text: &mut W, number: u32, destination: Destination) -> Result<(), W::Error>
-    ensures { OnOk result (text.new ≡ W.after text.old (spec.line (codes "load " ++ decimal number ++ codes " " ++ destination_name destination))) }
+    ensures { OnOk result (text.new ≡ W.after text.old
+        (spec.line (codes "load " ++ decimal number ++ codes " " ++ destination_name destination))) }
 {
     text.add(b"load ")?;
     add_number(text, number)?;

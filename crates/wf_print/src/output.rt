@@ -46,8 +46,8 @@ pub struct Length {
 }
 
 impl Output for Length {
-    ghost use Rattle.wf_print.specs.Lengths.{longer};
-    ghost use Rattle.wf_print.specs.LengthLaws.{longer_longer, longer_nothing};
+    ghost use Rattle.wf_print.specs.Private.Longer.{longer};
+    ghost use Rattle.wf_print.specs.Private.LengthLaws.{longer_longer, longer_nothing};
 
     type Error = Infallible;
 

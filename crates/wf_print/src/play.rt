@@ -3,7 +3,7 @@ ghost use Rattle.std.specs.List.{flat_map};
 ghost use Rattle.wf_link.specs.Counts.{Rose};
 ghost use Rattle.wf_link.specs.Sinks.{Took, TookPart};
 ghost use Rattle.wf_print.specs.Text as spec;
-ghost use Rattle.wf_print.specs.Writes.{Writes};
+ghost use Rattle.wf_print.specs.Private.Writes.{Writes};
 
 use crate::events::{Ending, Event, Transcript, Transcripts};
 use crate::failure::Failure;

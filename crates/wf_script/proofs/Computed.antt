@@ -23,7 +23,7 @@ refused place = Err (record { text = place })
 -- a text that is no tree, the root, keys, and a list that is too long
 pub computes-places : (scenario_of (codes "{\"format\":") ≡ refused (codes "json"))
     × (scenario_of (codes "{\"format\":1,\"documents\":[{\"url\":\"ftp://a/\",\"script\":[]}]}")
-        ≡ refused (codes "/documents/0/url"))
+    ≡ refused (codes "/documents/0/url"))
     × (scenario_of (codes "{\"format\":1,\"documents\":[],\"extra\":0}") ≡ refused (codes "/"))
     × (scenario_of (codes "{\"servers\":[],\"format\":1.0}") ≡ refused (codes "/format"))
     × (scenario_of (codes "{\"format\":1,\"documents\":[0,0]}") ≡ refused (codes "/documents"))
@@ -39,13 +39,13 @@ with_command command = codes "{\"format\":1,\"documents\":[{\"url\":\"https://a.
 pub computes-places-of-fetches : (scenario_of (with_command (codes "{\"fetch\":{\"url\":\"/${body}\"}}"))
     ≡ refused (codes "/documents/0/script/0/fetch/url"))
     × (scenario_of (with_command (codes "{\"fetch\":{\"url\":\"/\",\"referrer\":\"none\"}}"))
-        ≡ refused (codes "/documents/0/script/0/fetch/mode"))
+    ≡ refused (codes "/documents/0/script/0/fetch/mode"))
     ×
-        (scenario_of
-        (with_command (codes "{\"fetch\":{\"url\":\"/\",\"mode\":\"navigate\",\"headers\":[[\"A\",\"${body}\"]]}}"))
-        ≡ refused (codes "/documents/0/script/0/fetch/headers/0/1"))
+    (scenario_of
+    (with_command (codes "{\"fetch\":{\"url\":\"/\",\"mode\":\"navigate\",\"headers\":[[\"A\",\"${body}\"]]}}"))
+    ≡ refused (codes "/documents/0/script/0/fetch/headers/0/1"))
     × (scenario_of (with_command (codes "{\"fetch\":{\"url\":\"/\",\"mode\":\"navigate\",\"headers\":[[\"A\"]]}}"))
-        ≡ refused (codes "/documents/0/script/0/fetch/headers/0"))
+    ≡ refused (codes "/documents/0/script/0/fetch/headers/0"))
 unfolding url_on_literals serde_json_on_literals is_utf8 chars
 computes-places-of-fetches = (refl, refl, refl, refl)
 
@@ -79,11 +79,16 @@ plain url = record {
 
 pub computes-whole : scenario_of
     (codes
-    "{\"format\":1,\"servers\":[{\"origin\":\"https://a.test\",\"rules\":[{\"status\":200,\"body\":\"hi\"}]}],\"documents\":[{\"url\":\"https://a.test/\",\"script\":[{\"fetch\":{\"url\":\"/\",\"mode\":\"same-origin\",\"referrer\":\"none\"}}]}]}")
+    "{\"format\":1,\"servers\":[{\"origin\":\"https://a.test\",\"rules\":[{\"status\":200,\"body\":\"hi\"}]}],"
+    ++ codes "\"documents\":[{\"url\":\"https://a.test/\",\"script\":"
+    ++ codes "[{\"fetch\":{\"url\":\"/\",\"mode\":\"same-origin\",\"referrer\":\"none\"}}]}]}")
     ≡ Ok (record {
       cookies = [];
-      servers = record { origin = codes "https://a.test"; rules =
-          record { method = None; path = None; answer = codes "HTTP/1.1 200 Scripted\r\n\r\nhi" } ∷ [] } ∷ [];
+      servers = record {
+        origin = codes "https://a.test";
+        rules =
+            record { method = None; path = None; answer = codes "HTTP/1.1 200 Scripted\r\n\r\nhi" } ∷ [];
+      } ∷ [];
       piece = 4096;
       documents = record { url = page; top = page; script = Fetch (plain (codes "/")) ∷ [] } ∷ [];
       body_limit = 262144;
@@ -94,7 +99,8 @@ computes-whole = refl
 pub computes-fetch : scenario_of
     (with_command
     (codes
-    "{\"fetch\":{\"url\":\"/x\",\"method\":\"PUT\",\"mode\":\"navigate\",\"headers\":[[\"X-A\",\"1\"]],\"body\":\"q\",\"referrer\":\"none\"}}"))
+    "{\"fetch\":{\"url\":\"/x\",\"method\":\"PUT\",\"mode\":\"navigate\","
+    ++ codes "\"headers\":[[\"X-A\",\"1\"]],\"body\":\"q\",\"referrer\":\"none\"}}"))
     ≡ Ok (record {
       cookies = [];
       servers = [];
@@ -129,8 +135,11 @@ servers =
       rules = record { method = Some (codes "PUT"); path = None; answer = codes "1" }
           ∷ record { method = None; path = Some (codes "/x"); answer = codes "2" } ∷ [];
     }
-    ∷ record { origin = codes "https://a.test"; rules = record { method = None; path = None; answer = codes "3" }
-        ∷ [] } ∷ []
+    ∷ record {
+      origin = codes "https://a.test";
+      rules = record { method = None; path = None; answer = codes "3" }
+          ∷ [];
+    } ∷ []
 
 pub computes-answer : (answer servers (codes "https://a.test") (codes "PUT") (codes "/x") ≡ codes "1")
     × (answer servers (codes "https://a.test") (codes "GET") (codes "/x") ≡ codes "2")

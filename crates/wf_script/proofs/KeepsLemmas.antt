@@ -61,20 +61,20 @@ keeps-after Q read next goes = keeps-then Anything Q read next (keeps-anything r
 pub keeps-required : {A B : Type 0} (P : A → Type 0) (Q : B → Type 0) (name : List ℕ) (read : Data
     → Read A) (tree : Data) (next : A → Read B)
     → ((inside : Data) → Keeps P (read inside)) → ((x : A) → P x → Keeps Q (next x))
-        → Keeps Q (required name read tree >>= next)
+    → Keeps Q (required name read tree >>= next)
 keeps-required P Q name read tree next each goes =
     keeps-then P Q (required name read tree) next
     (keeps-under P name (found_or (Err []) read (get name tree))
-        (keeps-found_or P (Err []) read (get name tree) tt each)) goes
+    (keeps-found_or P (Err []) read (get name tree) tt each)) goes
 
 pub keeps-optional : {A B : Type 0} (P : A → Type 0) (Q : B → Type 0) (name : List ℕ) (default : A) (read : Data
     → Read A) (tree : Data) (next : A → Read B)
     → P default → ((inside : Data) → Keeps P (read inside)) → ((x : A) → P x → Keeps Q (next x))
-        → Keeps Q (optional name default read tree >>= next)
+    → Keeps Q (optional name default read tree >>= next)
 keeps-optional P Q name default read tree next kept each goes =
     keeps-then P Q (optional name default read tree) next
     (keeps-under P name (found_or (Ok default) read (get name tree))
-        (keeps-found_or P (Ok default) read (get name tree) kept each)) goes
+    (keeps-found_or P (Ok default) read (get name tree) kept each)) goes
 
 -- each of so many has the property
 pub record IsListOf {A : Type 0} (P : A → Type 0) (most : ℕ) (xs : List A) : Type 0 where
@@ -86,10 +86,10 @@ keeps-each : {A : Type 0} (P : A → Type 0) (read : Data → Read A) → ((tree
 keeps-each P read each i no_items = record { few = omega arith; all = All-nil P }
 keeps-each P read each i (item tree items) =
     keeps-then P (IsListOf P (count (item tree items))) (under (decimal i) (read tree))
-        (λ x. each_from read (i + 1) items >>= (λ xs. Ok (x ∷ xs)))
+    (λ x. each_from read (i + 1) items >>= (λ xs. Ok (x ∷ xs)))
     (keeps-under P (decimal i) (read tree) (each tree))
     (λ x kept. keeps-then (IsListOf P (count items)) (IsListOf P (count (item tree items)))
-        (each_from read (i + 1) items) (λ xs. Ok (x ∷ xs))
+    (each_from read (i + 1) items) (λ xs. Ok (x ∷ xs))
     (keeps-each P read each (i + 1) items)
     (λ xs rest. record { few = omega (arith, rest.few); all = All-cons P x xs kept rest.all }))
 
@@ -98,19 +98,19 @@ pub keeps-items : {A : Type 0} (P : A → Type 0) (read : Data → Read A)
 keeps-items P read each tree =
     keeps-after (λ xs. All P xs) (present (as_array tree)) (λ items. each_from read 0 items)
     (λ items. keeps-weaker (IsListOf P (count items)) (λ xs. All P xs) (each_from read 0 items) (λ xs kept. kept.all)
-        (keeps-each P read each 0 items))
+    (keeps-each P read each 0 items))
 
 pub keeps-list : {A : Type 0} (P : A → Type 0) (most : ℕ) (read : Data → Read A)
     → ((inside : Data) → Keeps P (read inside)) → (tree : Data) → Keeps (IsListOf P most) (list_of most read tree)
 keeps-list P most read each tree =
     keeps-after (IsListOf P most) (present (as_array tree))
-        (λ items. given (nat_le (count items) most) items >>= (λ few. each_from read 0 few))
+    (λ items. given (nat_le (count items) most) items >>= (λ few. each_from read 0 few))
     (λ items. keeps-then (λ few. IsTrue (nat_le (count few) most)) (IsListOf P most)
-        (given (nat_le (count items) most) items) (λ few. each_from read 0 few)
+    (given (nat_le (count items) most) items) (λ few. each_from read 0 few)
     (keeps-given (λ few. IsTrue (nat_le (count few) most)) (nat_le (count items) most) items (λ holds. holds))
     (λ few holds. keeps-weaker (IsListOf P (count few)) (IsListOf P most) (each_from read 0 few)
     (λ xs kept. record { few = omega (arith, kept.few, leb-true (count few) most holds); all = kept.all })
-        (keeps-each P read each 0 few)))
+    (keeps-each P read each 0 few)))
 
 -- ---- values of one form
 
@@ -130,14 +130,14 @@ keeps-meaning : {A : Type 0} (P : A → Type 0) (words : List (List ℕ × A)) (
 keeps-meaning P [] text each = tt
 keeps-meaning {A} P (entry ∷ words) text each =
     elim (bytes_eq entry.0 text) as (λ b. let found : Option A = if b then Some entry.1 else meaning words text in
-        Keeps P (present found))
+    Keeps P (present found))
     [ true ↦ each.0 | false ↦ keeps-meaning P words text each.1 ]
 
 pub keeps-word : {A : Type 0} (P : A → Type 0) (words : List (List ℕ × A)) → Means P words → (tree : Data)
     → Keeps P (word_of words tree)
 keeps-word P words each tree =
     keeps-after P (present (as_str tree)) (λ text. present (meaning words text))
-        (λ text. keeps-meaning P words text each)
+    (λ text. keeps-meaning P words text each)
 
 pub keeps-some : {A : Type 0} (P : A → Type 0) (read : Data → Read A)
     → ((inside : Data) → Keeps P (read inside)) → (tree : Data) → Keeps (λ x. IfSome x P) (some_of read tree)

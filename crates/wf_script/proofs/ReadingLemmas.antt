@@ -8,7 +8,8 @@ use Rattle.std.specs.List.{list_all}
 use Rattle.serde_json.specs.Data.{Data, item}
 use Rattle.serde_json.specs.View.{view, members_view, items_view}
 use Rattle.serde_json.specs.declared.value.Value.{Value}
-use Rattle.wf_script.specs.Reading.{Read, ◌>>=◌, is_one_of, known, count, two_of, under, each_from, Gives}
+use Rattle.wf_script.specs.Private.Gives.{Gives}
+use Rattle.wf_script.specs.Reading.{Read, ◌>>=◌, is_one_of, known, count, two_of, under, each_from}
 use Rattle.wf_script.specs.declared.refused.Refused.{Refused}
 use Rattle.wf_script.specs.declared.refused.Refused.TheVariants.{Memory, At}
 
@@ -21,7 +22,7 @@ entries words = map (λ entry. (entry.0.now, entry.1)) words
 -- the keys of an object are known where each is
 pub known-keys : (names : List (List ℕ)) (entries : List (String Global × Value))
     → list_all (λ (key : String Global). is_one_of names (string_bytes key))
-        (map (λ (e : String Global × Value). e.0) entries) ≡ known names (members_view entries)
+    (map (λ (e : String Global × Value). e.0) entries) ≡ known names (members_view entries)
 known-keys names [] = refl
 known-keys names (e ∷ entries) = ap (λ (b : Bool). is_one_of names (string_bytes e.0) && b) (known-keys names entries)
 
@@ -66,10 +67,10 @@ drop-past (y ∷ items) (suc i) le = drop-past items i (omega arith)
 pub one-more : {A : Type 0} (read : Data → Read A) (items : List Value) (i : ℕ) (x : Value) (front : List A) (y : A)
     → i < length items → get_or items i x ≡ x → under (decimal i) (read (view x)) ≡ Ok y
     → with_front front (each_from read i (items_view (drop i items)))
-        ≡ with_front (front ++ y ∷ []) (each_from read (i + 1) (items_view (drop (i + 1) items)))
+    ≡ with_front (front ++ y ∷ []) (each_from read (i + 1) (items_view (drop (i + 1) items)))
 one-more read items i x front y lt is came =
     rw (items_view-drop items i x lt is)
-        (rw came (front-step front y (each_from read (i + 1) (items_view (drop (i + 1) items)))))
+    (rw came (front-step front y (each_from read (i + 1) (items_view (drop (i + 1) items)))))
 
 -- the first item that is refused refuses the list
 pub refused-item : {A : Type 0} (read : Data → Read A) (items : List Value) (i : ℕ) (x : Value) (front : List A)

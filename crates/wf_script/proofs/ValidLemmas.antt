@@ -1,5 +1,6 @@
 -- Every scenario that is read is valid.
-use Rattle.std.proofs.Common.{◌≡◌, ℕ, ◌≤◌, Bool, true, false, List, [], ◌∷◌, Option, Some, None, Ok, refl, subst, arith}
+use Rattle.std.proofs.Common.{◌≡◌, ℕ, ◌≤◌, Bool, true, false, List, [], ◌∷◌, Option, Some, None, Ok, refl, subst}
+use Rattle.std.proofs.Common.{arith}
 use Rattle.std.specs.Prelude.{nat_le, ◌&&◌, codes, IfSome, IsTrue, option_and_then}
 use Rattle.std.specs.List.{All}
 use Rattle.std.proofs.lemmas.Bool.{leb-true}
@@ -14,7 +15,8 @@ use Rattle.wf_script.specs.declared.types.Scenario.{Scenario}
 use Rattle.wf_script.specs.Reading.{Read, present, any, only_keys, required, optional, number_of, text_that, word_of}
 use Rattle.wf_script.specs.Reading.{some_of, items_of, list_of}
 use Rattle.wf_script.specs.Texts.{lacks_template, is_cookie_value}
-use Rattle.wf_script.specs.Urls.{is_plain_https, is_origin_text, is_fetch_url}
+use Rattle.wf_script.specs.OriginTexts.{is_origin_text}
+use Rattle.wf_script.specs.Urls.{is_plain_https, is_fetch_url}
 use Rattle.wf_script.specs.Scenarios.{cookie_of, status_of, answer_header_of, rule_keys, rule_of, server_keys}
 use Rattle.wf_script.specs.Scenarios.{server_of, modes, referrers, header_of, fetch_keys, fetch_of, command_of}
 use Rattle.wf_script.specs.Scenarios.{document_url_of, document_keys, document_of, scenario_keys, scenario_in}
@@ -43,9 +45,9 @@ That passes text = IsTrue (passes text)
 keeps-cookie : (tree : Data) → Keeps IsValidCookie (cookie_of tree)
 keeps-cookie tree =
     keeps-parts (That is_origin_text) (That is_cookie_value) IsValidCookie (text_that is_origin_text)
-        (text_that is_cookie_value) tree _
+    (text_that is_cookie_value) tree _
     (keeps-text_that is_origin_text) (keeps-text_that is_cookie_value)
-        (λ origin value is holds. record { origin = is; value = holds })
+    (λ origin value is holds. record { origin = is; value = holds })
 
 -- the method, where there is one, is a token
 abbrev IsToken : Option (List ℕ) → Type 0
@@ -55,7 +57,7 @@ keeps-rule : (tree : Data) → Keeps IsValidRule (rule_of tree)
 keeps-rule tree =
     keeps-after IsValidRule (only_keys rule_keys tree) _ (λ _.
     keeps-optional IsToken IsValidRule (codes "method") None (some_of (text_that is_token)) tree _ tt
-        (keeps-some (That is_token) (text_that is_token) (keeps-text_that is_token)) (λ method is.
+    (keeps-some (That is_token) (text_that is_token) (keeps-text_that is_token)) (λ method is.
     keeps-after IsValidRule (optional (codes "path") None (some_of (text_that any)) tree) _ (λ path.
     keeps-after IsValidRule (required (codes "status") status_of tree) _ (λ status.
     keeps-after IsValidRule (optional (codes "headers") [] (items_of answer_header_of) tree) _ (λ headers.
@@ -66,9 +68,9 @@ keeps-server : (tree : Data) → Keeps IsValidServer (server_of tree)
 keeps-server tree =
     keeps-after IsValidServer (only_keys server_keys tree) _ (λ _.
     keeps-required (That is_origin_text) IsValidServer (codes "origin") (text_that is_origin_text) tree _
-        (keeps-text_that is_origin_text) (λ origin is.
+    (keeps-text_that is_origin_text) (λ origin is.
     keeps-required (λ rules. All IsValidRule rules) IsValidServer (codes "rules") (items_of rule_of) tree _
-        (keeps-items IsValidRule rule_of keeps-rule) (λ rules each.
+    (keeps-items IsValidRule rule_of keeps-rule) (λ rules each.
     record { origin = is; rules = each })))
 
 -- ---- fetches
@@ -93,18 +95,18 @@ keeps-fetch document tree =
     let Init = IsValidInit document in
     keeps-after Init (only_keys fetch_keys tree) _ (λ _.
     keeps-required (That (is_fetch_url document)) Init (codes "url") (text_that (is_fetch_url document)) tree _
-        (keeps-text_that (is_fetch_url document)) (λ url is.
+    (keeps-text_that (is_fetch_url document)) (λ url is.
     keeps-optional Anything Init (codes "method") (codes "GET") (text_that any) tree _ tt
-        (λ inside. keeps-anything (text_that any inside)) (λ method _.
+    (λ inside. keeps-anything (text_that any inside)) (λ method _.
     keeps-required (λ mode. IsTrue (is_opened_mode mode)) Init (codes "mode") (word_of modes) tree _ keeps-mode
-        (λ mode opened.
+    (λ mode opened.
     keeps-optional (IsListOf IsPlainPair 64) Init (codes "headers") [] (list_of 64 header_of) tree _
-        (record { few = omega arith; all = All-nil IsPlainPair }) (keeps-list IsPlainPair 64 header_of keeps-header)
-        (λ headers each.
+    (record { few = omega arith; all = All-nil IsPlainPair }) (keeps-list IsPlainPair 64 header_of keeps-header)
+    (λ headers each.
     keeps-optional IsPlainBody Init (codes "body") None (some_of (text_that lacks_template)) tree _ tt
-        (keeps-some (That lacks_template) (text_that lacks_template) (keeps-text_that lacks_template)) (λ body plain.
+    (keeps-some (That lacks_template) (text_that lacks_template) (keeps-text_that lacks_template)) (λ body plain.
     keeps-required (λ client. client ≡ false) Init (codes "referrer") (word_of referrers) tree _ keeps-referrer
-        (λ client none.
+    (λ client none.
     record {
       url = is;
       mode = opened;
@@ -127,7 +129,7 @@ keeps-command document tree =
     keeps-after (IsValidCommand document) (present (get (codes "fetch") tree)) _ (λ fetch.
     keeps-then (IsValidInit document) (IsValidCommand document) _ (λ init. Ok (Fetch init))
     (keeps-under (IsValidInit document) (codes "fetch") (fetch_of document fetch) (keeps-fetch document fetch))
-        (λ init valid. valid)))
+    (λ init valid. valid)))
 
 keeps-document_url : (tree : Data) → Keeps (λ url. IsTrue (is_plain_https url)) (document_url_of tree)
 keeps-document_url tree =
@@ -139,10 +141,10 @@ keeps-document : (tree : Data) → Keeps IsValidDocument (document_of tree)
 keeps-document tree =
     keeps-after IsValidDocument (only_keys document_keys tree) _ (λ _.
     keeps-required (λ url. IsTrue (is_plain_https url)) IsValidDocument (codes "url") document_url_of tree _
-        keeps-document_url (λ url is.
+    keeps-document_url (λ url is.
     keeps-required (λ script. All (IsValidCommand url) script) IsValidDocument (codes "script")
-        (items_of (command_of url)) tree _ (keeps-items (IsValidCommand url) (command_of url) (keeps-command url))
-        (λ script each.
+    (items_of (command_of url)) tree _ (keeps-items (IsValidCommand url) (command_of url) (keeps-command url))
+    (λ script each.
     record { url = is; top = is; script = each })))
 
 -- ---- the whole
@@ -152,15 +154,24 @@ keeps-scenario tree =
     keeps-after IsValid (only_keys scenario_keys tree) _ (λ _.
     keeps-after IsValid _ _ (λ _.
     keeps-optional (λ cookies. All IsValidCookie cookies) IsValid (codes "cookies") [] (items_of cookie_of) tree _
-        (All-nil IsValidCookie) (keeps-items IsValidCookie cookie_of keeps-cookie) (λ cookies good.
+    (All-nil IsValidCookie) (keeps-items IsValidCookie cookie_of keeps-cookie) (λ cookies good.
     keeps-optional (λ servers. All IsValidServer servers) IsValid (codes "servers") [] (items_of server_of) tree _
-        (All-nil IsValidServer) (keeps-items IsValidServer server_of keeps-server) (λ servers each.
-    keeps-optional (λ n. (1 ≤ n) × (n ≤ 65536)) IsValid (codes "piece") 4096 (number_of 1 65536) tree _ (omega arith,
-        omega arith) (keeps-number 1 65536) (λ piece within.
+    (All-nil IsValidServer) (keeps-items IsValidServer server_of keeps-server) (λ servers each.
+    keeps-optional (λ n. (1 ≤ n) × (n ≤ 65536)) IsValid (codes "piece") 4096 (number_of 1 65536) tree _ (
+      omega arith,
+      omega arith,
+    ) (keeps-number 1 65536) (λ piece within.
     keeps-required (IsListOf IsValidDocument 1) IsValid (codes "documents") (list_of 1 document_of) tree _
-        (keeps-list IsValidDocument 1 document_of keeps-document) (λ documents all.
-    record { cookies = good; servers = each; some_piece = within.0; most_piece = within.1; few_documents = all.few;
-        documents = all.all; body_limit = refl }))))))
+    (keeps-list IsValidDocument 1 document_of keeps-document) (λ documents all.
+    record {
+      cookies = good;
+      servers = each;
+      some_piece = within.0;
+      most_piece = within.1;
+      few_documents = all.few;
+      documents = all.all;
+      body_limit = refl;
+    }))))))
 
 -- what is read of a tree is valid
 pub scenario_in-IsValid : (tree : Data) (scenario : Scenario) → scenario_in tree ≡ Ok scenario → IsValid scenario

@@ -1,3 +1,5 @@
+pub mod OriginTexts
+pub mod Private
 pub mod Reading
 pub mod Scenarios
 pub mod Servers

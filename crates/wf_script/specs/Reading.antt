@@ -1,11 +1,10 @@
 -- Reading a JSON tree (RFC 8259) by tables of keys: the value, or the first refused place. A place is
 -- written from where the reading stands: a segment is put before it at each level.
-use Rattle.std.specs.Prelude.{◌≡◌, ℕ, ◌+◌, ◌&&◌, Bool, true, false, nat_le, List, [], ◌∷◌, ◌++◌, codes, decimal, bytes_eq, Option, Some, None, option_and_then, Result, Ok, Err, if◌then◌else◌, ⊤}
+use Rattle.std.specs.Prelude.{ℕ, ◌+◌, ◌&&◌, Bool, true, false, nat_le, List, [], ◌∷◌, ◌++◌, codes, decimal}
+use Rattle.std.specs.Prelude.{bytes_eq, Option, Some, None, option_and_then, Result, Ok, Err, if◌then◌else◌, ⊤}
 use Rattle.std.specs.List.{list_any}
 use Rattle.serde_json.specs.Data.{Data, Items, no_items, item, Members, no_members, member}
 use Rattle.serde_json.specs.Find.{get, as_number, as_u64, as_str, as_array, as_object}
-use Rattle.wf_script.specs.declared.refused.Refused.{Refused}
-use Rattle.wf_script.specs.declared.refused.Refused.TheVariants.{Memory, At}
 
 -- a value, or the place that is refused
 abbrev pub Read : Type 0 → Type 0
@@ -25,12 +24,6 @@ below segment place = codes "/" ++ (segment ++ place)
 abbrev pub under : {A : Type 0} → List ℕ → Read A → Read A
 under segment (Ok x) = Ok x
 under segment (Err place) = Err (below segment place)
-
--- what a function returned is what reading gives, unless memory ran out
-abbrev pub Gives : {A : Type 0} → Result A Refused → Read A → Type 0
-Gives (Ok x) read = read ≡ Ok x
-Gives (Err Memory) read = Unit {0}
-Gives (Err (At place)) read = read ≡ Err place
 
 -- ---- values
 

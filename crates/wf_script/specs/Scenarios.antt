@@ -1,6 +1,7 @@
 -- The scenario of a text: the tables of a scenario's objects over the tree that `serde_json` reads.
 -- The keys of a table are listed and read in one order.
-use Rattle.std.specs.Prelude.{ℕ, Bool, false, ◌==◌, ◌||◌, not, List, [], ◌∷◌, codes, Option, Some, None, option_and_then, Result, Ok, Err}
+use Rattle.std.specs.Prelude.{ℕ, Bool, false, ◌==◌, ◌||◌, not, List, [], ◌∷◌, codes, Option, Some, None}
+use Rattle.std.specs.Prelude.{option_and_then, Result, Ok, Err}
 use Rattle.serde_json.specs.Data.{Data}
 use Rattle.serde_json.specs.Find.{get, as_str}
 use Rattle.serde_json.specs.Read.{read}
@@ -23,10 +24,12 @@ use Rattle.wf_script.specs.declared.types.Command.TheVariants.{Fetch}
 use Rattle.wf_script.specs.declared.types.Document.{Document}
 use Rattle.wf_script.specs.declared.types.Scenario.{Scenario}
 use Rattle.wf_script.specs.declared.types.Place.{Place}
-use Rattle.wf_script.specs.Reading.{Read, ◌>>=◌, present, given, number_of, text_that, any, word_of, some_of, only_keys, required, optional, under, items_of, list_of, pair_of}
+use Rattle.wf_script.specs.Reading.{Read, ◌>>=◌, present, given, number_of, text_that, any, word_of, some_of}
+use Rattle.wf_script.specs.Reading.{only_keys, required, optional, under, items_of, list_of, pair_of}
 use Rattle.wf_script.specs.Servers.{answer_bytes}
 use Rattle.wf_script.specs.Texts.{lacks_template, is_cookie_value, is_answer_name}
-use Rattle.wf_script.specs.Urls.{is_plain_https, is_origin_text, is_fetch_url}
+use Rattle.wf_script.specs.OriginTexts.{is_origin_text}
+use Rattle.wf_script.specs.Urls.{is_plain_https, is_fetch_url}
 
 -- ---- cookies and servers
 

@@ -1,6 +1,7 @@
 -- What scripted servers answer: the bytes of an answer (RFC 9112, sections 2 and 4), and which of them a
 -- request gets.
-use Rattle.std.specs.Prelude.{ℕ, Bool, true, ◌&&◌, List, [], ◌∷◌, ◌++◌, codes, decimal, bytes_eq, Option, Some, None, if◌then◌else◌}
+use Rattle.std.specs.Prelude.{ℕ, Bool, true, ◌&&◌, List, [], ◌∷◌, ◌++◌, codes, decimal, bytes_eq, Option, Some, None}
+use Rattle.std.specs.Prelude.{if◌then◌else◌}
 use Rattle.std.specs.List.{flat_map}
 use Rattle.wf_types.specs.declared.init.Pair.{Pair}
 use Rattle.wf_script.specs.declared.types.Rule.{Rule}

@@ -1,9 +1,8 @@
--- The URLs that documents and fetches may have, and serialized origins.
-use Rattle.std.specs.Prelude.{ℕ, ◌&&◌, ◌||◌, Bool, true, false, not, nat_le, List, length, codes, bytes_eq, Option, Some, None, is_some}
+-- The URLs that documents and fetches may have.
+use Rattle.std.specs.Prelude.{ℕ, ◌&&◌, ◌||◌, Bool, true, not, nat_le, List, length, codes, bytes_eq, Option, Some}
+use Rattle.std.specs.Prelude.{None, is_some}
 use Rattle.url.specs.Parts.{Parts, has_credentials, serialize}
-use Rattle.wf_origin.specs.Origins.{origin_of, serialized}
-use Rattle.wf_origin.specs.declared.origin.Origin.{Origin}
-use Rattle.wf_types.specs.Urls.{url_of_text, url_against}
+use Rattle.wf_types.specs.Urls.{url_against}
 use Rattle.wf_script.specs.Texts.{lacks_template}
 
 -- an https URL without credentials and without a port, of at most 8,192 bytes as printed
@@ -11,20 +10,6 @@ abbrev pub is_plain_https : Parts → Bool
 is_plain_https url =
     bytes_eq url.scheme (codes "https") && not (has_credentials url) && not (is_some url.port)
     && nat_le (length (serialize url)) 8192
-
--- the text is the serialized origin of a URL that has one
-abbrev pub is_serialized : Option Origin → List ℕ → Bool
-is_serialized None text = false
-is_serialized (Some origin) text = bytes_eq (serialized origin) text
-
--- the origin of a URL, where there is a URL
-abbrev pub origin_in : Option Parts → Option Origin
-origin_in None = None
-origin_in (Some url) = origin_of url
-
--- a text that is the serialized origin of an http or https URL (HTML, section 7.1.1)
-abbrev pub is_origin_text : List ℕ → Bool
-is_origin_text text = is_serialized (origin_in (url_of_text None (Some text))) text
 
 -- A URL that a fetch may have here: neither an http URL nor one with a port. A text that gives no URL
 -- may stand too, since the fetch then fails.

@@ -18,7 +18,8 @@ use Rattle.wf_script.specs.declared.types.Command.TheVariants.{Fetch}
 use Rattle.wf_script.specs.declared.types.Document.{Document}
 use Rattle.wf_script.specs.declared.types.Scenario.{Scenario}
 use Rattle.wf_script.specs.Texts.{lacks_template, is_cookie_value}
-use Rattle.wf_script.specs.Urls.{is_plain_https, is_origin_text, is_fetch_url}
+use Rattle.wf_script.specs.OriginTexts.{is_origin_text}
+use Rattle.wf_script.specs.Urls.{is_plain_https, is_fetch_url}
 
 -- a serialized origin, and a header value of 1 to 4,096 bytes
 pub record IsValidCookie (cookie : Cookie) : Type 0 where

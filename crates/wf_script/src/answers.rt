@@ -8,7 +8,7 @@ use std::alloc::Global;
 use wf_text::{Bytes, OutOfMemory};
 use wf_types::Pair;
 
-// What is answered where no rule fits.
+/// What is answered where no rule fits.
 const NOT_FOUND: &[u8] = b"HTTP/1.1 404 Scripted\r\n\r\n";
 
 // How many bytes the headers on their lines have, or the greatest number where that is less.
@@ -40,7 +40,8 @@ fn put_headers(text: &mut Vec<u8>, headers: &[Pair]) -> Result<(), OutOfMemory>
 
 // Adds the status line of a status in decimal.
 fn put_status_line(text: &mut Vec<u8>, status: &[u8]) -> Result<(), OutOfMemory>
-    ensures { OnOk result (text.new.items ≡ text.old.items ++ (codes "HTTP/1.1 " ++ (status.now ++ codes " Scripted\r\n"))) }
+    ensures { OnOk result (text.new.items
+        ≡ text.old.items ++ (codes "HTTP/1.1 " ++ (status.now ++ codes " Scripted\r\n"))) }
 {
     text.extend_from_slice(b"HTTP/1.1 ")?;
     text.extend_from_slice(status)?;
@@ -48,7 +49,7 @@ fn put_status_line(text: &mut Vec<u8>, status: &[u8]) -> Result<(), OutOfMemory>
     Ok(())
 }
 
-/// The bytes of an answer: the status line, each header on its line, an empty line and the body.
+// The bytes of an answer: the status line, each header on its line, an empty line and the body.
 pub(crate) fn answer_bytes(
     alloc: Global,
     status: u64,

@@ -4,7 +4,7 @@ ghost use Rattle.std.specs.List.{list_all};
 ghost use Rattle.serde_json.specs.Find.{as_object};
 ghost use Rattle.serde_json.specs.View.{view};
 ghost use Rattle.wf_script.specs.Reading as spec;
-ghost use Rattle.wf_script.specs.Reading.{Gives};
+ghost use Rattle.wf_script.specs.Private.Gives.{Gives};
 
 use crate::form::{Form, at_segment, refused_here};
 use crate::refused::Refused;
@@ -47,7 +47,7 @@ impl<F: Form> Form for Given<F> {
     }
 }
 
-/// The value of a key, which has to be there.
+// The value of a key, which has to be there.
 pub(crate) fn required<F: Form>(
     alloc: Global,
     tree: &Value,
@@ -62,7 +62,7 @@ pub(crate) fn required<F: Form>(
     }
 }
 
-/// The value of a key, or the default where the key is not there.
+// The value of a key, or the default where the key is not there.
 pub(crate) fn optional<F: Form>(
     alloc: Global,
     tree: &Value,
@@ -78,7 +78,7 @@ pub(crate) fn optional<F: Form>(
     }
 }
 
-/// Refuses a tree that is no object, or has a key that is not named.
+// Refuses a tree that is no object, or has a key that is not named.
 pub(crate) fn only_keys(alloc: Global, tree: &Value, names: &[&str]) -> Result<(), Refused>
     ensures { Gives result (spec.only_keys (map (λ name. name.now) names.now) (view tree.now)) }
 {

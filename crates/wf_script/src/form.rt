@@ -2,7 +2,8 @@
 ghost use Rattle.std.specs.Prelude.{[], Ok, Err};
 ghost use Rattle.serde_json.specs.Data.{Data};
 ghost use Rattle.serde_json.specs.View.{view};
-ghost use Rattle.wf_script.specs.Reading.{Read, Gives, under, below};
+ghost use Rattle.wf_script.specs.Private.Gives.{Gives};
+ghost use Rattle.wf_script.specs.Reading.{Read, under, below};
 
 use crate::refused::Refused;
 use serde_json::Value;
@@ -20,7 +21,7 @@ pub(crate) trait Form {
         ensures { Gives result (reads self.now (view tree.now)) };
 }
 
-/// A refusal of the value at which the reading stands.
+// A refusal of the value at which the reading stands.
 pub(crate) fn refused_here<T>(alloc: Global) -> Result<T, Refused>
     ensures { Gives result (Err []) }
 {
@@ -38,7 +39,7 @@ fn put_under(alloc: Global, segment: &str, place: Bytes) -> Result<Bytes, Refuse
     Ok(Bytes::from_vec(text))
 }
 
-/// What was read under a segment.
+// What was read under a segment.
 pub(crate) fn at_segment<T: Drop>(
     alloc: Global,
     segment: &str,

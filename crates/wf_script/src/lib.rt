@@ -8,16 +8,16 @@ mod fetches;
 mod fields;
 mod form;
 mod lists;
+mod origins;
 mod read;
 mod refused;
 mod servers;
-#[cfg(test)]
-mod tests;
 mod texts;
 mod types;
 mod urls;
 mod words;
 
+pub use origins::read_origin;
 pub use types::{
     Command, Document, Documents, Place, Rule, Rules, Scenario, Script, Server, Servers,
 };

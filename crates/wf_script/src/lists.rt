@@ -3,7 +3,8 @@ ghost use Rattle.std.specs.Prelude.{◌≡◌, decimal, option_map, option_and_t
 ghost use Rattle.serde_json.specs.Find.{as_array};
 ghost use Rattle.serde_json.specs.View.{view, items_view};
 ghost use Rattle.wf_script.specs.Reading as spec;
-ghost use Rattle.wf_script.specs.Reading.{Gives, under};
+ghost use Rattle.wf_script.specs.Private.Gives.{Gives};
+ghost use Rattle.wf_script.specs.Reading.{under};
 
 use crate::form::{Form, at_segment, refused_here};
 use crate::refused::Refused;

@@ -4,11 +4,11 @@ ghost use Rattle.wf_text.specs.Tokens.{is_token};
 ghost use Rattle.wf_text.specs.Values.{is_header_value};
 ghost use Rattle.wf_script.specs.Reading.{any, text_that};
 ghost use Rattle.wf_script.specs.Texts as spec;
-ghost use Rattle.wf_script.specs.Urls.{is_origin_text};
+ghost use Rattle.wf_script.specs.OriginTexts.{is_origin_text};
 
 use crate::form::{Form, refused_here};
+use crate::origins::read_origin;
 use crate::refused::Refused;
-use crate::urls;
 use serde_json::Value;
 use std::alloc::Global;
 use wf_text::{Bytes, OutOfMemory, eq_fold, is_token, is_value};
@@ -126,11 +126,11 @@ impl TextTest for OriginText {
     ghost taken = { λ _. is_origin_text };
 
     fn takes(&self, alloc: Global, text: &str) -> Result<bool, OutOfMemory> {
-        urls::is_origin_text(alloc, text)
+        Ok(read_origin(alloc, text.as_bytes())?.is_some())
     }
 }
 
-/// Whether `${` stands somewhere in the text.
+// Whether `${` stands somewhere in the text.
 #[tactic(auto, using(crate::proofs::TextLemmas::templates))]
 pub(crate) fn has_template(text: &[u8]) -> bool
     ensures { result ≡ spec.has_template text.now }

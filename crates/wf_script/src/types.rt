@@ -48,7 +48,7 @@ impl Servers {
         Servers::of(Items::new(alloc))
     }
 
-    /// The servers of a list.
+    // The servers of a list.
     pub(crate) fn of(items: Items<Server>) -> Servers
         ensures { result ≡ items }
     {

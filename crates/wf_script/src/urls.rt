@@ -1,15 +1,14 @@
-// The URLs that documents and fetches may have, and origins.
+// The URLs that documents and fetches may have.
 ghost use Rattle.std.specs.Prelude.{◌≡◌, IfOk};
 ghost use Rattle.wf_script.specs.Urls as spec;
 
 use crate::texts::has_template;
 use std::alloc::Global;
 use url::Url;
-use wf_origin::{origin_of, serialize};
 use wf_text::OutOfMemory;
-use wf_types::{url_against, url_alone};
+use wf_types::url_against;
 
-/// Whether it is an https URL without credentials and without a port, of at most 8,192 bytes.
+// Whether it is an https URL without credentials and without a port, of at most 8,192 bytes.
 pub(crate) fn is_plain_https(url: &Url) -> bool
     ensures { result ≡ spec.is_plain_https url.now }
 {
@@ -30,8 +29,8 @@ fn may_be_fetched(url: &Option<Url>) -> bool
     }
 }
 
-/// Whether a text without templates gives a URL that a fetch may have against the document's, or no
-/// URL.
+// Whether a text without templates gives a URL that a fetch may have against the document's, or no
+// URL.
 pub(crate) fn is_fetch_url(alloc: Global, document: &Url, text: &str) -> Result<bool, OutOfMemory>
     ensures { IfOk result (λ is. is ≡ spec.is_fetch_url document.now text.now) }
 {
@@ -40,18 +39,4 @@ pub(crate) fn is_fetch_url(alloc: Global, document: &Url, text: &str) -> Result<
     }
     let url = url_against(alloc, document, text.as_bytes())?;
     Ok(may_be_fetched(&url))
-}
-
-/// Whether a text is the serialized origin of an http or https URL (HTML, section 7.1.1).
-pub(crate) fn is_origin_text(alloc: Global, text: &str) -> Result<bool, OutOfMemory>
-    ensures { IfOk result (λ is. is ≡ spec.is_origin_text text.now) }
-{
-    let Some(url) = url_alone(alloc, text)? else {
-        return Ok(false);
-    };
-    let Some(origin) = origin_of(alloc, &url)? else {
-        return Ok(false);
-    };
-    let serialized = serialize(alloc, &origin)?;
-    Ok(serialized.as_slice() == text.as_bytes())
 }

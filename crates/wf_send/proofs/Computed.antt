@@ -131,7 +131,12 @@ long_method = (method-of-letters 16384, method-of-letters 16385)
 
 -- a GET of another origin, behind the CORS protocol, with credentials and a referrer
 abbrev foreign : Parts
-foreign = record root { host = Some (Domain (codes "b.test")); port = Some 8080; path = codes "/y"; query = Some (codes "z") }
+foreign = record root {
+  host = Some (Domain (codes "b.test"));
+  port = Some 8080;
+  path = codes "/y";
+  query = Some (codes "z");
+}
 
 abbrev foreign_get : Request
 foreign_get = record (made client asked foreign) {

@@ -1,6 +1,7 @@
 -- The request that a script's `fetch` makes (Fetch, sections 5.4 "new Request" and 5.6), or why it makes
 -- none: the first of nine faults.
-use Rattle.std.specs.Prelude.{ℕ, ◌+◌, ◌&&◌, ◌||◌, Bool, true, false, not, nat_le, nat_lt, List, [], ◌∷◌, length, sum_by, codes, Option, Some, None, is_some, option_map, Result, Ok, Err, if◌then◌else◌}
+use Rattle.std.specs.Prelude.{ℕ, ◌+◌, ◌&&◌, ◌||◌, Bool, true, false, not, nat_le, nat_lt, List, [], ◌∷◌, length}
+use Rattle.std.specs.Prelude.{sum_by, codes, Option, Some, None, is_some, option_map, Result, Ok, Err, if◌then◌else◌}
 use Rattle.url.specs.Parts.{Parts, has_credentials, serialize}
 use Rattle.wf_text.specs.Tokens.{is_token}
 use Rattle.wf_text.specs.Values.{is_header_value}
@@ -12,7 +13,9 @@ use Rattle.wf_safelist.specs.declared.guard.Guard.{Guard}
 use Rattle.wf_safelist.specs.declared.guard.Guard.TheVariants as guard
 use Rattle.wf_types.specs.declared.client.Client.{Client}
 use Rattle.wf_types.specs.declared.fault.TypeFault.{TypeFault}
-use Rattle.wf_types.specs.declared.fault.TypeFault.TheVariants.{BadUrl, UrlCredentials, BadMethod, ForbiddenMethod, BodyWithGet, NoCorsMethod, BadHeader, NavigateMode, TooLong}
+use Rattle.wf_types.specs.declared.fault.TypeFault.TheVariants.{BadUrl, UrlCredentials, BadMethod, ForbiddenMethod}
+use Rattle.wf_types.specs.declared.fault.TypeFault.TheVariants.{BodyWithGet, NoCorsMethod, BadHeader, NavigateMode}
+use Rattle.wf_types.specs.declared.fault.TypeFault.TheVariants.{TooLong}
 use Rattle.wf_types.specs.declared.init.Init.{Init}
 use Rattle.wf_types.specs.declared.init.Pair.{Pair}
 use Rattle.wf_types.specs.declared.mode.Mode.{Mode}

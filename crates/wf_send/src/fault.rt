@@ -14,12 +14,14 @@ const MOST_GIVEN: usize = 16_384;
 /// How many bytes a body may have.
 const MOST_BODY: usize = 65_536;
 
+// Whether the URL has a user name or a password.
 fn has_credentials(url: &Url) -> bool
     ensures { result ≡ parts.has_credentials url.now }
 {
     !url.username().is_empty() || url.password().is_some()
 }
 
+// Whether a pair is no header: its name no token, or its value none.
 fn is_bad_pair(pair: &Pair) -> bool
     ensures { result ≡ spec.is_bad_pair pair.now }
 {
@@ -52,6 +54,7 @@ fn are_long(method: &[u8], pairs: &[Pair]) -> bool
     size > MOST_GIVEN
 }
 
+// Whether the body has more bytes than it may have.
 fn is_long_body(body: &Option<Bytes>) -> bool
     ensures { result ≡ spec.is_long_body body.now }
 {
@@ -61,18 +64,21 @@ fn is_long_body(body: &Option<Bytes>) -> bool
     }
 }
 
+// Whether the method and the headers, or the body, have more bytes than they may have.
 fn is_too_long(init: &Init) -> bool
     ensures { result ≡ spec.is_too_long init.now }
 {
     are_long(init.method.as_slice(), init.headers.as_slice()) || is_long_body(&init.body)
 }
 
+// Whether the mode is no-cors.
 fn is_no_cors(mode: Mode) -> bool
     ensures { result ≡ spec.is_no_cors mode }
 {
     matches!(mode, Mode::NoCors)
 }
 
+// Whether the mode is navigate.
 fn is_navigate(mode: Mode) -> bool
     ensures { result ≡ spec.is_navigate mode }
 {

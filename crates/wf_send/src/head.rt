@@ -42,7 +42,8 @@ fn cookie_of<'a>(cookies: &'a [Cookie], origin: &[u8]) -> Option<&'a [u8]>
 // The value of Cookie for requests to an origin, where credentials are included and the table has
 // one.
 fn cookie_value<'a>(cookies: &'a [Cookie], request: &Request, origin: &[u8]) -> Option<&'a [u8]>
-    ensures { option_copied result ≡ (if spec.includes_credentials request.now.credentials request.now.tainting then spec.cookie_of origin.now cookies.now else None) }
+    ensures { option_copied result ≡ (if spec.includes_credentials request.now.credentials request.now.tainting
+        then spec.cookie_of origin.now cookies.now else None) }
 {
     if includes_credentials(request.credentials, request.tainting) {
         cookie_of(cookies, origin)

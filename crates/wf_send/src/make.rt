@@ -26,6 +26,7 @@ fn url_given(alloc: Global, client: &Client, text: &[u8]) -> Result<Option<Url>,
     }
 }
 
+// The referrer that a script asks for: the client, or none.
 fn referrer_of(client_referrer: bool) -> Referrer
     ensures { result ≡ spec.referrer_of client_referrer }
 {

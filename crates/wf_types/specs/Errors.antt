@@ -1,4 +1,5 @@
--- Network errors and the faults of a request, by number and name: Fetch knows one network error (section 2.2.6) and one TypeError (sections 5.4 and 5.6), and these tables tell by which rule it came.
+-- Network errors and the faults of a request, by number and name: Fetch knows one network error (section 2.2.6) and
+-- one TypeError (sections 5.4 and 5.6), and these tables tell by which rule it came.
 use Rattle.std.specs.Prelude.{ℕ, List, codes}
 use Rattle.wf_types.specs.declared.error.NetError.{NetError}
 use Rattle.wf_types.specs.declared.error.NetError.TheVariants as error

@@ -1,4 +1,5 @@
--- The names of destinations and of a request's modes (Fetch, section 2.2.5), effective directives (CSP 3, section 6.8.1), response types (Fetch, section 2.2.6) and referrer policies (Referrer Policy, section 3).
+-- The names of destinations and of a request's modes (Fetch, section 2.2.5), effective directives (CSP 3, section
+-- 6.8.1), response types (Fetch, section 2.2.6) and referrer policies (Referrer Policy, section 3).
 use Rattle.std.specs.Prelude.{ℕ, List, [], codes}
 use Rattle.wf_types.specs.declared.mode.Credentials.{Credentials}
 use Rattle.wf_types.specs.declared.mode.Credentials.TheVariants as credentials

@@ -1,6 +1,7 @@
 -- The headers that tell where a request comes from: Origin ("append a request `Origin` header", Fetch,
 -- section 3.2), and Referer (Fetch, section 4.6).
-use Rattle.std.specs.Prelude.{ℕ, ◌&&◌, Bool, true, false, not, List, codes, bytes_eq, Option, Some, None, if◌then◌else◌}
+use Rattle.std.specs.Prelude.{ℕ, ◌&&◌, Bool, true, false, not, List, codes, bytes_eq, Option, Some, None}
+use Rattle.std.specs.Prelude.{if◌then◌else◌}
 use Rattle.url.specs.Parts.{Parts, serialize}
 use Rattle.wf_origin.specs.declared.origin.Origin.{Origin}
 use Rattle.wf_origin.specs.Origins.{is_origin_of}

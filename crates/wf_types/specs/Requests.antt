@@ -1,6 +1,7 @@
 -- Requests: their current URL, tainted origins and the serialized request origin (Fetch, section 2.2.5),
 -- and which values of these types are requests and clients.
-use Rattle.std.specs.Prelude.{ℕ, ◌&&◌, ◌||◌, Bool, true, false, not, ◌≤◌, List, [], ◌∷◌, codes, Option, Some, None, unwrap_or, IsTrue, if◌then◌else◌}
+use Rattle.std.specs.Prelude.{ℕ, ◌&&◌, ◌||◌, Bool, true, false, not, ◌≤◌, List, [], ◌∷◌, codes, Option, Some, None}
+use Rattle.std.specs.Prelude.{unwrap_or, IsTrue, if◌then◌else◌}
 use Rattle.std.specs.List.{last_or}
 use Rattle.url.specs.Parts.{Parts}
 use Rattle.wf_origin.specs.declared.origin.Origin.{Origin}

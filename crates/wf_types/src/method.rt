@@ -4,10 +4,10 @@ ghost use Rattle.wf_types.specs.Methods as spec;
 use std::alloc::Global;
 use wf_text::{Bytes, OutOfMemory, in_upper_case, is_among, is_among_fold};
 
-// The CORS-safelisted methods.
+/// The CORS-safelisted methods.
 const SAFELISTED_METHODS: [&[u8]; 3] = [b"GET", b"HEAD", b"POST"];
 
-// The methods that are in upper case.
+/// The methods that are in upper case.
 const NORMALIZED_METHODS: [&[u8]; 6] = [b"DELETE", b"GET", b"HEAD", b"OPTIONS", b"POST", b"PUT"];
 
 /// Whether a method is CORS-safelisted: GET, HEAD or POST, in this case (Fetch, section 2.2.1). It

@@ -10,12 +10,14 @@ use url::Url;
 use wf_origin::{Origin, is_origin_of};
 use wf_text::{Bytes, OutOfMemory};
 
+// Whether the tainting is cors.
 fn is_cors_tainted(tainting: Tainting) -> bool
     ensures { result ≡ spec.is_cors_tainted tainting }
 {
     matches!(tainting, Tainting::Cors)
 }
 
+// Whether the mode is cors.
 fn is_cors_mode(mode: Mode) -> bool
     ensures { result ≡ spec.is_cors_mode mode }
 {

@@ -11,7 +11,7 @@ returns c =
     c.from_vec.ensures
     ∙ added-four (line c.as_bytes.result.now) (flat_map header_line c.args.headers.now) (codes "\r\n") c.args.body.now
     c.in_ok-text.text.items c.put_status_line.new.text.items c.put_headers.new.text.items
-        c.extend_from_slice.new.self.items c.extend_from_slice-2.new.self.items
+    c.extend_from_slice.new.self.items c.extend_from_slice-2.new.self.items
     c.in_ok-text.ensures.items c.in_ok-put_status_line.ensures c.in_ok-put_headers.ensures
-        c.in_ok-extend_from_slice.ensures.items c.in_ok-extend_from_slice-2.ensures.items
+    c.in_ok-extend_from_slice.ensures.items c.in_ok-extend_from_slice-2.ensures.items
     ∙ ap (λ (number : List ℕ). line number ++ behind) (c.as_bytes.ensures.value ∙ c.in_ok-status.ensures.ok)

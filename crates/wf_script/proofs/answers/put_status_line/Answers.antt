@@ -7,4 +7,4 @@ returns c =
     added-three c.args.text.now.items (codes "HTTP/1.1 ") c.args.status.now (codes " Scripted\r\n")
     c.extend_from_slice.new.self.items c.extend_from_slice-2.new.self.items c.extend_from_slice-3.new.self.items
     c.in_ok-extend_from_slice.ensures.items c.in_ok-extend_from_slice-2.ensures.items
-        c.in_ok-extend_from_slice-3.ensures.items
+    c.in_ok-extend_from_slice-3.ensures.items

@@ -8,4 +8,4 @@ pub returns-in-Some : goal.returns-in-Some
 returns-in-Some c =
     let names : List (List ℕ) = map (λ (name : Bor (List ℕ)). name.now) c.args.names.now in
     c.all_known.ensures ∙ known-keys names c.in-Some.members.now.entries
-        ∙ ap (λ (members : Option Members). has_keys names members) c.in-Some.ensures
+    ∙ ap (λ (members : Option Members). has_keys names members) c.in-Some.ensures

@@ -11,8 +11,9 @@ use Rattle.wf_script.proofs.lists.two_of.Goals as goal
 pub returns-in_default : goal.returns-in_default
 returns-in_default c =
     let same = ap (λ (items : List Value). length items) c.as_slice.ensures.value in
-    let other : length c.in_ok-as_array.field-0.now.items ≡ 2 → ⊥ = λ two. elim c.in_default.branch
-    [ in_default-via-then-as_slice-lt2 w ↦ grind (arith, same, two)
-        | in_default-via-else-as_slice-lt2+else-this-lt3 w ↦ grind (arith, same, two) ] in
+    let other : length c.in_ok-as_array.field-0.now.items ≡ 2 → ⊥ = λ two. elim c.in_default.branch [
+      | in_default-via-then-as_slice-lt2 w ↦ grind (arith, same, two)
+      | in_default-via-else-as_slice-lt2+else-this-lt3 w ↦ grind (arith, same, two)
+    ] in
     two_of-None c.in_ok-as_array.field-0.now.items other
-        ∙ ap (λ (items : Option Items). option_and_then two_of items) c.in_ok-as_array.ensures
+    ∙ ap (λ (items : Option Items). option_and_then two_of items) c.in_ok-as_array.ensures

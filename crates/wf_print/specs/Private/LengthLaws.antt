@@ -1,7 +1,7 @@
 -- The laws of counting the bytes of a text, which `Output` asks of what takes a text (proofs only).
 use Rattle.std.proofs.Common.{◌≡◌, ℕ, List, [], ◌++◌, ap, arith, length-append}
 use Rattle.wf_print.specs.declared.output.Length.{Length}
-use Rattle.wf_print.specs.Lengths.{longer}
+use Rattle.wf_print.specs.Private.Longer.{longer}
 
 -- two texts more are one
 pub longer_longer : (sofar : Length) (x y : List ℕ) → longer (longer sofar x) y ≡ longer sofar (x ++ y)
