@@ -1,6 +1,8 @@
 -- Equal names keep one spelling, and what callers can do with such a list.
-use Rattle.std.proofs.Common.{arith, ◌≡◌, ◌<◌, ◌++◌, ◌∷◌, [], ℕ, List, length, get_or, zero, suc, Bool, true, false, cond}
-use Rattle.std.proofs.Common.{refl, sym, ◌∙◌, ap, subst, filter, All, IsTrue, append_assoc, append-nil, length-append, not, true≢false}
+use Rattle.std.proofs.Common.{arith, ◌≡◌, ◌<◌, ◌++◌, ◌∷◌, [], ℕ, List, length, get_or, zero, suc, Bool, true, false}
+use Rattle.std.proofs.Common.{cond}
+use Rattle.std.proofs.Common.{refl, sym, ◌∙◌, ap, subst, filter, All, IsTrue, append_assoc, append-nil, length-append}
+use Rattle.std.proofs.Common.{not, true≢false}
 use Rattle.std.specs.Str.{str_eq_ignore_ascii_case, str_to_ascii_lowercase}
 use Rattle.std.proofs.lemmas.Grind.{common_steps}
 use Rattle.std.proofs.lemmas.Slice.Eq.{bytes_eq-Decides}
@@ -47,7 +49,9 @@ alike-first : (b : Bool) (name value spelled : List ℕ) (header : Header) → i
     → SpellAlike header (record { name = cond b header.name spelled; value = value })
 alike-first true name value spelled header e folds same = refl
 alike-first false name value spelled header e folds same =
-    absurd (true≢false (sym (fold-sym name header.name (fold-trans name spelled header.name (fold-sym spelled name folds) same)) ∙ e))
+    absurd
+        (true≢false
+        (sym (fold-sym name header.name (fold-trans name spelled header.name (fold-sym spelled name folds) same)) ∙ e))
 
 -- and so as all of its name
 alike-later : (b : Bool) (name value spelled : List ℕ) (header other : Header) → SpellAlike header other
@@ -63,7 +67,8 @@ appended-alike name value (header ∷ headers) one zero d lt =
     alike-first (is_named name header) name value (spelling name headers) header refl (spelling-folds name headers)
 appended-alike name value (header ∷ headers) one (suc k) d lt =
     alike-later (is_named name header) name value (spelling name headers) header (get_or headers k d)
-    (one 0 (suc k) d (omega arith) lt) (appended-alike name value headers (later header headers one) k d (omega (arith, lt)))
+    (one 0 (suc k) d (omega arith) lt)
+        (appended-alike name value headers (later header headers one) k d (omega (arith, lt)))
 
 -- a list keeps one spelling by "append", "delete" and "set"
 pub one_spelling-appended : (name value : List ℕ) (headers : List Header) → HaveOneSpelling headers
@@ -102,7 +107,8 @@ All-with_only header name value (other ∷ headers) e all =
 with_only-pick : (b : Bool) (name value : List ℕ) (header : Header) (headers : List Header) → is_named name header ≡ b
     → All (SpellAlike header) headers → HaveOneSpelling headers → HaveOneSpelling (with_only name value headers)
     → HaveOneSpelling
-    (cond b (record { name = header.name; value = value } ∷ without name headers) (header ∷ with_only name value headers))
+    (cond b (record { name = header.name; value = value } ∷ without name headers) (header
+        ∷ with_only name value headers))
 with_only-pick true name value header headers e all one left =
     AllPairs-cons SpellAlike (record { name = header.name; value = value }) (without name headers)
     (All-filter (λ other. not (is_named name other)) (SpellAlike header) headers all)
@@ -158,6 +164,7 @@ all_appended-one_spelling before (header ∷ headers) one =
     let there = spelling-there header.name before (before-alike before header headers one) in
     let added : appended header.name header.value before ≡ before ++ header ∷ [] =
     ap (λ (name : List ℕ). before ++ record { name = name; value = header.value } ∷ []) there in
-    let whole : (before ++ header ∷ []) ++ headers ≡ before ++ header ∷ headers = append_assoc before (header ∷ []) headers in
+    let whole : (before ++ header ∷ []) ++ headers ≡ before ++ header ∷ headers =
+        append_assoc before (header ∷ []) headers in
     ap (all_appended headers) added
     ∙ all_appended-one_spelling (before ++ header ∷ []) headers (subst HaveOneSpelling (sym whole) one) ∙ whole

@@ -31,7 +31,7 @@ last_essence-more : (values : List (List ℕ)) (index : ℕ) (value : List ℕ) 
     → last_essence (take (index + 1) values) ≡ option_or (specific_essence value) (last_essence (take index values))
 last_essence-more values index value here =
     let more : take (index + 1) values ≡ take index values ++ value ∷ [] =
-        rw add-one (take-one_more values index value here) in
+    rw add-one (take-one_more values index value here) in
     ap last_essence more ∙ ap last_of (filter_map-append specific_essence (take index values) (value ∷ []))
     ∙ last_of-more (filter_map specific_essence (take index values)) (specific_essence value)
 
@@ -40,11 +40,11 @@ pub last_essence-Some : (values : List (List ℕ)) (index : ℕ) (value essence 
     ≡ Some value → Some essence ≡ specific_essence value → Some essence ≡ last_essence (take (index + 1) values)
 last_essence-Some values index value essence here found =
     sym (last_essence-more values index value here
-        ∙ ap (λ o. option_or o (last_essence (take index values))) (sym found))
+    ∙ ap (λ o. option_or o (last_essence (take index values))) (sym found))
 
 -- a value without one leaves it
 pub last_essence-None : (values : List (List ℕ)) (index : ℕ) (value : List ℕ) → slice_get values index ≡ Some value
     → None ≡ specific_essence value → last_essence (take index values) ≡ last_essence (take (index + 1) values)
 last_essence-None values index value here none =
     sym (last_essence-more values index value here
-        ∙ ap (λ o. option_or o (last_essence (take index values))) (sym none))
+    ∙ ap (λ o. option_or o (last_essence (take index values))) (sym none))

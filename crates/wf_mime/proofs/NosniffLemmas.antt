@@ -1,7 +1,7 @@
 -- The first split value is `nosniff` exactly where the text before the first comma is.
-use Rattle.std.proofs.Common.{◌≡◌, ◌⊎◌, inl, inr, ◌==◌, ◌+◌, ◌||◌, ℕ, zero, suc, Bool, true, false, cond, not, List}
-use Rattle.std.proofs.Common.{[], ◌∷◌, ◌++◌, map, reverse, length, take, drop, slice_get, refl, ap, sym, subst, ◌∙◌}
-use Rattle.std.proofs.Common.{arith, codes, Option, Some, None, option_map, if◌then◌else◌, one-add}
+use Rattle.std.proofs.Common.{◌≡◌, ◌⊎◌, inl, inr, ◌==◌, ℕ, zero, suc, Bool, true, false, List}
+use Rattle.std.proofs.Common.{[], ◌∷◌, ◌++◌, map, reverse, drop, slice_get, refl, ap, sym, ◌∙◌}
+use Rattle.std.proofs.Common.{arith, codes, Some, option_map, one-add}
 use Rattle.std.proofs.lemmas.List.Sorted.{IsPermutation-reverse, list_any-IsPermutation}
 use Rattle.std.proofs.lemmas.Bool.Decides.{eqb_tells, nat_tests}
 use Rattle.std.specs.Char.{to_ascii_lowercase}
@@ -10,7 +10,7 @@ use Rattle.std.specs.Str.{bytes_eq, str_eq_ignore_ascii_case, str_to_ascii_lower
 use Rattle.wf_text.specs.Trims.{tab_or_space, trimmed, trimmed_start}
 use Rattle.wf_headers.specs.Headers.{after_comma, is_named, values_of}
 use Rattle.wf_headers.specs.declared.headers.Header.{Header}
-use Rattle.wf_headers.specs.Split.{behind_backslash, in_quoted_string, pieces, split, with_front}
+use Rattle.wf_headers.specs.Split.{in_quoted_string, pieces, split, with_front}
 use Rattle.wf_mime.specs.Nosniff.{begins_with_nosniff, nosniff}
 
 -- the text before the first comma
@@ -40,7 +40,7 @@ trimmed-quote : (text : List ℕ) → has_quote (trimmed tab_or_space text) ≡ 
 trimmed-quote text =
     let start : List ℕ = trimmed_start tab_or_space text in
     reverse-quote (trimmed_start tab_or_space (reverse start)) ∙ trimmed_start-quote (reverse start)
-        ∙ reverse-quote start ∙ trimmed_start-quote text
+    ∙ reverse-quote start ∙ trimmed_start-quote text
 
 lowercase-quote : (byte : ℕ) → (to_ascii_lowercase byte == 34) ≡ (byte == 34)
 lowercase-quote byte = grind (arith, nat_tests)
@@ -63,7 +63,7 @@ is_nosniff text = str_eq_ignore_ascii_case (trimmed tab_or_space text) (codes "n
 quote-not_nosniff : (text : List ℕ) → has_quote text ≡ true → is_nosniff text ≡ false
 quote-not_nosniff text quote =
     quote-differs (str_to_ascii_lowercase (trimmed tab_or_space text)) (codes "nosniff")
-        (lower-quote (trimmed tab_or_space text) ∙ trimmed-quote text ∙ quote) refl
+    (lower-quote (trimmed tab_or_space text) ∙ trimmed-quote text ∙ quote) refl
 
 -- the first piece of a text
 abbrev first_piece : List (List ℕ) → List ℕ
@@ -159,7 +159,7 @@ begins_with_nosniff-first : (value : List ℕ) (values : List (List ℕ))
 begins_with_nosniff-first value values =
     let text : List ℕ = value ++ after_comma values in
     begins-first_piece (pieces text) ∙ same-is_nosniff text (first_piece-is text)
-        ∙ ap (λ l. is_nosniff l) (until_comma-append value values)
+    ∙ ap (λ l. is_nosniff l) (until_comma-append value values)
 
 -- a header of another name says nothing
 nosniff-other : (header : Header) (headers : List Header) → is_named (codes "X-Content-Type-Options") header ≡ false

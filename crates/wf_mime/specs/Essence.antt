@@ -1,5 +1,5 @@
--- The essence of the MIME type that headers give ("extract a MIME type", Fetch, section 3.5).
-use Rattle.std.specs.Prelude.{ℕ, ◌-◌, List, [], length, slice_get, codes, Option, Some, None, unwrap_or, if◌then◌else◌}
+-- The essence of the MIME type that headers give (Fetch, "extract a MIME type").
+use Rattle.std.specs.Prelude.{ℕ, ◌-◌, List, [], length, slice_get, codes, Option, None, unwrap_or, if◌then◌else◌}
 use Rattle.std.specs.List.{filter_map}
 use Rattle.wf_text.specs.Mime.{essence_of_value, has_essence}
 use Rattle.wf_headers.specs.Split.{split_values}

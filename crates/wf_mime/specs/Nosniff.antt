@@ -1,4 +1,4 @@
--- "determine nosniff" (Fetch, section 3.6).
+-- What X-Content-Type-Options says (Fetch, "determine nosniff").
 use Rattle.std.specs.Prelude.{ℕ, Bool, false, List, [], ◌∷◌, Option, Some, None, codes}
 use Rattle.std.specs.Str.{str_eq_ignore_ascii_case}
 use Rattle.wf_headers.specs.Split.{split_values}

@@ -3,7 +3,7 @@ ghost use Rattle.wf_mime.specs.Blocking as spec;
 
 use crate::javascript::is_javascript;
 
-/// Whether the essence is that of an audio, image or video MIME type, or `text/csv`.
+// Whether the essence is that of an audio, image or video MIME type, or `text/csv`.
 fn is_never_script(essence: &[u8]) -> bool
     ensures { result ≡ spec.is_never_script essence.now }
 {
@@ -13,9 +13,9 @@ fn is_never_script(essence: &[u8]) -> bool
         || essence == b"text/csv".as_slice()
 }
 
-/// "Should response to request be blocked due to its MIME type": the destination is a script, and
-/// the essence begins with `audio/`, `image/` or `video/`, or is `text/csv` (Fetch, section 2.9).
-/// No essence stands for no MIME type. It takes no memory.
+/// "Should response to request be blocked due to its MIME type" (Fetch): the destination is a script,
+/// and the essence begins with `audio/`, `image/` or `video/`, or is `text/csv`. No essence stands
+/// for no MIME type. It takes no memory.
 pub fn mime_blocked(essence: Option<&[u8]>, script: bool) -> bool
     ensures { result ≡ spec.mime_blocked (option_copied essence.entry) script }
 {
@@ -25,10 +25,10 @@ pub fn mime_blocked(essence: Option<&[u8]>, script: bool) -> bool
     }
 }
 
-/// "Should response to request be blocked due to nosniff", for a response whose headers say nosniff:
-/// the destination is a script and the essence is not that of a JavaScript MIME type, or it is a
-/// style and the essence is not `text/css` (Fetch, section 3.6). No essence stands for no MIME type.
-/// It takes no memory.
+/// "Should response to request be blocked due to nosniff" (Fetch), for a response whose headers say
+/// nosniff: the destination is a script and the essence is not that of a JavaScript MIME type, or it
+/// is a style and the essence is not `text/css`. No essence stands for no MIME type. It takes no
+/// memory.
 pub fn nosniff_blocked(essence: Option<&[u8]>, script: bool, style: bool) -> bool
     ensures { result ≡ spec.nosniff_blocked (option_copied essence.entry) script style }
 {

@@ -4,9 +4,9 @@ ghost use Rattle.wf_mime.specs.Essence as spec;
 
 use std::alloc::Global;
 use wf_headers::HeaderList;
-use wf_text::{Bytes, BytesList, OutOfMemory, essence_is, written_essence};
+use wf_text::{Bytes, BytesList, OutOfMemory, essence_is, in_lower_case, written_essence};
 
-/// The essence of a value, as it is written, where it is a MIME type other than `*/*`.
+// The essence of a value, as it is written, where it is a MIME type other than `*/*`.
 fn specific_essence(value: &[u8]) -> Option<&[u8]>
     ensures { option_map str_to_ascii_lowercase (option_copied result) ≡ spec.specific_essence value.now }
 {
@@ -16,7 +16,7 @@ fn specific_essence(value: &[u8]) -> Option<&[u8]>
     written_essence(value)
 }
 
-/// The last of the values' essences, as it is written.
+// The last of the values' essences, as it is written.
 fn last_essence(values: &BytesList) -> Option<&[u8]>
     ensures { option_map str_to_ascii_lowercase (option_copied result) ≡ spec.last_essence values.now }
 {
@@ -29,18 +29,9 @@ fn last_essence(values: &BytesList) -> Option<&[u8]>
     last
 }
 
-/// A copy of the text in lower case.
-fn lowered(alloc: Global, text: &[u8]) -> Result<Bytes, OutOfMemory>
-    ensures { IfOk result (λ lower. lower ≡ str_to_ascii_lowercase text.now) }
-{
-    let mut lower = Vec::from_slice(alloc, text)?;
-    lower.as_mut_slice().make_ascii_lowercase();
-    Ok(Bytes::from_vec(lower))
-}
-
 /// The essence, in lower case, of the MIME type that the headers give: that of the last value of
 /// Content-Type, after it was got, decoded and split, that is a MIME type other than `*/*`; nothing
-/// where there is none ("extract a MIME type", Fetch, section 3.5).
+/// where there is none (Fetch, "extract a MIME type").
 pub fn essence_of(alloc: Global, headers: &HeaderList) -> Result<Option<Bytes>, OutOfMemory>
     ensures { IfOk result (λ essence. essence ≡ spec.essence_of headers.now) }
 {
@@ -48,7 +39,7 @@ pub fn essence_of(alloc: Global, headers: &HeaderList) -> Result<Option<Bytes>, 
         return Ok(None);
     };
     match last_essence(&values) {
-        Some(written) => Ok(Some(lowered(alloc, written)?)),
+        Some(written) => Ok(Some(in_lower_case(alloc, written)?)),
         None => Ok(None),
     }
 }

@@ -1,8 +1,9 @@
-ghost use Rattle.std.specs.Prelude.{◌≡◌, bytes_eq};
-ghost use Rattle.std.specs.List.{list_any};
+ghost use Rattle.std.specs.Prelude.{◌≡◌};
 ghost use Rattle.wf_mime.specs.JavaScript as spec;
 
-/// The essences of the JavaScript MIME types.
+use wf_text::is_among;
+
+// The essences of the JavaScript MIME types.
 const JAVASCRIPT_TYPES: [&[u8]; 16] = [
     b"application/ecmascript",
     b"application/javascript",
@@ -22,15 +23,8 @@ const JAVASCRIPT_TYPES: [&[u8]; 16] = [
     b"text/x-javascript",
 ];
 
-/// Whether the essence is one of these.
-fn is_among(types: &[&[u8]], essence: &[u8]) -> bool
-    ensures { result ≡ list_any (λ kind. bytes_eq kind.now essence.now) types.now }
-{
-    types.iter().any(|kind| *kind == essence)
-}
-
 /// Whether an essence, which is in lower case, is that of a JavaScript MIME type (MIME Sniffing,
-/// section 4.6). It takes no memory.
+/// section 4.6, "JavaScript MIME type"). It takes no memory.
 pub fn is_javascript(essence: &[u8]) -> bool
     ensures { result ≡ spec.is_javascript essence.now }
 {

@@ -1,40 +1,24 @@
 ghost use Rattle.std.specs.Prelude.{◌≡◌, ◌==◌, codes};
-ghost use Rattle.std.specs.List.{before_first, position};
+ghost use Rattle.std.specs.List.{before_first};
 ghost use Rattle.std.specs.Str.{str_eq_ignore_ascii_case};
+ghost use Rattle.wf_text.specs.Ascii.{comma};
 ghost use Rattle.wf_text.specs.Trims.{tab_or_space, trimmed};
 ghost use Rattle.wf_mime.specs.Nosniff as spec;
 
 use wf_headers::HeaderList;
-use wf_text::{eq_fold, trim_tab_or_space};
+use wf_text::{before_byte, eq_fold, trim_tab_or_space};
 
-/// Where the first comma is.
-fn first_comma(text: &[u8]) -> Option<usize>
-    ensures { result ≡ position (λ byte. byte == 44) text.now }
-{
-    text.iter().position(|byte| *byte == b',')
-}
-
-/// What stands before the first comma, or all of the text.
-fn before_comma(text: &[u8]) -> &[u8]
-    ensures { result.now ≡ before_first (λ byte. byte == 44) text.now }
-{
-    match first_comma(text) {
-        Some(comma) => text.split_at(comma).0,
-        None => text,
-    }
-}
-
-/// Whether what stands before the first comma is `nosniff`, ASCII case aside. A quoted string that
-/// begins there makes it another value, so that none has to be followed past the comma.
+// Whether what stands before the first comma is `nosniff`, ASCII case aside. A quoted string that
+// begins there makes it another value, so that none has to be followed past the comma.
 fn begins_with_nosniff(value: &[u8]) -> bool
     ensures { result ≡ str_eq_ignore_ascii_case
-        (trimmed tab_or_space (before_first (λ byte. byte == 44) value.now)) (codes "nosniff") }
+        (trimmed tab_or_space (before_first (λ byte. byte == comma) value.now)) (codes "nosniff") }
 {
-    eq_fold(trim_tab_or_space(before_comma(value)), b"nosniff")
+    eq_fold(trim_tab_or_space(before_byte(value, b',')), b"nosniff")
 }
 
-/// "Determine nosniff": whether the first value of X-Content-Type-Options, after it was got, decoded
-/// and split, is `nosniff`, ASCII case aside (Fetch, section 3.6). It takes no memory.
+/// Whether the first value of X-Content-Type-Options, after it was got, decoded
+/// and split, is `nosniff`, ASCII case aside (Fetch, "determine nosniff"). It takes no memory.
 pub fn nosniff(headers: &HeaderList) -> bool
     ensures { result ≡ spec.nosniff headers.now }
 {

@@ -1,4 +1,5 @@
--- Sites, schemes aside: this project's own choice, since it has no public suffix list (HTML, section 7.1.1, "same site").
+-- Sites, schemes aside (HTML, section 7.1.1, "same site"): this project's own choice, since it has no
+-- public suffix list.
 use Rattle.std.specs.Prelude.{Bool}
 use Rattle.wf_origin.specs.Names.{last_two_labels, without_last_dot}
 use Rattle.wf_origin.specs.Origins.{same_host}

@@ -1,6 +1,7 @@
 // Origins, after the HTML Standard, section 7.1.1: which are the same, of one site, or trustworthy.
 #![tactic(auto)]
 
+mod laws;
 mod names;
 mod origin;
 mod site;
@@ -8,6 +9,7 @@ mod site;
 mod tests;
 mod trust;
 
+pub use laws::law_serialized_as_url;
 pub use names::is_local_name;
 pub use origin::{
     HostKind, Origin, is_host_of, is_origin_of, origin_of, same_origin, serialize, tuple_origin,

@@ -17,7 +17,8 @@ fn is_localhost_or_under(name: &[u8]) -> bool
 }
 
 /// Whether a domain is `localhost` or a name under it; one last dot is allowed (Secure Contexts,
-/// section 3.1, "is origin potentially trustworthy"). The name is in lower case, as a URL's domain is. It takes no memory.
+/// section 3.1, "is origin potentially trustworthy"). The name is in lower case, as a URL's domain
+/// is. It takes no memory.
 pub fn is_local_name(host: &[u8]) -> bool
     ensures { result ≡ spec.is_local_name host.now }
 {

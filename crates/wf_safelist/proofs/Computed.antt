@@ -29,9 +29,9 @@ eight = replicate 8 (header (codes "Accept") (long_value 128))
 
 pub computes-unsafe_names : (unsafe_names eight ≡ [])
     × (unsafe_names (eight ++ header (codes "Content-Language") (codes "a") ∷ []) ≡ codes "accept"
-        ∷ codes "content-language" ∷ [])
+    ∷ codes "content-language" ∷ [])
     × (unsafe_names (header (codes "X-b") [] ∷ header (codes "Accept") [] ∷ header (codes "x-B") []
-        ∷ header (codes "X-A") [] ∷ []) ≡ codes "x-a" ∷ codes "x-b" ∷ [])
+    ∷ header (codes "X-A") [] ∷ []) ≡ codes "x-a" ∷ codes "x-b" ∷ [])
 computes-unsafe_names = (refl, refl, refl)
 
 pub computes-outcomes : (outcome NoCors (codes "X-A") (codes "1") [] ≡ Ignored)

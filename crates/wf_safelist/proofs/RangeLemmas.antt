@@ -39,7 +39,7 @@ stays-less m n (x ∷ a) [] less within digits = absurd (omega arith)
 stays-less m n (x ∷ a) (y ∷ b) less within digits =
     let digit = digit-value x (first-digit x a digits) in
     stays-less (m * 10 + digit_value x) (n * 10 + digit_value y) a b (omega (arith, digit.0, digit.1, digit.2))
-        (omega arith) (later-digits x a digits)
+    (omega arith) (later-digits x a digits)
 
 -- two numbers of as many digits compare as their digits do
 pub compared : (m : ℕ) (a b : List ℕ) → length a ≡ length b → are_digits a ≡ true → are_digits b ≡ true
@@ -58,7 +58,7 @@ compared m (x ∷ a) (y ∷ b) same digits_a digits_b =
     elim (leb_tells (suc x) y) [
       | inl less ↦
           let below = stays-less m' n' a b (omega (arith, less.1, digit_x.0, digit_x.1, digit_y.0, digit_y.1))
-              (omega arith) later_a in
+          (omega arith) later_a in
           rw less.0 (grind (arith, nat_tests, below))
       | inr no_less ↦
           elim (eqb_tells x y) [
@@ -66,8 +66,15 @@ compared m (x ∷ a) (y ∷ b) same digits_a digits_b =
                 rw (no_less.0, equal.0, equal.1) (compared (m * 10 + digit_value y) a b same_length later_a later_b)
             | inr other ↦
                 let below =
-                    stays-less n' m' b a (omega (arith, no_less.1, other.1, digit_x.0, digit_x.1, digit_y.0,
-                    digit_y.1)) (omega arith) later_b in
+                stays-less n' m' b a (omega (
+                  arith,
+                  no_less.1,
+                  other.1,
+                  digit_x.0,
+                  digit_x.1,
+                  digit_y.0,
+                  digit_y.1,
+                )) (omega arith) later_b in
                 rw (no_less.0, other.0) (grind (arith, nat_tests, below))
           ]
     ]
@@ -94,14 +101,14 @@ fewer-digits a (byte ∷ text) digits_a digits fewer =
       | inl zero ↦
           let cut : without_zeros (byte ∷ text) ≡ without_zeros text = rw zero.0 refl in
           rw cut (fewer-digits a text digits_a (later-digits byte text digits)
-              (subst (λ (l : List ℕ). length a < length l) cut fewer))
+          (subst (λ (l : List ℕ). length a < length l) cut fewer))
       | inr other ↦
           let whole : without_zeros (byte ∷ text) ≡ byte ∷ text = rw other.0 refl in
           let digit = digit-value byte (first-digit byte text digits) in
           let within : length a ≤ length text = omega (arith, subst (λ (l : List ℕ). length a < length l) whole fewer)
-              in
+          in
           rw whole (stays-less 0 (0 * 10 + digit_value byte) a text (omega (arith, other.1, digit.0, digit.1)) within
-              digits_a)
+          digits_a)
     ]
 
 -- the three cases of two lengths
@@ -112,15 +119,15 @@ by-length m n test shown less same more = grind (arith, nat_tests, less, same, m
 -- how two numbers compare
 pub is_at_most-compared : (start end : List ℕ) → are_digits start ≡ true → are_digits end ≡ true → is_at_most start end
     ≡ (nat_lt (length (without_zeros start)) (length (without_zeros end))
-        || (length (without_zeros start) == length (without_zeros end)
-        && is_le (slice_cmp nat_cmp (without_zeros start) (without_zeros end))))
+    || (length (without_zeros start) == length (without_zeros end)
+    && is_le (slice_cmp nat_cmp (without_zeros start) (without_zeros end))))
 is_at_most-compared start end digits_start digits_end =
     let a : List ℕ = without_zeros start in
     let b : List ℕ = without_zeros end in
     let digits_a : are_digits a ≡ true = without_zeros-digits start digits_start in
     let digits_b : are_digits b ≡ true = without_zeros-digits end digits_end in
     let shown : is_at_most start end ≡ nat_le (digits_value 10 a) (digits_value 10 b) =
-        rw (value-without_zeros start, value-without_zeros end) refl in
+    rw (value-without_zeros start, value-without_zeros end) refl in
     shown
     ∙ by-length (length a) (length b) (nat_le (digits_value 10 a) (digits_value 10 b)) (is_le (slice_cmp nat_cmp a b))
     (λ less. let h = fewer-digits a end digits_a digits_end less in grind (arith, nat_tests, h))

@@ -56,7 +56,7 @@ IsBelow-inserted : (a b : List ℕ) (texts : List (List ℕ)) → order a b ≡ 
 IsBelow-inserted a b [] e below = (e, tt)
 IsBelow-inserted a b (text ∷ texts) e below =
     elim (order b text) as (λ o. IsBelow a
-        (match_ordering o (b ∷ text ∷ texts) (text ∷ texts) (text ∷ insert_key order texts b))) [
+    (match_ordering o (b ∷ text ∷ texts) (text ∷ texts) (text ∷ insert_key order texts b))) [
       | Less ↦ (e, below)
       | Equal ↦ below
       | Greater ↦ (below.0, IsBelow-inserted a b texts e below.1)
@@ -68,11 +68,13 @@ unfolding IsStrictlySortedBy
 IsAscending-inserted b [] up = (tt, tt)
 IsAscending-inserted b (text ∷ texts) up =
     elim (order b text) as (λ o. order b text ≡ o
-        → IsAscending (match_ordering o (b ∷ text ∷ texts) (text ∷ texts) (text ∷ insert_key order texts b))) [
+    → IsAscending (match_ordering o (b ∷ text ∷ texts) (text ∷ texts) (text ∷ insert_key order texts b))) [
       | Less ↦ λ e. ((e, IsBelow-all b text texts e up.0), up)
       | Equal ↦ λ e. up
-      | Greater ↦ λ e. (IsBelow-inserted text b texts (Less-from_Greater b text e) up.0,
-          IsAscending-inserted b texts up.1)
+      | Greater ↦ λ e. (
+        IsBelow-inserted text b texts (Less-from_Greater b text e) up.0,
+        IsAscending-inserted b texts up.1,
+      )
     ] refl
 
 or-again : (a b : Bool) → (a || b) ≡ (a || (a || b))
@@ -90,8 +92,8 @@ members-inserted : (query b : List ℕ) (texts : List (List ℕ)) → list_any (
 members-inserted query b [] = refl
 members-inserted query b (text ∷ texts) =
     elim (order b text) as (λ o. order b text ≡ o
-        → list_any (bytes_eq query) (match_ordering o (b ∷ text ∷ texts) (text ∷ texts) (text
-        ∷ insert_key order texts b)) ≡ (bytes_eq query b || (bytes_eq query text || list_any (bytes_eq query) texts))) [
+    → list_any (bytes_eq query) (match_ordering o (b ∷ text ∷ texts) (text ∷ texts) (text
+    ∷ insert_key order texts b)) ≡ (bytes_eq query b || (bytes_eq query text || list_any (bytes_eq query) texts))) [
       | Less ↦ λ e. refl
       | Equal ↦ λ e. rw (same-from_Equal b text e) (or-again (bytes_eq query text) (list_any (bytes_eq query) texts))
       | Greater ↦ λ e. ap (λ v. bytes_eq query text || v) (members-inserted query b texts)
@@ -122,7 +124,7 @@ same-behind : (text query : List ℕ) (a b : List (List ℕ)) → IsBelow text a
     → SameMembers (text ∷ a) (text ∷ b) → list_any (bytes_eq query) a ≡ list_any (bytes_eq query) b
 same-behind text query a b below_a below_b same =
     elim (bytes_eq query text) as (λ v. bytes_eq query text ≡ v → (v || list_any (bytes_eq query) a)
-        ≡ (v || list_any (bytes_eq query) b) → list_any (bytes_eq query) a ≡ list_any (bytes_eq query) b) [
+    ≡ (v || list_any (bytes_eq query) b) → list_any (bytes_eq query) a ≡ list_any (bytes_eq query) b) [
       | true ↦ λ e _. let is : query ≡ text = (bytes_eq-Decides query text).0 e in
           rw is (IsBelow-none text a below_a ∙ sym (IsBelow-none text b below_b))
       | false ↦ λ _ rest. rest
@@ -145,10 +147,10 @@ unique (x ∷ a) (y ∷ b) up_a up_b same =
           let is : y ≡ x = sym (same-from_Equal x y e) in
           let below_b : IsBelow x b = subst (λ (t : List ℕ). IsBelow t b) is up_b.0 in
           let same_first : SameMembers (x ∷ a) (x ∷ b) = λ text. same text
-              ∙ ap (λ (t : List ℕ). list_any (bytes_eq text) (t ∷ b)) is in
+          ∙ ap (λ (t : List ℕ). list_any (bytes_eq text) (t ∷ b)) is in
           ap (λ (t : List ℕ). t ∷ a) (sym is)
-              ∙ ap (λ (l : List (List ℕ)). y
-              ∷ l) (unique a b up_a.1 up_b.1 (λ query. same-behind x query a b up_a.0 below_b same_first))
+          ∙ ap (λ (l : List (List ℕ)). y
+          ∷ l) (unique a b up_a.1 up_b.1 (λ query. same-behind x query a b up_a.0 below_b same_first))
       | Greater ↦ λ e. let less = Less-from_Greater x y e in
           absurd (no-member y b (x ∷ a) (less, IsBelow-all y x a less up_a.0) (λ text. sym (same text)))
     ] refl
@@ -165,7 +167,7 @@ pub sorted_lowercase_set-only : (names texts : List (List ℕ)) → IsSortedLowe
 sorted_lowercase_set-only names texts is =
     let set = sorted_lowercase_set-is names in
     unique texts (sorted_lowercase_set names) is.ascending set.ascending (λ text. is.members text
-        ∙ sym (set.members text))
+    ∙ sym (set.members text))
 
 -- the texts of some items ascend where the items do by their texts
 pub IsAscending-map : {X : Type 0} (text_of : X → List ℕ) (items : List X)
@@ -188,17 +190,17 @@ any-dedup_from : {X : Type 0} (text_of : X → List ℕ) (query : List ℕ) (ite
 any-dedup_from text_of query item [] = refl
 any-dedup_from text_of query item (next ∷ items) =
     elim (bytes_eq (text_of next) (text_of item)) as (λ v. bytes_eq (text_of next) (text_of item) ≡ v
-        → list_any (λ other. bytes_eq query (text_of other))
-        (cond v (dedup_from (λ a b. bytes_eq (text_of a) (text_of b)) item items) (item
-        ∷ dedup_from (λ a b. bytes_eq (text_of a) (text_of b)) next items))
-        ≡ (bytes_eq query (text_of item)
-        || (bytes_eq query (text_of next) || list_any (λ other. bytes_eq query (text_of other)) items))) [
+    → list_any (λ other. bytes_eq query (text_of other))
+    (cond v (dedup_from (λ a b. bytes_eq (text_of a) (text_of b)) item items) (item
+    ∷ dedup_from (λ a b. bytes_eq (text_of a) (text_of b)) next items))
+    ≡ (bytes_eq query (text_of item)
+    || (bytes_eq query (text_of next) || list_any (λ other. bytes_eq query (text_of other)) items))) [
       | true ↦ λ e.
           let same : text_of next ≡ text_of item = (bytes_eq-Decides (text_of next) (text_of item)).0 e in
           any-dedup_from text_of query item items
           ∙ or-again (bytes_eq query (text_of item)) (list_any (λ other. bytes_eq query (text_of other)) items)
           ∙ ap (λ (t : List ℕ). bytes_eq query (text_of item)
-              || (bytes_eq query t || list_any (λ other. bytes_eq query (text_of other)) items)) (sym same)
+          || (bytes_eq query t || list_any (λ other. bytes_eq query (text_of other)) items)) (sym same)
       | false ↦ λ e. ap (λ v. bytes_eq query (text_of item) || v) (any-dedup_from text_of query next items)
     ] refl
 
@@ -224,5 +226,8 @@ pub IsSortedLowercaseSet-from : (names found sorted texts : List (List ℕ)) →
     → IsAscending sorted → ((query : List ℕ) → list_any (bytes_eq query) sorted ≡ list_any (bytes_eq query) found)
     → texts ≡ sorted → IsSortedLowercaseSet names texts
 IsSortedLowercaseSet-from names found sorted texts are up members is =
-    rw is (record { ascending = up; members = λ query. members query
-        ∙ ap (λ (l : List (List ℕ)). list_any (bytes_eq query) l) are })
+    rw is (record {
+      ascending = up;
+      members = λ query. members query
+          ∙ ap (λ (l : List (List ℕ)). list_any (bytes_eq query) l) are;
+    })

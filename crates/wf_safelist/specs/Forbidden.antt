@@ -6,6 +6,7 @@ use Rattle.std.specs.Str.{str_eq_ignore_ascii_case}
 use Rattle.wf_headers.specs.Split.{split}
 use Rattle.wf_safelist.specs.Names.{is_among}
 
+-- the forbidden methods
 abbrev pub forbidden_methods : List (List ℕ)
 forbidden_methods = codes "CONNECT" ∷ codes "TRACE" ∷ codes "TRACK" ∷ []
 
@@ -13,6 +14,7 @@ forbidden_methods = codes "CONNECT" ∷ codes "TRACE" ∷ codes "TRACK" ∷ []
 abbrev pub is_forbidden_method : List ℕ → Bool
 is_forbidden_method method = is_among forbidden_methods method
 
+-- the names that only the user agent sets
 abbrev pub forbidden_names : List (List ℕ)
 forbidden_names =
     codes "Accept-Charset" ∷ codes "Accept-Encoding" ∷ codes "Access-Control-Request-Headers"
@@ -21,6 +23,7 @@ forbidden_names =
     ∷ codes "Origin" ∷ codes "Referer" ∷ codes "Set-Cookie" ∷ codes "TE" ∷ codes "Trailer"
     ∷ codes "Transfer-Encoding" ∷ codes "Upgrade" ∷ codes "Via" ∷ []
 
+-- what other names begin with that only the user agent sets
 abbrev pub forbidden_prefixes : List (List ℕ)
 forbidden_prefixes = codes "proxy-" ∷ codes "sec-" ∷ []
 

@@ -1,21 +1,24 @@
 -- Values of Range that are safelisted: one range of bytes with a start, written without whitespace
 -- (Fetch, section 2.2.2, "parse a single range header value").
-use Rattle.std.specs.Prelude.{ℕ, Bool, ◌==◌, ◌||◌, ◌&&◌, nat_eq, nat_le, List, [], ◌∷◌, length, drop, codes, is_some, if◌then◌else◌}
+use Rattle.std.specs.Prelude.{ℕ, Bool, ◌==◌, ◌||◌, ◌&&◌, nat_eq, nat_le, List, [], ◌∷◌, length, drop, codes}
+use Rattle.std.specs.Prelude.{is_some, if◌then◌else◌}
 use Rattle.std.specs.List.{after_first, before_first, position, starts_with}
 use Rattle.std.specs.Str.Parse.{digits_value}
+use Rattle.wf_text.specs.Ascii.{digit_zero, hyphen}
 use Rattle.wf_text.specs.Digits.{is_digits}
 
--- what stands before the first dash, and what stands after it
+-- what stands before the first dash
 abbrev pub start_of : List ℕ → List ℕ
-start_of text = before_first (λ byte. byte == 45) text
+start_of text = before_first (λ byte. byte == hyphen) text
 
+-- what stands after the first dash
 abbrev pub end_of : List ℕ → List ℕ
-end_of text = after_first (λ byte. byte == 45) text
+end_of text = after_first (λ byte. byte == hyphen) text
 
 -- the digits without the zeros in front
 abbrev pub without_zeros : List ℕ → List ℕ
 without_zeros [] = []
-without_zeros (digit ∷ digits) = if digit == 48 then without_zeros digits else digit ∷ digits
+without_zeros (digit ∷ digits) = if digit == digit_zero then without_zeros digits else digit ∷ digits
 
 -- the number that the first digits write is at most that of the second, however many there are
 abbrev pub is_at_most : List ℕ → List ℕ → Bool
@@ -27,7 +30,7 @@ is_end_of start end = length end == 0 || (is_digits end && is_at_most start end)
 
 -- a dash stands in the text
 abbrev pub has_dash : List ℕ → Bool
-has_dash text = is_some (position (λ byte. byte == 45) text)
+has_dash text = is_some (position (λ byte. byte == hyphen) text)
 
 -- digits, a dash, and an end
 abbrev pub is_span : List ℕ → Bool

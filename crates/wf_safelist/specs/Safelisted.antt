@@ -1,7 +1,9 @@
 -- CORS-safelisted request-headers (Fetch, section 2.2.2).
-use Rattle.std.specs.Prelude.{ℕ, Bool, false, ◌==◌, ◌||◌, ◌&&◌, not, nat_le, nat_lt, List, [], ◌∷◌, length, codes, if◌then◌else◌}
+use Rattle.std.specs.Prelude.{ℕ, Bool, false, ◌==◌, ◌||◌, ◌&&◌, not, nat_le, nat_lt, List, [], ◌∷◌, length, codes}
+use Rattle.std.specs.Prelude.{if◌then◌else◌}
 use Rattle.std.specs.List.{list_all, list_any}
 use Rattle.std.specs.Char.{is_ascii_alphanumeric}
+use Rattle.wf_text.specs.Ascii.{delete_byte, space, tab}
 use Rattle.wf_text.specs.Mime.{has_essence}
 use Rattle.wf_safelist.specs.Names.{is_among}
 use Rattle.wf_safelist.specs.Ranges.{is_simple_range}
@@ -9,7 +11,8 @@ use Rattle.wf_safelist.specs.Ranges.{is_simple_range}
 -- a CORS-unsafe request-header byte: one below space that is no tab, one of these marks, or DEL
 abbrev pub is_unsafe_byte : ℕ → Bool
 is_unsafe_byte byte =
-    (nat_lt byte 32 && not (byte == 9)) || list_any (λ mark. mark == byte) (codes "\"():<>?@[\\]{}") || byte == 127
+    (nat_lt byte space && not (byte == tab)) || list_any (λ mark. mark == byte) (codes "\"():<>?@[\\]{}")
+    || byte == delete_byte
 
 -- no byte of the value is one
 abbrev pub has_no_unsafe_byte : List ℕ → Bool

@@ -2,15 +2,14 @@ ghost use Rattle.std.specs.Prelude.{◌≡◌, IfOk};
 ghost use Rattle.std.specs.List.{list_any};
 ghost use Rattle.wf_safelist.specs.Forbidden as spec;
 
-use crate::names::is_among;
 use std::alloc::Global;
 use wf_headers::split_value;
-use wf_text::{BytesList, OutOfMemory, eq_fold};
+use wf_text::{BytesList, OutOfMemory, eq_fold, is_among_fold};
 
-/// The forbidden methods.
+// The forbidden methods.
 const FORBIDDEN_METHODS: [&[u8]; 3] = [b"CONNECT", b"TRACE", b"TRACK"];
 
-/// The names of headers that only the user agent sets.
+// The names of headers that only the user agent sets.
 const FORBIDDEN_NAMES: [&[u8]; 21] = [
     b"Accept-Charset",
     b"Accept-Encoding",
@@ -35,37 +34,39 @@ const FORBIDDEN_NAMES: [&[u8]; 21] = [
     b"Via",
 ];
 
-/// What the names begin with that are forbidden for it.
+// What the names begin with that are forbidden for it.
 const FORBIDDEN_PREFIXES: [&[u8]; 2] = [b"proxy-", b"sec-"];
 
-/// The names of headers whose values override the method.
+// The names of headers whose values override the method.
 const OVERRIDE_NAMES: [&[u8]; 3] = [
     b"X-HTTP-Method",
     b"X-HTTP-Method-Override",
     b"X-Method-Override",
 ];
 
-/// Whether a method is forbidden: CONNECT, TRACE or TRACK, in any ASCII case (Fetch, section 2.2.1). It
-/// takes no memory.
+/// Whether a method is forbidden: CONNECT, TRACE or TRACK, in any ASCII case (Fetch, section
+/// 2.2.1, "forbidden method"). It takes no memory.
 pub fn is_forbidden_method(method: &[u8]) -> bool
     ensures { result ≡ spec.is_forbidden_method method.now }
 {
-    is_among(&FORBIDDEN_METHODS, method)
+    is_among_fold(&FORBIDDEN_METHODS, method)
 }
 
-/// Whether the text begins with the prefix, ASCII case aside.
+// Whether the text begins with the prefix, ASCII case aside.
 fn begins_with(prefix: &[u8], text: &[u8]) -> bool
     ensures { result ≡ spec.begins_with prefix.now text.now }
 {
     text.len() >= prefix.len() && eq_fold(text.split_at(prefix.len()).0, prefix)
 }
 
+// Whether the text begins with one of the prefixes.
 fn begins_with_any(prefixes: &[&[u8]], text: &[u8]) -> bool
     ensures { result ≡ list_any (λ prefix. spec.begins_with prefix.now text.now) prefixes.now }
 {
     prefixes.iter().any(|prefix| begins_with(prefix, text))
 }
 
+// Whether one of the methods is forbidden.
 fn has_forbidden_method(methods: &BytesList) -> bool
     ensures { result ≡ list_any spec.is_forbidden_method methods.now }
 {
@@ -77,7 +78,8 @@ fn has_forbidden_method(methods: &BytesList) -> bool
     false
 }
 
-/// Whether a name and a value are a forbidden request-header (Fetch, section 2.2.2).
+// Whether a name and a value are a forbidden request-header (Fetch, section 2.2.2, "forbidden
+// request-header").
 pub(crate) fn is_forbidden_header(
     alloc: Global,
     name: &[u8],
@@ -85,10 +87,10 @@ pub(crate) fn is_forbidden_header(
 ) -> Result<bool, OutOfMemory>
     ensures { IfOk result (λ forbidden. forbidden ≡ spec.is_forbidden_header name.now value.now) }
 {
-    if is_among(&FORBIDDEN_NAMES, name) || begins_with_any(&FORBIDDEN_PREFIXES, name) {
+    if is_among_fold(&FORBIDDEN_NAMES, name) || begins_with_any(&FORBIDDEN_PREFIXES, name) {
         return Ok(true);
     }
-    if !is_among(&OVERRIDE_NAMES, name) {
+    if !is_among_fold(&OVERRIDE_NAMES, name) {
         return Ok(false);
     }
     let methods = split_value(alloc, value)?;

@@ -3,11 +3,10 @@ ghost use Rattle.wf_headers.specs.Headers.{combined};
 ghost use Rattle.wf_safelist.specs.Guards as spec;
 
 use crate::forbidden::is_forbidden_header;
-use crate::names::is_among;
 use crate::safelisted::is_safelisted;
 use std::alloc::Global;
 use wf_headers::HeaderList;
-use wf_text::{Bytes, OutOfMemory, is_token, is_value};
+use wf_text::{Bytes, OutOfMemory, is_among_fold, is_token, is_value};
 
 /// The guard of a Headers object (Fetch, section 5.1).
 #[derive(Clone, Copy, Debug, PartialEq, Eq)]
@@ -31,7 +30,7 @@ pub enum Appended {
     BadValue,
 }
 
-/// The no-CORS-safelisted request-header names.
+// The no-CORS-safelisted request-header names.
 const NO_CORS_NAMES: [&[u8]; 4] = [
     b"Accept",
     b"Accept-Language",
@@ -39,7 +38,7 @@ const NO_CORS_NAMES: [&[u8]; 4] = [
     b"Content-Type",
 ];
 
-/// The value behind a comma and a space, and what is there of its name.
+// The value behind a comma and a space, and what is there of its name.
 fn value_behind(alloc: Global, there: Option<Bytes>, value: &[u8]) -> Result<Bytes, OutOfMemory>
     ensures { IfOk result (λ text. text ≡ spec.value_behind there value.now) }
 {
@@ -54,13 +53,14 @@ fn value_behind(alloc: Global, there: Option<Bytes>, value: &[u8]) -> Result<Byt
     }
 }
 
+// Whether the header is one that the guard "request-no-cors" may let in.
 fn is_no_cors_safelisted(name: &[u8], value: &[u8]) -> bool
     ensures { result ≡ spec.is_no_cors_safelisted name.now value.now }
 {
-    is_among(&NO_CORS_NAMES, name) && is_safelisted(name, value)
+    is_among_fold(&NO_CORS_NAMES, name) && is_safelisted(name, value)
 }
 
-/// Whether the guard lets the header in.
+// Whether the guard lets the header in.
 fn allows(
     alloc: Global,
     guard: Guard,
@@ -80,7 +80,7 @@ fn allows(
     }
 }
 
-/// What comes of appending the header.
+// What comes of appending the header.
 fn outcome(
     alloc: Global,
     guard: Guard,

@@ -4,7 +4,6 @@
 
 mod forbidden;
 mod guard;
-mod names;
 mod range;
 mod safelisted;
 mod sets;

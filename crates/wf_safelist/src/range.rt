@@ -1,18 +1,10 @@
-ghost use Rattle.std.specs.Prelude.{◌≡◌, ◌==◌, IsTrue};
-ghost use Rattle.std.specs.List.{position};
+ghost use Rattle.std.specs.Prelude.{◌≡◌, IsTrue};
 ghost use Rattle.wf_text.specs.Digits.{is_digits};
 ghost use Rattle.wf_safelist.specs.Ranges as spec;
 
-use wf_text::parse_digits;
+use wf_text::{is_digits, position_of};
 
-/// Whether the text is one decimal digit or more.
-fn is_digits(text: &[u8]) -> bool
-    ensures { result ≡ is_digits text.now }
-{
-    parse_digits(text, 0).is_some()
-}
-
-/// The digits from the first that is no zero on.
+// The digits from the first that is no zero on.
 fn without_zeros(digits: &[u8]) -> &[u8]
     ensures { result.now ≡ spec.without_zeros digits.now }
 {
@@ -23,8 +15,8 @@ fn without_zeros(digits: &[u8]) -> &[u8]
     rest
 }
 
-/// Whether the number that the first digits write is at most that of the second. It takes no memory,
-/// however many digits there are.
+// Whether the number that the first digits write is at most that of the second. It takes no memory,
+// however many digits there are.
 fn is_at_most(start: &[u8], end: &[u8]) -> bool
     requires start { IsTrue (is_digits start.now) }
     requires end { IsTrue (is_digits end.now) }
@@ -35,7 +27,7 @@ fn is_at_most(start: &[u8], end: &[u8]) -> bool
     start.len() < end.len() || (start.len() == end.len() && start.cmp(end).is_le())
 }
 
-/// Whether the end is left out, or is digits and not below the start.
+// Whether the end is left out, or is digits and not below the start.
 fn is_end_of(start: &[u8], end: &[u8]) -> bool
     requires { IsTrue (is_digits start.now) }
     ensures { result ≡ spec.is_end_of start.now end.now }
@@ -43,18 +35,11 @@ fn is_end_of(start: &[u8], end: &[u8]) -> bool
     end.is_empty() || (is_digits(end) && is_at_most(start, end))
 }
 
-/// Where the first dash is.
-fn first_dash(text: &[u8]) -> Option<usize>
-    ensures { result ≡ position (λ byte. byte == 45) text.now }
-{
-    text.iter().position(|byte| *byte == b'-')
-}
-
-/// Whether the text is digits, a dash, and an end.
+// Whether the text is digits, a dash, and an end.
 fn is_span(text: &[u8]) -> bool
     ensures { result ≡ spec.is_span text.now }
 {
-    let Some(dash) = first_dash(text) else {
+    let Some(dash) = position_of(text, b'-') else {
         return false;
     };
     let start = text.split_at(dash).0;
@@ -62,8 +47,8 @@ fn is_span(text: &[u8]) -> bool
     is_digits(start) && is_end_of(start, end)
 }
 
-/// Whether the value of a Range is `bytes=`, a start, a dash, and an end that is not below the start
-/// or is left out.
+// Whether the value of a Range is `bytes=`, a start, a dash, and an end that is not below the start
+// or is left out.
 pub(crate) fn is_simple_range(value: &[u8]) -> bool
     ensures { result ≡ spec.is_simple_range value.now }
 {

@@ -3,66 +3,71 @@ ghost use Rattle.std.specs.List.{list_all, list_any};
 ghost use Rattle.wf_text.specs.Mime.{has_essence};
 ghost use Rattle.wf_safelist.specs.Safelisted as spec;
 
-use crate::names::is_among;
 use crate::range::is_simple_range;
-use wf_text::essence_is;
+use wf_text::{essence_is, is_among_fold};
 
-/// A safelisted value has at most so many bytes.
+// A safelisted value has at most so many bytes.
 const LONGEST_VALUE: usize = 128;
 
-/// The CORS-unsafe request-header bytes that are neither control bytes nor DEL.
+// The CORS-unsafe request-header bytes that are neither control bytes nor DEL.
 const UNSAFE_MARKS: &[u8] = b"\"():<>?@[\\]{}";
 
-/// The bytes of a language list that are neither letters nor digits.
+// The bytes of a language list that are neither letters nor digits.
 const LANGUAGE_MARKS: &[u8] = b" *,-.;=";
 
-/// The essences of the types that a form sends.
+// The essences of the types that a form sends.
 const FORM_TYPES: [&[u8]; 3] = [
     b"application/x-www-form-urlencoded",
     b"multipart/form-data",
     b"text/plain",
 ];
 
+// Whether the byte is a CORS-unsafe request-header byte.
 fn is_unsafe_byte(byte: u8) -> bool
     ensures { result ≡ spec.is_unsafe_byte byte }
 {
     (byte < b' ' && byte != b'\t') || UNSAFE_MARKS.contains(&byte) || byte == 0x7f
 }
 
+// Whether no byte of the value is one.
 fn has_no_unsafe_byte(value: &[u8]) -> bool
     ensures { result ≡ spec.has_no_unsafe_byte value.now }
 {
     value.iter().all(|byte| !is_unsafe_byte(*byte))
 }
 
+// Whether a language list may have the byte.
 fn is_language_byte(byte: u8) -> bool
     ensures { result ≡ spec.is_language_byte byte }
 {
     byte.is_ascii_alphanumeric() || LANGUAGE_MARKS.contains(&byte)
 }
 
+// Whether the value has such bytes alone.
 fn is_language_list(value: &[u8]) -> bool
     ensures { result ≡ list_all spec.is_language_byte value.now }
 {
     value.iter().all(|byte| is_language_byte(*byte))
 }
 
+// Whether the value is a MIME type with one of these essences.
 fn has_essence_among(value: &[u8], essences: &[&[u8]]) -> bool
     ensures { result ≡ list_any (λ essence. has_essence value.now essence.now) essences.now }
 {
     essences.iter().any(|essence| essence_is(value, essence))
 }
 
+// Whether the value is one that is safelisted for the name, however long.
 fn has_safelisted_form(name: &[u8], value: &[u8]) -> bool
     ensures { result ≡ spec.has_safelisted_form name.now value.now }
 {
-    if is_among(&[b"Accept"], name) {
+    if is_among_fold(&[b"Accept"], name) {
         has_no_unsafe_byte(value)
-    } else if is_among(&[b"Accept-Language", b"Content-Language"], name) {
+    } else if is_among_fold(&[b"Accept-Language", b"Content-Language"], name) {
         is_language_list(value)
-    } else if is_among(&[b"Content-Type"], name) {
+    } else if is_among_fold(&[b"Content-Type"], name) {
         has_no_unsafe_byte(value) && has_essence_among(value, &FORM_TYPES)
-    } else if is_among(&[b"Range"], name) {
+    } else if is_among_fold(&[b"Range"], name) {
         is_simple_range(value)
     } else {
         false

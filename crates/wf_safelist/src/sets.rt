@@ -7,7 +7,7 @@ ghost use Rattle.std.specs.Ordering.{nat_cmp};
 use std::alloc::Global;
 use wf_text::{Bytes, BytesList, OutOfMemory};
 
-/// Puts the texts in ascending order of their bytes, each once.
+// Puts the texts in ascending order of their bytes, each once.
 pub(crate) fn sort_and_dedup(texts: &mut Vec<Vec<u8>>)
     ensures ascending { IsStrictlySortedBy (slice_cmp nat_cmp) (map (λ text. text.items) texts.new.items) }
     ensures members { (query : List ℕ) → list_any (bytes_eq query) (map (λ text. text.items) texts.new.items)
@@ -17,7 +17,7 @@ pub(crate) fn sort_and_dedup(texts: &mut Vec<Vec<u8>>)
     texts.dedup();
 }
 
-/// The texts as a list. They are not copied.
+// The texts as a list. They are not copied.
 pub(crate) fn listed(alloc: Global, texts: Vec<Vec<u8>>) -> Result<BytesList, OutOfMemory>
     ensures { IfOk result (λ list. list ≡ map (λ text. text.items) texts.items) }
 {

@@ -7,18 +7,19 @@ use crate::safelisted::is_safelisted;
 use crate::sets::{listed, sort_and_dedup};
 use std::alloc::Global;
 use wf_headers::{Header, HeaderList};
-use wf_text::{BytesList, OutOfMemory};
+use wf_text::{BytesList, OutOfMemory, in_lower_case};
 
-/// The values of the safelisted headers may have so many bytes together.
+// The values of the safelisted headers may have so many bytes together.
 const LONGEST_TOTAL: usize = 1024;
 
+// Whether the header is safelisted.
 fn is_safelisted_header(header: &Header) -> bool
     ensures { result ≡ spec.is_safelisted_header header.now }
 {
     is_safelisted(header.name.as_slice(), header.value.as_slice())
 }
 
-/// Whether the values of the safelisted headers are too long together.
+// Whether the values of the safelisted headers are too long together.
 fn are_too_long(headers: &[Header]) -> bool
     ensures { result ≡ nat_lt 1024 (spec.safelisted_size headers.now) }
 {
@@ -31,16 +32,7 @@ fn are_too_long(headers: &[Header]) -> bool
     size > LONGEST_TOTAL
 }
 
-/// A copy of the text in lower case.
-fn lowered(alloc: Global, text: &[u8]) -> Result<Vec<u8>, OutOfMemory>
-    ensures { IfOk result (λ lower. lower.items ≡ str_to_ascii_lowercase text.now) }
-{
-    let mut lower = Vec::from_slice(alloc, text)?;
-    lower.as_mut_slice().make_ascii_lowercase();
-    Ok(lower)
-}
-
-/// The names of the unsafe headers in lower case, as often as they stand.
+// The names of the unsafe headers in lower case, as often as they stand.
 fn lowered_names(
     alloc: Global,
     too_long: bool,
@@ -52,7 +44,7 @@ fn lowered_names(
     let mut names = Vec::new(alloc);
     for header in headers {
         if too_long || !is_safelisted_header(header) {
-            names.push(lowered(alloc, header.name.as_slice())?)?;
+            names.push(in_lower_case(alloc, header.name.as_slice())?.into_vec())?;
         }
     }
     Ok(names)

@@ -1,5 +1,6 @@
 -- MIME types and their essences (MIME Sniffing, sections 4.1 and 4.4).
-use Rattle.std.specs.Prelude.{ℕ, Bool, false, ◌==◌, ◌&&◌, List, ◌∷◌, ◌++◌, Option, Some, None, option_map, if◌then◌else◌}
+use Rattle.std.specs.Prelude.{ℕ, Bool, false, ◌==◌, ◌&&◌, List, ◌∷◌, ◌++◌}
+use Rattle.std.specs.Prelude.{Option, Some, None, option_map, if◌then◌else◌}
 use Rattle.std.specs.List.{after_first, before_first}
 use Rattle.std.specs.Str.{bytes_eq, str_to_ascii_lowercase}
 use Rattle.wf_text.specs.Tokens.{is_token}
@@ -12,12 +13,14 @@ type_of text = before_first (λ byte. byte == slash) text
 
 -- the subtype: what stands after the slash, up to a semicolon or the end, without whitespace at its end
 abbrev pub subtype_of : List ℕ → List ℕ
-subtype_of text = trimmed_end http_whitespace (before_first (λ byte. byte == semicolon) (after_first (λ byte. byte == slash) text))
+subtype_of text =
+    trimmed_end http_whitespace (before_first (λ byte. byte == semicolon) (after_first (λ byte. byte == slash) text))
 
 -- the type, a slash and the subtype as they are written, where both are tokens
 abbrev pub type_and_subtype : List ℕ → Option (List ℕ)
 type_and_subtype text =
-    if is_token (type_of text) && is_token (subtype_of text) then Some (type_of text ++ slash ∷ subtype_of text) else None
+    if is_token (type_of text) && is_token (subtype_of text) then Some (type_of text ++ slash ∷ subtype_of text)
+    else None
 
 -- the same of a value with whitespace around it; none where it is no MIME type
 abbrev pub written_essence : List ℕ → Option (List ℕ)

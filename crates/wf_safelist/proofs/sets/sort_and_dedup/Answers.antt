@@ -8,8 +8,8 @@ pub returns-clause-ascending : goal.returns-clause-ascending
 returns-clause-ascending c =
     rw (dedup_is _ _ _ c.dedup.ensures.filtered)
     (IsAscending-map (λ text. text.items) _
-        (IsStrictlySortedBy-dedup (on_texts (λ text. text.items)) (λ a b. texts_ties a.items b.items) _
-        c.sort_unstable.ensures.sorted))
+    (IsStrictlySortedBy-dedup (on_texts (λ text. text.items)) (λ a b. texts_ties a.items b.items) _
+    c.sort_unstable.ensures.sorted))
 
 pub returns-clause-members : goal.returns-clause-members
 returns-clause-members c = λ query.

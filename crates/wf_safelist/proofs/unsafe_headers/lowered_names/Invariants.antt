@@ -7,4 +7,4 @@ abbrev pub invariant-loop-header : goal.invariant-loop-header
 invariant-loop-header l =
     map (λ name. name.items) l.names.items
     ≡ map str_to_ascii_lowercase
-        (map (λ header. header.name) (unsafe_headers l.too_long (take l.header-index l.headers)))
+    (map (λ header. header.name) (unsafe_headers l.too_long (take l.header-index l.headers)))

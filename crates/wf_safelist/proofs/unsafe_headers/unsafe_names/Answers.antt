@@ -8,7 +8,7 @@ returns-clause-set c =
     let are = rw (c.are_too_long-too_long.ensures, c.as_slice.ensures, c.as_slice-2.ensures) at found in
     IfOk-weaker c.listed.result _ _
     (λ list is. IsSortedLowercaseSet-from _ _ _ list are c.sort_and_dedup.ensures.ascending
-        c.sort_and_dedup.ensures.members is)
+    c.sort_and_dedup.ensures.members is)
     c.listed.ensures
 
 pub returns-clause-names : goal.returns-clause-names
