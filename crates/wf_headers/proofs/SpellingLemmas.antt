@@ -50,8 +50,8 @@ alike-first : (b : Bool) (name value spelled : List ℕ) (header : Header) → i
 alike-first true name value spelled header e folds same = refl
 alike-first false name value spelled header e folds same =
     absurd
-        (true≢false
-        (sym (fold-sym name header.name (fold-trans name spelled header.name (fold-sym spelled name folds) same)) ∙ e))
+    (true≢false
+    (sym (fold-sym name header.name (fold-trans name spelled header.name (fold-sym spelled name folds) same)) ∙ e))
 
 -- and so as all of its name
 alike-later : (b : Bool) (name value spelled : List ℕ) (header other : Header) → SpellAlike header other
@@ -68,7 +68,7 @@ appended-alike name value (header ∷ headers) one zero d lt =
 appended-alike name value (header ∷ headers) one (suc k) d lt =
     alike-later (is_named name header) name value (spelling name headers) header (get_or headers k d)
     (one 0 (suc k) d (omega arith) lt)
-        (appended-alike name value headers (later header headers one) k d (omega (arith, lt)))
+    (appended-alike name value headers (later header headers one) k d (omega (arith, lt)))
 
 -- a list keeps one spelling by "append", "delete" and "set"
 pub one_spelling-appended : (name value : List ℕ) (headers : List Header) → HaveOneSpelling headers
@@ -108,7 +108,7 @@ with_only-pick : (b : Bool) (name value : List ℕ) (header : Header) (headers :
     → All (SpellAlike header) headers → HaveOneSpelling headers → HaveOneSpelling (with_only name value headers)
     → HaveOneSpelling
     (cond b (record { name = header.name; value = value } ∷ without name headers) (header
-        ∷ with_only name value headers))
+    ∷ with_only name value headers))
 with_only-pick true name value header headers e all one left =
     AllPairs-cons SpellAlike (record { name = header.name; value = value }) (without name headers)
     (All-filter (λ other. not (is_named name other)) (SpellAlike header) headers all)
@@ -165,6 +165,6 @@ all_appended-one_spelling before (header ∷ headers) one =
     let added : appended header.name header.value before ≡ before ++ header ∷ [] =
     ap (λ (name : List ℕ). before ++ record { name = name; value = header.value } ∷ []) there in
     let whole : (before ++ header ∷ []) ++ headers ≡ before ++ header ∷ headers =
-        append_assoc before (header ∷ []) headers in
+    append_assoc before (header ∷ []) headers in
     ap (all_appended headers) added
     ∙ all_appended-one_spelling (before ++ header ∷ []) headers (subst HaveOneSpelling (sym whole) one) ∙ whole

@@ -1,4 +1,5 @@
-ghost use Rattle.std.specs.Prelude.{ℕ, List, ◌≤◌, vec_len, vec_capacity, ◌≡◌, ◌≢◌, ◌↔◌, ◌<◌, ◌++◌, [], length, take, IsTrue};
+ghost use Rattle.std.specs.Prelude.{ℕ, List, [], length, take, vec_len, vec_capacity, IsTrue};
+ghost use Rattle.std.specs.Prelude.{◌≤◌, ◌≡◌, ◌≢◌, ◌↔◌, ◌<◌, ◌++◌};
 ghost use Rattle.std.specs.Prelude.{IfOk, OnOk, OnErr, MatchOption, Some, slice_get, option_map, codes, if◌then◌else◌};
 ghost use Rattle.wf_headers.specs.Headers.{all_appended, appended, combined, contains, first_of, has_value, spelling};
 ghost use Rattle.wf_headers.specs.Headers.{with_only, without};

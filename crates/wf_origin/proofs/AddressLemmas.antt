@@ -23,7 +23,7 @@ segment_at place high segment low n below small is =
     let more : n / (place * 256) ≡ (high * 65536 + segment) / 256 =
     sym (div-div-eq-div-mul n place 256) ∙ ap (λ m. m / 256) front in
     ap (λ m. m % 256 * 256 + n / place % 256) more
-        ∙ ap (λ m. (high * 65536 + segment) / 256 % 256 * 256 + m % 256) front
+    ∙ ap (λ m. (high * 65536 + segment) / 256 % 256 * 256 + m % 256) front
     ∙ segment-whole high segment small
 
 -- the last segment
@@ -36,40 +36,40 @@ last_segment high segment n small is =
 number_of : (s0 s1 s2 s3 s4 s5 s6 s7 : ℕ)
     → from_be_bytes w128 (octets_of (s0 ∷ s1 ∷ s2 ∷ s3 ∷ s4 ∷ s5 ∷ s6 ∷ s7 ∷ []))
     ≡ s0 * 5192296858534827628530496329220096 + s1 * 79228162514264337593543950336 + s2 * 1208925819614629174706176 +
-        s3 * 18446744073709551616
+    s3 * 18446744073709551616
     + s4 * 281474976710656 + s5 * 4294967296 + s6 * 65536 + s7
 number_of s0 s1 s2 s3 s4 s5 s6 s7 = omega arith
 
 segments_back : (s0 s1 s2 s3 s4 s5 s6 s7 n : ℕ) → s0 < 65536 → s1 < 65536 → s2 < 65536 → s3 < 65536 → s4 < 65536
     → s5 < 65536 → s6 < 65536 → s7 < 65536
     → n ≡ s0 * 5192296858534827628530496329220096 + s1 * 79228162514264337593543950336 + s2 *
-        1208925819614629174706176 + s3 * 18446744073709551616
+    1208925819614629174706176 + s3 * 18446744073709551616
     + s4 * 281474976710656 + s5 * 4294967296 + s6 * 65536 + s7
     → segments_of (to_be_bytes w128 n) ≡ s0 ∷ s1 ∷ s2 ∷ s3 ∷ s4 ∷ s5 ∷ s6 ∷ s7 ∷ []
 segments_back s0 s1 s2 s3 s4 s5 s6 s7 n l0 l1 l2 l3 l4 l5 l6 l7 is =
     let at0 = segment_at 5192296858534827628530496329220096 (0) s0
     (s1 * 79228162514264337593543950336 + s2 * 1208925819614629174706176 + s3 * 18446744073709551616 + s4 *
-        281474976710656 + s5 * 4294967296 + s6 * 65536 + s7) n (omega arith) l0 (omega arith) in
+    281474976710656 + s5 * 4294967296 + s6 * 65536 + s7) n (omega arith) l0 (omega arith) in
     let at1 = segment_at 79228162514264337593543950336 (s0) s1
     (s2 * 1208925819614629174706176 + s3 * 18446744073709551616 + s4 * 281474976710656 + s5 * 4294967296 + s6 * 65536
-        + s7) n (omega arith) l1 (omega arith) in
+    + s7) n (omega arith) l1 (omega arith) in
     let at2 = segment_at 1208925819614629174706176 (s0 * 65536 + s1) s2
     (s3 * 18446744073709551616 + s4 * 281474976710656 + s5 * 4294967296 + s6 * 65536 + s7) n (omega arith) l2
-        (omega arith) in
+    (omega arith) in
     let at3 = segment_at 18446744073709551616 (s0 * 4294967296 + s1 * 65536 + s2) s3
     (s4 * 281474976710656 + s5 * 4294967296 + s6 * 65536 + s7) n (omega arith) l3 (omega arith) in
     let at4 = segment_at 281474976710656 (s0 * 281474976710656 + s1 * 4294967296 + s2 * 65536 + s3) s4
     (s5 * 4294967296 + s6 * 65536 + s7) n (omega arith) l4 (omega arith) in
     let at5 = segment_at 4294967296
-        (s0 * 18446744073709551616 + s1 * 281474976710656 + s2 * 4294967296 + s3 * 65536 + s4) s5
+    (s0 * 18446744073709551616 + s1 * 281474976710656 + s2 * 4294967296 + s3 * 65536 + s4) s5
     (s6 * 65536 + s7) n (omega arith) l5 (omega arith) in
     let at6 =
-        segment_at 65536 (s0 * 1208925819614629174706176 + s1 * 18446744073709551616 + s2 * 281474976710656 + s3 *
-        4294967296 + s4 * 65536 + s5) s6
+    segment_at 65536 (s0 * 1208925819614629174706176 + s1 * 18446744073709551616 + s2 * 281474976710656 + s3 *
+    4294967296 + s4 * 65536 + s5) s6
     (s7) n (omega arith) l6 (omega arith) in
     let at7 =
-        last_segment (s0 * 79228162514264337593543950336 + s1 * 1208925819614629174706176 + s2 * 18446744073709551616
-        + s3 * 281474976710656 + s4 * 4294967296 + s5 * 65536 + s6) s7 n l7 (omega arith) in
+    last_segment (s0 * 79228162514264337593543950336 + s1 * 1208925819614629174706176 + s2 * 18446744073709551616
+    + s3 * 281474976710656 + s4 * 4294967296 + s5 * 65536 + s6) s7 n l7 (omega arith) in
     λ i. at0 i ∷ at1 i ∷ at2 i ∷ at3 i ∷ at4 i ∷ at5 i ∷ at6 i ∷ at7 i ∷ []
 
 -- eight segments of 16 bits, as a number and back
