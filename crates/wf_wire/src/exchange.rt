@@ -10,16 +10,13 @@ ghost use Rattle.wf_wire.specs.Exchanges.{idle};
 ghost use Rattle.wf_wire.specs.Private.Heads.{Finds};
 ghost use Rattle.wf_wire.specs.Wires.{exchange_of};
 
-use crate::wire::Wire;
+use crate::wire::{RECEIVED, Wire};
 use std::alloc::Global;
 use wf_fetch::{Act, Input};
 use wf_http1::{BodyReader, BodyStep, HeadReader, HeadStep, framing_of, write_request};
 use wf_link::{Failed, Link, Target};
 use wf_text::OutOfMemory;
 use wf_types::{BodyEnd, Head, Hop};
-
-/// How many bytes of a body are asked of the link at once; the buffer may hold fewer.
-const MOST_RECEIVED: usize = 65_536;
 
 /// How many bytes of the link a head takes at most: the last is one too many.
 const MOST_OF_HEAD: usize = 65_537;
@@ -60,7 +57,7 @@ impl<'a> Wire<'a> {
     /// Does an act and answers what comes of it: a request is sent to the scripted servers; the head of
     /// their answer is read, of which the link gives 65,537 bytes at most; or the body behind it, which
     /// has at most so many bytes. The link is hung up where no head came and at the end of a body. After
-    /// `OutOfMemory` the answer to come is a part of what it was.
+    /// `OutOfMemory` nothing is said of what is to come.
     pub fn exchange(
         &mut self,
         alloc: Global,
@@ -173,7 +170,7 @@ impl<'a> Wire<'a> {
                 BodyStep::Over(end) => return Ok(end),
                 BodyStep::More(next) => reader = next,
             }
-            match self.refill(MOST_RECEIVED) {
+            match self.refill(RECEIVED) {
                 Ok(true) => {}
                 Ok(false) => return Ok(reader.finish()),
                 Err(Failed) => return Ok(broken_off(reader.finish())),

@@ -10,7 +10,7 @@ use wf_sim::SimLink;
 use wf_text::OutOfMemory;
 
 /// How many bytes are received at once.
-const RECEIVED: usize = 4_096;
+pub(crate) const RECEIVED: usize = 4_096;
 
 /// A wire to the scripted servers: the link, a buffer for what it gives, where in the buffer the bytes
 /// stand that were received and not yet read, and how the body behind the last head is framed.
