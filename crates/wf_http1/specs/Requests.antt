@@ -3,6 +3,7 @@ use Rattle.std.specs.Prelude.{ℕ, List, [], ◌++◌, codes, unwrap_or}
 use Rattle.std.specs.List.{flat_map}
 use Rattle.wf_headers.specs.declared.headers.Header.{Header}
 use Rattle.wf_types.specs.declared.hop.Hop.{Hop}
+use Rattle.wf_types.specs.Lines.{field_line}
 
 -- the method, the request target and the version
 abbrev pub request_line : Hop → List ℕ
@@ -10,7 +11,7 @@ request_line hop = hop.method ++ (codes " " ++ (hop.url ++ codes " HTTP/1.1\r\n"
 
 -- one header on its line
 abbrev pub header_line : Header → List ℕ
-header_line header = header.name ++ (codes ": " ++ (header.value ++ codes "\r\n"))
+header_line header = field_line header.name header.value
 
 -- the whole request: its line, its headers, an empty line and its body
 abbrev pub request_bytes : Hop → List ℕ

@@ -13,7 +13,7 @@ use wf_text::Bytes;
 use wf_types::{BodyEnd, Destination, Hop, NetError, Outcome, Response, TypeFault, Violation};
 
 // Adds a number in decimal.
-pub fn add_number<W: Output, I: Integer>(text: &mut W, number: I) -> Result<(), W::Error>
+pub(crate) fn add_number<W: Output, I: Integer>(text: &mut W, number: I) -> Result<(), W::Error>
     ensures { OnOk result (text.new ≡ W.after text.old (I.text number)) }
 {
     let mut buffer = Buffer::new();
@@ -231,7 +231,7 @@ fn add_load<W: Output>(text: &mut W, number: u32, destination: Destination) -> R
 }
 
 // Adds the lines of an event.
-pub fn add_event<W: Output>(text: &mut W, event: &Event) -> Result<(), W::Error>
+pub(crate) fn add_event<W: Output>(text: &mut W, event: &Event) -> Result<(), W::Error>
     ensures { OnOk result (text.new ≡ W.after text.old (spec.event_text event.now)) }
 {
     match event {

@@ -4,6 +4,7 @@ use Rattle.std.specs.Prelude.{ℕ, Bool, true, ◌&&◌, List, [], ◌∷◌, �
 use Rattle.std.specs.Prelude.{if◌then◌else◌}
 use Rattle.std.specs.List.{flat_map}
 use Rattle.wf_types.specs.declared.init.Pair.{Pair}
+use Rattle.wf_types.specs.Lines.{field_line}
 use Rattle.wf_script.specs.declared.types.Rule.{Rule}
 use Rattle.wf_script.specs.declared.types.Server.{Server}
 
@@ -11,7 +12,7 @@ use Rattle.wf_script.specs.declared.types.Server.{Server}
 
 -- a header on its line
 abbrev pub header_line : Pair → List ℕ
-header_line header = header.name ++ (codes ": " ++ (header.value ++ codes "\r\n"))
+header_line header = field_line header.name header.value
 
 -- the status line
 abbrev pub status_line : ℕ → List ℕ

@@ -1,8 +1,12 @@
--- Header lines that stand where there is a value, as in a request that is sent (Fetch, section 4.6).
-use Rattle.std.specs.Prelude.{ℕ, List, Option, Some, None, option_map}
+-- Header lines: as bytes, and where there is a value, as in a request that is sent (Fetch, section 4.6).
+use Rattle.std.specs.Prelude.{ℕ, List, ◌++◌, codes, Option, Some, None, option_map}
 use Rattle.std.specs.List.{filter_map}
 use Rattle.wf_headers.specs.declared.headers.Header.{Header}
 use Rattle.wf_headers.specs.Headers.{appended}
+
+-- a header on its line (RFC 9112, sections 2.1 and 5)
+abbrev pub field_line : List ℕ → List ℕ → List ℕ
+field_line name value = name ++ (codes ": " ++ (value ++ codes "\r\n"))
 
 -- a header of this name and value
 abbrev pub header : List ℕ → List ℕ → Header

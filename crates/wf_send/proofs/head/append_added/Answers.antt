@@ -3,9 +3,9 @@ use Rattle.wf_send.proofs.head.append_added.Goals as goal
 
 pub returns : goal.returns
 returns c =
-    let agent = rw c.user_agent_value.ensures at c.in_ok-append_where.ensures in
-    let referer = rw c.referrer_value.ensures at c.in_ok-append_where-2.ensures in
-    let cookie = rw (c.cookie_value.ensures, c.requires) at c.in_ok-append_where-3.ensures in
+    let agent = rw c.user_agent_value.ensures at c.in_ok-append_where.ensures.ok in
+    let referer = rw c.referrer_value.ensures at c.in_ok-append_where-2.ensures.ok in
+    let cookie = rw (c.cookie_value.ensures, c.requires) at c.in_ok-append_where-3.ensures.ok in
     let size = rw c.as_slice.ensures at c.in_ok-append_length.ensures in
     added-chain c.args.cookies.now c.args.request.now c.args.url.now c.args.headers.now c.append_where.new.headers
     c.append.new.self c.append_where-2.new.headers c.append_origin.new.headers c.append_where-3.new.headers
