@@ -1,4 +1,4 @@
--- A fetch: main fetch and what it calls (Fetch, sections 4.1, 4.3 and 4.6), for requests in mode
+-- A fetch: main fetch and what it calls (Fetch, sections 4.1, 4.4 and 4.6), for requests in mode
 -- same-origin. Each rule hands what it came to on to `next`, as the standard's steps return to the step
 -- that called them.
 --

@@ -1,9 +1,9 @@
 -- A fetch as a tree of acts: what is done next, and how it goes on from each input that comes
 -- (Fetch, section 4, where the algorithm waits for the network).
-use Rattle.std.specs.Prelude.{Bool, true, false, List, [], ◌∷◌, Option, Some, None, IsTrue, if◌then◌else◌}
-use Rattle.wf_text.specs.Ascii.{lacks_space}
+use Rattle.std.specs.Prelude.{Bool, true, false, List, [], ◌∷◌, Option, Some, None, if◌then◌else◌}
 use Rattle.wf_types.specs.declared.request.Request.{Request}
 use Rattle.wf_types.specs.declared.response.Outcome.{Outcome}
+use Rattle.wf_types.specs.Targets.{IsSendable}
 use Rattle.wf_fetch.specs.declared.act.Act.{Act}
 use Rattle.wf_fetch.specs.declared.act.Act.TheVariants.{Send, ReadHead, ReadBody}
 use Rattle.wf_fetch.specs.declared.act.Input.{Input}
@@ -26,9 +26,9 @@ fits ReadHead Fault = true
 fits ReadBody (BodyIs end) = true
 fits _ _ = false
 
--- what is sent has no space in its method and its target, so its first line has three parts (RFC 9112, section 3)
+-- what is sent has no space in its method and its target
 abbrev pub IsPlain : Act → Type 0
-IsPlain (Send hop) = IsTrue (lacks_space hop.method) × IsTrue (lacks_space hop.url)
+IsPlain (Send hop) = IsSendable hop
 IsPlain ReadHead = Unit {0}
 IsPlain ReadBody = Unit {0}
 

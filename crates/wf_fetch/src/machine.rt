@@ -293,7 +293,7 @@ impl Fetching {
 
     /// Goes on from the input that followed the last act: the head of the answer is read, then its
     /// body where it is not null, and then the fetch is over with a response of type basic, which has
-    /// no Set-Cookie and no Set-Cookie2 (Fetch, sections 2.2.6, 4.1, 4.3 and 4.6). It is over with the
+    /// no Set-Cookie and no Set-Cookie2 (Fetch, sections 2.2.6, 4.1, 4.4 and 4.6). It is over with the
     /// network error `LinkFault` exactly where the input is `Fault`, `BadHead` where it is `HeadBad`,
     /// `HeadTooBig` where it is `HeadLong`, and `Coding` where the head has a body that is to be read
     /// and a Content-Encoding other than empty or `identity`. After `OutOfMemory` the fetch is gone.

@@ -6,7 +6,8 @@ use Rattle.std.specs.Str.{bytes_eq}
 use Rattle.std.proofs.lemmas.Grind.{common_steps}
 use Rattle.std.proofs.lemmas.List.{append_cancel_left}
 use Rattle.std.proofs.lemmas.Slice.Eq.{bytes_eq-Decides}
-use Rattle.wf_headers.specs.Headers.{after_comma, is_text, joined}
+use Rattle.wf_text.specs.Mime.{is_text}
+use Rattle.wf_headers.specs.Headers.{after_comma, joined}
 use Rattle.wf_headers.specs.Private.Joining.{behind_value}
 
 -- whether the values that are left, joined, are the rest of the text

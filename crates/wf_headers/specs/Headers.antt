@@ -1,8 +1,9 @@
 -- Header lists: lists of names with their values, in order (Fetch, section 2.2.2).
-use Rattle.std.specs.Prelude.{ℕ, List, [], ◌∷◌, ◌++◌, ◌+◌, Bool, false, not, map, filter, codes}
+use Rattle.std.specs.Prelude.{ℕ, List, [], ◌∷◌, ◌++◌, ◌+◌, Bool, not, map, filter, codes}
 use Rattle.std.specs.Prelude.{Option, Some, None, if◌then◌else◌}
 use Rattle.std.specs.List.{list_any}
-use Rattle.std.specs.Str.{bytes_eq, str_eq_ignore_ascii_case}
+use Rattle.std.specs.Str.{str_eq_ignore_ascii_case}
+use Rattle.wf_text.specs.Mime.{is_text}
 use Rattle.wf_headers.specs.declared.headers.Header.{Header}
 
 -- the header has this name: names are byte-case-insensitive
@@ -61,11 +62,6 @@ joined (text ∷ texts) = Some (text ++ after_comma texts)
 -- "get": all values of the name, joined; nothing where the list does not contain it
 abbrev pub combined : List ℕ → List Header → Option (List ℕ)
 combined name headers = joined (values_of name headers)
-
--- there is a text, and it is this one
-abbrev pub is_text : List ℕ → Option (List ℕ) → Bool
-is_text text None = false
-is_text text (Some found) = bytes_eq found text
 
 -- what "get" gives for the name is this text
 abbrev pub has_value : List ℕ → List ℕ → List Header → Bool

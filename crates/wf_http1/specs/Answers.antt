@@ -1,5 +1,5 @@
--- What the head of an answer comes to, over all bytes of the answer (RFC 9112, sections 4 and 9.3; the
--- limit and the answer to what is no head are this project's profile).
+-- What the head of an answer comes to, over all bytes of the answer (RFC 9112, section 4, and RFC 9110, section
+-- 15.2; the limit and the answer to what is no head are this project's profile).
 use Rattle.std.specs.Prelude.{ℕ, ◌≤◌, ◌<◌, ◌⊎◌, List, take, length}
 use Rattle.wf_types.specs.declared.hop.Head.{Head}
 use Rattle.wf_http1.specs.Heads.{EndsFinal, EndsBlock}

@@ -1,5 +1,4 @@
 ghost use Rattle.std.specs.Prelude.{◌≡◌, ◌≤◌, ◌<◌, ◌+◌, ◌++◌, ◌==◌, [], length, take, IfOk};
-ghost use Rattle.std.specs.List.{position};
 ghost use Rattle.wf_http1.specs.Answers.{IsUnfinished, most_bytes};
 ghost use Rattle.wf_http1.specs.HeadFeeding.{IsFed};
 ghost use Rattle.wf_http1.specs.Private.HeadPushing.{IsPushed};
@@ -10,7 +9,7 @@ use crate::gathered::Gathered;
 use crate::seen::Seen;
 use std::alloc::Global;
 use std::marker::Model;
-use wf_text::OutOfMemory;
+use wf_text::{OutOfMemory, position_of};
 use wf_types::Head;
 
 // How many bytes the heads of an answer have at most.
@@ -65,13 +64,6 @@ enum Pushed {
     Bad,
 }
 
-// Where the first LF is.
-fn line_end(bytes: &[u8]) -> Option<usize>
-    ensures { result ≡ position (λ byte. byte == 10) bytes.now }
-{
-    bytes.iter().position(|byte| *byte == b'\n')
-}
-
 // How many bytes the first line has: those up to LF, or all.
 fn line_length(bytes: &[u8]) -> usize
     requires { 0 < length bytes.now }
@@ -79,7 +71,7 @@ fn line_length(bytes: &[u8]) -> usize
     ensures within { result ≤ length bytes.now }
     ensures line { IsLine (take result bytes.now) }
 {
-    match line_end(bytes) {
+    match position_of(bytes, b'\n') {
         Some(index) => index + 1,
         None => bytes.len(),
     }

@@ -1,16 +1,12 @@
 -- A law of scripted servers: the answer to the bytes of a request (RFC 9112, section 3) is that of the
 -- request's method and its target.
-use Rattle.std.specs.Prelude.{◌≡◌, List, IsTrue}
-use Rattle.wf_text.specs.Ascii.{lacks_space}
+use Rattle.std.specs.Prelude.{◌≡◌, List}
 use Rattle.wf_types.specs.declared.hop.Hop.{Hop}
+use Rattle.wf_types.specs.Targets.{IsSendable}
 use Rattle.wf_http1.specs.Requests.{request_bytes}
 use Rattle.wf_script.specs.Servers.{answer}
 use Rattle.wf_script.specs.declared.types.Server.{Server}
 use Rattle.wf_sim.specs.Sim.{answer_to}
-
--- neither the method nor the target has a space
-abbrev pub IsSendable : Hop → Type 0
-IsSendable hop = IsTrue (lacks_space hop.method) × IsTrue (lacks_space hop.url)
 
 -- the answer to a request's bytes is the one that its method and its target get
 abbrev pub AnswersByParts : Type 0

@@ -1,10 +1,12 @@
 -- Where a request is sent: the request target, the value of Host (RFC 9112, section 3.2), and the text of an
 -- origin (HTML, section 7.1.1).
-use Rattle.std.specs.Prelude.{ℕ, List, [], ◌++◌, codes, decimal, Option, Some, None}
+use Rattle.std.specs.Prelude.{ℕ, List, [], ◌++◌, codes, decimal, Option, Some, None, IsTrue}
 use Rattle.url.specs.Host.{host_text}
 use Rattle.url.specs.Parts.{Parts, host_or_empty}
 use Rattle.wf_origin.specs.declared.origin.Origin.{Origin}
 use Rattle.wf_origin.specs.Origins.{serialized}
+use Rattle.wf_text.specs.Ascii.{lacks_space}
+use Rattle.wf_types.specs.declared.hop.Hop.{Hop}
 
 -- the query behind its question mark, where there is one
 abbrev pub query_text : Option (List ℕ) → List ℕ
@@ -28,3 +30,8 @@ host_value url = host_text (host_or_empty url) ++ port_text url.port
 abbrev pub origin_text : Option Origin → List ℕ
 origin_text None = codes "null"
 origin_text (Some origin) = serialized origin
+
+-- neither the method nor the target has a space, so the first line of the request has three parts (RFC 9112,
+-- section 3)
+abbrev pub IsSendable : Hop → Type 0
+IsSendable hop = IsTrue (lacks_space hop.method) × IsTrue (lacks_space hop.url)

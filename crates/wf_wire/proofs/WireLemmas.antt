@@ -21,7 +21,7 @@ use Rattle.wf_http1.specs.declared.head.HeadStep.{HeadStep}
 use Rattle.wf_http1.specs.declared.head.HeadStep.TheVariants as heads
 use Rattle.wf_script.specs.declared.types.Server.{Server}
 use Rattle.wf_http1.specs.Requests.{request_bytes}
-use Rattle.wf_sim.specs.Laws.{IsSendable}
+use Rattle.wf_types.specs.Targets.{IsSendable}
 use Rattle.wf_sim.specs.Sim.{answer_to}
 use Rattle.wf_sim.proofs.SimLemmas.{answers-by_parts}
 use Rattle.wf_fetch.specs.declared.act.Input.{Input}

@@ -3,7 +3,7 @@ ghost use Rattle.std.specs.Prelude.{◌≡◌, ◌≤◌, ◌+◌, length, IfOk,
 ghost use Rattle.wf_http1.specs.Answers.{most_bytes};
 ghost use Rattle.wf_http1.specs.Bodies.{body_end};
 ghost use Rattle.wf_fetch.specs.Process.{IsPlain, fits};
-ghost use Rattle.wf_sim.specs.Laws.{IsSendable};
+ghost use Rattle.wf_types.specs.Targets.{IsSendable};
 ghost use Rattle.wf_sim.specs.Sim.{answer_to};
 ghost use Rattle.wf_wire.specs.Exchanges as spec;
 ghost use Rattle.wf_wire.specs.Exchanges.{idle};
