@@ -3,7 +3,8 @@ use Rattle.std.proofs.Common.{arith, ◌≡◌, ◌<◌, ◌≤◌, ◌++◌, �
 use Rattle.std.proofs.Common.{slice_index_or, ap, cond, refl, Option, Some, codes, append_assoc}
 use Rattle.std.specs.List.{insert, remove}
 use Rattle.std.proofs.lemmas.Grind.{common_steps}
-use Rattle.wf_headers.specs.Headers.{joined, after_comma, first_of, without, with_only}
+use Rattle.wf_headers.specs.Headers.{joined, after_comma, without, with_only}
+use Rattle.wf_headers.specs.Private.Places.{first_of}
 use Rattle.wf_headers.specs.declared.headers.Header.{Header}
 
 -- what was joined so far, and the values that are left

@@ -1,5 +1,5 @@
 -- Header lists: lists of names with their values, in order (Fetch, section 2.2.2).
-use Rattle.std.specs.Prelude.{ℕ, List, [], ◌∷◌, ◌++◌, ◌+◌, Bool, not, map, filter, codes}
+use Rattle.std.specs.Prelude.{ℕ, List, [], ◌∷◌, ◌++◌, Bool, not, map, filter, codes}
 use Rattle.std.specs.Prelude.{Option, Some, None, if◌then◌else◌}
 use Rattle.std.specs.List.{list_any}
 use Rattle.std.specs.Str.{str_eq_ignore_ascii_case}
@@ -31,11 +31,6 @@ contains name headers = list_any (is_named name) headers
 -- "delete": the list without the headers of that name
 abbrev pub without : List ℕ → List Header → List Header
 without name headers = filter (λ header. not (is_named name header)) headers
-
--- where the first header of that name is, or the length where there is none
-abbrev pub first_of : List ℕ → List Header → ℕ
-first_of name [] = 0
-first_of name (header ∷ headers) = if is_named name header then 0 else first_of name headers + 1
 
 -- "set": the first header of that name has the value and the others are gone; where there is none,
 -- one header more

@@ -1,9 +1,10 @@
 ghost use Rattle.std.specs.Prelude.{ℕ, List, [], length, take, vec_len, vec_capacity, IsTrue};
 ghost use Rattle.std.specs.Prelude.{◌≤◌, ◌≡◌, ◌≢◌, ◌↔◌, ◌<◌, ◌++◌};
 ghost use Rattle.std.specs.Prelude.{IfOk, OnOk, OnErr, MatchOption, Some, slice_get, option_map, codes, if◌then◌else◌};
-ghost use Rattle.wf_headers.specs.Headers.{all_appended, appended, combined, contains, first_of, has_value, spelling};
+ghost use Rattle.wf_headers.specs.Headers.{all_appended, appended, combined, contains, has_value, spelling};
 ghost use Rattle.wf_headers.specs.Headers.{with_only, without};
 ghost use Rattle.wf_headers.specs.Private.Joining.{behind_value};
+ghost use Rattle.wf_headers.specs.Private.Places.{first_of};
 ghost use Rattle.wf_headers.specs.Spelling.{HaveOneSpelling};
 ghost use Rattle.wf_headers.specs.declared.headers.Header.{Header};
 

@@ -11,7 +11,8 @@ use Rattle.std.specs.List.{list_all, position}
 use Rattle.std.specs.Ordering.{is_le, nat_cmp}
 use Rattle.std.specs.Str.Parse.{digits_value, digits_value_after}
 use Rattle.wf_text.specs.Digits.{is_digits}
-use Rattle.wf_safelist.specs.Ranges.{is_at_most, is_end_of, is_span, without_zeros}
+use Rattle.wf_safelist.specs.Ranges.{is_at_most, is_end_of, is_span}
+use Rattle.wf_safelist.specs.Private.Zeros.{without_zeros}
 
 abbrev are_digits : List ℕ → Bool
 are_digits text = list_all is_ascii_digit text

@@ -1,10 +1,10 @@
 -- Values of Range that are safelisted: one range of bytes with a start, written without whitespace
 -- (Fetch, section 2.2.2, "parse a single range header value").
-use Rattle.std.specs.Prelude.{ℕ, Bool, ◌==◌, ◌||◌, ◌&&◌, nat_eq, nat_le, List, [], ◌∷◌, length, drop, codes}
-use Rattle.std.specs.Prelude.{is_some, if◌then◌else◌}
+use Rattle.std.specs.Prelude.{ℕ, Bool, ◌==◌, ◌||◌, ◌&&◌, nat_eq, nat_le, List, length, drop, codes}
+use Rattle.std.specs.Prelude.{is_some}
 use Rattle.std.specs.List.{after_first, before_first, position, starts_with}
 use Rattle.std.specs.Str.Parse.{digits_value}
-use Rattle.wf_text.specs.Ascii.{digit_zero, hyphen}
+use Rattle.wf_text.specs.Ascii.{hyphen}
 use Rattle.wf_text.specs.Digits.{is_digits}
 
 -- what stands before the first dash
@@ -14,11 +14,6 @@ start_of text = before_first (λ byte. byte == hyphen) text
 -- what stands after the first dash
 abbrev pub end_of : List ℕ → List ℕ
 end_of text = after_first (λ byte. byte == hyphen) text
-
--- the digits without the zeros in front
-abbrev pub without_zeros : List ℕ → List ℕ
-without_zeros [] = []
-without_zeros (digit ∷ digits) = if digit == digit_zero then without_zeros digits else digit ∷ digits
 
 -- the number that the first digits write is at most that of the second, however many there are
 abbrev pub is_at_most : List ℕ → List ℕ → Bool

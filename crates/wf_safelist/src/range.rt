@@ -1,12 +1,13 @@
 ghost use Rattle.std.specs.Prelude.{◌≡◌, IsTrue};
 ghost use Rattle.wf_text.specs.Digits.{is_digits};
+ghost use Rattle.wf_safelist.specs.Private.Zeros.{without_zeros};
 ghost use Rattle.wf_safelist.specs.Ranges as spec;
 
 use wf_text::{is_digits, position_of};
 
 // The digits from the first that is no zero on.
 fn without_zeros(digits: &[u8]) -> &[u8]
-    ensures { result.now ≡ spec.without_zeros digits.now }
+    ensures { result.now ≡ without_zeros digits.now }
 {
     let mut rest = digits;
     while let [b'0', after @ ..] = rest {

@@ -1,5 +1,5 @@
 use Rattle.std.proofs.Common.{◌≡◌, ◌+◌, drop}
-use Rattle.wf_headers.specs.Headers.{first_of}
+use Rattle.wf_headers.specs.Private.Places.{first_of}
 use Rattle.wf_headers.proofs.headers.first_named.Given as goal
 
 abbrev pub invariant-loop-index : goal.invariant-loop-index

@@ -1,5 +1,5 @@
 use Rattle.std.proofs.Common.{◌≡◌, length}
-use Rattle.wf_safelist.specs.Ranges.{without_zeros}
+use Rattle.wf_safelist.specs.Private.Zeros.{without_zeros}
 use Rattle.wf_safelist.proofs.range.without_zeros.Given as goal
 
 abbrev pub invariant-loop-rest : goal.invariant-loop-rest
