@@ -77,7 +77,7 @@ trimmed-padded text =
     let g = start-front (reverse start) in
     let back : start ≡ trimmed tab_or_space text ++ reverse g.front =
     sym (reverse-reverse start) ∙ ap (λ l. reverse l) g.text_is
-        ∙ reverse-append g.front (trimmed_start tab_or_space (reverse start)) in
+    ∙ reverse-append g.front (trimmed_start tab_or_space (reverse start)) in
     record {
       before = f.front;
       behind = reverse g.front;
@@ -103,12 +103,12 @@ padded-trimmed inner text p s =
     let start : trimmed_start tab_or_space text ≡ inner ++ p.behind =
     ap (λ l. trimmed_start tab_or_space l) p.text_is ∙ start-blank p.before (inner ++ p.behind) p.blank_before
     ∙ ap (λ l. trimmed_start tab_or_space (l ++ p.behind)) s.first_is
-        ∙ start-solid s.first (s.rest ++ p.behind) s.first_solid ∙ ap (λ l. l ++ p.behind) (sym s.first_is) in
+    ∙ start-solid s.first (s.rest ++ p.behind) s.first_solid ∙ ap (λ l. l ++ p.behind) (sym s.first_is) in
     let turn : reverse inner ≡ s.last ∷ reverse s.front =
     ap (λ l. reverse l) s.last_is ∙ reverse-append s.front (s.last ∷ []) in
     let back : trimmed_start tab_or_space (reverse (inner ++ p.behind)) ≡ reverse inner =
     ap (λ l. trimmed_start tab_or_space l) (reverse-append inner p.behind)
-        ∙ start-blank (reverse p.behind) (reverse inner) (blank-reverse p.behind ∙ p.blank_behind)
+    ∙ start-blank (reverse p.behind) (reverse inner) (blank-reverse p.behind ∙ p.blank_behind)
     ∙ ap (λ l. trimmed_start tab_or_space l) turn ∙ start-solid s.last (reverse s.front) s.last_solid ∙ sym turn in
     ap (λ l. trimmed_end tab_or_space l) start ∙ ap (λ l. reverse l) back ∙ reverse-reverse inner
 
@@ -133,7 +133,7 @@ pub token-solid : (text : List ℕ) → is_token text ≡ true → IsSolid text
 token-solid [] token = cc
 token-solid (byte ∷ text) token =
     let all : list_all is_tchar (byte ∷ text) ≡ true =
-        second_so (not (length (byte ∷ text) == 0)) (list_all is_tchar (byte ∷ text)) token in
+    second_so (not (length (byte ∷ text) == 0)) (list_all is_tchar (byte ∷ text)) token in
     let e = ends byte text in
     record {
       first = byte;

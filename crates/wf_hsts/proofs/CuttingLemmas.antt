@@ -17,8 +17,11 @@ end-within false n end h = omega (arith, h)
 pub piece_end-within : (place : Place) (text : List ℕ) → piece_end place text ≤ length text
 piece_end-within place [] = omega arith
 piece_end-within place (byte ∷ text) =
-    omega (arith, end-within (cuts place byte) (length text) (piece_end (next_place place byte) text)
-    (piece_end-within (next_place place byte) text))
+    omega (
+      arith,
+      end-within (cuts place byte) (length text) (piece_end (next_place place byte) text)
+          (piece_end-within (next_place place byte) text),
+    )
 
 -- the pieces behind the first one
 abbrev pub pieces_behind : List ℕ → List (List ℕ)
@@ -55,13 +58,13 @@ with_more-assoc (Some x) (Some y) (Some z) = ap (λ (l : List Directive). Some l
 pub field-step : (rest : List ℕ) (old : List Directive) (whole added : Option (List Directive))
     (piece behind : List ℕ) (end : ℕ) → end ≡ piece_end Outside rest
     → piece ≡ take end rest → behind ≡ drop end rest → whole ≡ with_more (Some old) (directives_of rest) → added
-        ≡ with_more (Some old) (piece_in piece)
+    ≡ with_more (Some old) (piece_in piece)
     → whole ≡ with_more added (directives_in (pieces_behind behind))
 field-step rest old whole added piece behind end e front back before now =
     let cut : directives_of rest ≡ with_more (piece_in piece) (directives_in (pieces_behind behind)) =
     rw (pieces-cut Outside rest, front, back, e) refl in
     before ∙ ap (λ found. with_more (Some old) found) cut
-        ∙ with_more-assoc (Some old) (piece_in piece) (directives_in (pieces_behind behind))
+    ∙ with_more-assoc (Some old) (piece_in piece) (directives_in (pieces_behind behind))
     ∙ ap (λ found. with_more found (directives_in (pieces_behind behind))) (sym now)
 
 -- where it is the last

@@ -41,7 +41,7 @@ lt-suc n m = grind (arith, common_steps)
 behind-step : (here : Bool) (n byte : ℕ) (text : List ℕ) (behind : Option (List ℕ))
     → option_map (λ i. drop (i + 1) text) (cond (nat_lt n (length text)) (Some n) None) ≡ behind
     → option_map (λ i. drop (i + 1) (byte ∷ text))
-        (cond (nat_lt (cond (not here) (1 + n) 0) (length (byte ∷ text))) (Some (cond (not here) (1 + n) 0)) None)
+    (cond (nat_lt (cond (not here) (1 + n) 0) (length (byte ∷ text))) (Some (cond (not here) (1 + n) 0)) None)
     ≡ (if here then Some text else behind)
 behind-step true n byte text behind h =
     let e : nat_lt 0 (suc (length text)) ≡ true = grind (arith, common_steps) in

@@ -38,8 +38,10 @@ all-plain : (p : ℕ → Bool) → ((byte : ℕ) → p byte ≡ true → is_plai
     ≡ true → list_all is_plain text ≡ true
 all-plain p each [] all = refl
 all-plain p each (byte ∷ text) all =
-    rw (each byte (first_so (p byte) (list_all p text) all),
-    all-plain p each text (second_so (p byte) (list_all p text) all)) refl
+    rw (
+      each byte (first_so (p byte) (list_all p text) all),
+      all-plain p each text (second_so (p byte) (list_all p text) all),
+    ) refl
 
 blank-plain : (text : List ℕ) → IsBlank text → list_all is_plain text ≡ true
 blank-plain text blank = all-plain is_blank (plain-by is_blank refl refl refl) text blank
@@ -57,8 +59,8 @@ both-plain a b e f = rw (list_all-append is_plain a b, e, f) refl
 padded-plain : (name text : List ℕ) → is_token name ≡ true → IsPadded name text → list_all is_plain text ≡ true
 padded-plain name text token p =
     subst (λ l. list_all is_plain l ≡ true) (sym p.text_is)
-        (both-plain p.before (name ++ p.behind) (blank-plain p.before p.blank_before)
-        (both-plain name p.behind (token-plain name token) (blank-plain p.behind p.blank_behind)))
+    (both-plain p.before (name ++ p.behind) (blank-plain p.before p.blank_before)
+    (both-plain name p.behind (token-plain name token) (blank-plain p.behind p.blank_behind)))
 
 -- is no equals sign
 not-equals : (byte : ℕ) → is_plain byte ≡ true → (byte == 61) ≡ false
@@ -70,25 +72,25 @@ until-plain : (left right : List ℕ) → list_all is_plain left ≡ true → un
 until-plain [] right plain = refl
 until-plain (byte ∷ left) right plain =
     rw (not-equals byte (first_so (is_plain byte) (list_all is_plain left) plain))
-        (ap (λ l. byte ∷ l) (until-plain left right (second_so (is_plain byte) (list_all is_plain left) plain)))
+    (ap (λ l. byte ∷ l) (until-plain left right (second_so (is_plain byte) (list_all is_plain left) plain)))
 
 after-plain : (left right : List ℕ) → list_all is_plain left ≡ true → after_equals (left ++ 61 ∷ right) ≡ Some right
 after-plain [] right plain = refl
 after-plain (byte ∷ left) right plain =
     rw (not-equals byte (first_so (is_plain byte) (list_all is_plain left) plain))
-        (after-plain left right (second_so (is_plain byte) (list_all is_plain left) plain))
+    (after-plain left right (second_so (is_plain byte) (list_all is_plain left) plain))
 
 until-whole : (text : List ℕ) → list_all is_plain text ≡ true → until_equals text ≡ text
 until-whole [] plain = refl
 until-whole (byte ∷ text) plain =
     rw (not-equals byte (first_so (is_plain byte) (list_all is_plain text) plain))
-        (ap (λ l. byte ∷ l) (until-whole text (second_so (is_plain byte) (list_all is_plain text) plain)))
+    (ap (λ l. byte ∷ l) (until-whole text (second_so (is_plain byte) (list_all is_plain text) plain)))
 
 after-none : (text : List ℕ) → list_all is_plain text ≡ true → after_equals text ≡ None
 after-none [] plain = refl
 after-none (byte ∷ text) plain =
     rw (not-equals byte (first_so (is_plain byte) (list_all is_plain text) plain))
-        (after-none text (second_so (is_plain byte) (list_all is_plain text) plain))
+    (after-none text (second_so (is_plain byte) (list_all is_plain text) plain))
 
 -- ---- a directive is read as it is
 
@@ -105,23 +107,23 @@ read-parts : (text name : List ℕ) (written : Option (List ℕ)) → is_token n
     ≡ directive_with name written
 read-parts text name written token e f =
     let front : trimmed tab_or_space (before_first (λ byte. byte == 61) text) ≡ name =
-        ap (λ l. trimmed tab_or_space l) (until_equals-is text) ∙ e in
+    ap (λ l. trimmed tab_or_space l) (until_equals-is text) ∙ e in
     ap (λ l. directive_from l (behind_equals text)) front ∙ ap (λ w. directive_from name w) (after_equals-is text ∙ f)
-        ∙ from-token name written token
+    ∙ from-token name written token
 
 directive-read : (text : List ℕ) (found : Directive) → IsDirective text found → directive_in text ≡ Some found
 directive-read _ _ (IsDirective.bare name text token padded) =
     let plain = padded-plain name text token padded in
     read-parts text name None token (ap (λ l. trimmed tab_or_space l) (until-whole text plain)
-        ∙ padded-trimmed name text padded (token-solid name token)) (after-none text plain)
+    ∙ padded-trimmed name text padded (token-solid name token)) (after-none text plain)
 directive-read _ _ (IsDirective.valued name left written right value token padded is_value padded_value) =
     let plain = padded-plain name left token padded in
     let read : value_in (trimmed tab_or_space right) ≡ Some value =
     ap (λ l. value_in l) (padded-trimmed written right padded_value (value-solid written value is_value))
-        ∙ value-read written value is_value in
+    ∙ value-read written value is_value in
     read-parts (left ++ 61 ∷ right) name (Some right) token
-        (ap (λ l. trimmed tab_or_space l) (until-plain left right plain)
-        ∙ padded-trimmed name left padded (token-solid name token)) (after-plain left right plain)
+    (ap (λ l. trimmed tab_or_space l) (until-plain left right plain)
+    ∙ padded-trimmed name left padded (token-solid name token)) (after-plain left right plain)
     ∙ ap (λ found. option_map (λ v. directive name (Some v)) found) read
 
 -- ---- a piece is cut off as it is
@@ -185,7 +187,7 @@ quoted-over : (written value : List ℕ) → IsQuoted written value → (rest : 
 quoted-over _ _ IsQuoted.closed rest = refl
 quoted-over _ _ (IsQuoted.plain byte written value quote backslash q) rest =
     goes-on Quoted Quoted byte (written ++ rest) refl (rw (unequal byte 34 quote, unequal byte 92 backslash) refl)
-        ∙ ap (with_front byte) (quoted-over written value q rest)
+    ∙ ap (with_front byte) (quoted-over written value q rest)
 quoted-over _ _ (IsQuoted.escaped byte written value q) rest =
     ap (λ ps. with_front 92 (with_front byte ps)) (quoted-over written value q rest)
 
@@ -197,15 +199,15 @@ value-passes _ _ (IsValue.quoted written value q) =
 padded-passes : (inner text : List ℕ) → IsPadded inner text → Passes inner → Passes text
 padded-passes inner text p over =
     subst Passes (sym p.text_is)
-        (passes-both p.before (inner ++ p.behind) (plain-passes p.before (blank-plain p.before p.blank_before))
-        (passes-both inner p.behind over (plain-passes p.behind (blank-plain p.behind p.blank_behind))))
+    (passes-both p.before (inner ++ p.behind) (plain-passes p.before (blank-plain p.before p.blank_before))
+    (passes-both inner p.behind over (plain-passes p.behind (blank-plain p.behind p.blank_behind))))
 
 directive-passes : (text : List ℕ) (found : Directive) → IsDirective text found → Passes text
 directive-passes _ _ (IsDirective.bare name text token padded) = plain-passes text (padded-plain name text token padded)
 directive-passes _ _ (IsDirective.valued name left written right value token padded is_value padded_value) =
     passes-both left (61 ∷ right) (plain-passes left (padded-plain name left token padded))
     (passes-both (61 ∷ []) right equals-passes
-        (padded-passes written right padded_value (value-passes written value is_value)))
+    (padded-passes written right padded_value (value-passes written value is_value)))
 
 piece-passes : (text : List ℕ) (found : List Directive) → IsPiece text found → Passes text
 piece-passes _ _ (IsPiece.blank text blank) = plain-passes text (blank-plain text blank)
@@ -225,7 +227,7 @@ directive-solid : (text : List ℕ) (found : Directive) → IsDirective text fou
 directive-solid _ _ (IsDirective.bare name text token padded) =
     let s = token-solid name token in
     let is : text ≡ padded.before ++ s.first ∷ (s.rest ++ padded.behind) = padded.text_is
-        ∙ ap (λ l. padded.before ++ (l ++ padded.behind)) s.first_is in
+    ∙ ap (λ l. padded.before ++ (l ++ padded.behind)) s.first_is in
     ap (λ l. list_all is_blank l) is ∙ solid-byte padded.before s.first (s.rest ++ padded.behind) s.first_solid
 directive-solid _ _ (IsDirective.valued name left written right value token padded is_value padded_value) =
     solid-byte left 61 right refl
@@ -241,14 +243,14 @@ pub field-read : (value : List ℕ) (found : List Directive) → IsField value f
 field-read _ _ (IsField.last text found piece) =
     let over = piece-passes text found piece in
     let one : pieces Outside text ≡ text ∷ [] = ap (λ l. pieces Outside l) (sym (append-nil text)) ∙ over.over []
-        ∙ onto-empty text [] in
+    ∙ onto-empty text [] in
     ap directives_in one ∙ with_more-nothing (piece_in text) ∙ piece-read text found piece
 field-read _ _ (IsField.more piece rest found others is_piece is_field) =
     let over = piece-passes piece found is_piece in
     let cut : pieces Outside (piece ++ 59 ∷ rest) ≡ piece ∷ pieces Outside rest = over.over (59 ∷ rest)
-        ∙ onto-empty piece (pieces Outside rest) in
+    ∙ onto-empty piece (pieces Outside rest) in
     ap directives_in cut ∙ ap (λ o. with_more o (directives_of rest)) (piece-read piece found is_piece)
-        ∙ ap (λ o. with_more (Some found) o) (field-read rest others is_field)
+    ∙ ap (λ o. with_more (Some found) o) (field-read rest others is_field)
 
 -- ---- and what is read is one
 
@@ -265,7 +267,7 @@ until-none (byte ∷ text) e = until-none-by byte text (byte == 61) (until-none 
 until-by : (byte : ℕ) (text right : List ℕ) (here : Bool) → (byte == 61) ≡ here
     → (after_equals text ≡ Some right → text ≡ until_equals text ++ 61 ∷ right)
     → (if here then Some text else after_equals text) ≡ Some right → byte ∷ text
-        ≡ (if here then [] else byte ∷ until_equals text) ++ 61 ∷ right
+    ≡ (if here then [] else byte ∷ until_equals text) ++ 61 ∷ right
 until-by byte text right true same h e =
     let equals : byte ≡ 61 = eqb-true byte 61 same in
     cc
@@ -294,13 +296,13 @@ read-with : (text name : List ℕ) (written : Option (List ℕ)) (found : Direct
 read-with text name None found token padded e f =
     let same : directive name None ≡ found = cc in
     subst (λ d. IsDirective text d) same
-        (IsDirective.bare name text token (subst (λ l. IsPadded name l) (until-none text e) padded))
+    (IsDirective.bare name text token (subst (λ l. IsPadded name l) (until-none text e) padded))
 read-with text name (Some right) found token padded e f =
     let v = value-of name (value_in (trimmed tab_or_space right)) found f in
     subst (λ d. IsDirective text d) v.found_is
     (subst (λ l. IsDirective l (directive name (Some v.value))) (sym (until-some text right e))
     (IsDirective.valued name (until_equals text) (trimmed tab_or_space right) right v.value token padded
-        (read-value (trimmed tab_or_space right) v.value v.value_is) (trimmed-padded right)))
+    (read-value (trimmed tab_or_space right) v.value v.value_is) (trimmed-padded right)))
 
 read-from : (text name : List ℕ) (written : Option (List ℕ)) (found : Directive) (token : Bool) → is_token name
     ≡ token → IsPadded name (until_equals text) → after_equals text ≡ written
@@ -312,8 +314,8 @@ read-directive : (text : List ℕ) (found : Directive) → directive_in text ≡
 read-directive text found e =
     let name = trimmed tab_or_space (before_first (λ byte. byte == 61) text) in
     read-from text name (behind_equals text) found (is_token name) refl
-        (trimmed-as (until_equals text) name (ap (λ l. trimmed tab_or_space l) (sym (until_equals-is text))))
-        (sym (after_equals-is text)) e
+    (trimmed-as (until_equals text) name (ap (λ l. trimmed tab_or_space l) (sym (until_equals-is text))))
+    (sym (after_equals-is text)) e
 
 record OneRead (read : Option Directive) (found : List Directive) : Type 0 where
   one : Directive
@@ -363,7 +365,7 @@ joined-by : (place : Place) (byte : ℕ) (text : List ℕ) (cut : Bool) → cuts
     ≡ byte ∷ text
 joined-by place byte text true e h =
     joined-next (pieces Outside text) _ _ (pieces-cut Outside text) ∙ ap (λ l. 59 ∷ l) (h Outside)
-        ∙ ap (λ b. b ∷ text) (sym (cut-semicolon place byte e))
+    ∙ ap (λ b. b ∷ text) (sym (cut-semicolon place byte e))
 joined-by place byte text false e h =
     joined-front byte (pieces (next_place place byte) text) ∙ ap (λ l. byte ∷ l) (h (next_place place byte))
 
@@ -392,7 +394,7 @@ read-pieces piece (next ∷ others) found e =
     let r = both-of (piece_in piece) (directives_in (next ∷ others)) found e in
     subst (λ f. IsField (piece ++ 59 ∷ joined (next ∷ others)) f) r.found_is
     (IsField.more piece (joined (next ∷ others)) r.a r.b (read-piece piece r.a r.first_is)
-        (read-pieces next others r.b r.others_is))
+    (read-pieces next others r.b r.others_is))
 
 read-cut : (value : List ℕ) (ps : List (List ℕ)) (piece : List ℕ) (others : List (List ℕ)) (found : List Directive)
     → ps ≡ piece ∷ others → joined ps ≡ value → directives_in ps ≡ Some found → IsField value found

@@ -49,7 +49,7 @@ term-holds host (known ∷ hosts) term e = by-here (bytes_eq known.host host) (�
 any-from : (test : KnownHost → Bool) (host : List ℕ) (hosts : List KnownHost) (term : Term) → term_in host hosts
     ≡ Some term
     → ((known : KnownHost) → known.host ≡ host → known.until ≡ term.until → test known ≡ true) → list_any test hosts
-        ≡ true
+    ≡ true
 any-from test host [] term e passes = cc
 any-from test host (known ∷ hosts) term e passes =
     by-here (bytes_eq known.host host) refl (λ f. any-from test host hosts term f passes) e
@@ -98,10 +98,12 @@ not-before : (other known : KnownHost) → is_gt (end_order known.until known.ho
     → ends_before other known ≡ false
 not-before other known h =
     let turn : ordering_then (nat_cmp other.until known.until) (text_cmp other.host known.host)
-        ≡ ordering_reverse (end_order known.until known.host other) =
-    rw (nat_cmp_total.antisymm other.until known.until,
-        flipped other.host known.host)
-        (reverse-then (nat_cmp known.until other.until) (text_cmp known.host other.host)) in
+    ≡ ordering_reverse (end_order known.until known.host other) =
+    rw (
+      nat_cmp_total.antisymm other.until known.until,
+      flipped other.host known.host,
+    )
+    (reverse-then (nat_cmp known.until other.until) (text_cmp known.host other.host)) in
     ap is_lt turn ∙ reverse-lt (end_order known.until known.host other) ∙ h
 
 lt-by : (o p : Ordering) → is_gt (ordering_then o p) ≡ false → is_eq p ≡ false → is_lt (ordering_then o p) ≡ true
@@ -131,17 +133,17 @@ kept-by host term hosts known true same there each found late =
     let until : known.until ≡ term.until = cc in
     none-from (λ other. ends_before other known) hosts
     (each-both {P = λ other. is_gt (end_order term.until host other) ≡ false} {Q =
-        λ other. is_gt (end_order term.until host other) ≡ false}
+    λ other. is_gt (end_order term.until host other) ≡ false}
     (λ other p q. not-before other known (ap (λ u. is_gt (end_order u known.host other)) until
-        ∙ ap (λ text. is_gt (end_order term.until text other)) named ∙ p)) hosts each each)
+    ∙ ap (λ text. is_gt (end_order term.until text other)) named ∙ p)) hosts each each)
 kept-by host term hosts known false same there each found late =
     any-from (λ other. ends_before other known) host hosts term there
     (λ first named until.
     let late_first : is_gt (end_order first.until first.host known) ≡ false =
-        ap (λ u. is_gt (end_order u first.host known)) until
-        ∙ ap (λ text. is_gt (end_order term.until text known)) named ∙ late in
+    ap (λ u. is_gt (end_order u first.host known)) until
+    ∙ ap (λ text. is_gt (end_order term.until text known)) named ∙ late in
     let other : bytes_eq first.host known.host ≡ false = ap (λ text. bytes_eq text known.host) named
-        ∙ bytes-flip host known.host ∙ same in
+    ∙ bytes-flip host known.host ∙ same in
     first-before first known late_first other)
 
 pub first-goes : (host : List ℕ) (term : Term) (hosts : List KnownHost) → AreSorted hosts → term_in host hosts
@@ -149,6 +151,6 @@ pub first-goes : (host : List ℕ) (term : Term) (hosts : List KnownHost) → Ar
     → without_first_to_end hosts ≡ without host hosts
 first-goes host term hosts sorted there each =
     filter-same (λ known. list_any (λ other. ends_before other known) hosts) (λ known. not (bytes_eq known.host host))
-        hosts
+    hosts
     (each-both (λ known found late. kept-by host term hosts known (bytes_eq known.host host) refl there each found
-        late) hosts (each-term hosts sorted) each)
+    late) hosts (each-term hosts sorted) each)

@@ -48,9 +48,10 @@ module _ {V : Type 0} (items : V → List ℕ) where
   pub listed-sorted : (es : List (V × Term)) → IsStrictlySortedBy (name_cmp items) (map (λ e. e.0) es)
       → AreSorted (listed items es)
   listed-sorted [] sorted = tt
-  listed-sorted (e ∷ es) sorted =
-      (each-after (items e.0) es (sorted_head (name_cmp items) e.0 (map (λ d. d.0) es) sorted),
-          listed-sorted es (sorted_tail (name_cmp items) e.0 (map (λ d. d.0) es) sorted))
+  listed-sorted (e ∷ es) sorted = (
+    each-after (items e.0) es (sorted_head (name_cmp items) e.0 (map (λ d. d.0) es) sorted),
+    listed-sorted es (sorted_tail (name_cmp items) e.0 (map (λ d. d.0) es) sorted),
+  )
 
   -- a host looked up
   pub term-listed : (host : List ℕ) (es : List (V × Term)) → term_of items host es ≡ term_in host (listed items es)
@@ -62,7 +63,7 @@ module _ {V : Type 0} (items : V → List ℕ) where
       → listed items (remove_entry (λ name. is_eq (text_cmp host (items name))) es)
       ≡ remove_known host (listed items es)
       → listed items (cond here es (e ∷ remove_entry (λ name. is_eq (text_cmp host (items name))) es))
-          ≡ (if here then listed items es else known_of items e ∷ remove_known host (listed items es))
+      ≡ (if here then listed items es else known_of items e ∷ remove_known host (listed items es))
   removed-step host e es true h = refl
   removed-step host e es false h = ap (λ l. known_of items e ∷ l) h
 
@@ -82,17 +83,17 @@ module _ {V : Type 0} (items : V → List ℕ) where
   inserted-step : (name : V) (term : Term) (e : V × Term) (es : List (V × Term)) (o : Ordering)
       → text_cmp (items name) (items e.0) ≡ o
       → listed items (insert_entry (name_cmp items) es name term)
-          ≡ insert_known (known_of items (name, term)) (listed items es)
+      ≡ insert_known (known_of items (name, term)) (listed items es)
       → listed items (match_ordering o ((name, term) ∷ e ∷ es) ((e.0, term) ∷ es) (e
-          ∷ insert_entry (name_cmp items) es name term))
+      ∷ insert_entry (name_cmp items) es name term))
       ≡ match_ordering o (known_of items (name, term) ∷ known_of items e
-          ∷ listed items es) (known_of items (name, term) ∷ listed items es) (known_of items e
-          ∷ insert_known (known_of items (name, term)) (listed items es))
+      ∷ listed items es) (known_of items (name, term) ∷ listed items es) (known_of items e
+      ∷ insert_known (known_of items (name, term)) (listed items es))
   inserted-step name term e es Less same h = refl
   inserted-step name term e es Equal same h =
       let equal : items e.0 ≡ items name = sym (text-equal (items name) (items e.0) same) in
       ap (λ host. (let known : KnownHost = record { host = host; subdomains = term.subdomains; until = term.until } in
-          known) ∷ listed items es) equal
+      known) ∷ listed items es) equal
   inserted-step name term e es Greater same h = ap (λ l. known_of items e ∷ l) h
 
   listed-inserted : (name : V) (term : Term) (es : List (V × Term))
@@ -104,7 +105,7 @@ module _ {V : Type 0} (items : V → List ℕ) where
 
   pub put-in : (name : V) (term : Term) (es : List (V × Term)) → IsStrictlySortedBy (name_cmp items) (map (λ e. e.0) es)
       → listed items (insert_entry (name_cmp items) es name term)
-          ≡ with_host (known_of items (name, term)) (listed items es)
+      ≡ with_host (known_of items (name, term)) (listed items es)
   put-in name term es sorted = listed-inserted name term es
       ∙ insert-with (known_of items (name, term)) (listed items es) (listed-sorted es sorted)
 
@@ -156,7 +157,7 @@ module _ {V : Type 0} (items : V → List ℕ) where
   pub agree-removed : (host : List ℕ) (name : V) (term : Term) (es es' : List (V × Term)) (ends ends' : List (ℕ × V))
       → text_cmp host (items name) ≡ Equal → term_of items host es ≡ Some term → Agree es ends
       → ((q : V) → term_of items (items q) es'
-          ≡ cond (is_eq (text_cmp host (items q))) None (term_of items (items q) es))
+      ≡ cond (is_eq (text_cmp host (items q))) None (term_of items (items q) es))
       → ((q : ℕ × V) → ends_hold q ends' ≡ cond (is_eq (end_cmp items (term.until, name) q)) false (ends_hold q ends))
       → Agree es' ends'
   agree-removed host name term es es' ends ends' same there agree terms gone q =
@@ -165,7 +166,7 @@ module _ {V : Type 0} (items : V → List ℕ) where
       at-end term.until name q ∙ ap (λ text. (term.until == q.0) && is_eq (text_cmp text (items q.1))) named in
       gone q ∙ ap (λ b. cond b false (ends_hold q ends)) at
       ∙ removed-by term.until q.0 (is_eq (text_cmp host (items q.1))) (ends_hold q ends)
-          (term_of items (items q.1) es) term refl
+      (term_of items (items q.1) es) term refl
       (λ e. term-same host (items q.1) es (Some term) (equal-text host (items q.1) e) there) (agree q)
       ∙ ap (λ o. ends_at items q.0 o) (sym (terms q.1))
 
@@ -190,19 +191,19 @@ module _ {V : Type 0} (items : V → List ℕ) where
       (ends ends' : List (ℕ × V)) → items name ≡ host → items ended ≡ host → term_of items host es ≡ None
       → Agree es ends
       → ((q : V) → term_of items (items q) es'
-          ≡ cond (is_eq (text_cmp (items name) (items q))) (Some term) (term_of items (items q) es))
+      ≡ cond (is_eq (text_cmp (items name) (items q))) (Some term) (term_of items (items q) es))
       → ((q : ℕ × V) → ends_hold q ends' ≡ cond (is_eq (end_cmp items (term.until, ended) q)) true (ends_hold q ends))
       → Agree es' ends'
   agree-added host name ended term es es' ends ends' named ended_named absent agree terms come q =
       let at : is_eq (end_cmp items (term.until, ended) q)
-          ≡ ((term.until == q.0) && is_eq (text_cmp host (items q.1))) =
+      ≡ ((term.until == q.0) && is_eq (text_cmp host (items q.1))) =
       at-end term.until ended q ∙ ap (λ text. (term.until == q.0) && is_eq (text_cmp text (items q.1))) ended_named in
       come q ∙ ap (λ b. cond b true (ends_hold q ends)) at
       ∙ added-by term.until q.0 (is_eq (text_cmp host (items q.1))) (ends_hold q ends) (term_of items (items q.1) es)
-          term refl
+      term refl
       (λ e. term-same host (items q.1) es None (equal-text host (items q.1) e) absent) (agree q)
       ∙ ap (λ text. ends_at items q.0
-          (cond (is_eq (text_cmp text (items q.1))) (Some term) (term_of items (items q.1) es))) (sym named)
+      (cond (is_eq (text_cmp text (items q.1))) (Some term) (term_of items (items q.1) es))) (sym named)
       ∙ ap (λ o. ends_at items q.0 o) (sym (terms q.1))
 
   undone-by : (until at : ℕ) (here held : Bool) (found : Option Term) → (here ≡ true → found ≡ None) → held
@@ -230,20 +231,20 @@ module _ {V : Type 0} (items : V → List ℕ) where
       → Agree es less
   agree-undone host name ended term es ends more less named ended_named absent agree come gone q =
       let at : (v : V) → items v ≡ host → is_eq (end_cmp items (term.until, v) q)
-          ≡ ((term.until == q.0) && is_eq (text_cmp host (items q.1))) =
+      ≡ ((term.until == q.0) && is_eq (text_cmp host (items q.1))) =
       λ v e. at-end term.until v q ∙ ap (λ text. (term.until == q.0) && is_eq (text_cmp text (items q.1))) e in
       gone q ∙ ap (λ b. cond b false (ends_hold q more)) (at name named)
-          ∙ ap (λ b. cond ((term.until == q.0) && is_eq (text_cmp host (items q.1))) false b) (come q
-          ∙ ap (λ b. cond b true (ends_hold q ends)) (at ended ended_named))
+      ∙ ap (λ b. cond ((term.until == q.0) && is_eq (text_cmp host (items q.1))) false b) (come q
+      ∙ ap (λ b. cond b true (ends_hold q ends)) (at ended ended_named))
       ∙ undone-by term.until q.0 (is_eq (text_cmp host (items q.1))) (ends_hold q ends) (term_of items (items q.1) es)
-          (λ e. term-same host (items q.1) es None (equal-text host (items q.1) e) absent) (agree q)
+      (λ e. term-same host (items q.1) es None (equal-text host (items q.1) e) absent) (agree q)
       ∙ agree q
 
   -- the term of a host takes the place of another, which ended at another time
   moved-by : (old new at : ℕ) (here held : Bool) (found : Option Term) (was term : Term) → was.until ≡ old
       → term.until ≡ new → (old == new) ≡ false → (here ≡ true → found ≡ Some was) → held ≡ ends_at items at found
       → cond ((old == at) && here) false (cond ((new == at) && here) true held)
-          ≡ ends_at items at (cond here (Some term) found)
+      ≡ ends_at items at (cond here (Some term) found)
   moved-by old new at true held found was term same_old same_new other there h =
       let is : held ≡ (old == at) = h ∙ ap (λ o. ends_at items at o) (there refl) ∙ ap (λ n. n == at) same_old in
       rw (is, same_new) (moves (old == at) refl (new == at))
@@ -273,25 +274,25 @@ module _ {V : Type 0} (items : V → List ℕ) where
       → Agree es ends
       → ends_hold (term.until, put) ends ≡ false
       → ((q : V) → term_of items (items q) es'
-          ≡ cond (is_eq (text_cmp (items ended) (items q))) (Some term) (term_of items (items q) es))
+      ≡ cond (is_eq (text_cmp (items ended) (items q))) (Some term) (term_of items (items q) es))
       → ((q : ℕ × V) → ends_hold q more ≡ cond (is_eq (end_cmp items (term.until, put) q)) true (ends_hold q ends))
       → ((q : ℕ × V) → ends_hold q less ≡ cond (is_eq (end_cmp items (was.until, ended) q)) false (ends_hold q more))
       → Agree es' less
   agree-moved host put ended was term es es' ends more less put_named named there agree new terms come gone q =
       let at : (until : ℕ) (v : V) → items v ≡ host → is_eq (end_cmp items (until, v) q)
-          ≡ ((until == q.0) && is_eq (text_cmp host (items q.1))) =
+      ≡ ((until == q.0) && is_eq (text_cmp host (items q.1))) =
       λ until v e. at-end until v q ∙ ap (λ text. (until == q.0) && is_eq (text_cmp text (items q.1))) e in
       let other : (was.until == term.until) ≡ false =
       sym (ap (λ o. ends_at items term.until o) (term-same host (items put) es (Some was) (sym put_named) there))
-          ∙ sym (agree (term.until, put)) ∙ new in
+      ∙ sym (agree (term.until, put)) ∙ new in
       gone q ∙ ap (λ b. cond b false (ends_hold q more)) (at was.until ended named)
       ∙ ap (λ b. cond ((was.until == q.0) && is_eq (text_cmp host (items q.1))) false b) (come q
-          ∙ ap (λ b. cond b true (ends_hold q ends)) (at term.until put put_named))
+      ∙ ap (λ b. cond b true (ends_hold q ends)) (at term.until put put_named))
       ∙ moved-by was.until term.until q.0 (is_eq (text_cmp host (items q.1))) (ends_hold q ends)
-          (term_of items (items q.1) es) was term refl refl other
+      (term_of items (items q.1) es) was term refl refl other
       (λ e. term-same host (items q.1) es (Some was) (equal-text host (items q.1) e) there) (agree q)
       ∙ ap (λ text. ends_at items q.0
-          (cond (is_eq (text_cmp text (items q.1))) (Some term) (term_of items (items q.1) es))) (sym named)
+      (cond (is_eq (text_cmp text (items q.1))) (Some term) (term_of items (items q.1) es))) (sym named)
       ∙ ap (λ o. ends_at items q.0 o) (sym (terms q.1))
 
   stayed-by : (until at : ℕ) (here held : Bool) (found : Option Term) (was term : Term) → was.until ≡ until
@@ -316,7 +317,7 @@ module _ {V : Type 0} (items : V → List ℕ) where
       → Agree es ends
       → ends_hold (term.until, put) ends ≡ true
       → ((q : V) → term_of items (items q) es'
-          ≡ cond (is_eq (text_cmp (items name) (items q))) (Some term) (term_of items (items q) es))
+      ≡ cond (is_eq (text_cmp (items name) (items q))) (Some term) (term_of items (items q) es))
       → ((q : ℕ × V) → ends_hold q ends' ≡ cond (is_eq (end_cmp items (term.until, put) q)) true (ends_hold q ends))
       → Agree es' ends'
   agree-stayed host put name was term es es' ends ends' put_named named there agree held terms come q =
@@ -324,14 +325,14 @@ module _ {V : Type 0} (items : V → List ℕ) where
       at-end term.until put q ∙ ap (λ text. (term.until == q.0) && is_eq (text_cmp text (items q.1))) put_named in
       let same : was.until ≡ term.until =
       eqb-true was.until term.until
-          (sym (ap (λ o. ends_at items term.until o) (term-same host (items put) es (Some was) (sym put_named) there))
-          ∙ sym (agree (term.until, put)) ∙ held) in
+      (sym (ap (λ o. ends_at items term.until o) (term-same host (items put) es (Some was) (sym put_named) there))
+      ∙ sym (agree (term.until, put)) ∙ held) in
       come q ∙ ap (λ b. cond b true (ends_hold q ends)) at
       ∙ stayed-by term.until q.0 (is_eq (text_cmp host (items q.1))) (ends_hold q ends) (term_of items (items q.1) es)
-          was term same refl
+      was term same refl
       (λ e. term-same host (items q.1) es (Some was) (equal-text host (items q.1) e) there) (agree q)
       ∙ ap (λ text. ends_at items q.0
-          (cond (is_eq (text_cmp text (items q.1))) (Some term) (term_of items (items q.1) es))) (sym named)
+      (cond (is_eq (text_cmp text (items q.1))) (Some term) (term_of items (items q.1) es))) (sym named)
       ∙ ap (λ o. ends_at items q.0 o) (sym (terms q.1))
 
   -- ---- the first of the ends
@@ -342,9 +343,11 @@ module _ {V : Type 0} (items : V → List ℕ) where
       → Each (λ known. term_in known.host (listed items all) ≡ Some (term_from known)) (listed items es)
       → Each (λ other. is_gt (end_order end.0 (items end.1) other) ≡ false) (listed items es)
   each-late end all [] late found = tt
-  each-late end all (e ∷ es) late found =
-      (late (e.1.until, e.0) (ap (λ o. ends_at items e.1.until o) (term-listed (items e.0) all ∙ found.0)
-          ∙ eqb-self e.1.until), each-late end all es late found.1)
+  each-late end all (e ∷ es) late found = (
+    late (e.1.until, e.0) (ap (λ o. ends_at items e.1.until o) (term-listed (items e.0) all ∙ found.0)
+        ∙ eqb-self e.1.until),
+    each-late end all es late found.1,
+  )
 
   record TermThere (until : ℕ) (found : Option Term) : Type 0 where
     term : Term
@@ -360,7 +363,7 @@ module _ {V : Type 0} (items : V → List ℕ) where
       → IsStrictlySortedBy (name_cmp items) (map (λ e. e.0) es) → Agree es ends
       → ends_hold end ends ≡ true → ((q : ℕ × V) → ends_hold q ends ≡ true → is_gt (end_cmp items end q) ≡ false)
       → (holds (items end.1) (listed items es) ≡ true)
-          × (without_first_to_end (listed items es) ≡ without (items end.1) (listed items es))
+      × (without_first_to_end (listed items es) ≡ without (items end.1) (listed items es))
   first-is end es ends sorted agree there least =
       let t = term-there end.0 (term_of items (items end.1) es) (sym (agree end) ∙ there) in
       let found : term_in (items end.1) (listed items es) ≡ Some t.term = sym (term-listed (items end.1) es) ∙ t.is in
@@ -379,7 +382,7 @@ module _ {V : Type 0} (items : V → List ℕ) where
   none-first [] [] agree none = refl
   none-first (e ∷ es) [] agree none =
       let there : term_of items (items e.0) (e ∷ es) ≡ Some e.1 =
-          rw (← bytes-order (items e.0) (items e.0), bytes-self (items e.0)) refl in
+      rw (← bytes-order (items e.0) (items e.0), bytes-self (items e.0)) refl in
       let held : false ≡ true = agree (e.1.until, e.0) ∙ ap (λ o. ends_at items e.1.until o) there
-          ∙ eqb-self e.1.until in
+      ∙ eqb-self e.1.until in
       absurd (cc)

@@ -1,5 +1,5 @@
 -- What every list of known hosts is stays so where one is put in or taken out.
-use Rattle.std.proofs.Common.{◌≡◌, Bool, true, false, cond, List, [], ◌∷◌, ◌++◌, filter, refl, sym, ap, ◌∙◌}
+use Rattle.std.proofs.Common.{◌≡◌, Bool, true, false, cond, List, [], ◌∷◌, ◌++◌, filter, refl, ◌∙◌}
 use Rattle.std.specs.Ordering.{is_gt, is_lt, ordering_reverse}
 use Rattle.std.specs.declared.cmp.Ordering.{Ordering}
 use Rattle.std.specs.declared.cmp.Ordering.TheVariants.{Equal, Greater, Less}
@@ -52,10 +52,12 @@ sorted-joined : (new : KnownHost) (a b : List KnownHost) → AreSorted a → Are
     → AreSorted (a ++ (new ∷ b))
 sorted-joined new [] b front back before behind = (behind, back)
 sorted-joined new (known ∷ a) b front back before behind = (
-  each-append (λ other. text_cmp known.host other.host ≡ Less) a (new ∷ b) front.0
-      (before.0, each-map (λ other. text_cmp new.host other.host ≡ Less)
-      (λ other. text_cmp known.host other.host ≡ Less)
-      (λ other less. chained known.host new.host other.host before.0 less) b behind),
+  each-append (λ other. text_cmp known.host other.host ≡ Less) a (new ∷ b) front.0 (
+    before.0,
+    each-map (λ other. text_cmp new.host other.host ≡ Less)
+        (λ other. text_cmp known.host other.host ≡ Less)
+        (λ other less. chained known.host new.host other.host before.0 less) b behind,
+  ),
   sorted-joined new a b front.1 back before.1 behind,
 )
 
@@ -76,6 +78,6 @@ sorted-with new hosts sorted =
     (sorted-kept (λ known. is_lt (text_cmp known.host new.host)) hosts sorted)
     (sorted-kept (λ known. is_gt (text_cmp known.host new.host)) hosts sorted)
     (each-passing (λ known. text_cmp known.host new.host ≡ Less) (λ known. is_lt (text_cmp known.host new.host))
-        (λ known e. lt-less (text_cmp known.host new.host) e) hosts)
+    (λ known e. lt-less (text_cmp known.host new.host) e) hosts)
     (each-passing (λ known. text_cmp new.host known.host ≡ Less) (λ known. is_gt (text_cmp known.host new.host))
-        (λ known e. flipped new.host known.host ∙ gt-less (text_cmp known.host new.host) e) hosts)
+    (λ known e. flipped new.host known.host ∙ gt-less (text_cmp known.host new.host) e) hosts)

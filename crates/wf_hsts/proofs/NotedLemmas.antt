@@ -22,8 +22,11 @@ use Rattle.wf_hsts.proofs.QuotedLemmas.{unequal}
 
 pub without-length : (host : List ℕ) (hosts : List KnownHost) → length (without host hosts) ≤ length hosts
 without-length host hosts =
-    omega (arith, length-filter_both (λ known. not (bytes_eq known.host host))
-        (λ known. not (not (bytes_eq known.host host))) (λ known. refl) hosts)
+    omega (
+      arith,
+      length-filter_both (λ known. not (bytes_eq known.host host))
+          (λ known. not (not (bytes_eq known.host host))) (λ known. refl) hosts,
+    )
 
 -- a host that is there is one less
 fewer-by : (known : KnownHost) (kept all : List KnownHost) (here there : Bool) → (here || there) ≡ true
@@ -106,13 +109,13 @@ equal-gt Greater e = sym e
 with-without : (new : KnownHost) (hosts : List KnownHost) → with_host new (without new.host hosts) ≡ with_host new hosts
 with-without new hosts =
     let front : filter (λ known. is_lt (text_cmp known.host new.host)) (without new.host hosts)
-        ≡ filter (λ known. is_lt (text_cmp known.host new.host)) hosts =
+    ≡ filter (λ known. is_lt (text_cmp known.host new.host)) hosts =
     kept-same (λ known. is_lt (text_cmp known.host new.host)) new.host
-        (λ known e. equal-lt (text_cmp known.host new.host) (sym (bytes-order known.host new.host) ∙ e)) hosts in
+    (λ known e. equal-lt (text_cmp known.host new.host) (sym (bytes-order known.host new.host) ∙ e)) hosts in
     let back : filter (λ known. is_gt (text_cmp known.host new.host)) (without new.host hosts)
-        ≡ filter (λ known. is_gt (text_cmp known.host new.host)) hosts =
+    ≡ filter (λ known. is_gt (text_cmp known.host new.host)) hosts =
     kept-same (λ known. is_gt (text_cmp known.host new.host)) new.host
-        (λ known e. equal-gt (text_cmp known.host new.host) (sym (bytes-order known.host new.host) ∙ e)) hosts in
+    (λ known e. equal-gt (text_cmp known.host new.host) (sym (bytes-order known.host new.host) ∙ e)) hosts in
     ap (λ l. l ++ (new ∷ filter (λ known. is_gt (text_cmp known.host new.host)) (without new.host hosts))) front
     ∙ ap (λ l. filter (λ known. is_lt (text_cmp known.host new.host)) hosts ++ (new ∷ l)) back
 
@@ -166,9 +169,12 @@ parts-length new (known ∷ hosts) = one-by known _ _ hosts (text_cmp known.host
 
 pub with-length : (new : KnownHost) (hosts : List KnownHost) → length (with_host new hosts) ≤ length hosts + 1
 with-length new hosts =
-    omega (arith, parts-length new hosts,
-        length-append (filter (λ known. is_lt (text_cmp known.host new.host)) hosts) (new
-        ∷ filter (λ known. is_gt (text_cmp known.host new.host)) hosts))
+    omega (
+      arith,
+      parts-length new hosts,
+      length-append (filter (λ known. is_lt (text_cmp known.host new.host)) hosts) (new
+          ∷ filter (λ known. is_gt (text_cmp known.host new.host)) hosts),
+    )
 
 -- ---- what a field does
 
@@ -190,8 +196,8 @@ pub noted-kept : (host : List ℕ) (sts : Sts) (now : ℕ) (hosts : List KnownHo
     → noted host sts now hosts ≡ with_host (known_host host sts.subdomains (now + sts.age)) hosts
 noted-kept host sts now hosts e room =
     aged host sts now hosts e
-        ∙ ap (with_host (known_host host sts.subdomains (now + sts.age))) (room-true (without host hosts) room)
-        ∙ with-without (known_host host sts.subdomains (now + sts.age)) hosts
+    ∙ ap (with_host (known_host host sts.subdomains (now + sts.age))) (room-true (without host hosts) room)
+    ∙ with-without (known_host host sts.subdomains (now + sts.age)) hosts
 
 not-held : (host : List ℕ) (hosts : List KnownHost) → holds host hosts ≡ false → without host hosts ≡ hosts
 not-held host [] e = refl
@@ -220,13 +226,13 @@ pub noted-left : (host name : List ℕ) (sts : Sts) (now : ℕ) (hosts : List Kn
     → length hosts ≤ 4096 → nat_lt (length (without host hosts)) 4096 ≡ false
     → holds name hosts ≡ true → without_first_to_end hosts ≡ without name hosts
     → (noted host sts now hosts ≡ without name (with_host (known_host host sts.subdomains (now + sts.age)) hosts))
-        × (length (without name (with_host (known_host host sts.subdomains (now + sts.age)) hosts)) ≤ 4096)
+    × (length (without name (with_host (known_host host sts.subdomains (now + sts.age)) hosts)) ≤ 4096)
 noted-left host name sts now hosts e few full there first =
     let new = known_host host sts.subdomains (now + sts.age) in
     let absent = full-absent host hosts (holds host hosts) refl few full in
     let alone = not-held host hosts absent in
     let left : with_room (without host hosts) ≡ without name hosts = room-false (without host hosts) full
-        ∙ ap (λ l. without_first_to_end l) alone ∙ first in
+    ∙ ap (λ l. without_first_to_end l) alone ∙ first in
     let less = with-less new name hosts (other-name host name hosts (bytes_eq host name) refl absent there) in (
       aged host sts now hosts e ∙ ap (with_host new) left ∙ sym less,
       subst (λ l. length l ≤ 4096) (sym less)
@@ -239,8 +245,11 @@ pub kept-few : (host : List ℕ) (subdomains : Bool) (until : ℕ) (hosts : List
     → length (with_host (known_host host subdomains until) hosts) ≤ 4096
 kept-few host subdomains until hosts room =
     subst (λ l. length l ≤ 4096) (with-without (known_host host subdomains until) hosts)
-    (omega (arith, with-length (known_host host subdomains until) (without host hosts),
-        ltb-true (length (without host hosts)) 4096 room))
+    (omega (
+      arith,
+      with-length (known_host host subdomains until) (without host hosts),
+      ltb-true (length (without host hosts)) 4096 room,
+    ))
 
 -- ---- the same of a host that is put in, and of one that is taken out then
 
@@ -259,13 +268,15 @@ pub put-kept : (host again moved : List ℕ) (leaving : Option (List ℕ)) (sts 
 put-kept host again moved leaving sts now hosts new aged_some are a m none told put =
     let new_host = known_host host sts.subdomains (now + sts.age) in
     let room : IsLeaving None host hosts =
-        subst (λ h. IsLeaving None h hosts) a (subst (λ l. IsLeaving l again hosts) none told) in
+    subst (λ h. IsLeaving None h hosts) a (subst (λ l. IsLeaving l again hosts) none told) in
     let e : new ≡ with_host new_host hosts = put ∙ ap (λ h. with_host (known_host h sts.subdomains (now + sts.age))
-        hosts) m in
-    (e ∙ sym (noted-kept host sts now hosts (unequal sts.age 0 aged_some) room), subst AreHosts (sym e) (record {
-      sorted = sorted-with new_host hosts are.sorted;
-      few = kept-few host sts.subdomains (now + sts.age) hosts room;
-    }))
+    hosts) m in (
+      e ∙ sym (noted-kept host sts now hosts (unequal sts.age 0 aged_some) room),
+      subst AreHosts (sym e) (record {
+        sorted = sorted-with new_host hosts are.sorted;
+        few = kept-few host sts.subdomains (now + sts.age) hosts room;
+      }),
+    )
 
 -- and without; gone is the name as a call has it
 pub put-left : (host again moved name gone : List ℕ) (leaving : Option (List ℕ)) (sts : Sts) (now : ℕ)
@@ -276,13 +287,15 @@ pub put-left : (host again moved name gone : List ℕ) (leaving : Option (List �
 put-left host again moved name gone leaving sts now hosts put new aged_some are a m g some told e f =
     let new_host = known_host host sts.subdomains (now + sts.age) in
     let going : IsLeaving (Some name) host hosts =
-        subst (λ h. IsLeaving (Some name) h hosts) a (subst (λ l. IsLeaving l again hosts) some told) in
+    subst (λ h. IsLeaving (Some name) h hosts) a (subst (λ l. IsLeaving l again hosts) some told) in
     let left = noted-left host name sts now hosts (unequal sts.age 0 aged_some) are.few going.0 going.1 going.2 in
     let same : new ≡ without name (with_host new_host hosts) =
-        f ∙ ap (λ n. without n put) g
-        ∙ ap (without name) (e ∙ ap (λ h. with_host (known_host h sts.subdomains (now + sts.age)) hosts) m) in
-    (same ∙ sym left.0, subst AreHosts (sym same) (record {
-      sorted = sorted-kept (λ known. not (bytes_eq known.host name)) (with_host new_host hosts)
-          (sorted-with new_host hosts are.sorted);
-      few = left.1;
-    }))
+    f ∙ ap (λ n. without n put) g
+    ∙ ap (without name) (e ∙ ap (λ h. with_host (known_host h sts.subdomains (now + sts.age)) hosts) m) in (
+      same ∙ sym left.0,
+      subst AreHosts (sym same) (record {
+        sorted = sorted-kept (λ known. not (bytes_eq known.host name)) (with_host new_host hosts)
+            (sorted-with new_host hosts are.sorted);
+        few = left.1;
+      }),
+    )

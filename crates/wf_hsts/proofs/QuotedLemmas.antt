@@ -36,12 +36,12 @@ read-step : (byte : ℕ) (text value : List ℕ) (quote backslash : Bool) → (b
     → ((v : List ℕ) → unquoted text ≡ Some v → IsQuoted text v)
     → ((v : List ℕ) → behind_backslash text ≡ Some v → IsQuoted (92 ∷ text) v)
     → (if quote then (if length text == 0 then Some [] else None) else if backslash then behind_backslash text
-        else option_map (λ rest. byte ∷ rest) (unquoted text)) ≡ Some value
+    else option_map (λ rest. byte ∷ rest) (unquoted text)) ≡ Some value
     → IsQuoted (byte ∷ text) value
 read-step byte [] value true backslash e f plain escaped found =
     let empty : [] ≡ value = cc in
     subst (λ b. IsQuoted (b ∷ []) value) (sym (eqb-true byte 34 e))
-        (subst (λ v. IsQuoted (34 ∷ []) v) empty IsQuoted.closed)
+    (subst (λ v. IsQuoted (34 ∷ []) v) empty IsQuoted.closed)
 read-step byte (next ∷ text) value true backslash e f plain escaped found =
     let longer : (length (next ∷ text) == 0) ≡ false = unequal (length (next ∷ text)) 0 (λ h. omega (arith, h)) in
     let never = rw longer at found in
@@ -51,7 +51,7 @@ read-step byte text value false true e f plain escaped found =
 read-step byte text value false false e f plain escaped found =
     let a = added byte (unquoted text) value found in
     subst (λ v. IsQuoted (byte ∷ text) v) a.value_is
-        (IsQuoted.plain byte text a.rest (eqb-false byte 34 e) (eqb-false byte 92 f) (plain a.rest a.found_is))
+    (IsQuoted.plain byte text a.rest (eqb-false byte 34 e) (eqb-false byte 92 f) (plain a.rest a.found_is))
 
 mutual
   -- and what is read so is one
@@ -66,15 +66,15 @@ mutual
   read-escaped (byte ∷ text) value found =
       let a = added byte (unquoted text) value found in
       subst (λ v. IsQuoted (92 ∷ byte ∷ text) v) a.value_is
-          (IsQuoted.escaped byte text a.rest (read-quoted text a.rest a.found_is))
+      (IsQuoted.escaped byte text a.rest (read-quoted text a.rest a.found_is))
 
 -- a token does not begin with a quote
 token-unquoted : (byte : ℕ) (text : List ℕ) → is_token (byte ∷ text) ≡ true → (byte == 34) ≡ false
 token-unquoted byte text token =
     unequal byte 34 (λ same.
     let taken : is_tchar byte ≡ true =
-        first_so (is_tchar byte) (list_all is_tchar text)
-        (second_so (not (length (byte ∷ text) == 0)) (list_all is_tchar (byte ∷ text)) token) in
+    first_so (is_tchar byte) (list_all is_tchar text)
+    (second_so (not (length (byte ∷ text) == 0)) (list_all is_tchar (byte ∷ text)) token) in
     let there : is_tchar 34 ≡ true = subst (λ b. is_tchar b ≡ true) same taken in
     cc)
 
@@ -87,7 +87,7 @@ value-read _ _ (IsValue.quoted written value q) = quoted-read written value q
 value-step : (byte : ℕ) (text value : List ℕ) (quote token : Bool) → (byte == 34) ≡ quote → is_token (byte ∷ text)
     ≡ token
     → (if quote then unquoted text else if token then Some (byte ∷ text) else None) ≡ Some value
-        → IsValue (byte ∷ text) value
+    → IsValue (byte ∷ text) value
 value-step byte text value true token e f found =
     subst (λ b. IsValue (b ∷ text) value) (sym (eqb-true byte 34 e))
     (IsValue.quoted text value (read-quoted text value found))

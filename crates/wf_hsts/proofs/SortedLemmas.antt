@@ -40,12 +40,12 @@ found-step : (test : Term → Bool) (host : List ℕ) (known : KnownHost) (hosts
     → bytes_eq known.host host ≡ here → ComeAfter known.host hosts
     → passes test (term_in host hosts) ≡ list_any (λ other. bytes_eq other.host host && test (term_from other)) hosts
     → passes test (if here then Some (term_from known) else term_in host hosts)
-        ≡ ((here && test (term_from known))
-        || list_any (λ other. bytes_eq other.host host && test (term_from other)) hosts)
+    ≡ ((here && test (term_from known))
+    || list_any (λ other. bytes_eq other.host host && test (term_from other)) hosts)
 found-step test host known hosts true e after h =
     let same : known.host ≡ host = bytes-equal known.host host e in
     let none = after-none (λ other. test (term_from other)) host hosts
-        (subst (λ text. ComeAfter text hosts) same after) in
+    (subst (λ text. ComeAfter text hosts) same after) in
     rw none (sym (or-false (test (term_from known))))
 found-step test host known hosts false e after h = h
 
@@ -65,7 +65,7 @@ remove_known host (known ∷ hosts) = if bytes_eq known.host host then hosts els
 remove-step : (host : List ℕ) (known : KnownHost) (hosts : List KnownHost) (here : Bool) → bytes_eq known.host host
     ≡ here → ComeAfter known.host hosts → remove_known host hosts ≡ without host hosts
     → (if here then hosts else known ∷ remove_known host hosts)
-        ≡ cond (not here) (known ∷ without host hosts) (without host hosts)
+    ≡ cond (not here) (known ∷ without host hosts) (without host hosts)
 remove-step host known hosts true e after h =
     let same : known.host ≡ host = bytes-equal known.host host e in
     sym (after-without host hosts (subst (λ text. ComeAfter text hosts) same after))
@@ -114,7 +114,7 @@ come-after-all a b (known ∷ hosts) e after = (chained a b known.host e after.0
 insert-step : (new known : KnownHost) (hosts : List KnownHost) (o : Ordering) → text_cmp new.host known.host ≡ o
     → ComeAfter known.host hosts → insert_known new hosts ≡ with_host new hosts
     → match_ordering o (new ∷ known ∷ hosts) (new ∷ hosts) (known ∷ insert_known new hosts)
-        ≡ with_host new (known ∷ hosts)
+    ≡ with_host new (known ∷ hosts)
 insert-step new known hosts Less e after h =
     after-both new (known ∷ hosts) (e, come-after-all new.host known.host hosts e after)
 insert-step new known hosts Equal e after h =

@@ -63,7 +63,7 @@ ages-bounded value sts e =
     let s = reads-the-grammar value sts in
     let is = s.0 e in
     age-by (max_age is.directives) (include_subdomains is.directives) sts
-        (digits-most (option_and_then (λ directive. directive.value) (named (codes "max-age") is.directives))) is.says
+    (digits-most (option_and_then (λ directive. directive.value) (named (codes "max-age") is.directives))) is.says
 
 pub age-bounded : (value : List ℕ) (parsed : Option Sts) → sts_in value ≡ parsed
     → IfSome parsed (λ sts. sts.age ≤ greatest_age)

@@ -44,12 +44,12 @@ moved : (keys more : List (Bor (List ℕ))) (name : List ℕ)
     → ((other : List ℕ) → is_seen more other ≡ (bytes_eq name other || is_seen keys other))
     → (directives : List Directive)
     → (list_any (λ other. bytes_eq name other.name) directives || names_twice keys directives)
-        ≡ names_twice more directives
+    ≡ names_twice more directives
 moved keys more name h [] = refl
 moved keys more name h (directive ∷ directives) =
     shuffled (bytes_eq name directive.name) (list_any (λ other. bytes_eq name other.name) directives)
-        (is_seen keys directive.name) (list_any (λ other. bytes_eq directive.name other.name) directives)
-        (names_twice keys directives)
+    (is_seen keys directive.name) (list_any (λ other. bytes_eq directive.name other.name) directives)
+    (names_twice keys directives)
     ∙ rw (← h directive.name, moved keys more name h directives) refl
 
 cond-or : (b c : Bool) → cond b true c ≡ (b || c)
@@ -60,15 +60,18 @@ cond-or false c = refl
 pub names_twice-more : (keys more : List (Bor (List ℕ))) (key : Bor (List ℕ)) (directive : Directive)
     (directives : List Directive) → key.now ≡ directive.name
     → ((q : Bor (List ℕ)) → list_any (λ k. is_eq (slice_cmp nat_cmp q.now k.now)) more
-        ≡ cond (is_eq (slice_cmp nat_cmp key.now q.now)) true
-        (list_any (λ k. is_eq (slice_cmp nat_cmp q.now k.now)) keys))
+    ≡ cond (is_eq (slice_cmp nat_cmp key.now q.now)) true
+    (list_any (λ k. is_eq (slice_cmp nat_cmp q.now k.now)) keys))
     → list_any (λ k. is_eq (slice_cmp nat_cmp key.now k.now)) keys ≡ false
     → names_twice more directives ≡ names_twice keys (directive ∷ directives)
 names_twice-more keys more key directive directives e h absent =
     let grown : (other : List ℕ) → is_seen more other ≡ (bytes_eq directive.name other || is_seen keys other) =
     λ other. sym (seen-contains more other) ∙ h (record { ref_ptr = (0, 0); now = other })
-        ∙ rw (← texts_ties key.now other, e,
-        seen-contains keys other) (cond-or (bytes_eq directive.name other) (is_seen keys other)) in
+    ∙ rw (
+      ← texts_ties key.now other,
+      e,
+      seen-contains keys other,
+    ) (cond-or (bytes_eq directive.name other) (is_seen keys other)) in
     let new : is_seen keys directive.name ≡ false = sym (seen-contains keys directive.name) ∙ rw e at absent in
     sym (moved keys more directive.name grown directives) ∙ rw new refl
 
@@ -76,7 +79,7 @@ names_twice-more keys more key directive directives e h absent =
 pub names_twice-there : (keys : List (Bor (List ℕ))) (key : Bor (List ℕ)) (directive : Directive)
     (directives : List Directive) → key.now ≡ directive.name
     → list_any (λ k. is_eq (slice_cmp nat_cmp key.now k.now)) keys ≡ true → names_twice keys (directive ∷ directives)
-        ≡ true
+    ≡ true
 names_twice-there keys key directive directives e there =
     let old : is_seen keys directive.name ≡ true = sym (seen-contains keys directive.name) ∙ rw e at there in
     rw old refl

@@ -37,15 +37,19 @@ ends-long byte rest needle h =
 
 ends-step : (byte : ℕ) (rest needle : List ℕ) → ends_with nat_eq (byte ∷ rest) needle
     ≡ (bytes_eq needle (byte ∷ rest) || ends_with nat_eq rest needle)
-ends-step byte rest needle = elim (cases_lt (length rest) (length needle)) [ inl h ↦ ends-long byte rest needle h
-    | inr h ↦ ends-short byte rest needle h ]
+ends-step byte rest needle = elim (cases_lt (length rest) (length needle)) [
+  | inl h ↦ ends-long byte rest needle h
+  | inr h ↦ ends-short byte rest needle h
+]
 
 -- the empty name is under no host
 pub under-nothing : (hosts : List KnownHost) (now : ℕ) → is_under hosts [] now ≡ false
 under-nothing [] now = refl
 under-nothing (known ∷ hosts) now =
-    rw (drop-nothing (length (let none : List ℕ = [] in none) - length (46 ∷ known.host)),
-    under-nothing hosts now) (none known.subdomains)
+    rw (
+      drop-nothing (length (let none : List ℕ = [] in none) - length (46 ∷ known.host)),
+      under-nothing hosts now,
+    ) (none known.subdomains)
   where
     none : (s : Bool) → (((s && false) && nat_lt now known.until) || false) ≡ false
     none true = refl
@@ -76,7 +80,7 @@ under-step [] byte rest now = nothing (byte == 46)
 under-step (known ∷ hosts) byte rest now =
     rw (ends-step byte rest (46 ∷ known.host), under-step hosts byte rest now, eq-flip 46 byte)
     (shuffled known.subdomains (byte == 46) (bytes_eq known.host rest) (ends_with nat_eq rest (46 ∷ known.host))
-        (nat_lt now known.until) (covers hosts rest now) (is_under hosts rest now))
+    (nat_lt now known.until) (covers hosts rest now) (is_under hosts rest now))
 
 parted : (a u t b c : Bool) → (((a || u) && t) || (b || c)) ≡ (((a && t) || b) || ((u && t) || c))
 parted true true true b c = refl
@@ -96,17 +100,17 @@ matches-parts [] name now = refl
 matches-parts (known ∷ hosts) name now =
     rw (matches-parts hosts name now)
     (parted (bytes_eq known.host name) (known.subdomains && ends_with nat_eq name (46 ∷ known.host))
-        (nat_lt now known.until) (list_any (λ other. bytes_eq other.host name && nat_lt now other.until) hosts)
-        (is_under hosts name now))
+    (nat_lt now known.until) (list_any (λ other. bytes_eq other.host name && nat_lt now other.until) hosts)
+    (is_under hosts name now))
 
 -- the name from an index on
 pub under-at : (hosts : List KnownHost) (name : List ℕ) (now at : ℕ) → at < length name
     → is_under hosts (drop at name) now
-        ≡ (begins_under hosts (drop at name) now || is_under hosts (drop (at + 1) name) now)
+    ≡ (begins_under hosts (drop at name) now || is_under hosts (drop (at + 1) name) now)
 under-at hosts name now at within =
     let there = drop_more name at 0 within in
     ap (λ l. is_under hosts l now) there ∙ under-step hosts (get_or name at 0) (drop (at + 1) name) now
-        ∙ ap (λ l. begins_under hosts l now || is_under hosts (drop (at + 1) name) now) (sym there)
+    ∙ ap (λ l. begins_under hosts l now || is_under hosts (drop (at + 1) name) now) (sym there)
 
 pub under-here : (hosts : List KnownHost) (name : List ℕ) (now at : ℕ) → at < length name
     → begins_under hosts (drop at name) now ≡ true → is_under hosts (drop at name) now ≡ true

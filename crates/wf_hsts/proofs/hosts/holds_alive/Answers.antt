@@ -8,4 +8,4 @@ pub returns : goal.returns
 returns c =
     c.is_alive.ensures ∙ ap (passes (λ (term : Term). nat_lt c.args.now term.until)) c.term_of.ensures.term
     ∙ passes-any (λ (term : Term). nat_lt c.args.now term.until) c.args.host.now c.args.index.now
-        c.term_of.ensures.sorted
+    c.term_of.ensures.sorted

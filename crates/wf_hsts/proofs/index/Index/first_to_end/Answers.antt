@@ -7,9 +7,9 @@ use Rattle.wf_hsts.proofs.index.Index.first_to_end.Goals as goal
 pub returns-in-Some : goal.returns-in-Some
 returns-in-Some c =
     let first = first-is bytes_of c.in-Some.field-0.now c.self.inside.terms.entries c.self.inside.ends.keys
-        c.self.invariant.sorted c.self.invariant.same c.in-Some.ensures.member c.in-Some.ensures.least in
+    c.self.invariant.sorted c.self.invariant.same c.in-Some.ensures.member c.in-Some.ensures.least in
     subst (λ name. IsFirstToEnd (Some name) c.args.self.now) (sym c.as_slice.ensures.value)
-        (subst (λ hosts. IsFirstToEnd (Some (bytes_of c.in-Some.field-0.now.1)) hosts) c.self.view_is first)
+    (subst (λ hosts. IsFirstToEnd (Some (bytes_of c.in-Some.field-0.now.1)) hosts) c.self.view_is first)
 
 pub returns-in-None : goal.returns-in-None
 returns-in-None c =

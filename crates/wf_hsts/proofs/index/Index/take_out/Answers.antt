@@ -17,11 +17,11 @@ invariant_of-self c = record {
 pub returns-in-Some : goal.returns-in-Some
 returns-in-Some c =
     ap (listed bytes_of) c.remove_entry.ensures.entries
-        ∙ taken-out bytes_of c.args.host.now c.self.inside.terms.entries c.self.invariant.sorted
-        ∙ ap (without c.args.host.now) c.self.view_is
+    ∙ taken-out bytes_of c.args.host.now c.self.inside.terms.entries c.self.invariant.sorted
+    ∙ ap (without c.args.host.now) c.self.view_is
 
 pub returns-in_default : goal.returns-in_default
 returns-in_default c =
     ap (listed bytes_of) c.remove_entry.ensures.entries
-        ∙ taken-out bytes_of c.args.host.now c.self.inside.terms.entries c.self.invariant.sorted
-        ∙ ap (without c.args.host.now) c.self.view_is
+    ∙ taken-out bytes_of c.args.host.now c.self.inside.terms.entries c.self.invariant.sorted
+    ∙ ap (without c.args.host.now) c.self.view_is
