@@ -149,7 +149,7 @@ at_url url = record request { urls = url ∷ [] }
 -- another scheme, host or port is another origin, and then nothing is sent; ftp is no scheme to fetch
 pub refused : (main_fetch context (at_url (record root { scheme = codes "http" })) ≡ ended (Error SameOriginMode))
     × (main_fetch context (at_url (record root { host = Some (Domain (codes "b.test")) }))
-        ≡ ended (Error SameOriginMode))
+    ≡ ended (Error SameOriginMode))
     × (main_fetch context (at_url (record root { port = Some 444 })) ≡ ended (Error SameOriginMode))
     × (main_fetch context (at_url (record root { scheme = codes "ftp" })) ≡ ended (Error Scheme))
 unfolding url_on_literals
@@ -164,8 +164,14 @@ failed = (refl, refl, refl)
 
 -- the response to HEAD has no body, and none is read
 pub head_is_read_alone : (run (main_fetch context (record request { method = codes "HEAD" })) tape).outcome
-    ≡ Some (Answer (record { kind = Basic; status = 200; url = Some (codes "https://a.test/"); headers = []; body =
-        Null }))
+    ≡ Some (Answer (record {
+      kind = Basic;
+      status = 200;
+      url = Some (codes "https://a.test/");
+      headers = [];
+      body =
+          Null;
+    }))
 unfolding url_on_literals
 head_is_read_alone = refl
 

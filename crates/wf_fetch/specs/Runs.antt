@@ -101,7 +101,7 @@ started progress = record progress { commands = progress.commands + 1; fetches =
 abbrev pub command_run : Context → Command → Next → Next
 command_run context (command.Fetch init) next progress =
     showing (Fetch progress.fetches) (fetched context (new_request context.client (normalized_init init)) next)
-        (started progress)
+    (started progress)
 
 -- the clock stands still
 abbrev pub ends : Ending → Play

@@ -37,8 +37,11 @@ pub without_a_rule : answer (record { origin = codes "https://a.test"; rules = [
 without_a_rule = refl
 
 pub without_a_server : RunsOver 262144 (idle []) (document_run [] document)
-    (record { events = event.Fetch 0 ∷ event.Sent hop ∷ event.Result (Error BadHead) ∷ []; ending =
-        Some (Finished, 0) })
+    (record {
+      events = event.Fetch 0 ∷ event.Sent hop ∷ event.Result (Error BadHead) ∷ [];
+      ending =
+          Some (Finished, 0);
+    })
 unfolding url_on_literals
 without_a_server = record {
   tape = Sent ∷ HeadBad ∷ [];

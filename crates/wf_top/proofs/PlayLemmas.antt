@@ -31,9 +31,9 @@ pub transcripts-next : (scenario : Scenario) (items : List Document) (index : �
     → IsTranscript scenario index document transcript → AreTranscripts scenario 0 (take (index + 1) items) later
 transcripts-next scenario items index transcripts later document transcript within is noted are next =
     rw noted (rw (take_more items index document within)
-        (rw (← is) (transcripts-snoc scenario 0 (take index items) transcripts document transcript are
+    (rw (← is) (transcripts-snoc scenario 0 (take index items) transcripts document transcript are
     (subst (λ n. IsTranscript scenario n document transcript) (let e : index ≡ 0 + length (take index items) =
-        omega (arith, length-take index items) in e) next))))
+    omega (arith, length-take index items) in e) next))))
 
 -- one transcript more that has a text
 pub has_text-next : (transcripts later : List Transcript) (transcript : Transcript) → later ≡ transcripts

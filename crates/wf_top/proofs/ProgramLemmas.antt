@@ -162,7 +162,7 @@ no_scenario-at : (input input' : Source) (output output' c c' : Sink) (bytes : L
 no_scenario-at input input' output output' c c' bytes place status.Ok answer p e tells short is =
     let same = whole-told bytes p.bytes input.left input'.left tells p.gave p.cause.0.end in
     let read : scenario_of bytes ≡ Ok p.cause.1.of.scenario =
-        subst (λ (l : List ℕ). scenario_of l ≡ Ok p.cause.1.of.scenario) same p.cause.1.of.read in
+    subst (λ (l : List ℕ). scenario_of l ≡ Ok p.cause.1.of.scenario) same p.cause.1.of.read in
     absurd (other p.cause.1.of.scenario (sym read ∙ is))
   where
     other : (s : Scenario) → Ok s ≡ Err place → ⊥
@@ -184,12 +184,18 @@ longer-at : (input input' : Source) (output output' c c' : Sink) (bytes : List �
     → IsPlayed input input' output output' verdict → answer ≡ verdict → input.left ≡ Some bytes
     → most_input < length bytes → (answer ≡ status.InputTooLong) ⊎ IsExcused input input' output output' c c' answer
 longer-at input input' output output' c c' bytes status.Ok answer p e tells long =
-    absurd (omega (arith, p.cause.0.short,
-        ap length (whole-told bytes p.bytes input.left input'.left tells p.gave p.cause.0.end)))
+    absurd (omega (
+      arith,
+      p.cause.0.short,
+      ap length (whole-told bytes p.bytes input.left input'.left tells p.gave p.cause.0.end),
+    ))
 longer-at input input' output output' c c' bytes status.Usage answer p e tells long = absurd p.cause.1
 longer-at input input' output output' c c' bytes (status.Scenario told) answer p e tells long =
-    absurd (omega (arith, p.cause.0.short,
-        ap length (whole-told bytes p.bytes input.left input'.left tells p.gave p.cause.0.end)))
+    absurd (omega (
+      arith,
+      p.cause.0.short,
+      ap length (whole-told bytes p.bytes input.left input'.left tells p.gave p.cause.0.end),
+    ))
 longer-at input input' output output' c c' bytes status.ReadFault answer p e tells long = inr (inr (inl (e, p.cause.1)))
 longer-at input input' output output' c c' bytes status.WriteFault answer p e tells long =
     inr (inr (inr (e, inl p.cause.1.1)))
@@ -243,25 +249,32 @@ answers words input input' output output' c c' answer a =
       usage = λ is. not_accepted-of (is_play words) input input' output output'
           (subst (λ (v : Status). IsVerdict (is_play words) input input' output output' v)
           (same is (λ h. usage_write h) ∙ is) a.is_verdict);
-      not_accepted = λ no_words. elim told [ inl e ↦
-          inl (e ∙ usage-of (is_play words) input input' output output' a.verdict no_words a.is_verdict) | inr x ↦
-          inr x ];
+      not_accepted = λ no_words. elim told [
+        | inl e ↦
+            inl (e ∙ usage-of (is_play words) input input' output output' a.verdict no_words a.is_verdict)
+        | inr x ↦
+            inr x
+      ];
       refused = λ place is. cause-at input input' output output' a.verdict (status.Scenario place)
           (played-other (is_play words) input input' output output' a.verdict
           (λ u. scenario_usage place (sym (same is (λ h. scenario_write place h) ∙ is) ∙ u)) a.is_verdict)
           (same is (λ h. scenario_write place h) ∙ is);
-      no_scenario = λ bytes place accepted tells short is. elim told [ inl e ↦
-          no_scenario-at input input' output output' c c' bytes place a.verdict answer
-          (played-of (is_play words) input input' output output' a.verdict accepted a.is_verdict) e tells short is
-          | inr x ↦ inr (inr (inr (x.0, inr x.1))) ];
+      no_scenario = λ bytes place accepted tells short is. elim told [
+        | inl e ↦
+            no_scenario-at input input' output output' c c' bytes place a.verdict answer
+            (played-of (is_play words) input input' output output' a.verdict accepted a.is_verdict) e tells short is
+        | inr x ↦ inr (inr (inr (x.0, inr x.1)))
+      ];
       too_long = λ is. cause-at input input' output output' a.verdict status.InputTooLong
           (played-other (is_play words) input input' output output' a.verdict
           (λ u. long_usage (sym (same is (λ h. long_write h) ∙ is) ∙ u)) a.is_verdict) (same is (λ h. long_write h)
           ∙ is);
-      longer = λ bytes accepted tells long. elim told [ inl e ↦
-          longer-at input input' output output' c c' bytes a.verdict answer
-          (played-of (is_play words) input input' output output' a.verdict accepted a.is_verdict) e tells long
-          | inr x ↦ inr (inr (inr (x.0, inr x.1))) ];
+      longer = λ bytes accepted tells long. elim told [
+        | inl e ↦
+            longer-at input input' output output' c c' bytes a.verdict answer
+            (played-of (is_play words) input input' output output' a.verdict accepted a.is_verdict) e tells long
+        | inr x ↦ inr (inr (inr (x.0, inr x.1)))
+      ];
       read_fault =
           λ is. (cause-at input input' output output' a.verdict status.ReadFault
           (played-other (is_play words) input input' output output' a.verdict
@@ -269,10 +282,12 @@ answers words input input' output output' c c' answer a =
           ∙ is)).reason_is.1;
       write_fault = λ is. write_fault-of (is_play words) input input' output output' c c' a.verdict answer
           a.is_verdict told is;
-      complete = λ bytes scenario accepted tells short is. elim told [ inl e ↦
-          complete-at input input' output output' c c' bytes scenario a.verdict answer
-          (played-of (is_play words) input input' output output' a.verdict accepted a.is_verdict) e tells short is
-          | inr x ↦ inr (inr (inr (x.0, inr x.1))) ];
+      complete = λ bytes scenario accepted tells short is. elim told [
+        | inl e ↦
+            complete-at input input' output output' c c' bytes scenario a.verdict answer
+            (played-of (is_play words) input input' output output' a.verdict accepted a.is_verdict) e tells short is
+        | inr x ↦ inr (inr (inr (x.0, inr x.1)))
+      ];
       out_of_memory = λ is. cause-at input input' output output' a.verdict status.OutOfMemory
           (played-other (is_play words) input input' output output' a.verdict
           (λ u. memory_usage (sym (same is (λ h. memory_write h) ∙ is) ∙ u)) a.is_verdict)
@@ -322,11 +337,14 @@ answers words input input' output output' c c' answer a =
         → GaveFor input input' (λ bytes. IsWhole bytes input' × WritesPlay bytes output output' × (c' ≡ c))
     ok_at v is =
         let cause = cause-at input input' output output' a.verdict status.Ok
-            (played-other (is_play words) input input' output output' a.verdict (λ u. ok_usage (sym (v ∙ is) ∙ u))
-            a.is_verdict) (v ∙ is) in
+        (played-other (is_play words) input input' output output' a.verdict (λ u. ok_usage (sym (v ∙ is) ∙ u))
+        a.is_verdict) (v ∙ is) in
         record {
           bytes = cause.bytes;
           gave = cause.gave;
-          reason_is = (cause.reason_is.0, cause.reason_is.1,
-              told-nothing c c' a.verdict (subst (λ (x : Status). IsTold c c' a.verdict x) is a.is_told) (v ∙ is));
+          reason_is = (
+            cause.reason_is.0,
+            cause.reason_is.1,
+            told-nothing c c' a.verdict (subst (λ (x : Status). IsTold c c' a.verdict x) is a.is_told) (v ∙ is),
+          );
         }

@@ -74,7 +74,7 @@ request-at client init None request opened own is = cc
 request-at client init (Some url) request opened own is =
     let got = without-fault (first_fault (faults init url)) (made client init url) request is in
     let mode : (made client init url).mode ≡ SameOrigin =
-        is-same-origin init.mode opened (not-navigate init url got.0) in
+    is-same-origin init.mode opened (not-navigate init url got.0) in
     let referrer : IsTrue (is_determined (made client init url).referrer) = rw own refl in
     subst (λ (r : Request). (r.mode ≡ SameOrigin) × IsTrue (is_determined r.referrer)) got.1 (mode, referrer)
 
@@ -83,6 +83,6 @@ pub fetchable_request : (client : Client) (document : Parts) (init : Init) (resu
     → IfOk result IsFetchable
 fetchable_request client document init (Ok request) valid is request_is =
     let got = request-at client (normalized_init init) (url_given client init.url) request valid.mode
-        valid.client_referrer (sym is) in
+    valid.client_referrer (sym is) in
     record { valid = request_is; same_origin = got.0; determined = got.1 }
 fetchable_request client document init (Err fault) valid is request_is = tt

@@ -39,7 +39,6 @@ use Rattle.wf_fetch.specs.Runs.{limit_before, normalized_init, script_run, showi
 use Rattle.wf_top.specs.declared.running.Running.{Running}
 use Rattle.wf_top.specs.Plays.{RunsOver, after_event}
 use Rattle.wf_top.specs.Private.Runs.{Ends, Shows, Played, Fetched, progress_of}
-use Rattle.wf_wire.specs.declared.wire.Wire.{Wire}
 use Rattle.wf_wire.specs.Exchanges.{Exchange, Exchanges, idle}
 use Rattle.wf_wire.specs.Wires.{exchange_of}
 
@@ -50,8 +49,12 @@ shows-append a b rest = ap (λ (l : List Event). let r : PlayRun = record { even
 
 -- a part that shows nothing
 pub shows-none : {A : Type 0} (limit : ℕ) (part : A → Play) (running : Running) → Shows limit part part running running
-shows-none limit part running = record { made = []; added = sym (append-nil running.events); run =
-    λ next later runs. runs }
+shows-none limit part running = record {
+  made = [];
+  added = sym (append-nil running.events);
+  run =
+      λ next later runs. runs;
+}
 
 -- one part, and then the next
 pub shows-then : {A : Type 0} (limit : ℕ) (first middle rest : A → Play) (a b c : Running)
@@ -90,7 +93,7 @@ emitted-over : (limit : ℕ) (event : Event) (play : Play) (later : PlayRun) (a 
     → RunsOver limit (exchange_of a.wire) (emit event play) (shows (event ∷ []) later)
 emitted-over limit event play later a b stands runs =
     emitted limit (exchange_of a.wire) event play later
-        (subst (λ (e : Exchange). RunsOver limit e play later) stands runs)
+    (subst (λ (e : Exchange). RunsOver limit e play later) stands runs)
 
 -- an event, and what stands there then
 played_event : (limit : ℕ) (event : Event) (a b : Running) → b.commands ≡ a.commands → b.fetches ≡ a.fetches
@@ -101,7 +104,7 @@ played_event limit event a b commands fetches added stands = record {
   added = added;
   run = λ next later runs. emitted-over limit event (next (after_events (event ∷ []) (progress_of a))) later a b stands
       (subst (λ (p : Progress). RunsOver limit (exchange_of b.wire) (next p) later)
-          (progress-after a b (event ∷ []) commands fetches added) runs);
+      (progress-after a b (event ∷ []) commands fetches added) runs);
 }
 
 -- no request was made
@@ -158,23 +161,23 @@ pub fetching-next : (context : Context) (limit : ℕ) (whole : Process) (old a b
     → Does context at (rest fetching input) → IsFetching context limit whole old b at
 fetching-next context limit whole old a b fetching first input at is came fit added commands fetches does =
     let stands : progress_of b ≡ after_events (events_of first input) (progress_of a) =
-        progress-after a b (events_of first input) commands fetches added in
+    progress-after a b (events_of first input) commands fetches added in
     let acted : Shows limit (λ (next : Outcome → Next). embed (act fetching.request first (rest fetching)) next
-        (progress_of a)) (λ next. embed (rest fetching input) next
-        (after_events (events_of first input) (progress_of a))) a b =
+    (progress_of a)) (λ next. embed (rest fetching input) next
+    (after_events (events_of first input) (progress_of a))) a b =
     shows-act limit fetching.request first
-        (λ (next : Outcome → Next) (i : Input). embed (rest fetching i) next
-        (after_events (events_of first i) (progress_of a))) input a b added came fit in
+    (λ (next : Outcome → Next) (i : Input). embed (rest fetching i) next
+    (after_events (events_of first i) (progress_of a))) input a b added came fit in
     let before : Shows limit (λ (next : Outcome → Next). embed whole next (progress_of old))
-        (λ next. embed (act fetching.request first (rest fetching)) next (progress_of a)) old a =
+    (λ next. embed (act fetching.request first (rest fetching)) next (progress_of a)) old a =
     subst (λ (p : Process). Shows limit (λ (next : Outcome → Next). embed whole next (progress_of old))
-        (λ next. embed p next (progress_of a)) old a) is.does.1 is.shown in
+    (λ next. embed p next (progress_of a)) old a) is.does.1 is.shown in
     let joined : Shows limit (λ (next : Outcome → Next). embed whole next (progress_of old))
-        (λ next. embed (rest fetching input) next (after_events (events_of first input) (progress_of a))) old b =
+    (λ next. embed (rest fetching input) next (after_events (events_of first input) (progress_of a))) old b =
     shows-then limit (λ (next : Outcome → Next). embed whole next (progress_of old))
-        (λ next. embed (act fetching.request first (rest fetching)) next (progress_of a))
-        (λ next. embed (rest fetching input) next (after_events (events_of first input) (progress_of a))) old a b
-        before acted in
+    (λ next. embed (act fetching.request first (rest fetching)) next (progress_of a))
+    (λ next. embed (rest fetching input) next (after_events (events_of first input) (progress_of a))) old a b
+    before acted in
     record {
       process = rest fetching input;
       does = does;
@@ -187,7 +190,7 @@ fetching-end : (context : Context) (limit : ℕ) (whole : Process) (old now : Ru
     → IsFetching context limit whole old now (Over outcome) → Fetched limit whole old now outcome
 fetching-end context limit whole old now outcome is =
     subst (λ (p : Process). Shows limit (λ (next : Outcome → Next). embed whole next (progress_of old))
-        (λ next. embed p next (progress_of now)) old now) is.does is.shown
+    (λ next. embed p next (progress_of now)) old now) is.does is.shown
 
 -- the same at a step that is over
 pub fetching-over : (context : Context) (limit : ℕ) (whole : Process) (old now : Running) (at : Step)
@@ -195,7 +198,7 @@ pub fetching-over : (context : Context) (limit : ℕ) (whole : Process) (old now
     → Fetched limit whole old now outcome
 fetching-over context limit whole old now at outcome is fetching =
     fetching-end context limit whole old now outcome
-        (subst (λ (s : Step). IsFetching context limit whole old now s) is fetching)
+    (subst (λ (s : Step). IsFetching context limit whole old now s) is fetching)
 
 -- how many acts are left to a fetch at a step
 abbrev pub acts_at : Act → ℕ
@@ -286,7 +289,7 @@ pub fetching-smaller : (context : Context) (limit : ℕ) (whole : Process) (old 
 fetching-smaller context limit whole old now at next fetching first input is so_far does =
     let waits = subst (λ (a : Step). IsFetching context limit whole old now a) is so_far in
     subst (λ (a : Step). acts_left next < acts_left a) (sym is)
-        (acts-fewer context fetching first input next waits.does.0 does)
+    (acts-fewer context fetching first input next waits.does.0 does)
 
 -- and stands at the next step then
 pub fetching-on : (context : Context) (limit : ℕ) (whole : Process) (old a b : Running) (at next : Step)
@@ -296,7 +299,7 @@ pub fetching-on : (context : Context) (limit : ℕ) (whole : Process) (old a b :
     ≡ a.fetches → Does context next (rest fetching input) → IsFetching context limit whole old b next
 fetching-on context limit whole old a b at next fetching first input is so_far came fit added commands fetches does =
     fetching-next context limit whole old a b fetching first input next
-        (subst (λ (s : Step). IsFetching context limit whole old a s) is so_far) came fit added commands fetches does
+    (subst (λ (s : Step). IsFetching context limit whole old a s) is so_far) came fit added commands fetches does
 
 -- ---- commands
 
@@ -307,9 +310,9 @@ pub played_fetched : (limit : ℕ) (whole : Process) (outcome : Outcome) (a b c 
     → Played limit (λ next. embed whole (λ outcome. showing (event.Result outcome) next)) a c
 played_fetched limit whole outcome a b c came commands fetches added last =
     shows-then limit (λ (next : Next). embed whole (λ outcome. showing (event.Result outcome) next) (progress_of a))
-        (λ next. showing (event.Result outcome) next (progress_of b)) (λ next. next (progress_of c)) a b c
+    (λ next. showing (event.Result outcome) next (progress_of b)) (λ next. next (progress_of c)) a b c
     (shows-within limit (λ (next : Outcome → Next). embed whole next (progress_of a))
-        (λ next. next outcome (progress_of b)) a b (λ (next : Next) (o : Outcome). showing (event.Result o) next) came)
+    (λ next. next outcome (progress_of b)) a b (λ (next : Next) (o : Outcome). showing (event.Result o) next) came)
     (played_event limit (event.Result outcome) b c commands fetches added last)
 
 -- a fetch has started, and goes on as the rest
@@ -319,7 +322,7 @@ played_started : (limit : ℕ) (rest : Next → Next) (a b c : Running) → b.co
     (λ next. next (progress_of c)) a c
 played_started limit rest a b c commands fetches added last played =
     shows-then limit (λ (next : Next). showing (event.Fetch a.fetches) (rest next) (started (progress_of a)))
-        (λ next. rest next (progress_of b)) (λ next. next (progress_of c)) a b c
+    (λ next. rest next (progress_of b)) (λ next. next (progress_of c)) a b c
     (record {
       made = event.Fetch a.fetches ∷ [];
       added = added;
@@ -341,8 +344,8 @@ pub played_command : (limit : ℕ) (context : Context) (init : Init) (made : Res
     → OnOk result (Played limit (command_run context (command.Fetch init)) a c)
 played_command limit context init made a b c (Ok done) commands fetches added wire is played =
     subst (λ (m : Result Request TypeFault). Shows limit
-        (λ (next : Next). showing (event.Fetch a.fetches) (fetched context m next) (started (progress_of a)))
-        (λ next. next (progress_of c)) a c) is
+    (λ (next : Next). showing (event.Fetch a.fetches) (fetched context m next) (started (progress_of a)))
+    (λ next. next (progress_of c)) a c) is
     (played_started limit (fetched context made) a b c commands fetches added wire played)
 played_command limit context init made a b c (Err refused) commands fetches added wire is played = tt
 
@@ -352,7 +355,7 @@ played_command limit context init made a b c (Err refused) commands fetches adde
 abbrev pub IsAt : Context → ℕ → List Command → ℕ → Running → Running → Type 0
 IsAt context limit script index old now =
     Shows limit (λ (next : Next). script_run context script next (progress_of old))
-        (λ next. script_run context (drop index script) next (progress_of now)) old now
+    (λ next. script_run context (drop index script) next (progress_of now)) old now
 
 drop-at : (l : List Command) (i : ℕ) (x : Command) → i < length l → get_or l i x ≡ x → drop i l ≡ x ∷ drop (i + 1) l
 drop-at l i x lt e = rw (add-one, drop-cons l i x) (ap (λ (y : Command). y ∷ drop (suc i) l) e)
@@ -366,7 +369,7 @@ at-command : (context : Context) (limit : ℕ) (script : List Command) (index : 
     (command_run context command (script_run context (drop (index + 1) script) next) (progress_of now))) old now
 at-command context limit script index command old now within is at =
     subst (λ (l : List Command). Shows limit (λ (next : Next). script_run context script next (progress_of old))
-        (λ next. script_run context l next (progress_of now)) old now) (drop-at script index command within is) at
+    (λ next. script_run context l next (progress_of now)) old now) (drop-at script index command within is) at
 
 -- a run that is over
 over-now : (limit : ℕ) (exchange : Exchange) (ending : Ending)
@@ -379,7 +382,7 @@ ended-with : (limit : ℕ) (exchange : Exchange) (play : Play) (made : List Even
     → RunsOver limit exchange play (record { events = made; ending = Some (ending, 0) })
 ended-with limit exchange play made ending runs =
     subst (λ (l : List Event). RunsOver limit exchange play (record { events = l; ending = Some (ending, 0) }))
-        (append-nil made) runs
+    (append-nil made) runs
 
 -- a limit ends the run before the command
 script-limited-here : (context : Context) (most : ℕ) (script : List Command) (index : ℕ) (command : Command)
@@ -406,15 +409,15 @@ script-next-here : (context : Context) (limit : ℕ) (script : List Command) (in
     → Played limit (command_run context command) now later → IsAt context limit script (index + 1) old later
 script-next-here context limit script index command old now later within is none at played =
     shows-then limit (λ (next : Next). script_run context script next (progress_of old))
-        (λ next. command_run context command (script_run context (drop (index + 1) script) next) (progress_of now))
-        (λ next. script_run context (drop (index + 1) script) next (progress_of later)) old now later
+    (λ next. command_run context command (script_run context (drop (index + 1) script) next) (progress_of now))
+    (λ next. script_run context (drop (index + 1) script) next (progress_of later)) old now later
     (subst (λ (reached : Option Ending). Shows limit
-        (λ (next : Next). script_run context script next (progress_of old))
-        (λ next. unless_limit reached
-        (command_run context command (script_run context (drop (index + 1) script) next) (progress_of now))) old now)
-        none (at-command context limit script index command old now within is at))
+    (λ (next : Next). script_run context script next (progress_of old))
+    (λ next. unless_limit reached
+    (command_run context command (script_run context (drop (index + 1) script) next) (progress_of now))) old now)
+    none (at-command context limit script index command old now within is at))
     (shows-within limit (λ (next : Next). command_run context command next (progress_of now))
-        (λ next. next (progress_of later)) now later (λ next. script_run context (drop (index + 1) script) next) played)
+    (λ next. next (progress_of later)) now later (λ next. script_run context (drop (index + 1) script) next) played)
 
 -- after the last command the run is over
 script-over-here : (context : Context) (limit : ℕ) (script : List Command) (index : ℕ) (old now : Running)
@@ -438,8 +441,8 @@ pub script-limited : (context : Context) (most : ℕ) (script items : List Comma
     → Ends most (script_run context script end_of (progress_of old)) old now ending
 script-limited context most script items index command reached ending old now same within is limit ends at =
     script-limited-here context most script index command ending old now
-        (subst (λ (l : List Command). index < length l) same within)
-        (sym (subst (λ (l : List Command). command ≡ get_or l index command) same is)) (sym limit ∙ ends) at
+    (subst (λ (l : List Command). index < length l) same within)
+    (sym (subst (λ (l : List Command). command ≡ get_or l index command) same is)) (sym limit ∙ ends) at
 
 pub script-next : (context : Context) (most : ℕ) (script items : List Command) (index : ℕ) (command : Command)
     (reached : Option Ending) (old now later : Running) → items ≡ script → index < length items → command
@@ -448,8 +451,8 @@ pub script-next : (context : Context) (most : ℕ) (script items : List Command)
     → IsAt context most script (index + 1) old later
 script-next context most script items index command reached old now later same within is limit none at played =
     script-next-here context most script index command old now later
-        (subst (λ (l : List Command). index < length l) same within)
-        (sym (subst (λ (l : List Command). command ≡ get_or l index command) same is)) (sym limit ∙ none) at played
+    (subst (λ (l : List Command). index < length l) same within)
+    (sym (subst (λ (l : List Command). command ≡ get_or l index command) same is)) (sym limit ∙ none) at played
 
 pub script-over : (context : Context) (most : ℕ) (script items : List Command) (index : ℕ) (old now : Running) → items
     ≡ script → length items ≤ index → IsAt context most script index old now

@@ -164,7 +164,7 @@ fn run_script(
     requires valid { All (IsValidCommand document.now.url) document.now.script }
     ensures ends { IfOk result (λ ending. Ends setting.now.limit
         (script_run (lent setting.now.client.now setting.now.cookies.now) document.now.script finished
-            (progress_of running.old))
+        (progress_of running.old))
         running.old running.new ending) }
     ensures has_text { IfOk result (λ ending. ending ≢ Ending.Memory) }
 {

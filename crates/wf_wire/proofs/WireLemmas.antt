@@ -43,21 +43,21 @@ pub head-final : (whole reader window left : List ℕ) (head : Head) (n : ℕ) �
     → IsFinal (reader ++ window) head (length reader + n) → IsHeadEnd whole (final head (length reader + n))
 head-final whole reader window left head n is found =
     subst (λ (l : List ℕ). IsFinal l head (length reader + n)) (joined whole reader window left is)
-        (final-more (reader ++ window) left head (length reader + n) found)
+    (final-more (reader ++ window) left head (length reader + n) found)
 
 -- the bytes behind it
 pub behind-head : (whole reader window left : List ℕ) (n : ℕ) → reader ++ (window ++ left) ≡ whole → n ≤ length window
     → drop (length reader + n) whole ≡ drop n window ++ left
 behind-head whole reader window left n is within =
     ap (λ (l : List ℕ). drop (length reader + n) l) (sym is) ∙ drop-append-add reader (window ++ left) n
-        ∙ drop-append-le n window left within
+    ∙ drop-append-le n window left within
 
 -- a block that is no head
 pub head-bad : (whole reader window left : List ℕ) → reader ++ (window ++ left) ≡ whole
     → HasBadBlock (reader ++ window) → IsHeadEnd whole bad
 head-bad whole reader window left is found =
     inl (subst (λ (l : List ℕ). HasBadBlock l) (joined whole reader window left is)
-        (bad-more (reader ++ window) left found))
+    (bad-more (reader ++ window) left found))
 
 -- too long a head
 pub head-long : (whole reader window left : List ℕ) → reader ++ (window ++ left) ≡ whole
@@ -70,7 +70,7 @@ pub head-ends : (whole reader window left : List ℕ) → reader ++ (window ++ l
     → IsUnfinished (reader ++ window) → IsHeadEnd whole bad
 head-ends whole reader window left is none found =
     inr (subst (λ (l : List ℕ). IsUnfinished l) (sym (append-nil (reader ++ window))
-        ∙ ap (λ (l : List ℕ). (reader ++ window) ++ l) (sym none) ∙ joined whole reader window left is) found)
+    ∙ ap (λ (l : List ℕ). (reader ++ window) ++ l) (sym none) ∙ joined whole reader window left is) found)
 
 -- the body is decided
 pub body-over : (framing : Framing) (limit : ℕ) (whole reader window left : List ℕ) (end : BodyEnd) → reader
@@ -95,10 +95,10 @@ pub found-head : (coming reader piece : List ℕ) (wire : Wire) (step : HeadStep
     → step ≡ heads.Final head n → Finds coming (found.Head head n) wire
 found-head coming reader piece wire step head n is same fed ended =
     let final_fed : (n ≤ length piece) × IsFinal (reader ++ piece) head (length reader + n) =
-        subst (λ (s : HeadStep). HeadFed reader piece s) ended fed in
+    subst (λ (s : HeadStep). HeadFed reader piece s) ended fed in
     let within : n ≤ length (window_of wire) = subst (λ (p : List ℕ). n ≤ length p) same final_fed.0 in
     let here : IsFinal (reader ++ window_of wire) head (length reader + n) =
-        subst (λ (p : List ℕ). IsFinal (reader ++ p) head (length reader + n)) same final_fed.1 in (
+    subst (λ (p : List ℕ). IsFinal (reader ++ p) head (length reader + n)) same final_fed.1 in (
       length reader + n,
       head-final coming reader (window_of wire) wire.link.left head n is here,
       within,
@@ -125,7 +125,7 @@ pub more-coming : (coming reader piece window left next window' left' : List ℕ
     → window' ++ left' ≡ left → next ++ (window' ++ left') ≡ coming
 more-coming coming reader piece window left next window' left' step is same fed undecided received =
     let more_fed : (next ≡ reader ++ piece) × IsUnfinished (reader ++ piece) =
-        subst (λ (s : HeadStep). HeadFed reader piece s) undecided fed in
+    subst (λ (s : HeadStep). HeadFed reader piece s) undecided fed in
     rw more_fed.0 (rw received (rw same (joined coming reader window left is)))
 
 -- of the link as much was taken as was read and stands in the window, what stood there before left out
@@ -133,8 +133,16 @@ pub few-taken : (before old reader window left : List ℕ) (seen : ℕ) → read
     → length window ≤ (most_bytes + 1) - seen → seen ≡ length reader → IsUnfinished reader
     → length old ≤ length left + (most_bytes + 1)
 few-taken before old reader window left seen is within all unfinished =
-    omega (arith, ap length is, length-append before old, length-append reader (window ++ left),
-        length-append window left, within, all, unfinished.short)
+    omega (
+      arith,
+      ap length is,
+      length-append before old,
+      length-append reader (window ++ left),
+      length-append window left,
+      within,
+      all,
+      unfinished.short,
+    )
 
 -- the head is read
 pub head-read : (old new : Exchange) (servers : List Server) (window left : List ℕ) (head : Head) (count n : ℕ)
@@ -154,9 +162,9 @@ pub body-read : (framing : Framing) (limit : ℕ) (whole window piece left : Lis
     ≡ body_end framing limit whole
 body-read framing limit whole window piece left reading step end is framed limited same fed over =
     let decided : IsDecided reading.framing reading.limit (reading.bytes ++ piece) end =
-        subst (λ (s : BodyStep). BodyFed reading piece s) over fed in
+    subst (λ (s : BodyStep). BodyFed reading piece s) over fed in
     let here : IsDecided reading.framing reading.limit (reading.bytes ++ window) end =
-        subst (λ (p : List ℕ). IsDecided reading.framing reading.limit (reading.bytes ++ p) end) same decided in
+    subst (λ (p : List ℕ). IsDecided reading.framing reading.limit (reading.bytes ++ p) end) same decided in
     subst (λ (f : Framing). end ≡ body_end f limit whole) framed
     (subst (λ (l : ℕ). end ≡ body_end reading.framing l whole) limited
     (body-over reading.framing reading.limit whole reading.bytes window left end is here))
@@ -170,4 +178,4 @@ window-behind buffer from to count within =
     let rest : ℕ = to - (from + count) in
     let parts : to - from ≡ count + rest = omega (arith, within, length-take (to - from) (drop from buffer)) in
     sym (ap (λ (n : ℕ). drop count (take n (drop from buffer))) parts ∙ drop-take count rest (drop from buffer)
-        ∙ ap (λ (l : List ℕ). take rest l) (drop-drop count from buffer))
+    ∙ ap (λ (l : List ℕ). take rest l) (drop-drop count from buffer))

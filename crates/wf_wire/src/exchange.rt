@@ -58,12 +58,7 @@ impl<'a> Wire<'a> {
     /// their answer is read, of which the link gives 65,537 bytes at most; or the body behind it, which
     /// has at most so many bytes. The link is hung up where no head came and at the end of a body. After
     /// `OutOfMemory` nothing is said of what is to come.
-    pub fn exchange(
-        &mut self,
-        alloc: Global,
-        limit: u32,
-        act: &Act,
-    ) -> Result<Input, OutOfMemory>
+    pub fn exchange(&mut self, alloc: Global, limit: u32, act: &Act) -> Result<Input, OutOfMemory>
         requires { IsPlain act.now }
         ensures came { IfOk result (λ input. spec.Exchanges limit (exchange_of self.old) act.now input
             (exchange_of self.new)) }

@@ -45,7 +45,7 @@ pub record IsFetchable (request : Request) : Type 0 where
 abbrev pub Fetched : ℕ → Process → Running → Running → Outcome → Type 0
 Fetched limit whole old new outcome =
     Shows limit (λ (next : Outcome → Next). embed whole next (progress_of old))
-        (λ next. next outcome (progress_of new)) old new
+    (λ next. next outcome (progress_of new)) old new
 
 -- a run came to its end: it has shown what was added to the events, and its clock stands still
 pub record Ends (limit : ℕ) (whole : Play) (old new : Running) (ending : Ending) : Type 0 where

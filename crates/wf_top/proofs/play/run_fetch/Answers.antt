@@ -15,8 +15,8 @@ pub loop-step-smaller : goal.loop-step-smaller
 loop-step-smaller c =
     let context = lent c.args.setting.now.client.now c.args.setting.now.cookies.now in
     fetching-smaller context c.args.setting.now.limit (main_fetch context c.args.request) c.args.running.now
-        c.loop-step.running c.loop-step.step c.in_ok-step-in-Going.step c.in-Going.fetching c.in-Going.act
-        c.in_ok-input-in-Going.input c.in-Going.is c.loop-step.invariant.fetching c.in_ok-step-in-Going.ensures.process
+    c.loop-step.running c.loop-step.step c.in_ok-step-in-Going.step c.in-Going.fetching c.in-Going.act
+    c.in_ok-input-in-Going.input c.in-Going.is c.loop-step.invariant.fetching c.in_ok-step-in-Going.ensures.process
 
 pub loop-step-preserved : goal.loop-step-preserved
 loop-step-preserved c =
@@ -35,4 +35,4 @@ pub returns-in-Over : goal.returns-in-Over
 returns-in-Over c =
     let context = lent c.args.setting.now.client.now c.args.setting.now.cookies.now in
     fetching-over context c.args.setting.now.limit (main_fetch context c.args.request) c.args.running.now
-        c.loop-step.running c.loop-step.step c.in-Over.outcome c.in-Over.is c.loop-step.invariant.fetching
+    c.loop-step.running c.loop-step.step c.in-Over.outcome c.in-Over.is c.loop-step.invariant.fetching

@@ -7,5 +7,5 @@ pub returns : goal.returns
 returns c =
     let old = c.args.self.now in
     ap (λ (window : List ℕ). let there : Exchange =
-        record { servers = old.link.servers; coming = window ++ old.link.left; framing = c.args.framing } in there)
+    record { servers = old.link.servers; coming = window ++ old.link.left; framing = c.args.framing } in there)
     (window-behind old.buffer.items old.from old.to c.args.count c.requires)

@@ -6,19 +6,19 @@ use Rattle.wf_wire.proofs.wire.Wire.find_head.Goals as goal
 pub returns-in-Final-clause-found : goal.returns-in-Final-clause-found
 returns-in-Final-clause-found c =
     found-head (exchange_of c.args.self.now).coming c.loop-head.reader c.window.result.now c.loop-head.self
-        c.in_ok-head.field-0 c.in-Final.head c.in-Final.count
+    c.in_ok-head.field-0 c.in-Final.head c.in-Final.count
     c.loop-head.invariant.coming c.window.ensures c.in_ok-head.ensures c.in-Final.is
 
 pub returns-in-Bad-clause-found : goal.returns-in-Bad-clause-found
 returns-in-Bad-clause-found c =
     found-bad (exchange_of c.args.self.now).coming c.loop-head.reader (window_of c.loop-head.self)
-        c.window.result.now c.loop-head.self.link.left c.in_ok-head.field-0
+    c.window.result.now c.loop-head.self.link.left c.in_ok-head.field-0
     c.loop-head.invariant.coming c.window.ensures c.in_ok-head.ensures c.in-Bad.is
 
 pub returns-in-TooBig-clause-found : goal.returns-in-TooBig-clause-found
 returns-in-TooBig-clause-found c =
     found-long (exchange_of c.args.self.now).coming c.loop-head.reader (window_of c.loop-head.self)
-        c.window.result.now c.loop-head.self.link.left c.in_ok-head.field-0
+    c.window.result.now c.loop-head.self.link.left c.in_ok-head.field-0
     c.loop-head.invariant.coming c.window.ensures c.in_ok-head.ensures c.in-TooBig.is
 
 pub loop-head-preserved : goal.loop-head-preserved
@@ -28,8 +28,8 @@ loop-head-preserved c =
     let later = c.refill.new.self in
     let received = c.in-Ok-true.ensures in
     let coming = more-coming (exchange_of before).coming c.loop-head.reader c.window.result.now (window_of now)
-        now.link.left c.in-More.next (window_of later) later.link.left c.in_ok-head.field-0
-        c.loop-head.invariant.coming c.window.ensures c.in_ok-head.ensures c.in-More.is received.coming in
+    now.link.left c.in-More.next (window_of later) later.link.left c.in_ok-head.field-0
+    c.loop-head.invariant.coming c.window.ensures c.in_ok-head.ensures c.in-More.is received.coming in
     record {
       coming = coming;
       servers = received.servers ∙ c.loop-head.invariant.servers;
