@@ -1,4 +1,4 @@
--- The definitions computed on worked examples: methods, the faults of requests in their order, and the head
+-- The definitions computed on worked examples: the faults of requests in their order, and the head
 -- of a PUT.
 use Rattle.std.proofs.Common.{◌≡◌, ◌+◌, ◌||◌, refl, ap, ℕ, List, true, false, [], ◌∷◌, codes, Some, None, Ok, Err}
 use Rattle.std.specs.Prelude.{nat_lt, replicate}
@@ -8,7 +8,7 @@ use Rattle.url.specs.declared.host.Host.TheVariants.{Domain}
 use Rattle.url.specs.Parts.{Parts}
 use Rattle.wf_types.specs.declared.client.Client.{Client}
 use Rattle.wf_types.specs.declared.client.Cookie.{Cookie}
-use Rattle.wf_types.specs.declared.mode.Tainting.TheVariants.{Cors}
+use Rattle.wf_types.specs.declared.mode.Tainting.TheVariants.{Basic, Cors}
 use Rattle.wf_types.specs.declared.request.Referrer.TheVariants.{Address}
 use Rattle.wf_types.specs.declared.request.Request.{Request}
 use Rattle.wf_types.specs.declared.fault.TypeFault.TheVariants.{BadUrl, UrlCredentials, BadMethod, ForbiddenMethod}
@@ -19,10 +19,9 @@ use Rattle.wf_types.specs.declared.mode.Mode.TheVariants as mode
 use Rattle.wf_types.specs.declared.mode.RedirectMode.TheVariants.{Follow}
 use Rattle.wf_types.specs.declared.mode.ReferrerPolicy.TheVariants as policy
 use Rattle.wf_types.specs.Clients.{client_of}
-use Rattle.wf_send.specs.Heads.{head_lines}
+use Rattle.wf_send.specs.Heads.{head_lines, includes_credentials}
 use Rattle.wf_types.specs.Lines.{header}
 use Rattle.wf_send.specs.Making.{is_long_body, is_too_long, made, new_request}
-use Rattle.wf_types.specs.Methods.{normalized}
 
 -- https://a.test/
 abbrev pub root : Parts
@@ -66,9 +65,10 @@ put = record asked {
   body = Some (codes "q");
 }
 
--- methods in any case
-pub methods : (normalized (codes "pUt") ≡ codes "PUT") × (normalized (codes "patch") ≡ codes "patch")
-methods = (refl, refl)
+-- credentials for the same origin
+pub credentials_included : (includes_credentials credentials.SameOrigin Basic ≡ true)
+    × (includes_credentials credentials.SameOrigin Cors ≡ false)
+credentials_included = (refl, refl)
 
 -- each fault before those behind it
 pub faults_in_order : (new_request client (record put { url = codes "http://" }) ≡ Err BadUrl)

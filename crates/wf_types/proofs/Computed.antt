@@ -1,12 +1,15 @@
--- The definition of a tainted origin computed along redirects that were written down by hand: a request of a document
--- at http://a.test.
+-- The definitions computed on examples that were written down by hand: methods, URLs, and tainted origins along
+-- redirects, of a request of a document at http://a.test.
 use Rattle.std.proofs.Common.{◌≡◌, refl, ℕ, List, [], ◌∷◌, true, false, codes, Some, None}
 use Rattle.url.proofs.OnLiterals.{url_on_literals}
 use Rattle.url.specs.declared.host.Host.TheVariants.{Domain}
 use Rattle.url.specs.Parts.{Parts}
 use Rattle.wf_origin.specs.declared.origin.Origin.{Origin}
 use Rattle.wf_origin.specs.Origins.{tuple_origin}
+use Rattle.std.specs.Str.{is_utf8, chars}
+use Rattle.wf_types.specs.Methods.{is_safelisted_method, normalized}
 use Rattle.wf_types.specs.Requests.{has_tainted_origin}
+use Rattle.wf_types.specs.Urls.{url_against}
 
 -- http://HOST/
 abbrev at : List ℕ → Parts
@@ -47,3 +50,15 @@ away = (refl, refl)
 detour : (has_tainted_origin home (b ∷ c ∷ []) ≡ true) × (has_tainted_origin home (b ∷ c ∷ a ∷ []) ≡ true)
 unfolding url_on_literals
 detour = (refl, refl)
+
+-- a text against the URL of a document; what is not UTF-8 is no URL
+against_base : (url_against (record a { path = codes "/x/y" }) (codes "../z") ≡ Some (record a { path = codes "/z" }))
+    × (url_against a (255 ∷ []) ≡ None)
+unfolding url_on_literals is_utf8 chars
+against_base = (refl, refl)
+
+-- methods in any case
+methods : (normalized (codes "pUt") ≡ codes "PUT") × (normalized (codes "Options") ≡ codes "OPTIONS")
+    × (normalized (codes "patch") ≡ codes "patch") × (is_safelisted_method (codes "HEAD") ≡ true)
+    × (is_safelisted_method (codes "head") ≡ false)
+methods = (refl, refl, refl, refl, refl)
