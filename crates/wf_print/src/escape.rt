@@ -6,7 +6,7 @@ ghost use Rattle.wf_print.specs.Escapes as spec;
 use crate::output::Output;
 
 // How many bytes are looked at together.
-const BLOCK: usize = 128;
+const BLOCK: usize = 512;
 
 // Whether the byte stands for itself in an escaped text.
 fn is_plain(byte: u8) -> bool
