@@ -16,7 +16,7 @@ use wf_types::Head;
 const MOST_BYTES: usize = 65_536;
 
 // How many bytes most heads have at most, for which room is made first.
-const FEW_BYTES: usize = 4_096;
+const FEW_BYTES: usize = 1_024;
 
 /// Reads the heads of an answer from pieces, and is seen as all bytes so far, which decide nothing yet.
 #[derive(Drop)]
@@ -78,7 +78,7 @@ fn line_length(bytes: &[u8]) -> usize
 }
 
 impl HeadReader {
-    /// A reader of the heads of an answer. Room for 4,096 bytes is made here, and more where a head
+    /// A reader of the heads of an answer. Room for 1,024 bytes is made here, and more where a head
     /// needs it.
     pub fn new(alloc: Global) -> Result<HeadReader, OutOfMemory>
         ensures { IfOk result (λ reader. reader ≡ []) }
