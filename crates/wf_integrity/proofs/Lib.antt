@@ -1,0 +1,2 @@
+pub mod MatchingLemmas
+pub mod TokenLemmas
