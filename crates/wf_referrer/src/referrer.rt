@@ -1,0 +1,87 @@
+ghost use Rattle.std.specs.Prelude.{◌≡◌, IfOk, IsTrue};
+ghost use Rattle.wf_referrer.specs.Referrer as spec;
+ghost use Rattle.wf_types.specs.Requests.{is_http_url, is_policy};
+
+use crate::strip::{origin_only, whole};
+use std::alloc::Global;
+use url::Url;
+use wf_origin::{is_origin_of, is_trustworthy_url, origin_of};
+use wf_text::OutOfMemory;
+use wf_types::ReferrerPolicy;
+
+// Whether the two URLs have the same origin.
+fn is_same_origin(alloc: Global, source: &Url, target: &Url) -> Result<bool, OutOfMemory>
+    ensures { IfOk result (λ same. same ≡ spec.is_same_origin source.now target.now) }
+{
+    match origin_of(alloc, source)? {
+        None => Ok(false),
+        Some(origin) => Ok(is_origin_of(&origin, target)),
+    }
+}
+
+// Whether it goes from a potentially trustworthy URL to one that is not.
+fn is_downgrade(source: &Url, target: &Url) -> bool
+    ensures { result ≡ spec.is_downgrade source.now target.now }
+{
+    is_trustworthy_url(source) && !is_trustworthy_url(target)
+}
+
+/// The referrer that a policy tells a target URL of a source URL, or none (Referrer Policy, section
+/// 8.3, "determine request's Referrer"): the source without user name, password and fragment, which
+/// is cut to its origin where its text is longer than 4,096 bytes, or the source's origin with the
+/// path `/`. The policy is not the empty one, and both URLs are http or https. The only error is want
+/// of memory, which a URL of 4 GB counts as.
+pub fn determine(
+    alloc: Global,
+    policy: ReferrerPolicy,
+    source: &Url,
+    target: &Url,
+) -> Result<Option<Url>, OutOfMemory>
+    requires policy { IsTrue (is_policy policy) }
+    requires source { IsTrue (is_http_url source.now) }
+    requires target { IsTrue (is_http_url target.now) }
+    ensures { IfOk result (λ referrer. referrer ≡ spec.determine policy source.now target.now) }
+{
+    match policy {
+        ReferrerPolicy::Empty | ReferrerPolicy::NoReferrer => Ok(None),
+        ReferrerPolicy::Origin => origin_only(source),
+        ReferrerPolicy::UnsafeUrl => whole(source),
+        ReferrerPolicy::SameOrigin => {
+            if is_same_origin(alloc, source, target)? {
+                whole(source)
+            } else {
+                Ok(None)
+            }
+        }
+        ReferrerPolicy::OriginWhenCrossOrigin => {
+            if is_same_origin(alloc, source, target)? {
+                whole(source)
+            } else {
+                origin_only(source)
+            }
+        }
+        ReferrerPolicy::StrictOrigin => {
+            if is_downgrade(source, target) {
+                Ok(None)
+            } else {
+                origin_only(source)
+            }
+        }
+        ReferrerPolicy::StrictOriginWhenCrossOrigin => {
+            if is_same_origin(alloc, source, target)? {
+                whole(source)
+            } else if is_downgrade(source, target) {
+                Ok(None)
+            } else {
+                origin_only(source)
+            }
+        }
+        ReferrerPolicy::NoReferrerWhenDowngrade => {
+            if is_downgrade(source, target) {
+                Ok(None)
+            } else {
+                whole(source)
+            }
+        }
+    }
+}
