@@ -1,0 +1,150 @@
+ghost use Rattle.std.specs.Prelude.{◌≡◌, ◌==◌, filter, map, IfOk, OnOk};
+ghost use Rattle.std.specs.List.{filter_map, list_all, list_any, slice_split};
+ghost use Rattle.std.specs.Char.{is_ascii_whitespace};
+ghost use Rattle.std.specs.Str.{bytes_eq};
+ghost use Rattle.wf_csp_text.specs.Policies as spec;
+ghost use Rattle.wf_csp_text.specs.Private.Collecting.{with_found, with_new};
+
+use crate::policy::{Directive, Directives, Policies, Policy};
+use std::alloc::{AllocError, Global};
+use wf_text::{Bytes, BytesList, OutOfMemory, in_lower_case};
+
+// Whether all bytes are ASCII.
+fn are_ascii(text: &[u8]) -> bool
+    ensures { result ≡ list_all spec.is_ascii text.now }
+{
+    text.iter().all(|byte| *byte < 128)
+}
+
+// Whether a directive of that name is among these.
+fn has_name(directives: &[Directive], name: &[u8]) -> bool
+    ensures { result ≡ list_any (λ directive. bytes_eq name.now directive.name) directives.now }
+{
+    directives
+        .iter()
+        .any(|directive| name == directive.name.as_slice())
+}
+
+// The parts of a text between such bytes.
+fn between(alloc: Global, text: &[u8], byte: u8) -> Result<Vec<&[u8]>, AllocError>
+    ensures { IfOk result (λ parts. map (λ part. part.now) parts.items ≡ slice_split (λ b. b == byte) text.now) }
+{
+    text.split(|b| *b == byte).collect(alloc)
+}
+
+// The parts of a text between bytes of ASCII whitespace.
+fn between_blanks(alloc: Global, text: &[u8]) -> Result<Vec<&[u8]>, AllocError>
+    ensures { IfOk result (λ parts. map (λ part. part.now) parts.items ≡ slice_split is_ascii_whitespace text.now) }
+{
+    text.split(|b| b.is_ascii_whitespace()).collect(alloc)
+}
+
+// The parts that have a byte, copied.
+fn filled(alloc: Global, parts: &[&[u8]]) -> Result<BytesList, OutOfMemory>
+    ensures { IfOk result (λ words. words ≡ filter spec.is_filled (map (λ part. part.now) parts.now)) }
+{
+    let mut words = BytesList::new(alloc);
+    for part in parts {
+        if !part.is_empty() {
+            words.push(Bytes::of(alloc, part)?)?;
+        }
+    }
+    Ok(words)
+}
+
+// "split on ASCII whitespace".
+fn words_of(alloc: Global, text: &[u8]) -> Result<BytesList, OutOfMemory>
+    ensures { IfOk result (λ words. words ≡ spec.words text.now) }
+{
+    let parts = between_blanks(alloc, text)?;
+    filled(alloc, parts.as_slice())
+}
+
+// The directive of a token, where it is one.
+fn directive_of(alloc: Global, token: &[u8]) -> Result<Option<Directive>, OutOfMemory>
+    ensures { IfOk result (λ directive. directive ≡ spec.directive_of token.now) }
+{
+    if !are_ascii(token) {
+        return Ok(None);
+    }
+    let mut words = words_of(alloc, token)?.into_vec();
+    if words.is_empty() {
+        return Ok(None);
+    }
+    let name = words.remove(0);
+    Ok(Some(Directive {
+        name: in_lower_case(alloc, name.as_slice())?,
+        words: BytesList::from_vec(words),
+    }))
+}
+
+// Adds a directive, unless there is one of its name.
+fn add(directives: &mut Directives, directive: Directive) -> Result<(), OutOfMemory>
+    ensures { OnOk result (directives.new ≡ with_new directive directives.old) }
+{
+    if has_name(directives.as_slice(), directive.name.as_slice()) {
+        return Ok(());
+    }
+    directives.push(directive)
+}
+
+// The same, where there is a directive.
+fn add_found(directives: &mut Directives, found: Option<Directive>) -> Result<(), OutOfMemory>
+    ensures { OnOk result (directives.new ≡ with_found found directives.old) }
+{
+    match found {
+        None => Ok(()),
+        Some(directive) => add(directives, directive),
+    }
+}
+
+// The directives of the tokens, the first of each name.
+#[tactic(auto, using(crate::proofs::CollectingLemmas::found_step, crate::proofs::CollectingLemmas::new_all))]
+fn collected(alloc: Global, tokens: &[&[u8]]) -> Result<Directives, OutOfMemory>
+    ensures { IfOk result (λ directives. directives
+        ≡ spec.first_of_each (filter_map spec.directive_of (map (λ token. token.now) tokens.now))) }
+{
+    let mut directives = Directives::new(alloc);
+    for token in tokens {
+        let found = directive_of(alloc, token)?;
+        add_found(&mut directives, found)?;
+    }
+    Ok(directives)
+}
+
+// "parse a serialized CSP": the directives between the semicolons of a text.
+fn directives_of(alloc: Global, text: &[u8]) -> Result<Directives, OutOfMemory>
+    ensures { IfOk result (λ directives. directives ≡ spec.directives_of text.now) }
+{
+    let tokens = between(alloc, text, b';')?;
+    collected(alloc, tokens.as_slice())
+}
+
+// The policies of texts, without those that have no directive.
+fn policies_of(alloc: Global, texts: &[&[u8]], enforced: bool) -> Result<Policies, OutOfMemory>
+    ensures { IfOk result (λ policies. policies
+        ≡ filter spec.has_directives (map (spec.policy_of enforced) (map (λ text. text.now) texts.now))) }
+{
+    let mut policies = Policies::new(alloc);
+    for text in texts {
+        let directives = directives_of(alloc, text)?;
+        if !directives.is_empty() {
+            policies.push(Policy {
+                enforced,
+                directives,
+            })?;
+        }
+    }
+    Ok(policies)
+}
+
+/// The policies of the value of a Content-Security-Policy or Content-Security-Policy-Report-Only
+/// header, in order (CSP 3, section 2.2, "parse a response's Content Security Policies"). The value is
+/// cut at commas, each policy at semicolons; the first directive of a name counts, a directive that is
+/// not ASCII is skipped, and a policy without directives is dropped.
+pub fn parse_policies(alloc: Global, value: &[u8], enforced: bool) -> Result<Policies, OutOfMemory>
+    ensures { IfOk result (λ policies. policies ≡ spec.policies_of enforced value.now) }
+{
+    let texts = between(alloc, value, b',')?;
+    policies_of(alloc, texts.as_slice(), enforced)
+}

@@ -1,0 +1,21 @@
+use wf_text::{Bytes, BytesList, Items};
+
+/// A directive (CSP 3, section 2.3): its name, in lower case, and the words of its value.
+#[derive(Drop)]
+pub struct Directive {
+    pub name: Bytes,
+    pub words: BytesList,
+}
+
+/// A directive set, in order; no two directives have equal names.
+pub type Directives = Items<Directive>;
+
+/// A policy (CSP 3, section 2.2). `enforced` is its disposition: enforced, or report-only.
+#[derive(Drop)]
+pub struct Policy {
+    pub enforced: bool,
+    pub directives: Directives,
+}
+
+/// A list of policies, in order.
+pub type Policies = Items<Policy>;
