@@ -2,24 +2,16 @@
 -- Content Security Policies").
 use Rattle.std.specs.Prelude.{ℕ, Bool, ◌==◌, not, List, [], ◌∷◌, length, map, filter, nat_lt, Option, Some, None}
 use Rattle.std.specs.Prelude.{if◌then◌else◌}
-use Rattle.std.specs.Char.{is_ascii_whitespace}
 use Rattle.std.specs.List.{filter_map, list_all, slice_split}
 use Rattle.std.specs.Str.{bytes_eq, str_to_ascii_lowercase}
 use Rattle.wf_text.specs.Ascii.{comma, semicolon}
+use Rattle.wf_text.specs.Words.{words}
 use Rattle.wf_csp_text.specs.declared.policy.Directive.{Directive}
 use Rattle.wf_csp_text.specs.declared.policy.Policy.{Policy}
 
 -- an ASCII byte
 abbrev pub is_ascii : ℕ → Bool
 is_ascii byte = nat_lt byte 128
-
--- the text has a byte
-abbrev pub is_filled : List ℕ → Bool
-is_filled text = not (length text == 0)
-
--- "split on ASCII whitespace": what stands between its tabs, LF, FF, CR and spaces
-abbrev pub words : List ℕ → List (List ℕ)
-words text = filter is_filled (slice_split is_ascii_whitespace text)
 
 -- the directive of a name and words: the name is in lower case
 abbrev pub named : List (List ℕ) → Option Directive

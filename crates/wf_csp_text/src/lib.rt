@@ -3,8 +3,6 @@
 
 mod parse;
 mod policy;
-#[cfg(test)]
-mod tests;
 
 pub use parse::parse_policies;
 pub use policy::{Directive, Directives, Policies, Policy};

@@ -1,13 +1,12 @@
-ghost use Rattle.std.specs.Prelude.{◌≡◌, ◌==◌, filter, map, IfOk, OnOk};
-ghost use Rattle.std.specs.List.{filter_map, list_all, list_any, slice_split};
-ghost use Rattle.std.specs.Char.{is_ascii_whitespace};
+ghost use Rattle.std.specs.Prelude.{◌≡◌, filter, map, IfOk, OnOk};
+ghost use Rattle.std.specs.List.{filter_map, list_all, list_any};
 ghost use Rattle.std.specs.Str.{bytes_eq};
 ghost use Rattle.wf_csp_text.specs.Policies as spec;
 ghost use Rattle.wf_csp_text.specs.Private.Collecting.{with_found, with_new};
 
 use crate::policy::{Directive, Directives, Policies, Policy};
-use std::alloc::{AllocError, Global};
-use wf_text::{Bytes, BytesList, OutOfMemory, in_lower_case};
+use std::alloc::Global;
+use wf_text::{Bytes, BytesList, OutOfMemory, in_lower_case, parts_between, words};
 
 // Whether all bytes are ASCII.
 fn are_ascii(text: &[u8]) -> bool
@@ -25,39 +24,28 @@ fn has_name(directives: &[Directive], name: &[u8]) -> bool
         .any(|directive| name == directive.name.as_slice())
 }
 
-// The parts of a text between such bytes.
-fn between(alloc: Global, text: &[u8], byte: u8) -> Result<Vec<&[u8]>, AllocError>
-    ensures { IfOk result (λ parts. map (λ part. part.now) parts.items ≡ slice_split (λ b. b == byte) text.now) }
+// The texts, copied.
+fn copied(alloc: Global, texts: &[&[u8]]) -> Result<BytesList, OutOfMemory>
+    ensures { IfOk result (λ copies. copies ≡ map (λ text. text.now) texts.now) }
 {
-    text.split(|b| *b == byte).collect(alloc)
-}
-
-// The parts of a text between bytes of ASCII whitespace.
-fn between_blanks(alloc: Global, text: &[u8]) -> Result<Vec<&[u8]>, AllocError>
-    ensures { IfOk result (λ parts. map (λ part. part.now) parts.items ≡ slice_split is_ascii_whitespace text.now) }
-{
-    text.split(|b| b.is_ascii_whitespace()).collect(alloc)
-}
-
-// The parts that have a byte, copied.
-fn filled(alloc: Global, parts: &[&[u8]]) -> Result<BytesList, OutOfMemory>
-    ensures { IfOk result (λ words. words ≡ filter spec.is_filled (map (λ part. part.now) parts.now)) }
-{
-    let mut words = BytesList::new(alloc);
-    for part in parts {
-        if !part.is_empty() {
-            words.push(Bytes::of(alloc, part)?)?;
-        }
+    let mut copies = BytesList::new(alloc);
+    for text in texts {
+        copies.push(Bytes::of(alloc, text)?)?;
     }
-    Ok(words)
+    Ok(copies)
 }
 
-// "split on ASCII whitespace".
-fn words_of(alloc: Global, text: &[u8]) -> Result<BytesList, OutOfMemory>
-    ensures { IfOk result (λ words. words ≡ spec.words text.now) }
+// The directive of a name and words, where there is a name.
+fn named(alloc: Global, words: &[&[u8]]) -> Result<Option<Directive>, OutOfMemory>
+    ensures { IfOk result (λ directive. directive ≡ spec.named (map (λ word. word.now) words.now)) }
 {
-    let parts = between_blanks(alloc, text)?;
-    filled(alloc, parts.as_slice())
+    match words.split_first() {
+        None => Ok(None),
+        Some((name, values)) => Ok(Some(Directive {
+            name: in_lower_case(alloc, name)?,
+            words: copied(alloc, values)?,
+        })),
+    }
 }
 
 // The directive of a token, where it is one.
@@ -67,15 +55,7 @@ fn directive_of(alloc: Global, token: &[u8]) -> Result<Option<Directive>, OutOfM
     if !are_ascii(token) {
         return Ok(None);
     }
-    let mut words = words_of(alloc, token)?.into_vec();
-    if words.is_empty() {
-        return Ok(None);
-    }
-    let name = words.remove(0);
-    Ok(Some(Directive {
-        name: in_lower_case(alloc, name.as_slice())?,
-        words: BytesList::from_vec(words),
-    }))
+    named(alloc, words(alloc, token)?.as_slice())
 }
 
 // Adds a directive, unless there is one of its name.
@@ -116,7 +96,7 @@ fn collected(alloc: Global, tokens: &[&[u8]]) -> Result<Directives, OutOfMemory>
 fn directives_of(alloc: Global, text: &[u8]) -> Result<Directives, OutOfMemory>
     ensures { IfOk result (λ directives. directives ≡ spec.directives_of text.now) }
 {
-    let tokens = between(alloc, text, b';')?;
+    let tokens = parts_between(alloc, text, b';')?;
     collected(alloc, tokens.as_slice())
 }
 
@@ -145,6 +125,6 @@ fn policies_of(alloc: Global, texts: &[&[u8]], enforced: bool) -> Result<Policie
 pub fn parse_policies(alloc: Global, value: &[u8], enforced: bool) -> Result<Policies, OutOfMemory>
     ensures { IfOk result (λ policies. policies ≡ spec.policies_of enforced value.now) }
 {
-    let texts = between(alloc, value, b',')?;
+    let texts = parts_between(alloc, value, b',')?;
     policies_of(alloc, texts.as_slice(), enforced)
 }

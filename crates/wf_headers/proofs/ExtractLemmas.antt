@@ -8,7 +8,8 @@ use Rattle.std.proofs.lemmas.Option.{slice_get_within, get_or_from_slice_get}
 use Rattle.wf_text.specs.Trims.{tab_or_space, trimmed}
 use Rattle.wf_headers.specs.Headers.{is_named, values_of}
 use Rattle.wf_headers.specs.declared.headers.Header.{Header}
-use Rattle.wf_headers.specs.Extract.{between_commas, extracted_of, is_filled, items, token_list}
+use Rattle.wf_headers.specs.Extract.{between_commas, extracted_of, items, token_list}
+use Rattle.wf_text.specs.Words.{is_filled}
 use Rattle.wf_headers.specs.declared.extract.Rule.TheVariants.{Tokens}
 
 -- a choice that gives something

@@ -1,10 +1,11 @@
 -- "extract header list values" by the rule of the header's grammar (Fetch, section 2.2.2).
-use Rattle.std.specs.Prelude.{ℕ, Bool, List, [], ◌∷◌, ◌==◌, not, length, map, filter, if◌then◌else◌}
+use Rattle.std.specs.Prelude.{ℕ, List, [], ◌∷◌, ◌==◌, map, filter, if◌then◌else◌}
 use Rattle.std.specs.List.{flat_map, list_all}
 use Rattle.wf_text.specs.Ascii.{comma}
 use Rattle.wf_text.specs.Digits.{is_digits}
 use Rattle.wf_text.specs.Tokens.{is_token}
 use Rattle.wf_text.specs.Trims.{tab_or_space, trimmed}
+use Rattle.wf_text.specs.Words.{is_filled}
 use Rattle.wf_headers.specs.Headers.{values_of}
 use Rattle.wf_headers.specs.Split.{with_front}
 use Rattle.wf_headers.specs.declared.headers.Header.{Header}
@@ -18,10 +19,6 @@ abbrev pub between_commas : List ℕ → List (List ℕ)
 between_commas [] = [] ∷ []
 between_commas (byte ∷ text) =
     if byte == comma then [] ∷ between_commas text else with_front byte (between_commas text)
-
--- the text has a byte
-abbrev pub is_filled : List ℕ → Bool
-is_filled text = not (length text == 0)
 
 -- the items of a value: what stands between its commas, trimmed, the empty ones skipped
 abbrev pub items : List ℕ → List (List ℕ)

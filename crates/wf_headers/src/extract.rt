@@ -3,7 +3,8 @@ ghost use Rattle.std.specs.List.{list_all};
 ghost use Rattle.wf_text.specs.Tokens.{is_token};
 ghost use Rattle.wf_text.specs.Trims.{tab_or_space, trimmed};
 ghost use Rattle.wf_headers.specs.Headers.{values_of};
-ghost use Rattle.wf_headers.specs.Extract.{extracted, extracted_of, is_filled, items};
+ghost use Rattle.wf_headers.specs.Extract.{extracted, extracted_of, items};
+ghost use Rattle.wf_text.specs.Words.{is_filled};
 ghost use Rattle.wf_headers.specs.Private.Finding.{WasFound};
 ghost use Rattle.wf_headers.specs.declared.extract.Rule.TheVariants.{Tokens, Digits, Single};
 

@@ -5,7 +5,7 @@ pub mod HeadLemmas
 pub mod LineLemmas
 pub mod ReaderLemmas
 pub mod SkipLemmas
-pub mod LengthLemmas
+pub mod AllLemmas
 pub mod ValueLemmas
 pub mod PlaceLemmas
 pub mod ChunkLemmas

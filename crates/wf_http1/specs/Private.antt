@@ -1,4 +1,3 @@
-pub mod Lengths
 pub mod HeadReading
 pub mod HeadPushing
 pub mod Places

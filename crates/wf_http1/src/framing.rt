@@ -3,11 +3,10 @@ ghost use Rattle.std.specs.List.{list_all};
 ghost use Rattle.std.specs.Str.Parse.{digits_value};
 ghost use Rattle.wf_text.specs.Digits.{is_digits};
 ghost use Rattle.wf_http1.specs.Framings as spec;
-ghost use Rattle.wf_http1.specs.Private.Lengths as lengths;
 
 use std::alloc::Global;
 use wf_headers::HeaderList;
-use wf_text::{BytesList, OutOfMemory, eq_fold, parse_digits, trim_tab_or_space};
+use wf_text::{BytesList, OutOfMemory, digits_at_most, eq_fold, parse_digits, trim_tab_or_space};
 use wf_types::Head;
 
 /// How the body of an answer is framed (RFC 9112, section 6.3).
@@ -108,16 +107,5 @@ fn are_equal(text: &[u8], digits: &[u8]) -> bool
     requires digits { IsTrue (is_digits digits.now) }
     ensures { result ≡ (digits_value 10 text.now == digits_value 10 digits.now) }
 {
-    without_zeros(text) == without_zeros(digits)
-}
-
-// The digits from the first that is no zero on.
-fn without_zeros(digits: &[u8]) -> &[u8]
-    ensures { result.now ≡ lengths.without_zeros digits.now }
-{
-    let mut rest = digits;
-    while let [b'0', after @ ..] = rest {
-        rest = after;
-    }
-    rest
+    digits_at_most(text, digits) && digits_at_most(digits, text)
 }

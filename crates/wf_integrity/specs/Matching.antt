@@ -7,16 +7,8 @@ use Rattle.sha2.specs.Sha256.{sha256}
 use Rattle.sha2.specs.Sha512.{sha384, sha512}
 use Rattle.base64.specs.Engines.{standard}
 use Rattle.base64.specs.GeneralPurpose.{encode_of}
-use Rattle.wf_text.specs.Ascii.{hyphen, slash}
+use Rattle.wf_text.specs.Ascii.{hyphen, plus_sign, slash, underscore}
 use Rattle.wf_integrity.specs.declared.metadata.HashExpression.{HashExpression}
-
--- `+`
-abbrev pub plus_sign : ℕ
-plus_sign = 43
-
--- `_`
-abbrev pub underscore : ℕ
-underscore = 95
 
 -- the strongest algorithm of the metadata: the greatest
 abbrev pub strongest_algorithm : List HashExpression → ℕ

@@ -4,8 +4,6 @@
 mod matching;
 mod metadata;
 mod parse;
-#[cfg(test)]
-mod tests;
 
 pub use matching::matches;
 pub use metadata::{HashExpression, Metadata};

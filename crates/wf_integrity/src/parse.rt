@@ -1,46 +1,11 @@
-ghost use Rattle.std.specs.Prelude.{◌≡◌, ◌&&◌, filter, map, IfOk, OnOk};
-ghost use Rattle.std.specs.Char.{is_ascii_whitespace};
-ghost use Rattle.std.specs.List.{filter_map, list_all, slice_split};
+ghost use Rattle.std.specs.Prelude.{◌≡◌, map, IfOk, OnOk};
+ghost use Rattle.std.specs.List.{filter_map};
 ghost use Rattle.wf_integrity.specs.Metadata as spec;
 ghost use Rattle.wf_integrity.specs.Private.Collecting.{with_found};
 
 use crate::metadata::{HashExpression, Metadata};
-use std::alloc::{AllocError, Global};
-use wf_text::{Bytes, OutOfMemory, after_byte, before_byte, is_among};
-
-// The bytes of a base64 value beside letters and digits.
-const MARKS: &[u8] = b"+/-_";
-
-// What may stand behind the first `=` of a base64 value.
-const PADDING_ENDS: [&[u8]; 2] = [b"", b"="];
-
-// Whether the byte is a letter, a digit or a mark.
-fn is_symbol(byte: u8) -> bool
-    ensures { result ≡ spec.is_symbol byte }
-{
-    byte.is_ascii_alphanumeric() || MARKS.contains(&byte)
-}
-
-// Whether each byte is a symbol.
-fn all_symbols(text: &[u8]) -> bool
-    ensures { result ≡ list_all spec.is_symbol text.now }
-{
-    text.iter().all(|byte| is_symbol(*byte))
-}
-
-// Whether the text is one symbol or more.
-fn are_symbols(text: &[u8]) -> bool
-    ensures { result ≡ spec.are_symbols text.now }
-{
-    !text.is_empty() && all_symbols(text)
-}
-
-// Whether the text is one symbol or more and then at most two `=`.
-fn is_base64_value(text: &[u8]) -> bool
-    ensures { result ≡ spec.is_base64_value text.now }
-{
-    are_symbols(before_byte(text, b'=')) && is_among(&PADDING_ENDS, after_byte(text, b'='))
-}
+use std::alloc::Global;
+use wf_text::{Bytes, OutOfMemory, after_byte, before_byte, is_base64_value, words};
 
 // The algorithm of a name, by its bits.
 fn algorithm_named(name: &[u8]) -> Option<u32>
@@ -96,21 +61,13 @@ fn add_found(metadata: &mut Metadata, found: Option<HashExpression>) -> Result<(
     }
 }
 
-// The parts of a text between bytes of ASCII whitespace.
-fn between_blanks(alloc: Global, text: &[u8]) -> Result<Vec<&[u8]>, AllocError>
-    ensures { IfOk result (λ parts. map (λ part. part.now) parts.items ≡ slice_split is_ascii_whitespace text.now) }
-{
-    text.split(|byte| byte.is_ascii_whitespace()).collect(alloc)
-}
-
-// The hash expressions of the parts; an empty part has none.
-fn collected(alloc: Global, parts: &[&[u8]]) -> Result<Metadata, OutOfMemory>
-    ensures { IfOk result (λ metadata. metadata
-        ≡ filter_map spec.hash_of (filter spec.is_filled (map (λ part. part.now) parts.now))) }
+// The hash expressions of the words.
+fn collected(alloc: Global, words: &[&[u8]]) -> Result<Metadata, OutOfMemory>
+    ensures { IfOk result (λ metadata. metadata ≡ filter_map spec.hash_of (map (λ word. word.now) words.now)) }
 {
     let mut metadata = Metadata::new(alloc);
-    for part in parts {
-        let found = hash_of(alloc, part)?;
+    for word in words {
+        let found = hash_of(alloc, word)?;
         add_found(&mut metadata, found)?;
     }
     Ok(metadata)
@@ -123,6 +80,5 @@ fn collected(alloc: Global, parts: &[&[u8]]) -> Result<Metadata, OutOfMemory>
 pub fn parse_metadata(alloc: Global, text: &[u8]) -> Result<Metadata, OutOfMemory>
     ensures { IfOk result (λ metadata. metadata ≡ spec.metadata_of text.now) }
 {
-    let parts = between_blanks(alloc, text)?;
-    collected(alloc, parts.as_slice())
+    collected(alloc, words(alloc, text)?.as_slice())
 }

@@ -3,8 +3,6 @@
 
 mod mixed;
 mod ports;
-#[cfg(test)]
-mod tests;
 
 pub use mixed::{blocked, upgrade};
 pub use ports::bad_port;

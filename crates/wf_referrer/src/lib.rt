@@ -3,7 +3,5 @@
 
 mod referrer;
 mod strip;
-#[cfg(test)]
-mod tests;
 
 pub use referrer::determine;

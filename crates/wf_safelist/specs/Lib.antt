@@ -1,7 +1,6 @@
 pub mod Forbidden
 pub mod Guards
 pub mod Names
-pub mod Private
 pub mod Ranges
 pub mod Safelisted
 pub mod Sets

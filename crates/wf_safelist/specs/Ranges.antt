@@ -1,11 +1,10 @@
 -- Values of Range that are safelisted: one range of bytes with a start, written without whitespace
 -- (Fetch, section 2.2.2, "parse a single range header value").
-use Rattle.std.specs.Prelude.{ℕ, Bool, ◌==◌, ◌||◌, ◌&&◌, nat_eq, nat_le, List, length, drop, codes}
+use Rattle.std.specs.Prelude.{ℕ, Bool, ◌==◌, ◌||◌, ◌&&◌, nat_eq, List, length, drop, codes}
 use Rattle.std.specs.Prelude.{is_some}
 use Rattle.std.specs.List.{after_first, before_first, position, starts_with}
-use Rattle.std.specs.Str.Parse.{digits_value}
 use Rattle.wf_text.specs.Ascii.{hyphen}
-use Rattle.wf_text.specs.Digits.{is_digits}
+use Rattle.wf_text.specs.Digits.{digits_at_most, is_digits}
 
 -- what stands before the first dash
 abbrev pub start_of : List ℕ → List ℕ
@@ -15,13 +14,9 @@ start_of text = before_first (λ byte. byte == hyphen) text
 abbrev pub end_of : List ℕ → List ℕ
 end_of text = after_first (λ byte. byte == hyphen) text
 
--- the number that the first digits write is at most that of the second, however many there are
-abbrev pub is_at_most : List ℕ → List ℕ → Bool
-is_at_most start end = nat_le (digits_value 10 start) (digits_value 10 end)
-
 -- the end is left out, or it is digits and not below the start
 abbrev pub is_end_of : List ℕ → List ℕ → Bool
-is_end_of start end = length end == 0 || (is_digits end && is_at_most start end)
+is_end_of start end = length end == 0 || (is_digits end && digits_at_most start end)
 
 -- a dash stands in the text
 abbrev pub has_dash : List ℕ → Bool

@@ -30,6 +30,10 @@ quotation_mark = 34
 abbrev pub percent_sign : ℕ
 percent_sign = 37
 
+-- `+`
+abbrev pub plus_sign : ℕ
+plus_sign = 43
+
 -- `,`
 abbrev pub comma : ℕ
 comma = 44
@@ -69,6 +73,10 @@ question_mark = 63
 -- `\`
 abbrev pub backslash : ℕ
 backslash = 92
+
+-- `_`
+abbrev pub underscore : ℕ
+underscore = 95
 
 -- DEL
 abbrev pub delete_byte : ℕ

@@ -1,5 +1,5 @@
 -- Numbers in decimal digits, as of Access-Control-Max-Age and Content-Length.
-use Rattle.std.specs.Prelude.{ℕ, Bool, ◌==◌, ◌&&◌, not, min, List, length, Option, Some, None, if◌then◌else◌}
+use Rattle.std.specs.Prelude.{ℕ, Bool, ◌==◌, ◌&&◌, not, min, nat_le, List, length, Option, Some, None, if◌then◌else◌}
 use Rattle.std.specs.List.{list_all}
 use Rattle.std.specs.Char.{is_ascii_digit}
 use Rattle.std.specs.Str.Parse.{digits_value}
@@ -11,3 +11,7 @@ is_digits text = not (length text == 0) && list_all is_ascii_digit text
 -- the number that the digits write, or the cap where that is less; none where they are not digits
 abbrev pub capped_digits : List ℕ → ℕ → Option ℕ
 capped_digits text cap = if is_digits text then Some (min (digits_value 10 text) cap) else None
+
+-- the number that the digits write is at most that of the others
+abbrev pub digits_at_most : List ℕ → List ℕ → Bool
+digits_at_most digits most = nat_le (digits_value 10 digits) (digits_value 10 most)

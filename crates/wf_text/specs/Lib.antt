@@ -1,6 +1,9 @@
 pub mod Ascii
+pub mod Base64
 pub mod Digits
 pub mod Mime
+pub mod Private
 pub mod Tokens
 pub mod Trims
 pub mod Values
+pub mod Words

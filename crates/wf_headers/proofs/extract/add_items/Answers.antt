@@ -1,6 +1,7 @@
 use Rattle.std.proofs.Common.{ap, sym, ◌≡◌, ◌∙◌, ◌++◌, ◌∷◌, [], filter}
 use Rattle.wf_text.specs.Trims.{tab_or_space, trimmed}
-use Rattle.wf_headers.specs.Extract.{is_filled, items}
+use Rattle.wf_headers.specs.Extract.{items}
+use Rattle.wf_text.specs.Words.{is_filled}
 use Rattle.wf_headers.proofs.ExtractLemmas.{items-cut, items-whole, listed-more}
 use Rattle.wf_headers.proofs.extract.add_items.Goals as goal
 

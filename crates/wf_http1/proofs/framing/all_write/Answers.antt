@@ -1,7 +1,7 @@
 use Rattle.std.proofs.Common.{sym, ◌∙◌}
 use Rattle.std.specs.Str.Parse.{digits_value}
 use Rattle.wf_http1.specs.Framings.{writes}
-use Rattle.wf_http1.proofs.LengthLemmas.{all-goes, all-stops}
+use Rattle.wf_http1.proofs.AllLemmas.{all-goes, all-stops}
 use Rattle.wf_http1.proofs.framing.all_write.Goals as goal
 
 pub returns-then-not-writes_same : goal.returns-then-not-writes_same

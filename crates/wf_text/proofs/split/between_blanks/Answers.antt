@@ -1,7 +1,7 @@
 use Rattle.std.proofs.Common.{rules, tests}
 use Rattle.std.proofs.lemmas.Iterator.Consumers.{map_from_collect}
 use Rattle.std.proofs.lemmas.Iterator.Splits.{YieldsList-from_slice_split}
-use Rattle.wf_csp_text.proofs.parse.between_blanks.Goals as goal
+use Rattle.wf_text.proofs.split.between_blanks.Goals as goal
 
 pub returns : goal.returns
 returns c =
