@@ -1,0 +1,4 @@
+pub mod Grammar
+pub mod Matching
+pub mod Paths
+pub mod Sources

@@ -1,0 +1,257 @@
+ghost use Rattle.std.specs.Prelude.{◌≡◌, true, option_copied, option_map, IfOk};
+ghost use Rattle.std.specs.Option.{option_map_or};
+ghost use Rattle.wf_csp_match.specs.Grammar.{is_path_part, is_port_part};
+ghost use Rattle.wf_csp_match.specs.Sources as spec;
+
+use crate::grammar::{is_host_part, is_path_part, is_port_part, is_scheme_part};
+use crate::source::{HostSource, Source, SourcePort};
+use std::alloc::Global;
+use wf_text::{Bytes, OutOfMemory, after_byte, before_byte, eq_fold, is_base64_value, position_of};
+
+// A copy of the text, where there is one.
+fn copied(alloc: Global, text: Option<&[u8]>) -> Result<Option<Bytes>, OutOfMemory>
+    ensures { IfOk result (λ copy. copy ≡ option_copied text.entry) }
+{
+    match text {
+        None => Ok(None),
+        Some(text) => Ok(Some(Bytes::of(alloc, text)?)),
+    }
+}
+
+// The scheme-source that the word is, if it is one.
+fn scheme_source(alloc: Global, word: &[u8]) -> Result<Option<Source>, OutOfMemory>
+    ensures { IfOk result (λ source. source ≡ spec.scheme_source word.now) }
+{
+    match word.strip_suffix(b":") {
+        Some(scheme) if is_scheme_part(scheme) => Ok(Some(Source::Scheme(Bytes::of(
+            alloc, scheme,
+        )?))),
+        _ => Ok(None),
+    }
+}
+
+// The hash-algorithm of a name in any ASCII case, by its bits.
+fn algorithm_named(name: &[u8]) -> Option<u32>
+    ensures { result ≡ spec.algorithm_named name.now }
+{
+    if eq_fold(name, b"sha256") {
+        Some(256)
+    } else if eq_fold(name, b"sha384") {
+        Some(384)
+    } else if eq_fold(name, b"sha512") {
+        Some(512)
+    } else {
+        None
+    }
+}
+
+// The nonce-source or hash-source of a name and a value.
+fn valued_source(alloc: Global, name: &[u8], value: &[u8]) -> Result<Option<Source>, OutOfMemory>
+    ensures { IfOk result (λ source. source ≡ spec.valued_source name.now value.now) }
+{
+    if eq_fold(name, b"nonce") {
+        return Ok(Some(Source::Nonce(Bytes::of(alloc, value)?)));
+    }
+    match algorithm_named(name) {
+        None => Ok(None),
+        Some(bits) => Ok(Some(Source::Hash(bits, Bytes::of(alloc, value)?))),
+    }
+}
+
+// The same of a name, a hyphen and a value, where the value is a base64-value.
+fn dashed_source(alloc: Global, text: &[u8]) -> Result<Option<Source>, OutOfMemory>
+    ensures { IfOk result (λ source. source ≡ spec.dashed_source text.now) }
+{
+    if !is_base64_value(after_byte(text, b'-')) {
+        return Ok(None);
+    }
+    valued_source(alloc, before_byte(text, b'-'), after_byte(text, b'-'))
+}
+
+// The source expression of a text between quotes, where it stands for one.
+fn inner_source(alloc: Global, text: &[u8]) -> Result<Option<Source>, OutOfMemory>
+    ensures { IfOk result (λ source. source ≡ spec.inner_source text.now) }
+{
+    if eq_fold(text, b"self") {
+        Ok(Some(Source::SelfOrigin))
+    } else if eq_fold(text, b"none") {
+        Ok(Some(Source::NoneWord))
+    } else if eq_fold(text, b"strict-dynamic") {
+        Ok(Some(Source::StrictDynamic))
+    } else {
+        dashed_source(alloc, text)
+    }
+}
+
+// What stands between `'` and `'`, where the word is quoted.
+fn unquoted(word: &[u8]) -> Option<&[u8]>
+    ensures { option_copied result ≡ spec.unquoted word.now }
+{
+    word.strip_prefix(b"'")?.strip_suffix(b"'")
+}
+
+// The keyword-source, nonce-source or hash-source that the word is, if it is one.
+fn quoted_source(alloc: Global, word: &[u8]) -> Result<Option<Source>, OutOfMemory>
+    ensures { IfOk result (λ source. source ≡ spec.quoted_source word.now) }
+{
+    match unquoted(word) {
+        None => Ok(None),
+        Some(text) => inner_source(alloc, text),
+    }
+}
+
+// Whether a scheme-part and `://` stand in front.
+fn has_scheme(word: &[u8]) -> bool
+    ensures { result ≡ spec.has_scheme word.now }
+{
+    is_scheme_part(before_byte(word, b':')) && after_byte(word, b':').starts_with(b"//")
+}
+
+// That scheme-part, where it stands there.
+fn scheme_of(word: &[u8]) -> Option<&[u8]>
+    ensures { option_copied result ≡ spec.scheme_of word.now }
+{
+    if has_scheme(word) {
+        Some(before_byte(word, b':'))
+    } else {
+        None
+    }
+}
+
+// What stands behind `://`, or the word where it has no scheme-part.
+fn behind_scheme(word: &[u8]) -> &[u8]
+    ensures { result.now ≡ spec.behind_scheme word.now }
+{
+    if has_scheme(word) {
+        after_byte(word, b':').strip_prefix(b"//").unwrap_or(b"")
+    } else {
+        word
+    }
+}
+
+// Host and port: what stands before the first slash.
+fn authority_of(text: &[u8]) -> &[u8]
+    ensures { result.now ≡ spec.authority_of text.now }
+{
+    before_byte(text, b'/')
+}
+
+// The host: what stands before the first colon of these.
+fn host_of(text: &[u8]) -> &[u8]
+    ensures { result.now ≡ spec.host_of text.now }
+{
+    before_byte(authority_of(text), b':')
+}
+
+// What stands from the first such byte on, where there is one.
+fn from_byte(text: &[u8], mark: u8) -> Option<&[u8]>
+    ensures { option_copied result ≡ spec.from_byte mark text.now }
+{
+    match position_of(text, mark) {
+        None => None,
+        Some(index) => Some(text.split_at(index).1),
+    }
+}
+
+// What stands behind the first such byte, where there is one.
+fn behind_byte(text: &[u8], mark: u8) -> Option<&[u8]>
+    ensures { option_copied result ≡ spec.behind_byte mark text.now }
+{
+    match position_of(text, mark) {
+        None => None,
+        Some(index) => Some(text.split_at(index + 1).1),
+    }
+}
+
+// The port, where there is one.
+fn port_of(text: &[u8]) -> Option<&[u8]>
+    ensures { option_copied result ≡ spec.port_of text.now }
+{
+    behind_byte(authority_of(text), b':')
+}
+
+// The path, where there is one.
+fn path_of(text: &[u8]) -> Option<&[u8]>
+    ensures { option_copied result ≡ spec.path_of text.now }
+{
+    from_byte(text, b'/')
+}
+
+// The port as it is written, where there is one.
+fn source_port(alloc: Global, text: Option<&[u8]>) -> Result<Option<SourcePort>, OutOfMemory>
+    ensures { IfOk result (λ port. port ≡ option_map spec.source_port (option_copied text.entry)) }
+{
+    match text {
+        None => Ok(None),
+        Some(b"*") => Ok(Some(SourcePort::Any)),
+        Some(digits) => Ok(Some(SourcePort::Digits(Bytes::of(alloc, digits)?))),
+    }
+}
+
+// Whether the port is a port-part, where there is one.
+fn may_be_port(port: Option<&[u8]>) -> bool
+    ensures { result ≡ option_map_or is_port_part (option_copied port.entry) true }
+{
+    match port {
+        None => true,
+        Some(port) => is_port_part(port),
+    }
+}
+
+// Whether the path is a path-part, where there is one.
+fn may_be_path(path: Option<&[u8]>) -> bool
+    ensures { result ≡ option_map_or is_path_part (option_copied path.entry) true }
+{
+    match path {
+        None => true,
+        Some(path) => is_path_part(path),
+    }
+}
+
+// Whether each part that there is follows its grammar.
+fn are_parts(text: &[u8]) -> bool
+    ensures { result ≡ spec.are_parts text.now }
+{
+    is_host_part(host_of(text)) && may_be_port(port_of(text)) && may_be_path(path_of(text))
+}
+
+// The host-source that the word is, if it is one.
+fn host_source(alloc: Global, word: &[u8]) -> Result<Option<HostSource>, OutOfMemory>
+    ensures { IfOk result (λ source. source ≡ spec.host_source word.now) }
+{
+    let rest = behind_scheme(word);
+    if !are_parts(rest) {
+        return Ok(None);
+    }
+    let scheme = copied(alloc, scheme_of(word))?;
+    let host = Bytes::of(alloc, host_of(rest))?;
+    let port = source_port(alloc, port_of(rest))?;
+    let path = copied(alloc, path_of(rest))?;
+    Ok(Some(HostSource {
+        scheme,
+        host,
+        port,
+        path,
+    }))
+}
+
+/// The source expression that a word is (CSP 3, section 2.3.1, "source-expression"): `*`, a scheme and `:`,
+/// a keyword, nonce or hash between quotes, or a host with an optional scheme, port and path. Keywords and
+/// the names of nonces and hashes are known in any ASCII case. Any other word is `Unknown`.
+pub fn parse_source(alloc: Global, word: &[u8]) -> Result<Source, OutOfMemory>
+    ensures { IfOk result (λ source. source ≡ spec.source_of word.now) }
+{
+    if word == b"*".as_slice() {
+        return Ok(Source::Any);
+    }
+    if let Some(source) = scheme_source(alloc, word)? {
+        return Ok(source);
+    }
+    if let Some(source) = quoted_source(alloc, word)? {
+        return Ok(source);
+    }
+    match host_source(alloc, word)? {
+        Some(host) => Ok(Source::Host(host)),
+        None => Ok(Source::Unknown),
+    }
+}
