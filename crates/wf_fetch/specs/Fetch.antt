@@ -30,6 +30,8 @@ use Rattle.wf_types.specs.declared.response.Response.{Response}
 use Rattle.wf_types.specs.declared.response.ResponseKind.TheVariants.{Basic}
 use Rattle.wf_types.specs.declared.response.Outcome.TheVariants.{Answer, Error}
 use Rattle.wf_types.specs.Requests.{current_url, is_http_url}
+use Rattle.wf_types.specs.Statuses.{is_null_body_status}
+use Rattle.wf_types.specs.Urls.{without_fragment}
 use Rattle.wf_send.specs.Heads.{hop_of}
 use Rattle.wf_fetch.specs.declared.act.Act.TheVariants.{Send, ReadHead, ReadBody}
 use Rattle.wf_fetch.specs.declared.act.Input.{Input}
@@ -121,17 +123,6 @@ main_level context next request =
     else next request (Err Scheme)
 
 -- ---- the response
-
--- the text of a URL without its fragment
-abbrev pub without_fragment : Parts → List ℕ
-without_fragment url = serialize (record url { fragment = None })
-
--- "null body status" (Fetch, section 2.2.3), and Not Modified
-abbrev pub null_body_statuses : List ℕ
-null_body_statuses = 101 ∷ 103 ∷ 204 ∷ 205 ∷ 304 ∷ []
-
-abbrev pub is_null_body_status : ℕ → Bool
-is_null_body_status status = list_any (λ null. null == status) null_body_statuses
 
 -- the response has no body: that of HEAD has none, nor one of such a status
 abbrev pub has_null_body : Request → Head → Bool

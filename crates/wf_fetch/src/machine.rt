@@ -11,14 +11,14 @@ ghost use Rattle.wf_fetch.specs.Machine.{AsksPlainly, Does, Leads, RunsAs, last_
 use crate::act::{Act, Input};
 use crate::place::{Fetching, Place, Step};
 use std::alloc::Global;
-use url::{Position, Url};
+use url::Url;
 use wf_headers::HeaderList;
 use wf_origin::is_origin_of;
 use wf_send::hop_of;
 use wf_text::{Bytes, BytesList, OutOfMemory};
 use wf_types::{
     BodyEnd, Client, Cookies, Head, NetError, Outcome, ReferrerPolicy, Request, Response,
-    ResponseKind, Tainting,
+    ResponseKind, Tainting, is_null_body_status, without_fragment,
 };
 
 // Whether the request was sent.
@@ -48,20 +48,6 @@ fn body_of(input: Input) -> BodyEnd
         Input::BodyIs(end) => end,
         _ => BodyEnd::Null,
     }
-}
-
-// The text of a URL without its fragment.
-fn without_fragment(url: &Url) -> &str
-    ensures { result.now ≡ spec.without_fragment url.now }
-{
-    url.slice(Position::BeforeScheme, Position::AfterQuery)
-}
-
-// Whether a status goes with no body.
-fn is_null_body_status(status: u16) -> bool
-    ensures { result ≡ spec.is_null_body_status status }
-{
-    matches!(status, 101 | 103 | 204 | 205 | 304)
 }
 
 // Whether the response to a request has no body.

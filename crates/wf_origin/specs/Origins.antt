@@ -60,6 +60,15 @@ is_origin origin (Some other) = same_origin origin other
 abbrev pub is_origin_of : Origin → Parts → Bool
 is_origin_of origin url = is_origin origin (origin_of url)
 
+-- the two origins are the same, where there are two
+abbrev pub are_same : Option Origin → Option Origin → Bool
+are_same None other = false
+are_same (Some origin) other = is_origin origin other
+
+-- two URLs have origins, and these are the same
+abbrev pub have_same_origin : Parts → Parts → Bool
+have_same_origin url other = are_same (origin_of url) (origin_of other)
+
 -- the host as a URL writes it: an IPv6 address in brackets, compressed (URL, "host serializer")
 abbrev pub host_text : HostKind → List ℕ
 host_text (kind.Domain name) = name

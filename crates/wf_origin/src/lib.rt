@@ -5,14 +5,13 @@ mod laws;
 mod names;
 mod origin;
 mod site;
-#[cfg(test)]
-mod tests;
 mod trust;
 
 pub use laws::law_serialized_as_url;
 pub use names::is_local_name;
 pub use origin::{
-    HostKind, Origin, is_host_of, is_origin_of, origin_of, same_origin, serialize, tuple_origin,
+    HostKind, Origin, have_same_origin, is_host_of, is_origin_of, origin_of, same_origin,
+    serialize, tuple_origin,
 };
 pub use site::same_site;
 pub use trust::{is_trustworthy, is_trustworthy_url};

@@ -144,6 +144,34 @@ pub fn is_origin_of(origin: &Origin, url: &Url) -> bool
         && origin.port == port_of(url)
 }
 
+// Whether two URLs have identical hosts of one kind; a URL without a host has the empty domain.
+fn have_same_host(url: &Url, other: &Url) -> bool
+    ensures { result ≡ spec.same_host (spec.kind_of_host (nonempty_host url.now))
+        (spec.kind_of_host (nonempty_host other.now)) }
+{
+    match (url.host(), other.host()) {
+        (None, None) => true,
+        (None, Some(Host::Domain(name))) => name.is_empty(),
+        (Some(Host::Domain(name)), None) => name.is_empty(),
+        (Some(Host::Domain(a)), Some(Host::Domain(b))) => a == b,
+        (Some(Host::Ipv4(a)), Some(Host::Ipv4(b))) => a.to_bits() == b.to_bits(),
+        (Some(Host::Ipv6(a)), Some(Host::Ipv6(b))) => a.to_bits() == b.to_bits(),
+        _ => false,
+    }
+}
+
+/// Whether two URLs are http or https and have the same origin: their schemes, hosts and ports are
+/// identical, a port that is left out being the default one of the scheme. It takes no memory.
+pub fn have_same_origin(url: &Url, other: &Url) -> bool
+    ensures { result ≡ spec.have_same_origin url.now other.now }
+{
+    is_http(url.scheme())
+        && is_http(other.scheme())
+        && url.scheme() == other.scheme()
+        && have_same_host(url, other)
+        && port_of(url) == port_of(other)
+}
+
 // Whether the port is the default one of http or of https.
 fn is_default_port(scheme: &[u8], port: u16) -> bool
     ensures { result ≡ spec.is_default_port scheme.now port }

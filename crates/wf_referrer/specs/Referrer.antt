@@ -1,18 +1,14 @@
 -- The referrer of a request (Referrer Policy, section 8.3, "determine request's Referrer", and section 8.4,
 -- "strip url for use as a referrer"), for http and https URLs.
-use Rattle.std.specs.Prelude.{Bool, not, ◌&&◌, [], length, nat_lt, codes, Option, Some, None, if◌then◌else◌}
+use Rattle.std.specs.Prelude.{Bool, not, ◌&&◌, length, nat_lt, codes, Option, Some, None, if◌then◌else◌}
 use Rattle.url.specs.Parts.{Parts, serialize}
-use Rattle.wf_origin.specs.Origins.{origin_of}
+use Rattle.wf_origin.specs.Origins.{have_same_origin}
 use Rattle.wf_origin.specs.Trust.{is_trustworthy_url}
+use Rattle.wf_types.specs.Urls.{stripped}
 use Rattle.wf_types.specs.declared.mode.ReferrerPolicy.{ReferrerPolicy}
 use Rattle.wf_types.specs.declared.mode.ReferrerPolicy.TheVariants as policy
-use Rattle.wf_types.specs.Requests.{are_same}
 
--- "strip url for use as a referrer": without user name, password and fragment
-abbrev pub stripped : Parts → Parts
-stripped url = record url { username = []; password = []; fragment = None }
-
--- the same with the origin-only flag: also with the path `/` and without query
+-- "strip url for use as a referrer" with the origin-only flag: stripped, and also with the path `/` and without query
 abbrev pub origin_only : Parts → Parts
 origin_only url = record (stripped url) { path = codes "/"; query = None }
 
@@ -23,10 +19,6 @@ is_too_long url = nat_lt 4096 (length (serialize (stripped url)))
 -- the stripped URL, or the origin alone in place of one that is too long
 abbrev pub whole : Parts → Parts
 whole url = if is_too_long url then origin_only url else stripped url
-
--- "same origin", of the URLs that a referrer comes from and goes to
-abbrev pub is_same_origin : Parts → Parts → Bool
-is_same_origin source target = are_same (origin_of source) (origin_of target)
 
 -- from a potentially trustworthy URL to one that is not
 abbrev pub is_downgrade : Parts → Parts → Bool
@@ -40,13 +32,13 @@ determine policy.NoReferrer source target = None
 determine policy.Origin source target = Some (origin_only source)
 determine policy.UnsafeUrl source target = Some (whole source)
 determine policy.SameOrigin source target =
-    if is_same_origin source target then Some (whole source) else None
+    if have_same_origin source target then Some (whole source) else None
 determine policy.OriginWhenCrossOrigin source target =
-    if is_same_origin source target then Some (whole source) else Some (origin_only source)
+    if have_same_origin source target then Some (whole source) else Some (origin_only source)
 determine policy.StrictOrigin source target =
     if is_downgrade source target then None else Some (origin_only source)
 determine policy.StrictOriginWhenCrossOrigin source target =
-    if is_same_origin source target then Some (whole source)
+    if have_same_origin source target then Some (whole source)
     else if is_downgrade source target then None
     else Some (origin_only source)
 determine policy.NoReferrerWhenDowngrade source target =

@@ -5,19 +5,9 @@ ghost use Rattle.wf_types.specs.Requests.{is_http_url, is_policy};
 use crate::strip::{origin_only, whole};
 use std::alloc::Global;
 use url::Url;
-use wf_origin::{is_origin_of, is_trustworthy_url, origin_of};
+use wf_origin::{have_same_origin, is_trustworthy_url};
 use wf_text::OutOfMemory;
 use wf_types::ReferrerPolicy;
-
-// Whether the two URLs have the same origin.
-fn is_same_origin(alloc: Global, source: &Url, target: &Url) -> Result<bool, OutOfMemory>
-    ensures { IfOk result (λ same. same ≡ spec.is_same_origin source.now target.now) }
-{
-    match origin_of(alloc, source)? {
-        None => Ok(false),
-        Some(origin) => Ok(is_origin_of(&origin, target)),
-    }
-}
 
 // Whether it goes from a potentially trustworthy URL to one that is not.
 fn is_downgrade(source: &Url, target: &Url) -> bool
@@ -47,14 +37,14 @@ pub fn determine(
         ReferrerPolicy::Origin => origin_only(source),
         ReferrerPolicy::UnsafeUrl => whole(source),
         ReferrerPolicy::SameOrigin => {
-            if is_same_origin(alloc, source, target)? {
+            if have_same_origin(source, target) {
                 whole(source)
             } else {
                 Ok(None)
             }
         }
         ReferrerPolicy::OriginWhenCrossOrigin => {
-            if is_same_origin(alloc, source, target)? {
+            if have_same_origin(source, target) {
                 whole(source)
             } else {
                 origin_only(source)
@@ -68,7 +58,7 @@ pub fn determine(
             }
         }
         ReferrerPolicy::StrictOriginWhenCrossOrigin => {
-            if is_same_origin(alloc, source, target)? {
+            if have_same_origin(source, target) {
                 whole(source)
             } else if is_downgrade(source, target) {
                 Ok(None)

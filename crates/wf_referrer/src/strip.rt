@@ -1,38 +1,16 @@
-ghost use Rattle.std.specs.Prelude.{◌≡◌, IfOk, OnOk, IsTrue, codes, [], None, Ok, Some};
+ghost use Rattle.std.specs.Prelude.{◌≡◌, IfOk, IsTrue, codes, None, Ok, Some};
 ghost use Rattle.url.specs.Parser.{Gives, GivesBy};
-ghost use Rattle.url.specs.Parts.{IsValid, Parts};
-ghost use Rattle.wf_referrer.specs.Private.Web.{IsWeb};
+ghost use Rattle.url.specs.Parts.{Parts};
 ghost use Rattle.wf_referrer.specs.Referrer as spec;
 ghost use Rattle.wf_types.specs.Requests.{is_http_url};
+ghost use Rattle.wf_types.specs.Urls.{IsWeb};
 
 use url::{ParseResult, Url};
 use wf_text::OutOfMemory;
+use wf_types::strip;
 
 // The longest text of a referrer, in bytes.
 const LONGEST: usize = 4096;
-
-// Takes the fragment away.
-fn drop_fragment(url: &mut Url) -> ParseResult<()>
-    ensures valid { IsValid url.old }
-    ensures value { GivesBy (λ _. url.new) result (Ok (record url.old { fragment = None })) }
-{
-    if url.fragment().is_none() {
-        return Ok(());
-    }
-    url.set_fragment(None)
-}
-
-// Takes the user name and the password away.
-fn drop_credentials(url: &mut Url) -> ParseResult<()>
-    requires { IsWeb url.old }
-    ensures { GivesBy (λ _. url.new) result (Ok (record url.old { username = []; password = [] })) }
-{
-    if url.username().is_empty() && url.password().is_none() {
-        return Ok(());
-    }
-    url.set_username("")?;
-    url.set_password(None)
-}
 
 // Takes the query away, and leaves `/` of the path.
 fn drop_path_and_query(url: &mut Url) -> ParseResult<()>
@@ -44,47 +22,15 @@ fn drop_path_and_query(url: &mut Url) -> ParseResult<()>
     url.set_path("/")
 }
 
-// The URL without user name, password and fragment.
-fn strip(url: &Url) -> ParseResult<Url>
-    requires { IsTrue (is_http_url url.now) }
-    ensures web { OnOk result (IsWeb url.now) }
-    ensures value { Gives result (Ok (spec.stripped url.now)) }
+// The URL with the path `/` and without query; that it comes to 4 GB is want of memory too.
+fn cut_to_origin(url: Url) -> Result<Url, OutOfMemory>
+    requires web { IsWeb url }
+    requires fragment { url.fragment ≡ None }
+    ensures { IfOk result (λ cut. cut ≡ record url { path = codes "/"; query = None }) }
 {
-    let mut referrer = url.clone()?;
-    drop_fragment(&mut referrer)?;
-    drop_credentials(&mut referrer)?;
-    Ok(referrer)
-}
-
-// The URL with the path `/` and without user name, password, query and fragment.
-fn strip_to_origin(url: &Url) -> ParseResult<Url>
-    requires { IsTrue (is_http_url url.now) }
-    ensures { Gives result (Ok (spec.origin_only url.now)) }
-{
-    let mut referrer = strip(url)?;
-    drop_path_and_query(&mut referrer)?;
-    Ok(referrer)
-}
-
-// The stripped URL, or the origin alone in place of one that is too long.
-fn strip_to_length(url: &Url) -> ParseResult<Url>
-    requires { IsTrue (is_http_url url.now) }
-    ensures { Gives result (Ok (spec.whole url.now)) }
-{
-    let mut referrer = strip(url)?;
-    if referrer.as_str().len() <= LONGEST {
-        return Ok(referrer);
-    }
-    drop_path_and_query(&mut referrer)?;
-    Ok(referrer)
-}
-
-// A URL that was made: that a URL comes to 4 GB is want of memory too.
-fn made(answer: ParseResult<Url>) -> Result<Option<Url>, OutOfMemory>
-    ensures { (expected : Parts) → Gives answer (Ok expected) → IfOk result (λ url. url ≡ Some expected) }
-{
-    match answer {
-        Ok(url) => Ok(Some(url)),
+    let mut url = url;
+    match drop_path_and_query(&mut url) {
+        Ok(()) => Ok(url),
         Err(_) => Err(OutOfMemory),
     }
 }
@@ -94,7 +40,7 @@ pub(crate) fn origin_only(url: &Url) -> Result<Option<Url>, OutOfMemory>
     requires { IsTrue (is_http_url url.now) }
     ensures { IfOk result (λ referrer. referrer ≡ Some (spec.origin_only url.now)) }
 {
-    made(strip_to_origin(url))
+    Ok(Some(cut_to_origin(strip(url)?)?))
 }
 
 // The referrer that tells the URL, or its origin where the text is too long.
@@ -102,5 +48,9 @@ pub(crate) fn whole(url: &Url) -> Result<Option<Url>, OutOfMemory>
     requires { IsTrue (is_http_url url.now) }
     ensures { IfOk result (λ referrer. referrer ≡ Some (spec.whole url.now)) }
 {
-    made(strip_to_length(url))
+    let referrer = strip(url)?;
+    if referrer.as_str().len() <= LONGEST {
+        return Ok(Some(referrer));
+    }
+    Ok(Some(cut_to_origin(referrer)?))
 }

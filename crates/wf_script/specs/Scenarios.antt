@@ -8,6 +8,7 @@ use Rattle.serde_json.specs.Read.{read}
 use Rattle.url.specs.Parts.{Parts}
 use Rattle.wf_text.specs.Tokens.{is_token}
 use Rattle.wf_text.specs.Values.{is_header_value}
+use Rattle.wf_types.specs.Statuses.{is_redirect_status}
 use Rattle.wf_types.specs.declared.client.Cookie.{Cookie}
 use Rattle.wf_types.specs.declared.init.Init.{Init}
 use Rattle.wf_types.specs.declared.init.Pair.{Pair}
@@ -38,10 +39,6 @@ abbrev pub cookie_of : Data → Read Cookie
 cookie_of tree = do
   pair ← pair_of (text_that is_origin_text) (text_that is_cookie_value) tree
   Ok (record { origin = pair.0; value = pair.1 })
-
--- a redirect status (Fetch, section 2.2.3)
-abbrev pub is_redirect_status : ℕ → Bool
-is_redirect_status status = status == 301 || status == 302 || status == 303 || status == 307 || status == 308
 
 -- a status from 100 to 999 that is no redirect status
 abbrev pub status_of : Data → Read ℕ

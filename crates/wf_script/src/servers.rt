@@ -1,5 +1,6 @@
 // The tables of servers and their rules.
 ghost use Rattle.wf_script.specs.Scenarios as spec;
+ghost use Rattle.wf_types.specs.Statuses.{is_redirect_status};
 ghost use Rattle.std.specs.Prelude.{◌≡◌};
 
 use crate::answers::answer_bytes;
@@ -44,7 +45,7 @@ const RULES: ItemsOf<RuleTable> = ItemsOf { item: RuleTable };
 
 // Whether it is a redirect status (Fetch, section 2.2.3).
 fn is_redirect_status(status: u64) -> bool
-    ensures { result ≡ spec.is_redirect_status status }
+    ensures { result ≡ is_redirect_status status }
 {
     matches!(status, 301 | 302 | 303 | 307 | 308)
 }

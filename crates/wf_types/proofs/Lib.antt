@@ -2,3 +2,6 @@ pub mod Computed
 pub mod TextLemmas
 pub mod UrlLemmas
 pub mod TargetLemmas
+pub mod PolicyLemmas
+pub mod StripLemmas
+pub mod NameLemmas

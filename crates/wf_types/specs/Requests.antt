@@ -1,11 +1,11 @@
 -- Requests: their current URL, tainted origins and the serialized request origin (Fetch, section 2.2.5),
 -- and which values of these types are requests and clients.
-use Rattle.std.specs.Prelude.{ℕ, ◌&&◌, ◌||◌, Bool, true, false, not, ◌≤◌, List, [], ◌∷◌, codes, Option, Some, None}
+use Rattle.std.specs.Prelude.{ℕ, ◌&&◌, ◌||◌, Bool, true, false, not, ◌≤◌, List, [], ◌∷◌, codes, None}
 use Rattle.std.specs.Prelude.{unwrap_or, IsTrue, if◌then◌else◌}
 use Rattle.std.specs.List.{last_or}
 use Rattle.url.specs.Parts.{Parts}
 use Rattle.wf_origin.specs.declared.origin.Origin.{Origin}
-use Rattle.wf_origin.specs.Origins.{is_http, is_origin, is_origin_of, origin_of, serialized}
+use Rattle.wf_origin.specs.Origins.{have_same_origin, is_http, is_origin_of, serialized}
 use Rattle.wf_text.specs.Tokens.{is_token}
 use Rattle.wf_types.specs.declared.client.Client.{Client}
 use Rattle.wf_types.specs.declared.mode.ReferrerPolicy.{ReferrerPolicy}
@@ -35,15 +35,10 @@ current_url request = unwrap_or (last_or None request.urls) no_url
 abbrev pub is_http_url : Parts → Bool
 is_http_url url = is_http url.scheme
 
--- the origins of two URLs are the same, where they have some
-abbrev pub are_same : Option Origin → Option Origin → Bool
-are_same None other = false
-are_same (Some origin) other = is_origin origin other
-
 -- a redirect from this URL to another origin, while the request's origin was not that of the URL
 abbrev pub taints : Origin → Parts → Parts → Bool
 taints origin url next =
-    not (are_same (origin_of url) (origin_of next)) && not (is_origin_of origin url)
+    not (have_same_origin url next) && not (is_origin_of origin url)
 
 -- "redirect-tainted": some URL of a list and the one after it taint
 abbrev pub tainted_from : Origin → Parts → List Parts → Bool

@@ -1,9 +1,10 @@
--- URLs read from texts (URL Standard, section 4.4).
-use Rattle.std.specs.Prelude.{ℕ, List, Option, Some, None, if◌then◌else◌}
+-- URLs read from texts (URL Standard, section 4.4), and what is left of a URL that is told to others.
+use Rattle.std.specs.Prelude.{◌≡◌, ℕ, true, List, [], Option, Some, None, if◌then◌else◌}
 use Rattle.std.specs.Result.{result_ok}
 use Rattle.std.specs.Str.{is_utf8}
 use Rattle.url.specs.Parser.{parse_url}
-use Rattle.url.specs.Parts.{Parts}
+use Rattle.url.specs.declared.scheme.SchemeType.TheVariants.{SpecialNotFile}
+use Rattle.url.specs.Parts.{Parts, has_host, kind_of, serialize}
 
 -- the text that bytes are, where they are UTF-8
 abbrev pub utf8_text : List ℕ → Option (List ℕ)
@@ -17,3 +18,15 @@ url_of_text base (Some text) = result_ok (parse_url base text)
 -- the URL that bytes give against a base, unless they are not UTF-8 or no URL
 abbrev pub url_against : Parts → List ℕ → Option Parts
 url_against base text = url_of_text (Some base) (utf8_text text)
+
+-- the text of a URL without its fragment
+abbrev pub without_fragment : Parts → List ℕ
+without_fragment url = serialize (record url { fragment = None })
+
+-- the URL without user name, password and fragment
+abbrev pub stripped : Parts → Parts
+stripped url = record url { username = []; password = []; fragment = None }
+
+-- A special URL that is no file, with a host, as every http and https URL is: what the setters of a URL ask for.
+abbrev pub IsWeb : Parts → Type 0
+IsWeb url = (kind_of url ≡ SpecialNotFile) × (has_host url ≡ true)

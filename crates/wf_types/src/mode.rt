@@ -1,4 +1,5 @@
 ghost use Rattle.std.specs.Prelude.{◌≡◌};
+ghost use Rattle.wf_types.specs.CorsCheck.{is_include};
 ghost use Rattle.wf_types.specs.Names.{mode_name, credentials_name, redirect_name, policy_name};
 
 /// The mode of a request (Fetch, section 2.2.5).
@@ -42,6 +43,13 @@ impl Credentials {
             Credentials::SameOrigin => "same-origin",
             Credentials::Include => "include",
         }
+    }
+
+    /// Whether the credentials mode is include. It takes no memory.
+    pub fn is_include(self) -> bool
+        ensures { result ≡ is_include self }
+    {
+        matches!(self, Credentials::Include)
     }
 }
 

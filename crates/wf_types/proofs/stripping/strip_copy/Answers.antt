@@ -1,6 +1,6 @@
 use Rattle.std.proofs.Common.{rules}
-use Rattle.wf_referrer.proofs.StripLemmas.{http-web}
-use Rattle.wf_referrer.proofs.strip.strip.Goals as goal
+use Rattle.wf_types.proofs.StripLemmas.{http-web}
+use Rattle.wf_types.proofs.stripping.strip_copy.Goals as goal
 
 pub drop_credentials-requires : goal.drop_credentials-requires
 drop_credentials-requires c =

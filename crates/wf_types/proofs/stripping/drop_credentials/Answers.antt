@@ -1,6 +1,6 @@
 use Rattle.std.proofs.Common.{[], rules}
-use Rattle.wf_referrer.proofs.StripLemmas.{username-dropped, password-dropped}
-use Rattle.wf_referrer.proofs.strip.drop_credentials.Goals as goal
+use Rattle.wf_types.proofs.StripLemmas.{username-dropped, password-dropped}
+use Rattle.wf_types.proofs.stripping.drop_credentials.Goals as goal
 
 pub returns : goal.returns
 returns c =

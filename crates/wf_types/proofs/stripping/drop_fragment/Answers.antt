@@ -1,6 +1,6 @@
 use Rattle.std.proofs.Common.{sym, ap, Ok, rules}
-use Rattle.wf_referrer.proofs.StripLemmas.{fragment-absent, fragment-dropped}
-use Rattle.wf_referrer.proofs.strip.drop_fragment.Goals as goal
+use Rattle.wf_types.proofs.StripLemmas.{fragment-absent, fragment-dropped}
+use Rattle.wf_types.proofs.stripping.drop_fragment.Goals as goal
 
 pub returns-then-is_none-clause-value : goal.returns-then-is_none-clause-value
 returns-then-is_none-clause-value c = ap Ok (sym (fragment-absent c.args.url.now (search rules)))

@@ -1,0 +1,30 @@
+-- The CORS check of a response (Fetch, "CORS check").
+use Rattle.std.specs.Prelude.{ℕ, Bool, true, false, ◌&&◌, ◌||◌, List, codes, if◌then◌else◌}
+use Rattle.wf_headers.specs.declared.headers.Header.{Header}
+use Rattle.wf_headers.specs.Headers.{has_value}
+use Rattle.wf_types.specs.declared.mode.Credentials.{Credentials}
+use Rattle.wf_types.specs.declared.mode.Credentials.TheVariants as credentials
+
+-- the credentials mode is include
+abbrev pub is_include : Credentials → Bool
+is_include credentials.Include = true
+is_include _ = false
+
+-- `Access-Control-Allow-Origin` is `*`
+abbrev pub allows_any : List Header → Bool
+allows_any headers = has_value (codes "Access-Control-Allow-Origin") (codes "*") headers
+
+-- `Access-Control-Allow-Origin` is this origin, byte for byte
+abbrev pub allows_origin : List ℕ → List Header → Bool
+allows_origin origin headers = has_value (codes "Access-Control-Allow-Origin") origin headers
+
+-- `Access-Control-Allow-Credentials` is `true`
+abbrev pub allows_credentials : List Header → Bool
+allows_credentials headers = has_value (codes "Access-Control-Allow-Credentials") (codes "true") headers
+
+-- "CORS check" of a serialised request origin, and whether the credentials mode is include: with it the origin itself
+-- and credentials are to be allowed; without it any origin, or this one
+abbrev pub passes_cors_check : List ℕ → Bool → List Header → Bool
+passes_cors_check origin include headers =
+    if include then allows_origin origin headers && allows_credentials headers
+    else allows_any headers || allows_origin origin headers
