@@ -1,4 +1,5 @@
 pub mod Grammar
 pub mod Matching
 pub mod Paths
+pub mod Private
 pub mod Sources

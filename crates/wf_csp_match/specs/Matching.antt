@@ -62,14 +62,22 @@ port_part_matches None url = is_none url.port
 port_part_matches (Some port.Any) url = true
 port_part_matches (Some (port.Digits digits)) url = option_map_or (writes digits) (port_or_default url) false
 
--- a host-source: its scheme-part, or the scheme of the document where it has none, and its other parts match;
--- after a redirect the path doesn't count
+-- the scheme-part matches, or the scheme of the document where there is none
+abbrev pub scheme_matches : Option (List ℕ) → Parts → Origin → Bool
+scheme_matches scheme url document = scheme_part_matches (unwrap_or scheme document.scheme) url.scheme
+
+-- the path-part matches, or there is none; after a redirect the path doesn't count
+abbrev pub path_matches : Option (List ℕ) → Parts → ℕ → Bool
+path_matches None url redirects = true
+path_matches (Some path) url redirects = not (redirects == 0) || path_part_matches path url.path
+
+-- a host-source: each of its parts matches
 abbrev pub host_source_matches : HostSource → Parts → Origin → ℕ → Bool
 host_source_matches source url document redirects =
-    scheme_part_matches (unwrap_or source.scheme document.scheme) url.scheme
+    scheme_matches source.scheme url document
     && host_part_matches source.host url
     && port_part_matches source.port url
-    && (not (redirects == 0) || option_map_or (λ path. path_part_matches path url.path) source.path true)
+    && path_matches source.path url redirects
 
 -- two ports are equal, or each is the default one of its own scheme
 abbrev pub same_or_default_port : Origin → Origin → Bool

@@ -4,7 +4,9 @@
 mod grammar;
 mod matching;
 mod parse;
+mod paths;
 mod source;
 
+pub use matching::matches;
 pub use parse::parse_source;
 pub use source::{HostSource, Source, SourcePort};

@@ -1,11 +1,13 @@
 ghost use Rattle.std.specs.Prelude.{◌≡◌};
 ghost use Rattle.wf_csp_match.specs.Matching as spec;
+ghost use Rattle.wf_origin.specs.Origins as origins;
 
 use crate::grammar::has_wildcard;
+use crate::paths::path_part_matches;
 use crate::source::{HostSource, Source, SourcePort};
 use url::Url;
 use wf_origin::{Origin, is_host_of, is_origin_of};
-use wf_text::{eq_fold, parse_digits};
+use wf_text::{Bytes, eq_fold, parse_digits};
 
 // "scheme-part matches".
 fn scheme_part_matches(a: &[u8], b: &[u8]) -> bool
@@ -61,5 +63,96 @@ fn port_part_matches(port: &Option<SourcePort>, url: &Url) -> bool
             None => false,
             Some(number) => writes(digits.as_slice(), number),
         },
+    }
+}
+
+// Whether the scheme of a URL matches the scheme-part, or the scheme of the document where there is none.
+fn scheme_matches(scheme: &Option<Bytes>, url: &Url, document: &Origin) -> bool
+    ensures { result ≡ spec.scheme_matches scheme.now url.now document.now }
+{
+    match scheme {
+        None => scheme_part_matches(document.scheme.as_slice(), url.scheme().as_bytes()),
+        Some(scheme) => scheme_part_matches(scheme.as_slice(), url.scheme().as_bytes()),
+    }
+}
+
+// Whether the path of a URL matches the path-part, or there is none, or there was a redirect.
+fn path_matches(path: &Option<Bytes>, url: &Url, redirects: u32) -> bool
+    ensures { result ≡ spec.path_matches path.now url.now redirects }
+{
+    match path {
+        None => true,
+        Some(path) => redirects != 0 || path_part_matches(path.as_slice(), url.path().as_bytes()),
+    }
+}
+
+// Whether a host-source matches a URL.
+fn host_source_matches(source: &HostSource, url: &Url, document: &Origin, redirects: u32) -> bool
+    ensures { result ≡ spec.host_source_matches source.now url.now document.now redirects }
+{
+    scheme_matches(&source.scheme, url, document)
+        && host_part_matches(source.host.as_slice(), url)
+        && port_part_matches(&source.port, url)
+        && path_matches(&source.path, url, redirects)
+}
+
+// The port of a URL, or the default one of its scheme where it has none.
+fn port_of(url: &Url) -> u16
+    ensures { result ≡ (origins.tuple_origin url.now).port }
+{
+    url.port_or_known_default().unwrap_or(0)
+}
+
+// Whether the port is the default one of http or of https.
+fn is_default_port(scheme: &[u8], port: u16) -> bool
+    ensures { result ≡ origins.is_default_port scheme.now port }
+{
+    (scheme == b"http".as_slice() && port == 80) || (scheme == b"https".as_slice() && port == 443)
+}
+
+// Whether the port of the document's origin is that of the URL, or each is the default one of its own
+// scheme.
+fn same_or_default_port(document: &Origin, url: &Url) -> bool
+    ensures { result ≡ spec.same_or_default_port document.now (origins.tuple_origin url.now) }
+{
+    document.port == port_of(url)
+        || (is_default_port(document.scheme.as_slice(), document.port)
+            && is_default_port(url.scheme().as_bytes(), port_of(url)))
+}
+
+// Whether `'self'` matches a URL: it has the document's origin, or is https on its host and on its port or
+// the default ones.
+fn self_matches(url: &Url, document: &Origin) -> bool
+    ensures { result ≡ spec.self_matches url.now document.now }
+{
+    is_origin_of(document, url)
+        || (url.scheme() == "https"
+            && is_host_of(document, url)
+            && same_or_default_port(document, url))
+}
+
+// Whether the URL is http or https.
+fn is_http(url: &Url) -> bool
+    ensures { result ≡ origins.is_http url.now.scheme }
+{
+    url.scheme() == "http" || url.scheme() == "https"
+}
+
+/// Whether a source expression matches a URL in a document's origin after so many redirects (CSP 3, "does
+/// url match expression in origin with redirect count"). `*` matches each http and https URL, a scheme what
+/// it stands for, a host-source what each of its parts matches, `'self'` the document's origin and its
+/// https form; any other expression matches none. After a redirect the path doesn't count. A URL of another
+/// scheme than http and https matches a scheme-source or a host-source of its own scheme, and nothing else.
+/// It takes no memory.
+pub fn matches(source: &Source, url: &Url, document: &Origin, redirects: u32) -> bool
+    ensures { result ≡ spec.matches source.now url.now document.now redirects }
+{
+    match source {
+        Source::Any => is_http(url),
+        Source::Scheme(scheme) => scheme_part_matches(scheme.as_slice(), url.scheme().as_bytes()),
+        Source::Host(host) => host_source_matches(host, url, document, redirects),
+        Source::SelfOrigin => self_matches(url, document),
+        Source::Nonce(_) | Source::Hash(_, _) => false,
+        Source::StrictDynamic | Source::NoneWord | Source::Unknown => false,
     }
 }
