@@ -1,5 +1,5 @@
--- The definitions computed on worked examples: the faults of requests in their order, and the head
--- of a PUT.
+-- The definitions computed on worked examples: the faults of requests in their order, the requests of loads, and the
+-- head of a PUT.
 use Rattle.std.proofs.Common.{◌≡◌, ◌+◌, ◌||◌, refl, ap, ℕ, List, true, false, [], ◌∷◌, codes, Some, None, Ok, Err}
 use Rattle.std.specs.Prelude.{nat_lt, replicate}
 use Rattle.std.proofs.lemmas.List.{length-replicate}
@@ -13,13 +13,20 @@ use Rattle.wf_types.specs.declared.request.Referrer.TheVariants.{Address}
 use Rattle.wf_types.specs.declared.request.Request.{Request}
 use Rattle.wf_types.specs.declared.fault.TypeFault.TheVariants.{BadUrl, UrlCredentials, BadMethod, ForbiddenMethod}
 use Rattle.wf_types.specs.declared.fault.TypeFault.TheVariants.{BodyWithGet, NoCorsMethod, BadHeader, NavigateMode}
+use Rattle.wf_types.specs.declared.init.CrossOrigin.{CrossOrigin}
+use Rattle.wf_types.specs.declared.init.CrossOrigin.TheVariants.{Absent, Anonymous, UseCredentials}
 use Rattle.wf_types.specs.declared.init.Init.{Init}
+use Rattle.wf_types.specs.declared.init.LoadInit.{LoadInit}
 use Rattle.wf_types.specs.declared.mode.Credentials.TheVariants as credentials
 use Rattle.wf_types.specs.declared.mode.Mode.TheVariants as mode
 use Rattle.wf_types.specs.declared.mode.RedirectMode.TheVariants.{Follow}
 use Rattle.wf_types.specs.declared.mode.ReferrerPolicy.TheVariants as policy
+use Rattle.wf_types.specs.declared.policy.Destination.{Destination}
+use Rattle.wf_types.specs.declared.policy.Destination.TheVariants as destination
+use Rattle.wf_types.specs.declared.request.Referrer.TheVariants as referrer
 use Rattle.wf_types.specs.Clients.{client_of}
 use Rattle.wf_send.specs.Heads.{head_lines, includes_credentials}
+use Rattle.wf_send.specs.Loading.{new_load}
 use Rattle.wf_types.specs.Lines.{header}
 use Rattle.wf_send.specs.Making.{is_long_body, is_too_long, made, new_request}
 
@@ -96,7 +103,67 @@ pub put_made : new_request client put ≡ Ok (made client put target)
 unfolding url_on_literals
 put_made = refl
 
--- its head
+-- a load of `/x` by an element that a parser inserted
+abbrev load : Destination → CrossOrigin → LoadInit
+load kind crossorigin = record {
+  kind = kind;
+  url = codes "/x";
+  crossorigin = crossorigin;
+  nonce = codes "n";
+  integrity = codes "i";
+  parser = true;
+  referrer_policy = policy.Origin;
+}
+
+-- the request of an image without CORS settings
+abbrev image : Request
+image = record {
+  method = codes "GET";
+  urls = target ∷ [];
+  headers = header (codes "Accept") (codes "image/png,image/svg+xml,image/*;q=0.8,*/*;q=0.5") ∷ [];
+  body = None;
+  origin = client.origin;
+  mode = mode.NoCors;
+  credentials = credentials.Include;
+  redirect = Follow;
+  referrer = referrer.Client;
+  policy = policy.Origin;
+  integrity = codes "i";
+  nonce = codes "n";
+  parser = true;
+  unsafe_request = false;
+  use_preflight = false;
+  destination = destination.Image;
+  tainting = Basic;
+  redirects = 0;
+}
+
+-- the request of a font without CORS settings
+abbrev font : Request
+font = record image {
+  headers = header (codes "Accept") (codes "*/*") ∷ [];
+  mode = mode.Cors;
+  credentials = credentials.SameOrigin;
+  destination = destination.Font;
+}
+
+-- loads by their kind and their CORS settings; a URL with credentials is no fault
+loads : (new_load client (load destination.Image Absent) ≡ Ok image)
+    × (new_load client (load destination.Font Absent) ≡ Ok font)
+    × (new_load client (load destination.Manifest Absent) ≡ Ok (record font { destination = destination.Manifest }))
+    × (new_load client (load destination.Script Anonymous) ≡ Ok (record font { destination = destination.Script }))
+    × (new_load client (load destination.Style UseCredentials) ≡ Ok (record image {
+      headers = header (codes "Accept") (codes "text/css,*/*;q=0.1") ∷ [];
+      mode = mode.Cors;
+      destination = destination.Style;
+    }))
+    × (new_load client (record (load destination.Image Absent) { url = codes "https://u@a.test/x" })
+    ≡ Ok (record image { urls = record target { username = codes "u" } ∷ [] }))
+    × (new_load client (record (load destination.Image Absent) { url = codes "http://" }) ≡ Err BadUrl)
+unfolding url_on_literals
+loads = (refl, refl, refl, refl, refl, refl, refl)
+
+-- the head of the PUT
 pub put_sent : head_lines [] (made client put target) target
     ≡ header (codes "Host") (codes "a.test")
     ∷ header (codes "X-A") (codes "1")

@@ -1,4 +1,5 @@
 ghost use Rattle.std.specs.Prelude.{◌≡◌, IfOk, OnOk};
+ghost use Rattle.wf_send.specs.Loading as loading;
 ghost use Rattle.wf_send.specs.Making as spec;
 
 use std::alloc::Global;
@@ -87,5 +88,14 @@ pub(crate) fn header_list(alloc: Global, init: &Init) -> Result<HeaderList, OutO
     )?;
     append_body_type(&mut headers, &init.body)?;
     append_unless_there(&mut headers, b"Accept", accept_value(Destination::Fetch))?;
+    Ok(headers)
+}
+
+// The header list of a load: Accept alone.
+pub(crate) fn load_headers(alloc: Global, kind: Destination) -> Result<HeaderList, OutOfMemory>
+    ensures { IfOk result (λ headers. headers ≡ loading.load_headers kind) }
+{
+    let mut headers = HeaderList::new(alloc);
+    append_unless_there(&mut headers, b"Accept", accept_value(kind))?;
     Ok(headers)
 }

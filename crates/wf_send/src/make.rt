@@ -17,7 +17,11 @@ use wf_types::{
 const MOST_URL: usize = 8_192;
 
 // The URL that a text gives against the client's, unless its own text is too long.
-fn url_given(alloc: Global, client: &Client, text: &[u8]) -> Result<Option<Url>, OutOfMemory>
+pub(crate) fn url_given(
+    alloc: Global,
+    client: &Client,
+    text: &[u8],
+) -> Result<Option<Url>, OutOfMemory>
     ensures { IfOk result (λ url. url ≡ spec.url_given client.now text.now) }
 {
     match url_against(alloc, &client.url, text)? {
@@ -38,7 +42,7 @@ fn referrer_of(client_referrer: bool) -> Referrer
 }
 
 // The URL list of one URL.
-fn urls_of(alloc: Global, url: Url) -> Result<Urls, OutOfMemory>
+pub(crate) fn urls_of(alloc: Global, url: Url) -> Result<Urls, OutOfMemory>
     ensures { IfOk result (λ urls. urls ≡ url ∷ []) }
 {
     let mut urls = Urls::new(alloc);
