@@ -1,0 +1,43 @@
+-- Which directive of a policy decides about a request (CSP 3, section 6.8: "get the effective directive for request" and
+-- "get fetch directive fallback list").
+use Rattle.std.specs.Prelude.{ℕ, Bool, List, [], ◌∷◌, codes, bytes_eq, Option, Some, None, if◌then◌else◌}
+use Rattle.std.specs.Option.{option_or}
+use Rattle.wf_csp_match.specs.declared.source.Source.{Source}
+use Rattle.wf_types.specs.declared.policy.Destination.{Destination}
+use Rattle.wf_types.specs.declared.policy.Destination.TheVariants as destination
+use Rattle.wf_types.specs.declared.policy.Directive.{Directive}
+use Rattle.wf_types.specs.declared.policy.Directive.TheVariants as directive
+use Rattle.wf_csp.specs.declared.compiled.CompiledDirective.{CompiledDirective}
+
+-- "get the effective directive for request"
+abbrev pub effective_directive : Destination → Directive
+effective_directive destination.Fetch = directive.ConnectSrc
+effective_directive destination.Image = directive.ImgSrc
+effective_directive destination.Audio = directive.MediaSrc
+effective_directive destination.Video = directive.MediaSrc
+effective_directive destination.Font = directive.FontSrc
+effective_directive destination.Manifest = directive.ManifestSrc
+effective_directive destination.Style = directive.StyleSrcElem
+effective_directive destination.Script = directive.ScriptSrcElem
+
+-- "get fetch directive fallback list": the names of the directives that decide in its place, the first that a policy has
+abbrev pub fallback_list : Directive → List (List ℕ)
+fallback_list directive.ConnectSrc = codes "connect-src" ∷ codes "default-src" ∷ []
+fallback_list directive.ImgSrc = codes "img-src" ∷ codes "default-src" ∷ []
+fallback_list directive.MediaSrc = codes "media-src" ∷ codes "default-src" ∷ []
+fallback_list directive.FontSrc = codes "font-src" ∷ codes "default-src" ∷ []
+fallback_list directive.ManifestSrc = codes "manifest-src" ∷ codes "default-src" ∷ []
+fallback_list directive.StyleSrcElem = codes "style-src-elem" ∷ codes "style-src" ∷ codes "default-src" ∷ []
+fallback_list directive.ScriptSrcElem = codes "script-src-elem" ∷ codes "script-src" ∷ codes "default-src" ∷ []
+
+-- the source list of the directive of a name, where there is one
+abbrev pub sources_named : List ℕ → List CompiledDirective → Option (List Source)
+sources_named name [] = None
+sources_named name (directive ∷ directives) =
+    if bytes_eq directive.name name then Some directive.sources else sources_named name directives
+
+-- the source list of the first of these names that there is a directive of
+abbrev pub deciding_sources : List (List ℕ) → List CompiledDirective → Option (List Source)
+deciding_sources [] directives = None
+deciding_sources (name ∷ names) directives =
+    option_or (sources_named name directives) (deciding_sources names directives)

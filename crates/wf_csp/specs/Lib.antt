@@ -1,0 +1,4 @@
+pub mod Directives
+pub mod Reading
+pub mod SourceLists
+pub mod Violations

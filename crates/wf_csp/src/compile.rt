@@ -1,0 +1,80 @@
+ghost use Rattle.std.specs.Prelude.{◌≡◌, ◌<◌, ◌^◌, length, map, IfOk};
+ghost use Rattle.wf_csp.specs.Reading as spec;
+
+use crate::compiled::{Compiled, CompiledDirective, CompiledPolicy};
+use std::alloc::Global;
+use std::snapshot::Snapshot;
+use wf_csp_match::{Source, parse_source};
+use wf_csp_text::{Directive, Policies, Policy};
+use wf_text::{Bytes, Items, OutOfMemory};
+
+// What each of the words is.
+fn source_list(alloc: Global, words: &[Bytes]) -> Result<Items<Source>, OutOfMemory>
+    ensures { IfOk result (λ sources. sources ≡ spec.source_list words.now) }
+{
+    let mut sources = Items::new(alloc);
+    for word in words {
+        sources.push(parse_source(alloc, word.as_slice())?)?;
+    }
+    Ok(sources)
+}
+
+// A directive with its source list.
+fn read_directive(alloc: Global, directive: &Directive) -> Result<CompiledDirective, OutOfMemory>
+    ensures { IfOk result (λ read. read ≡ spec.read_directive directive.now) }
+{
+    Ok(CompiledDirective {
+        name: directive.name.copy(alloc)?,
+        sources: source_list(alloc, directive.words.as_slice())?,
+    })
+}
+
+// The directives with their source lists.
+fn read_directives(
+    alloc: Global,
+    directives: &[Directive],
+) -> Result<Items<CompiledDirective>, OutOfMemory>
+    ensures { IfOk result (λ read. read ≡ map spec.read_directive directives.now) }
+{
+    let mut read = Items::new(alloc);
+    for directive in directives {
+        read.push(read_directive(alloc, directive)?)?;
+    }
+    Ok(read)
+}
+
+// A policy whose directives have their source lists.
+fn read_policy(alloc: Global, policy: &Policy) -> Result<CompiledPolicy, OutOfMemory>
+    ensures { IfOk result (λ read. read ≡ spec.read_policy policy.now) }
+{
+    Ok(CompiledPolicy {
+        enforced: policy.enforced,
+        directives: read_directives(alloc, policy.directives.as_slice())?,
+    })
+}
+
+// The policies whose directives have their source lists.
+fn read_policies(alloc: Global, policies: &[Policy]) -> Result<Items<CompiledPolicy>, OutOfMemory>
+    ensures { IfOk result (λ read. read ≡ map spec.read_policy policies.now) }
+{
+    let mut read = Items::new(alloc);
+    for policy in policies {
+        read.push(read_policy(alloc, policy)?)?;
+    }
+    Ok(read)
+}
+
+impl Compiled {
+    /// The policies of a document, ready for checks: each word is read as a source expression now, and
+    /// never again. There are fewer than 4,294,967,296 policies. It is seen as the policies that it was
+    /// made of.
+    pub fn of(alloc: Global, policies: &Policies) -> Result<Compiled, OutOfMemory>
+        requires { length policies.now < 2 ^ 32 }
+        ensures { IfOk result (λ compiled. compiled ≡ policies.now) }
+    {
+        Ok(Compiled {
+            policies: read_policies(alloc, policies.as_slice())?,
+            made_of: Snapshot::of(policies),
+        })
+    }
+}

@@ -1,0 +1,40 @@
+use std::marker::Model;
+use std::snapshot::Snapshot;
+use wf_csp_match::Source;
+use wf_csp_text::Policies;
+use wf_text::{Bytes, Items};
+
+/// A directive with its words read as source expressions.
+#[derive(Drop)]
+pub(crate) struct CompiledDirective {
+    pub(crate) name: Bytes,
+    pub(crate) sources: Items<Source>,
+}
+
+/// A policy with the words of its directives read as source expressions.
+#[derive(Drop)]
+pub(crate) struct CompiledPolicy {
+    pub(crate) enforced: bool,
+    pub(crate) directives: Items<CompiledDirective>,
+}
+
+/// The policies of a document, each word of which was read once as a source expression. Seen as the
+/// policies that it was made of.
+#[derive(Drop)]
+pub struct Compiled {
+    pub(crate) policies: Items<CompiledPolicy>,
+    pub(crate) made_of: Snapshot<Policies>,
+}
+
+impl Model for Compiled {
+    ghost use Rattle.std.specs.Prelude.{◌≡◌, ◌<◌, ◌^◌, List, length, map};
+    ghost use Rattle.wf_csp.specs.Reading.{read_policy};
+    ghost use Rattle.wf_csp_text.specs.declared.policy.Policy.{Policy};
+
+    ghost Value = { List Policy };
+
+    ghost view = { λ compiled. compiled.made_of.value };
+
+    ghost invariant = { λ compiled. (compiled.policies ≡ map read_policy compiled.made_of.value)
+        × (length compiled.policies < 2 ^ 32) };
+}

@@ -1,0 +1,11 @@
+// Content security policies: which of a document's policies a request or its response violates.
+#![tactic(auto)]
+
+mod check;
+mod compile;
+mod compiled;
+mod directives;
+mod listed;
+
+pub use check::Violations;
+pub use compiled::Compiled;
