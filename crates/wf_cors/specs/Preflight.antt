@@ -1,0 +1,52 @@
+-- A CORS-preflight request as it is sent (Fetch, section 4.8 "CORS-preflight fetch", steps 1 to 6, and section 4.6
+-- "HTTP-network-or-cache fetch"; RFC 9112, section 3.2).
+use Rattle.std.specs.Prelude.{ℕ, true, List, [], ◌∷◌, codes, Option, Some, None}
+use Rattle.std.specs.List.{join_with_byte}
+use Rattle.url.specs.Parts.{Parts}
+use Rattle.wf_text.specs.Ascii.{comma}
+use Rattle.wf_headers.specs.declared.headers.Header.{Header}
+use Rattle.wf_origin.specs.Origins.{origin_of}
+use Rattle.wf_types.specs.declared.hop.Hop.{Hop}
+use Rattle.wf_types.specs.declared.request.Request.{Request}
+use Rattle.wf_types.specs.Lines.{header, header_where, present}
+use Rattle.wf_types.specs.OriginHeader.{referrer_value}
+use Rattle.wf_types.specs.Requests.{current_url, serialized_request_origin}
+use Rattle.wf_types.specs.Targets.{host_value, origin_text, target_of}
+
+-- the value of Access-Control-Request-Headers, where there are CORS-unsafe request-header names: these, with a comma
+-- between each two
+abbrev pub names_value : List (List ℕ) → Option (List ℕ)
+names_value [] = None
+names_value (name ∷ names) = Some (join_with_byte comma (name ∷ names))
+
+-- its header list as it is sent, from Host on: Accept and what the request asks leave for, then what is sent with every
+-- request (the user agent's name, the coding and the closed connection are this project's choice). Its tainting is cors,
+-- so Origin is the serialised request origin, and no credentials are included
+abbrev pub preflight_lines : Request → List (List ℕ) → Parts → List Header
+preflight_lines request names url =
+    present
+    (Some (header (codes "Host") (host_value url))
+    ∷ Some (header (codes "Accept") (codes "*/*"))
+    ∷ Some (header (codes "Access-Control-Request-Method") request.method)
+    ∷ header_where (codes "Access-Control-Request-Headers") (names_value names)
+    ∷ Some (header (codes "User-Agent") (codes "fetchplay/1"))
+    ∷ Some (header (codes "Accept-Encoding") (codes "identity"))
+    ∷ header_where (codes "Referer") (referrer_value request.referrer)
+    ∷ Some (header (codes "Origin") (serialized_request_origin request))
+    ∷ Some (header (codes "Connection") (codes "close"))
+    ∷ [])
+
+-- the preflight of a request as it is sent to a URL: OPTIONS without a body
+abbrev pub preflight_to : Request → List (List ℕ) → Parts → Hop
+preflight_to request names url = record {
+  preflight = true;
+  origin = origin_text (origin_of url);
+  url = target_of url;
+  method = codes "OPTIONS";
+  headers = preflight_lines request names url;
+  body = None;
+}
+
+-- the preflight of a request with these CORS-unsafe request-header names, to the request's current URL
+abbrev pub preflight_of : Request → List (List ℕ) → Hop
+preflight_of request names = preflight_to request names (current_url request)

@@ -1,0 +1,17 @@
+ghost use Rattle.wf_cors.specs.Laws.{ChecksAreOfViews, CredentialsNeverByWildcard, VerdictsAreOfViews};
+
+/// A law: with credentials the CORS check never passes where Access-Control-Allow-Origin is `*`, for
+/// an origin text other than `*`.
+pub fn law_credentials_never_by_wildcard()
+    ensures { CredentialsNeverByWildcard }
+{}
+
+/// A law: the verdict on the head that answers a preflight is that on what a document may learn of it.
+pub fn law_verdict_of_view()
+    ensures { VerdictsAreOfViews }
+{}
+
+/// A law: the CORS check of the head that answers a preflight is that of what a document may learn of it.
+pub fn law_check_of_view()
+    ensures { ChecksAreOfViews }
+{}
