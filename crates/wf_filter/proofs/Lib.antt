@@ -1,0 +1,4 @@
+pub mod CollectingLemmas
+pub mod KeepingLemmas
+pub mod ViewLemmas
+pub mod OwnViewLemmas

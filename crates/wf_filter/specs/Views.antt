@@ -1,0 +1,141 @@
+-- What a document may learn of the head of an answer to one of its requests: this project's own definition. Each rule
+-- of a fetch that looks at a head (Fetch, sections 4.1, 4.4 and 4.5) comes to the same on this view of it, and the view
+-- holds no more than those rules look at. The header that known hosts are noted by (RFC 6797, section 8.1) is in each.
+use Rattle.std.specs.Prelude.{ℕ, Bool, true, false, not, ◌&&◌, ◌||◌, List, [], ◌∷◌, filter, codes, if◌then◌else◌}
+use Rattle.wf_headers.specs.declared.headers.Header.{Header}
+use Rattle.wf_headers.specs.Headers.{contains}
+use Rattle.wf_origin.specs.Origins.{tuple_origin}
+use Rattle.wf_types.specs.declared.hop.Head.{Head}
+use Rattle.wf_types.specs.declared.hop.Hop.{Hop}
+use Rattle.wf_types.specs.declared.mode.RedirectMode.TheVariants as redirect
+use Rattle.wf_types.specs.declared.mode.RedirectMode.{RedirectMode}
+use Rattle.wf_types.specs.declared.mode.Tainting.TheVariants as tainting
+use Rattle.wf_types.specs.declared.mode.Tainting.{Tainting}
+use Rattle.wf_types.specs.declared.policy.Destination.TheVariants as destination
+use Rattle.wf_types.specs.declared.policy.Destination.{Destination}
+use Rattle.wf_types.specs.declared.request.Request.{Request}
+use Rattle.wf_types.specs.CorsCheck.{is_include, passes_cors_check}
+use Rattle.wf_types.specs.PermittedNames.{has_name_among, preflight_view}
+use Rattle.wf_types.specs.Requests.{current_url, serialized_request_origin}
+use Rattle.wf_types.specs.ResourcePolicy.{corp_blocks}
+use Rattle.wf_types.specs.Statuses.{is_redirect_status}
+use Rattle.wf_filter.specs.Filtered.{exposed_to, without_forbidden}
+use Rattle.wf_filter.specs.Names.{is_safelisted}
+
+-- ---- what is asked of a head
+
+-- the CORS check of a request passes
+abbrev pub passes_check : Request → List Header → Bool
+passes_check request headers =
+    passes_cors_check (serialized_request_origin request) (is_include request.credentials) headers
+
+-- the cross-origin resource policy check of a request fails
+abbrev pub is_blocked : Request → List Header → Bool
+is_blocked request headers = corp_blocks request.origin (tuple_origin (current_url request)) headers
+
+-- the check of a response by its tainting fails: the CORS check, or the cross-origin resource policy check
+abbrev pub is_refused_by : Tainting → Request → List Header → Bool
+is_refused_by tainting.Basic request headers = false
+is_refused_by tainting.Cors request headers = not (passes_check request headers)
+is_refused_by tainting.Opaque request headers = is_blocked request headers
+
+-- the same by the request's tainting
+abbrev pub is_refused : Request → List Header → Bool
+is_refused request headers = is_refused_by request.tainting request headers
+
+-- the redirect mode is follow
+abbrev pub is_follow : RedirectMode → Bool
+is_follow redirect.Follow = true
+is_follow _ = false
+
+-- a redirect that is not to be followed, in redirect mode error or manual
+abbrev pub is_unfollowed : Request → Head → Bool
+is_unfollowed request head = is_redirect_status head.status && not (is_follow request.redirect)
+
+-- a redirect that is followed: the redirect mode is follow and there is a Location
+abbrev pub is_followed : Request → Head → Bool
+is_followed request head =
+    is_redirect_status head.status && is_follow request.redirect && contains (codes "Location") head.headers
+
+-- ---- names
+
+-- the headers that the check of this tainting rests on, and the one that known hosts are noted by
+abbrev pub checked_names : Tainting → List (List ℕ)
+checked_names tainting.Basic = codes "Strict-Transport-Security" ∷ []
+checked_names tainting.Cors =
+    codes "Strict-Transport-Security" ∷ codes "Access-Control-Allow-Origin"
+    ∷ codes "Access-Control-Allow-Credentials" ∷ []
+checked_names tainting.Opaque = codes "Strict-Transport-Security" ∷ codes "Cross-Origin-Resource-Policy" ∷ []
+
+-- the headers that following a redirect rests on
+abbrev pub redirect_names : List (List ℕ)
+redirect_names = codes "Location" ∷ codes "Referrer-Policy" ∷ []
+
+-- the headers that blocking for a MIME type rests on, which scripts and styles alone are blocked for
+abbrev pub type_names : Destination → List (List ℕ)
+type_names destination.Style = codes "X-Content-Type-Options" ∷ codes "Content-Type" ∷ []
+type_names destination.Script = codes "X-Content-Type-Options" ∷ codes "Content-Type" ∷ []
+type_names _ = []
+
+-- the headers of a CORS response that the end of main fetch rests on
+abbrev pub response_names : List (List ℕ)
+response_names =
+    codes "Access-Control-Expose-Headers" ∷ codes "X-Content-Type-Options" ∷ codes "Content-Type"
+    ∷ codes "Content-Encoding" ∷ []
+
+-- ---- the cases
+
+-- the header is one that the check of this tainting rests on, or has one of these names
+abbrev pub is_told : Tainting → List (List ℕ) → Header → Bool
+is_told tainting names header = has_name_among (checked_names tainting) header || has_name_among names header
+
+-- of a head, this status and the headers that are told
+abbrev pub told : Tainting → List (List ℕ) → ℕ → Head → Head
+told tainting names status head = record { status = status; headers = filter (is_told tainting names) head.headers }
+
+-- of a response that is refused, what its check rests on
+abbrev pub refused_view : Request → Head → Head
+refused_view request head = told request.tainting [] 200 head
+
+-- of a redirect that is not to be followed, that it is one
+abbrev pub unfollowed_view : Request → Head → Head
+unfollowed_view request head = told request.tainting [] 302 head
+
+-- of a redirect that is followed, its status and where it leads
+abbrev pub followed_view : Request → Head → Head
+followed_view request head = told request.tainting redirect_names head.status head
+
+-- of an opaque response, what blocks it, and not its status
+abbrev pub opaque_view : Request → Head → Head
+opaque_view request head = told tainting.Opaque (type_names request.destination) 200 head
+
+-- the header is in the CORS filtered response that exposes these names, or told
+abbrev pub is_told_cors : List (List ℕ) → Header → Bool
+is_told_cors exposed header = is_safelisted exposed header || is_told tainting.Cors response_names header
+
+-- of a CORS response, its status, what its filtered response keeps and what the end of main fetch rests on
+abbrev pub cors_view : Request → Head → Head
+cors_view request head = record {
+  status = head.status;
+  headers = filter (is_told_cors (exposed_to request head.headers)) head.headers;
+}
+
+-- of a basic response, all but the headers with a forbidden response-header name
+abbrev pub basic_view : Head → Head
+basic_view head = record { status = head.status; headers = without_forbidden head.headers }
+
+-- of a response that is handed over, by its tainting
+abbrev pub response_view : Tainting → Request → Head → Head
+response_view tainting.Basic request head = basic_view head
+response_view tainting.Cors request head = cors_view request head
+response_view tainting.Opaque request head = opaque_view request head
+
+-- what a document may learn of a head that answers its request, as this hop or as a preflight: the first case that
+-- applies
+abbrev pub permitted_view : Request → Hop → Head → Head
+permitted_view request hop head =
+    if hop.preflight then preflight_view head
+    else if is_refused request head.headers then refused_view request head
+    else if is_unfollowed request head then unfollowed_view request head
+    else if is_followed request head then followed_view request head
+    else response_view request.tainting request head

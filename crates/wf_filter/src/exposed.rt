@@ -1,0 +1,70 @@
+ghost use Rattle.std.specs.Prelude.{◌≡◌, codes, IfOk, OnOk};
+ghost use Rattle.std.specs.Str.{str_eq_ignore_ascii_case};
+ghost use Rattle.std.specs.List.{list_any};
+ghost use Rattle.wf_filter.specs.Exposed as spec;
+ghost use Rattle.wf_filter.specs.Private.Collecting.{with_new};
+
+use std::alloc::Global;
+use wf_headers::{Extracted, Header, HeaderList, Rule};
+use wf_text::{Bytes, BytesList, OutOfMemory, eq_fold};
+
+// Whether a name is one of these, ASCII case aside.
+fn is_one_of(names: &[Bytes], name: &[u8]) -> bool
+    ensures { result ≡ list_any (λ other. str_eq_ignore_ascii_case other name.now) names.now }
+{
+    names.iter().any(|other| eq_fold(other.as_slice(), name))
+}
+
+// Adds a name, unless it is there.
+fn add_name(alloc: Global, names: &mut BytesList, name: &[u8]) -> Result<(), OutOfMemory>
+    ensures { OnOk result (names.new ≡ with_new name.now names.old) }
+{
+    if is_one_of(names.as_slice(), name) {
+        return Ok(());
+    }
+    names.push(Bytes::of(alloc, name)?)
+}
+
+// The names of headers, each once, in order.
+#[tactic(auto, using(crate::proofs::CollectingLemmas::new_all))]
+fn header_names(alloc: Global, headers: &[Header]) -> Result<BytesList, OutOfMemory>
+    ensures { IfOk result (λ names. names ≡ spec.header_names headers.now) }
+{
+    let mut names = BytesList::new(alloc);
+    for header in headers {
+        add_name(alloc, &mut names, header.name.as_slice())?;
+    }
+    Ok(names)
+}
+
+// Whether one of the names is `*`.
+fn has_star(names: &[Bytes]) -> bool
+    ensures { result ≡ spec.has_star names.now }
+{
+    names.iter().any(|name| name.as_slice() == b"*".as_slice())
+}
+
+/// The names of response headers that a CORS response exposes ("CORS-exposed header-name list",
+/// Fetch, section 2.2.6, as main fetch sets it): those of Access-Control-Expose-Headers extracted
+/// as a list, none where it is absent or a failure. Where `*` is one of them and the credentials
+/// mode is not include, they are all names of the list, each once; with include `*` is a name like
+/// another. Each name of the list is then compared with those before it; a head has at most 128
+/// lines. The only error is want of memory.
+pub fn exposed_names(
+    alloc: Global,
+    headers: &HeaderList,
+    include: bool,
+) -> Result<BytesList, OutOfMemory>
+    ensures { IfOk result (λ names. names ≡ spec.exposed_names include headers.now) }
+{
+    match headers.extract(alloc, b"Access-Control-Expose-Headers", Rule::Tokens)? {
+        Extracted::Items(names) => {
+            if !include && has_star(names.as_slice()) {
+                header_names(alloc, headers.as_slice())
+            } else {
+                Ok(names)
+            }
+        }
+        Extracted::Absent | Extracted::Failure => Ok(BytesList::new(alloc)),
+    }
+}

@@ -1,0 +1,52 @@
+ghost use Rattle.std.specs.Prelude.{◌≡◌, map};
+ghost use Rattle.wf_filter.specs.Names as spec;
+ghost use Rattle.wf_types.specs.PermittedNames as permitted;
+
+use wf_headers::Header;
+use wf_text::{Bytes, eq_fold, is_among_fold};
+
+// The forbidden response-header names.
+const FORBIDDEN_NAMES: [&[u8]; 2] = [b"Set-Cookie", b"Set-Cookie2"];
+
+// The names that are CORS-safelisted whatever is exposed.
+const SAFELISTED_NAMES: [&[u8]; 7] = [
+    b"Cache-Control",
+    b"Content-Language",
+    b"Content-Length",
+    b"Content-Type",
+    b"Expires",
+    b"Last-Modified",
+    b"Pragma",
+];
+
+// Whether the header has one of these names.
+pub fn has_name_among(names: &[&[u8]], header: &Header) -> bool
+    ensures { result ≡ permitted.has_name_among (map (λ name. name.now) names.now) header.now }
+{
+    is_among_fold(names, header.name.as_slice())
+}
+
+// The same of names that were read.
+fn has_name_in(names: &[Bytes], header: &Header) -> bool
+    ensures { result ≡ permitted.has_name_among names.now header.now }
+{
+    names
+        .iter()
+        .any(|name| eq_fold(header.name.as_slice(), name.as_slice()))
+}
+
+// Whether the header has a forbidden response-header name (Fetch, section 2.2.2).
+pub fn is_forbidden(header: &Header) -> bool
+    ensures { result ≡ spec.is_forbidden header.now }
+{
+    has_name_among(&FORBIDDEN_NAMES, header)
+}
+
+// Whether the header has a CORS-safelisted response-header name, given a list of exposed names
+// (Fetch, section 2.2.2).
+pub fn is_safelisted(exposed: &[Bytes], header: &Header) -> bool
+    ensures { result ≡ spec.is_safelisted exposed.now header.now }
+{
+    has_name_among(&SAFELISTED_NAMES, header)
+        || (has_name_in(exposed, header) && !is_forbidden(header))
+}

@@ -1,0 +1,228 @@
+ghost use Rattle.std.specs.Prelude.{◌≡◌, IfOk, map};
+ghost use Rattle.wf_filter.specs.Views as spec;
+ghost use Rattle.wf_types.specs.CorsCheck as cors;
+ghost use Rattle.wf_types.specs.OriginHeader as origin_header;
+ghost use Rattle.wf_types.specs.PermittedNames.{preflight_status as status_told, preflight_view as preflight_told};
+ghost use Rattle.wf_types.specs.Requests.{IsRequest, IsAtHttp};
+ghost use Rattle.wf_types.specs.ResourcePolicy as resource;
+
+use crate::keep::{Keep, kept};
+use crate::responses::{exposed_to, without_forbidden};
+use std::alloc::Global;
+use wf_headers::HeaderList;
+use wf_origin::{Origin, same_origin, same_site, tuple_origin};
+use wf_text::OutOfMemory;
+use wf_types::{
+    Destination, Head, Hop, RedirectMode, Request, Tainting, is_ok_status, is_redirect_status,
+    serialized_origin,
+};
+
+// The headers that following a redirect rests on.
+const REDIRECT_NAMES: [&[u8]; 2] = [b"Location", b"Referrer-Policy"];
+
+// The headers that blocking for a MIME type rests on.
+const TYPE_NAMES: [&[u8]; 2] = [b"X-Content-Type-Options", b"Content-Type"];
+
+// The CORS check of a serialised origin, and whether the credentials mode is include.
+fn passes_cors_check(origin: &[u8], include: bool, headers: &HeaderList) -> bool
+    ensures { result ≡ cors.passes_cors_check origin.now include headers.now }
+{
+    let allows_origin = headers.has_value(b"Access-Control-Allow-Origin", origin);
+    if include {
+        allows_origin && headers.has_value(b"Access-Control-Allow-Credentials", b"true")
+    } else {
+        headers.has_value(b"Access-Control-Allow-Origin", b"*") || allows_origin
+    }
+}
+
+// Whether the scheme is https.
+fn is_https(origin: &Origin) -> bool
+    ensures { result ≡ origin_header.is_https origin.now.scheme }
+{
+    origin.scheme.as_slice() == b"https".as_slice()
+}
+
+// Whether two origins are of one site, and no insecure origin looks into a secure one.
+fn is_within_site(origin: &Origin, url: &Origin) -> bool
+    ensures { result ≡ resource.is_within_site origin.now url.now }
+{
+    same_site(origin, url) && (is_https(origin) || !is_https(url))
+}
+
+// Whether the value of Cross-Origin-Resource-Policy is this text.
+fn has_resource_policy(text: &[u8], headers: &HeaderList) -> bool
+    ensures { result ≡ resource.has_resource_policy text.now headers.now }
+{
+    headers.has_value(b"Cross-Origin-Resource-Policy", text)
+}
+
+// Whether the cross-origin resource policy check fails.
+fn corp_blocks(origin: &Origin, url: &Origin, headers: &HeaderList) -> bool
+    ensures { result ≡ resource.corp_blocks origin.now url.now headers.now }
+{
+    if has_resource_policy(b"same-origin", headers) {
+        !same_origin(origin, url)
+    } else if has_resource_policy(b"same-site", headers) {
+        !is_within_site(origin, url)
+    } else {
+        false
+    }
+}
+
+// Whether the CORS check of a request passes.
+fn passes_check(alloc: Global, request: &Request, headers: &HeaderList) -> Result<bool, OutOfMemory>
+    ensures { IfOk result (λ passes. passes ≡ spec.passes_check request.now headers.now) }
+{
+    let origin = serialized_origin(alloc, request)?;
+    let include = request.credentials.is_include();
+    Ok(passes_cors_check(origin.as_slice(), include, headers))
+}
+
+// Whether the cross-origin resource policy check of a request fails.
+fn is_blocked(alloc: Global, request: &Request, headers: &HeaderList) -> Result<bool, OutOfMemory>
+    requires { IsRequest request.now }
+    ensures { IfOk result (λ blocked. blocked ≡ spec.is_blocked request.now headers.now) }
+{
+    let url = tuple_origin(alloc, request.current_url())?;
+    Ok(corp_blocks(&request.origin, &url, headers))
+}
+
+// Whether the check of a response by the request's tainting fails.
+fn is_refused(alloc: Global, request: &Request, headers: &HeaderList) -> Result<bool, OutOfMemory>
+    requires { IsRequest request.now }
+    ensures { IfOk result (λ refused. refused ≡ spec.is_refused request.now headers.now) }
+{
+    match request.tainting {
+        Tainting::Basic => Ok(false),
+        Tainting::Cors => Ok(!passes_check(alloc, request, headers)?),
+        Tainting::Opaque => is_blocked(alloc, request, headers),
+    }
+}
+
+// Whether the redirect mode is follow.
+fn is_follow(mode: RedirectMode) -> bool
+    ensures { result ≡ spec.is_follow mode }
+{
+    matches!(mode, RedirectMode::Follow)
+}
+
+// Whether the head is a redirect that is not to be followed.
+fn is_unfollowed(request: &Request, head: &Head) -> bool
+    ensures { result ≡ spec.is_unfollowed request.now head.now }
+{
+    is_redirect_status(head.status) && !is_follow(request.redirect)
+}
+
+// Whether the head is a redirect that is followed.
+fn is_followed(request: &Request, head: &Head) -> bool
+    ensures { result ≡ spec.is_followed request.now head.now }
+{
+    is_redirect_status(head.status)
+        && is_follow(request.redirect)
+        && head.headers.contains(b"Location")
+}
+
+// Of a head, this status and the headers that the check of the tainting rests on or that have these
+// names.
+fn told(
+    alloc: Global,
+    head: &Head,
+    tainting: Tainting,
+    names: &[&[u8]],
+    status: u16,
+) -> Result<Head, OutOfMemory>
+    ensures { IfOk result (λ view. view
+        ≡ spec.told tainting (map (λ name. name.now) names.now) status head.now) }
+{
+    let headers = kept(alloc, &head.headers, Keep::Told(tainting, names))?;
+    Ok(Head { status, headers })
+}
+
+// Of the status that answers a preflight, whether it is an ok status.
+fn preflight_status(status: u16) -> u16
+    ensures { result ≡ status_told status }
+{
+    if is_ok_status(status) { 200 } else { 500 }
+}
+
+// Of a head that answers a preflight, what a verdict on it rests on.
+fn preflight_view(alloc: Global, head: &Head) -> Result<Head, OutOfMemory>
+    ensures { IfOk result (λ view. view ≡ preflight_told head.now) }
+{
+    let headers = kept(alloc, &head.headers, Keep::Preflight)?;
+    let status = preflight_status(head.status);
+    Ok(Head { status, headers })
+}
+
+// Of an opaque response, what blocks it.
+fn opaque_view(alloc: Global, request: &Request, head: &Head) -> Result<Head, OutOfMemory>
+    ensures { IfOk result (λ view. view ≡ spec.opaque_view request.now head.now) }
+{
+    match request.destination {
+        Destination::Style | Destination::Script => {
+            told(alloc, head, Tainting::Opaque, &TYPE_NAMES, 200)
+        }
+        _ => told(alloc, head, Tainting::Opaque, &[], 200),
+    }
+}
+
+// Of a CORS response, its status, what its filtered response keeps and what the end of main fetch
+// rests on.
+fn cors_view(alloc: Global, request: &Request, head: &Head) -> Result<Head, OutOfMemory>
+    ensures { IfOk result (λ view. view ≡ spec.cors_view request.now head.now) }
+{
+    let exposed = exposed_to(alloc, request, &head.headers)?;
+    let headers = kept(alloc, &head.headers, Keep::ToldCors(exposed.as_slice()))?;
+    Ok(Head {
+        status: head.status,
+        headers,
+    })
+}
+
+// Of a basic response, all but the headers with a forbidden response-header name.
+fn basic_view(alloc: Global, head: &Head) -> Result<Head, OutOfMemory>
+    ensures { IfOk result (λ view. view ≡ spec.basic_view head.now) }
+{
+    let headers = without_forbidden(alloc, &head.headers)?;
+    Ok(Head {
+        status: head.status,
+        headers,
+    })
+}
+
+// Of a response that is handed over, by the request's tainting.
+fn response_view(alloc: Global, request: &Request, head: &Head) -> Result<Head, OutOfMemory>
+    ensures { IfOk result (λ view. view ≡ spec.response_view request.now.tainting request.now head.now) }
+{
+    match request.tainting {
+        Tainting::Basic => basic_view(alloc, head),
+        Tainting::Cors => cors_view(alloc, request, head),
+        Tainting::Opaque => opaque_view(alloc, request, head),
+    }
+}
+
+/// What a document may learn of a head that answers its request, which was sent as this hop or, for
+/// it, as a preflight: its permitted view, which is this project's own definition. It holds the
+/// status and the headers that the rules of a fetch look at (Fetch, sections 4.1, 4.4 and 4.5), by
+/// the first case that applies: the answer to a preflight, a response that the CORS check or the
+/// cross-origin resource policy check refuses, a redirect that is not to be followed, one that is
+/// followed, a response by the request's tainting. Each header is compared with the names of its
+/// case and with the headers that were kept; a head has at most 128 lines. The only error is want
+/// of memory.
+pub fn hide(alloc: Global, request: &Request, hop: &Hop, head: &Head) -> Result<Head, OutOfMemory>
+    requires request { IsRequest request.now }
+    requires at_http { IsAtHttp request.now }
+    ensures { IfOk result (λ view. view ≡ spec.permitted_view request.now hop.now head.now) }
+{
+    if hop.preflight {
+        preflight_view(alloc, head)
+    } else if is_refused(alloc, request, &head.headers)? {
+        told(alloc, head, request.tainting, &[], 200)
+    } else if is_unfollowed(request, head) {
+        told(alloc, head, request.tainting, &[], 302)
+    } else if is_followed(request, head) {
+        told(alloc, head, request.tainting, &REDIRECT_NAMES, head.status)
+    } else {
+        response_view(alloc, request, head)
+    }
+}
