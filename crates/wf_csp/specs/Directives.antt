@@ -1,6 +1,6 @@
 -- Which directive of a policy decides about a request (CSP 3, section 6.8: "get the effective directive for request" and
 -- "get fetch directive fallback list").
-use Rattle.std.specs.Prelude.{ℕ, Bool, List, [], ◌∷◌, codes, bytes_eq, Option, Some, None, if◌then◌else◌}
+use Rattle.std.specs.Prelude.{ℕ, List, [], ◌∷◌, codes, bytes_eq, Option, Some, None, if◌then◌else◌}
 use Rattle.std.specs.Option.{option_or}
 use Rattle.wf_csp_match.specs.declared.source.Source.{Source}
 use Rattle.wf_types.specs.declared.policy.Destination.{Destination}

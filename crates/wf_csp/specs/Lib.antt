@@ -1,4 +1,5 @@
 pub mod Directives
+pub mod Laws
 pub mod Reading
 pub mod SourceLists
 pub mod Violations

@@ -4,7 +4,6 @@
 use Rattle.std.specs.Prelude.{ℕ, Bool, true, false, not, ◌==◌, ◌&&◌, ◌||◌, List, [], ◌∷◌, length, bytes_eq}
 use Rattle.std.specs.Prelude.{if◌then◌else◌}
 use Rattle.std.specs.List.{list_all, list_any}
-use Rattle.url.specs.Parts.{Parts}
 use Rattle.wf_csp_match.specs.declared.source.Source.{Source}
 use Rattle.wf_csp_match.specs.declared.source.Source.TheVariants as source
 use Rattle.wf_csp_match.specs.Matching.{matches}

@@ -12,7 +12,6 @@ use Rattle.wf_types.specs.declared.policy.Violation.{Violation}
 use Rattle.wf_types.specs.declared.request.Request.{Request}
 use Rattle.wf_types.specs.Requests.{is_http_url, no_url}
 use Rattle.wf_types.specs.Urls.{stripped}
-use Rattle.wf_csp.specs.declared.compiled.CompiledDirective.{CompiledDirective}
 use Rattle.wf_csp.specs.declared.compiled.CompiledPolicy.{CompiledPolicy}
 use Rattle.wf_csp.specs.Directives.{deciding_sources, effective_directive, fallback_list}
 use Rattle.wf_csp.specs.Reading.{read_policy}

@@ -125,9 +125,8 @@ fn has_upgrade(directives: &[CompiledDirective]) -> bool
     ensures { result ≡ list_any (λ directive. bytes_eq directive.name (codes "upgrade-insecure-requests"))
         directives.now }
 {
-    directives
-        .iter()
-        .any(|directive| directive.name.as_slice() == b"upgrade-insecure-requests".as_slice())
+    directives.iter().any(|directive| directive.name.as_slice()
+        == b"upgrade-insecure-requests".as_slice())
 }
 
 // Whether the policy is enforced and has the directive `upgrade-insecure-requests`.

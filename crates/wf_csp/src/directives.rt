@@ -33,10 +33,7 @@ fn sources_named<'a>(directives: &'a [CompiledDirective], name: &[u8]) -> Option
 }
 
 // The source list of the first of these names that there is a directive of.
-fn first_named<'a>(
-    directives: &'a [CompiledDirective],
-    names: &[&[u8]],
-) -> Option<&'a [Source]>
+fn first_named<'a>(directives: &'a [CompiledDirective], names: &[&[u8]]) -> Option<&'a [Source]>
     ensures { option_map (λ sources. sources.now) result
         ≡ spec.deciding_sources (map (λ name. name.now) names.now) directives.now }
 {

@@ -5,7 +5,9 @@ mod check;
 mod compile;
 mod compiled;
 mod directives;
+mod laws;
 mod listed;
 
 pub use check::Violations;
 pub use compiled::Compiled;
+pub use laws::{law_empty_as_none, law_violated_alike};
