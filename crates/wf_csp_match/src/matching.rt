@@ -86,13 +86,13 @@ fn path_matches(path: &Option<Bytes>, url: &Url, redirects: u32) -> bool
     }
 }
 
-// Whether a host-source matches a URL.
+// Whether a host-source matches a URL. The host is asked first, since it differs most.
 fn host_source_matches(source: &HostSource, url: &Url, document: &Origin, redirects: u32) -> bool
     ensures { result ≡ spec.host_source_matches source.now url.now document.now redirects }
 {
-    scheme_matches(&source.scheme, url, document)
-        && host_part_matches(source.host.as_slice(), url)
+    host_part_matches(source.host.as_slice(), url)
         && port_part_matches(&source.port, url)
+        && scheme_matches(&source.scheme, url, document)
         && path_matches(&source.path, url, redirects)
 }
 
