@@ -1,4 +1,6 @@
+pub mod Computed
 pub mod CollectingLemmas
 pub mod KeepingLemmas
 pub mod ViewLemmas
 pub mod OwnViewLemmas
+pub mod LawLemmas

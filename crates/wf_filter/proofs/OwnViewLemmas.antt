@@ -1,5 +1,6 @@
 -- A permitted view is its own permitted view.
-use Rattle.std.proofs.Common.{◌≡◌, ◌&&◌, ◌||◌, [], ℕ, Bool, true, false, not, List, codes, cond, filter, refl, ap, sym, ◌∙◌}
+use Rattle.std.proofs.Common.{◌≡◌, ◌&&◌, ◌||◌, [], ℕ, Bool, true, false, not, List, codes, cond, filter, refl, ap}
+use Rattle.std.proofs.Common.{sym, ◌∙◌}
 use Rattle.std.proofs.Common.{arith, inl, inr}
 use Rattle.std.proofs.lemmas.Bool.{cases_Bool}
 use Rattle.wf_headers.specs.declared.extract.Extracted.{Extracted}
@@ -17,13 +18,16 @@ use Rattle.wf_types.specs.declared.request.Request.{Request}
 use Rattle.wf_types.specs.CorsCheck.{is_include}
 use Rattle.wf_types.specs.PermittedNames.{has_name_among, preflight_names, preflight_view}
 use Rattle.wf_types.specs.Statuses.{is_ok_status, is_redirect_status}
-use Rattle.wf_filter.proofs.ViewLemmas.{KeepsChecked, basic-named, contains-fewer, contains-kept, cors-told, filter-all_named}
-use Rattle.wf_filter.proofs.ViewLemmas.{filter-twice, filter-within, first-passes, refused-kept, told-checked, told-named}
+use Rattle.wf_filter.proofs.ViewLemmas.{KeepsChecked, basic-named, contains-fewer, contains-kept, cors-told}
+use Rattle.wf_filter.proofs.ViewLemmas.{filter-all_named}
+use Rattle.wf_filter.proofs.ViewLemmas.{filter-twice, filter-within, first-passes, refused-kept, told-checked}
+use Rattle.wf_filter.proofs.ViewLemmas.{told-named}
 use Rattle.wf_filter.specs.Exposed.{exposed_by, has_star, header_names}
 use Rattle.wf_filter.specs.Filtered.{exposed_to}
 use Rattle.wf_filter.specs.Names.{is_forbidden, is_safelisted, safelisted_names}
 use Rattle.wf_filter.specs.Views.{followed_view, is_follow, is_followed, is_refused, is_told, is_told_cors}
-use Rattle.wf_filter.specs.Views.{is_unfollowed, permitted_view, redirect_names, refused_view, response_names, response_view}
+use Rattle.wf_filter.specs.Views.{is_unfollowed, permitted_view, redirect_names, refused_view, response_names}
+use Rattle.wf_filter.specs.Views.{response_view}
 use Rattle.wf_filter.specs.Views.{type_names, unfollowed_view}
 
 -- ---- the headers of a CORS response
@@ -136,7 +140,7 @@ refused-told request names headers =
     (told-checked request.tainting names)
 
 -- both of two
-both-second : (a b : Bool) → (a && b) ≡ true → b ≡ true
+pub both-second : (a b : Bool) → (a && b) ≡ true → b ≡ true
 both-second true b e = e
 both-second false b e = absurd (grind arith)
 
@@ -149,12 +153,12 @@ preflight-again head =
     ]
 
 -- a view of a CORS response keeps what the CORS check rests on
-cors-checked : (exposed : List (List ℕ)) → KeepsChecked (is_told_cors exposed) tainting.Cors
+pub cors-checked : (exposed : List (List ℕ)) → KeepsChecked (is_told_cors exposed) tainting.Cors
 cors-checked exposed name within =
     cors-told exposed name (told-checked tainting.Cors response_names name within)
 
 -- three tests of which the last passes for fewer
-fewer : (a b c d : Bool) → (c ≡ false → d ≡ false) → (a && b && c) ≡ false → (a && b && d) ≡ false
+pub fewer : (a b c d : Bool) → (c ≡ false → d ≡ false) → (a && b && c) ≡ false → (a && b && d) ≡ false
 fewer true true c d less e = less e
 fewer true false c d less e = refl
 fewer false b c d less e = refl
@@ -168,7 +172,8 @@ response-again : (tainting : Tainting) (request : Request) (head : Head)
     ≡ view
 response-again tainting.Basic request head e r u f =
     let location = codes "Location" in
-    rw (e, u, contains-kept (λ header. not (is_forbidden header)) location (basic-named location refl refl) head.headers, f)
+    let there = contains-kept (λ header. not (is_forbidden header)) location (basic-named location refl refl) in
+    rw (e, u, there head.headers, f)
     (twice head.status (λ header. not (is_forbidden header)) head.headers)
 response-again tainting.Cors request head e r u f =
     let location = codes "Location" in

@@ -9,7 +9,10 @@ use Rattle.std.proofs.lemmas.Slice.Eq.{bytes_eq-Decides}
 use Rattle.std.specs.Str.{str_eq_ignore_ascii_case, str_to_ascii_lowercase}
 use Rattle.wf_headers.proofs.SpellingLemmas.{fold-sym, fold-trans}
 use Rattle.wf_headers.specs.declared.headers.Header.{Header}
-use Rattle.wf_headers.specs.Headers.{contains, is_named}
+use Rattle.wf_headers.specs.declared.extract.Extracted.TheVariants.{Absent}
+use Rattle.wf_headers.specs.declared.extract.Rule.{Rule}
+use Rattle.wf_headers.specs.Extract.{extracted, extracted_of}
+use Rattle.wf_headers.specs.Headers.{contains, is_named, values_of}
 use Rattle.wf_types.proofs.NameLemmas.{among-named, values-kept}
 use Rattle.wf_types.specs.declared.mode.Tainting.{Tainting}
 use Rattle.wf_types.specs.declared.mode.Tainting.TheVariants as tainting
@@ -51,7 +54,8 @@ pub other-name : (name other : List ℕ) → str_eq_ignore_ascii_case name other
     → IsTrue (is_named name header) → is_named other header ≡ false
 other-name name other differ header named =
     elim (cases_Bool (is_named other header)) [
-      | inl same ↦ absurd (grind (arith, differ, fold-trans name header.name other (fold-sym header.name name named) same))
+      | inl same ↦
+          absurd (grind (arith, differ, fold-trans name header.name other (fold-sym header.name name named) same))
       | inr away ↦ away
     ]
 
@@ -67,6 +71,15 @@ pub contains-fewer : (keep : Header → Bool) (name : List ℕ) (headers : List 
 contains-fewer keep name [] none = refl
 contains-fewer keep name (header ∷ headers) none =
     grind (arith, common_steps, contains-fewer keep name headers)
+
+-- a name that is not there has no values, and nothing is extracted of it
+no-values : (name : List ℕ) (headers : List Header) → contains name headers ≡ false → values_of name headers ≡ []
+no-values name [] none = refl
+no-values name (header ∷ headers) none = grind (arith, common_steps, no-values name headers)
+
+pub absent-extracted : (rule : Rule) (name : List ℕ) (headers : List Header) → contains name headers ≡ false
+    → extracted rule name headers ≡ Absent
+absent-extracted rule name headers none = ap (extracted_of rule) (no-values name headers none)
 
 -- ---- what each view keeps
 
@@ -95,7 +108,10 @@ cors-told exposed name keeps header named = second-passes _ _ (keeps header name
 pub basic-named : (name : List ℕ) → str_eq_ignore_ascii_case name (codes "Set-Cookie") ≡ false
     → str_eq_ignore_ascii_case name (codes "Set-Cookie2") ≡ false → Keeps (λ header. not (is_forbidden header)) name
 basic-named name first second header named =
-    rw (other-name name (codes "Set-Cookie") first header named, other-name name (codes "Set-Cookie2") second header named)
+    rw (
+      other-name name (codes "Set-Cookie") first header named,
+      other-name name (codes "Set-Cookie2") second header named,
+    )
     refl
 
 -- the check of a response comes to the same
@@ -106,7 +122,10 @@ refused-kept tainting.Basic request keep headers keeps = refl
 refused-kept tainting.Cors request keep headers keeps =
     let origin = codes "Access-Control-Allow-Origin" in
     let credentials = codes "Access-Control-Allow-Credentials" in
-    rw (values-kept keep origin (keeps origin refl) headers, values-kept keep credentials (keeps credentials refl) headers)
+    rw (
+      values-kept keep origin (keeps origin refl) headers,
+      values-kept keep credentials (keeps credentials refl) headers,
+    )
     refl
 refused-kept tainting.Opaque request keep headers keeps =
     let policy = codes "Cross-Origin-Resource-Policy" in

@@ -1,3 +1,4 @@
+pub mod Blocks
 pub mod Exposed
 pub mod Filtered
 pub mod Laws

@@ -1,6 +1,6 @@
 -- What a document may learn of the head of an answer to one of its requests: this project's own definition. Each rule
--- of a fetch that looks at a head (Fetch, sections 4.1, 4.4 and 4.5) comes to the same on this view of it, and the view
--- holds no more than those rules look at. The header that known hosts are noted by (RFC 6797, section 8.1) is in each.
+-- of a fetch that looks at a head (Fetch, sections 4.1, 4.4 and 4.5) comes to the same on this view of it, as the laws
+-- say. The header that known hosts are noted by (RFC 6797, section 8.1) is in each view.
 use Rattle.std.specs.Prelude.{ℕ, Bool, true, false, not, ◌&&◌, ◌||◌, List, [], ◌∷◌, filter, codes, if◌then◌else◌}
 use Rattle.wf_headers.specs.declared.headers.Header.{Header}
 use Rattle.wf_headers.specs.Headers.{contains}
@@ -47,6 +47,24 @@ is_refused request headers = is_refused_by request.tainting request headers
 abbrev pub is_follow : RedirectMode → Bool
 is_follow redirect.Follow = true
 is_follow _ = false
+
+-- the redirect mode is manual
+abbrev pub is_manual_mode : RedirectMode → Bool
+is_manual_mode redirect.Manual = true
+is_manual_mode _ = false
+
+-- the redirect mode is error
+abbrev pub is_error_mode : RedirectMode → Bool
+is_error_mode redirect.Error = true
+is_error_mode _ = false
+
+-- a redirect in redirect mode manual, whose response is an opaque-redirect one
+abbrev pub is_manual : Request → Head → Bool
+is_manual request head = is_redirect_status head.status && is_manual_mode request.redirect
+
+-- a redirect in redirect mode error, which is a network error
+abbrev pub is_error : Request → Head → Bool
+is_error request head = is_redirect_status head.status && is_error_mode request.redirect
 
 -- a redirect that is not to be followed, in redirect mode error or manual
 abbrev pub is_unfollowed : Request → Head → Bool

@@ -3,7 +3,7 @@ ghost use Rattle.wf_filter.specs.Views as spec;
 ghost use Rattle.wf_types.specs.CorsCheck as cors;
 ghost use Rattle.wf_types.specs.OriginHeader as origin_header;
 ghost use Rattle.wf_types.specs.PermittedNames.{preflight_status as status_told, preflight_view as preflight_told};
-ghost use Rattle.wf_types.specs.Requests.{IsRequest, IsAtHttp};
+ghost use Rattle.wf_types.specs.Requests.{IsRequest};
 ghost use Rattle.wf_types.specs.ResourcePolicy as resource;
 
 use crate::keep::{Keep, kept};
@@ -210,8 +210,7 @@ fn response_view(alloc: Global, request: &Request, head: &Head) -> Result<Head, 
 /// case and with the headers that were kept; a head has at most 128 lines. The only error is want
 /// of memory.
 pub fn hide(alloc: Global, request: &Request, hop: &Hop, head: &Head) -> Result<Head, OutOfMemory>
-    requires request { IsRequest request.now }
-    requires at_http { IsAtHttp request.now }
+    requires { IsRequest request.now }
     ensures { IfOk result (λ view. view ≡ spec.permitted_view request.now hop.now head.now) }
 {
     if hop.preflight {
