@@ -1,0 +1,4 @@
+pub mod Process
+pub mod Readings
+pub mod Traces
+pub mod Within
