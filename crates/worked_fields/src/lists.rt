@@ -1,5 +1,4 @@
-// Rows of header lists. The last texts make a list, one after another: `+NAME:VALUE` appends, `=NAME:VALUE`
-// sets and `-NAME` deletes.
+// Rows of header lists. The last texts make a list (`wf_rows`'s `list_of`).
 //
 //     list OPS                   the list
 //     get NAME OPS               all values of the name, joined
@@ -7,12 +6,10 @@
 //     contains NAME OPS
 //     split NAME OPS, split_value VALUE
 //     tokens NAME OPS, max_age NAME OPS, single NAME OPS    the values extracted by a rule
-use crate::failed::Failed;
-use crate::row::Row;
-use crate::show;
 use std::alloc::Global;
-use wf_headers::{Extracted, HeaderList, Rule, split_value};
-use wf_text::{Bytes, after_byte, before_byte};
+use wf_headers::{Extracted, Rule, split_value};
+use wf_rows::{Failed, Row, list_of, show};
+use wf_text::Bytes;
 
 // The answer to a row of these kinds.
 pub(crate) fn answer(alloc: Global, row: &Row) -> Result<Option<Bytes>, Failed> {
@@ -38,31 +35,6 @@ pub(crate) fn answer(alloc: Global, row: &Row) -> Result<Option<Bytes>, Failed> 
             None => Ok(None),
         }
     }
-}
-
-// The list that the texts from an index on make.
-pub(crate) fn list_of(alloc: Global, row: &Row, from: usize) -> Result<HeaderList, Failed> {
-    let mut list = HeaderList::new(alloc);
-    for index in from..row.len() {
-        change(&mut list, row.text(index))?;
-    }
-    Ok(list)
-}
-
-// One text that makes a list.
-fn change(list: &mut HeaderList, text: &[u8]) -> Result<(), Failed> {
-    let [mark, rest @ ..] = text else {
-        return Ok(());
-    };
-    let name = before_byte(rest, b':');
-    let value = after_byte(rest, b':');
-    match *mark {
-        b'+' => list.append(name, value)?,
-        b'=' => list.set(name, value)?,
-        b'-' => list.delete(name),
-        _ => return Err(Failed),
-    }
-    Ok(())
 }
 
 // A text that there may be.

@@ -1,23 +1,19 @@
 // Reads worked rows of the words on texts, header lists, MIME types, origins and request headers, one a
 // line, and prints each with what its call answers. A line that begins with `#` is a title, which is
 // printed as it stands, and so is an empty line. A row is a kind and its texts, with a tab between;
-// `row.rt` says how a text is written, and each of the other files which kinds it knows.
+// `wf_rows`'s `row.rt` says how a text is written, and each file here which kinds it knows.
 #![tactic(auto)]
 
-mod failed;
 mod lists;
 mod mimes;
 mod origins;
 mod requests;
-mod row;
-mod show;
 mod texts;
 
-use crate::failed::Failed;
-use crate::row::Row;
 use std::alloc::Global;
 use std::io;
 use std::process::ExitCode;
+use wf_rows::{Failed, Row};
 use wf_text::Bytes;
 
 // What the row's call answers.

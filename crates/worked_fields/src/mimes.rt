@@ -1,15 +1,12 @@
-// Rows of MIME types of responses; OPS make a header list, as `lists.rt` says.
+// Rows of MIME types of responses; OPS make a header list, as `wf_rows`'s `list_of` says.
 //
 //     essence OPS, nosniff OPS              what the headers give
 //     javascript ESSENCE                    whether it is that of a JavaScript MIME type
 //     mime_blocked ESSENCE DESTINATION      whether the response is blocked; `-` is no essence
 //     nosniff_blocked ESSENCE DESTINATION
-use crate::failed::Failed;
-use crate::lists::list_of;
-use crate::row::Row;
-use crate::show;
 use std::alloc::Global;
 use wf_mime::{essence_of, is_javascript, mime_blocked, nosniff, nosniff_blocked};
+use wf_rows::{Failed, Row, list_of, show};
 use wf_text::Bytes;
 
 // The answer to a row of these kinds.

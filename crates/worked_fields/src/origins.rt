@@ -5,15 +5,13 @@
 //     same_host URL URL, same_site URL URL
 //     trustworthy URL            whether it is potentially trustworthy
 //     local NAME                 whether it is a localhost name
-use crate::failed::Failed;
-use crate::row::Row;
-use crate::show;
 use std::alloc::Global;
 use url::Url;
 use wf_origin::{
     Origin, is_host_of, is_local_name, is_origin_of, is_trustworthy, is_trustworthy_url, origin_of,
     same_origin, same_site, serialize,
 };
+use wf_rows::{Failed, Row, show, url_written};
 use wf_text::Bytes;
 
 // The answer to a row of these kinds.
@@ -21,24 +19,16 @@ pub(crate) fn answer(alloc: Global, row: &Row) -> Result<Option<Bytes>, Failed> 
     if row.is(b"local") {
         show::yes_or_no(alloc, is_local_name(row.text(0)))
     } else if row.is(b"origin") {
-        let url = url_at(alloc, row, 0)?;
+        let url = url_written(alloc, row.text(0))?;
         serialized(alloc, &url)
     } else if row.is(b"trustworthy") {
-        let url = url_at(alloc, row, 0)?;
+        let url = url_written(alloc, row.text(0))?;
         trustworthy(alloc, &url)
     } else if row.is(b"same_origin") || row.is(b"same_host") || row.is(b"same_site") {
-        let first = origin_at(alloc, &url_at(alloc, row, 0)?)?;
-        compared(alloc, row, &first, &url_at(alloc, row, 1)?)
+        let first = origin_at(alloc, &url_written(alloc, row.text(0))?)?;
+        compared(alloc, row, &first, &url_written(alloc, row.text(1))?)
     } else {
         Ok(None)
-    }
-}
-
-// The URL that a text writes.
-fn url_at(alloc: Global, row: &Row, index: usize) -> Result<Url, Failed> {
-    match Url::parse(alloc, row.string(index)?) {
-        Ok(url) => Ok(url),
-        Err(_) => Err(Failed),
     }
 }
 

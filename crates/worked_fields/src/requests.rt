@@ -1,15 +1,12 @@
-// Rows of request headers and methods; OPS make a header list, as `lists.rt` says.
+// Rows of request headers and methods; OPS make a header list, as `wf_rows`'s `list_of` says.
 //
 //     safelisted NAME VALUE             whether it is a CORS-safelisted request-header
 //     unsafe OPS                        the CORS-unsafe names of the list
 //     guarded GUARD OPS                 the pairs appended under a guard: what came of the last, and the list
 //     forbidden_method METHOD
-use crate::failed::Failed;
-use crate::lists::list_of;
-use crate::row::Row;
-use crate::show;
 use std::alloc::Global;
 use wf_headers::HeaderList;
+use wf_rows::{Failed, Row, list_of, show};
 use wf_safelist::{
     Appended, Guard, guarded_append, is_forbidden_method, is_safelisted, unsafe_names,
 };

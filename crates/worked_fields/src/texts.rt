@@ -7,11 +7,9 @@
 //     fold TEXT TEXT                             whether they are equal, ASCII case aside
 //     essence_is VALUE ESSENCE, written_essence VALUE
 //     sts VALUE                                  what a Strict-Transport-Security field says
-use crate::failed::Failed;
-use crate::row::Row;
-use crate::show;
 use std::alloc::Global;
 use wf_hsts::{Sts, parse_sts};
+use wf_rows::{Failed, Row, show};
 use wf_text::{
     Bytes, eq_fold, essence_is, is_digits, is_token, is_value, parse_digits, trim_http,
     trim_tab_or_space, written_essence,

@@ -4,7 +4,7 @@ use wf_text::OutOfMemory;
 
 /// A row is badly written, memory was refused, or a stream failed.
 #[derive(Clone, Copy, Debug)]
-pub(crate) struct Failed;
+pub struct Failed;
 
 impl From<OutOfMemory> for Failed {
     fn from(_error: OutOfMemory) -> Self {

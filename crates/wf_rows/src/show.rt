@@ -4,18 +4,18 @@ use std::alloc::Global;
 use wf_headers::HeaderList;
 use wf_text::{Bytes, BytesList};
 
-// `yes` or `no`.
-pub(crate) fn yes_or_no(alloc: Global, answer: bool) -> Result<Option<Bytes>, Failed> {
+/// `yes` or `no`.
+pub fn yes_or_no(alloc: Global, answer: bool) -> Result<Option<Bytes>, Failed> {
     word(alloc, if answer { b"yes" } else { b"no" })
 }
 
-// A word.
-pub(crate) fn word(alloc: Global, word: &[u8]) -> Result<Option<Bytes>, Failed> {
+/// A word.
+pub fn word(alloc: Global, word: &[u8]) -> Result<Option<Bytes>, Failed> {
     Ok(Some(Bytes::of(alloc, word)?))
 }
 
-// A text in quotation marks, or `none`.
-pub(crate) fn text(alloc: Global, text: Option<&[u8]>) -> Result<Option<Bytes>, Failed> {
+/// A text in quotation marks, or `none`.
+pub fn text(alloc: Global, text: Option<&[u8]>) -> Result<Option<Bytes>, Failed> {
     let Some(text) = text else {
         return word(alloc, b"none");
     };
@@ -25,16 +25,16 @@ pub(crate) fn text(alloc: Global, text: Option<&[u8]>) -> Result<Option<Bytes>, 
     Ok(Some(shown))
 }
 
-// A number, or `none`.
-pub(crate) fn number(alloc: Global, number: Option<u64>) -> Result<Option<Bytes>, Failed> {
+/// A number, or `none`.
+pub fn number(alloc: Global, number: Option<u64>) -> Result<Option<Bytes>, Failed> {
     match number {
         Some(number) => word(alloc, number.to_string(alloc)?.as_bytes()),
         None => word(alloc, b"none"),
     }
 }
 
-// Texts with a bar behind each, or `none`.
-pub(crate) fn texts(alloc: Global, texts: Option<BytesList>) -> Result<Option<Bytes>, Failed> {
+/// Texts with a bar behind each, or `none`.
+pub fn texts(alloc: Global, texts: Option<BytesList>) -> Result<Option<Bytes>, Failed> {
     let Some(texts) = texts else {
         return word(alloc, b"none");
     };
@@ -46,8 +46,8 @@ pub(crate) fn texts(alloc: Global, texts: Option<BytesList>) -> Result<Option<By
     Ok(Some(shown))
 }
 
-// The headers of a list with a bar behind each.
-pub(crate) fn headers(alloc: Global, list: &HeaderList) -> Result<Bytes, Failed> {
+/// The headers of a list with a bar behind each.
+pub fn headers(alloc: Global, list: &HeaderList) -> Result<Bytes, Failed> {
     let mut shown = Bytes::new(alloc);
     for header in list.as_slice() {
         append(&mut shown, header.name.as_slice())?;
@@ -58,8 +58,8 @@ pub(crate) fn headers(alloc: Global, list: &HeaderList) -> Result<Bytes, Failed>
     Ok(shown)
 }
 
-// Adds a text in which a backslash begins an escape.
-fn append(shown: &mut Bytes, text: &[u8]) -> Result<(), Failed> {
+/// Adds a text in which a backslash begins an escape.
+pub fn append(shown: &mut Bytes, text: &[u8]) -> Result<(), Failed> {
     for byte in text {
         match *byte {
             b'\r' => shown.append(b"\\r")?,

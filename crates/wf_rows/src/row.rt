@@ -6,14 +6,14 @@ use wf_text::{Bytes, BytesList, after_byte, before_byte, parse_digits};
 
 /// A row: its kind, and the texts that its call takes.
 #[derive(Drop)]
-pub(crate) struct Row {
+pub struct Row {
     kind: Bytes,
     texts: BytesList,
 }
 
 impl Row {
-    // The row of a line.
-    pub(crate) fn of(alloc: Global, line: &[u8]) -> Result<Row, Failed> {
+    /// The row of a line.
+    pub fn of(alloc: Global, line: &[u8]) -> Result<Row, Failed> {
         let kind = Bytes::of(alloc, before_byte(line, b'\t'))?;
         let mut texts = BytesList::new(alloc);
         for text in after_byte(line, b'\t').split(|byte| *byte == b'\t') {
@@ -22,18 +22,18 @@ impl Row {
         Ok(Row { kind, texts })
     }
 
-    // Whether the row is of this kind.
-    pub(crate) fn is(&self, kind: &[u8]) -> bool {
+    /// Whether the row is of this kind.
+    pub fn is(&self, kind: &[u8]) -> bool {
         self.kind.as_slice() == kind
     }
 
-    // How many texts there are.
-    pub(crate) fn len(&self) -> usize {
+    /// How many texts there are.
+    pub fn len(&self) -> usize {
         self.texts.len()
     }
 
-    // The text at an index, or the empty one.
-    pub(crate) fn text(&self, index: usize) -> &[u8] {
+    /// The text at an index, or the empty one.
+    pub fn text(&self, index: usize) -> &[u8] {
         if index < self.texts.len() {
             self.texts.at(index)
         } else {
@@ -41,8 +41,8 @@ impl Row {
         }
     }
 
-    // The text at an index, which is UTF-8.
-    pub(crate) fn string(&self, index: usize) -> Result<&str, Failed> {
+    /// The text at an index, which is UTF-8.
+    pub fn string(&self, index: usize) -> Result<&str, Failed> {
         match str::from_utf8(self.text(index)) {
             Ok(text) => Ok(text),
             Err(_) => Err(Failed),
