@@ -1,0 +1,4 @@
+pub mod Computed
+pub mod HeadLemmas
+pub mod OpLemmas
+pub mod UpgradingLemmas

@@ -1,0 +1,26 @@
+-- Requests that are made https ones (Mixed Content, section 4, "upgrade a mixed content request to a potentially
+-- trustworthy URL, if appropriate"; Fetch, section 4.1, "main fetch", where a known host is asked for).
+use Rattle.std.specs.Prelude.{◌-◌, List, [], ◌∷◌, ◌++◌, length, take, codes, if◌then◌else◌}
+use Rattle.url.specs.Parser.{without_default_port}
+use Rattle.url.specs.Parts.{Parts}
+use Rattle.wf_mixed.specs.Mixed.{is_upgraded}
+use Rattle.wf_types.specs.declared.client.Client.{Client}
+use Rattle.wf_types.specs.declared.request.Request.{Request}
+use Rattle.wf_types.specs.Requests.{current_url}
+
+-- the URL with the scheme https; a port 443, which is now the default, is left out (URL Standard, the scheme's setter)
+abbrev pub with_https : Parts → Parts
+with_https url = record url { scheme = codes "https"; port = without_default_port (codes "https") url.port }
+
+-- the list with another URL in the place of its last
+abbrev pub with_last : Parts → List Parts → List Parts
+with_last url urls = take (length urls - 1) urls ++ url ∷ []
+
+-- the request whose current URL has the scheme https
+abbrev pub secured : Request → Request
+secured request = record request { urls = with_last (with_https (current_url request)) request.urls }
+
+-- "upgrade a mixed content request to a potentially trustworthy URL, if appropriate": the request of a client as it
+-- goes on
+abbrev pub upgraded : Client → Request → Request
+upgraded client request = if is_upgraded request client.origin client.top then secured request else request

@@ -1,0 +1,17 @@
+// The rules of main fetch and HTTP fetch that look at a request, its client and the head of an answer, each as
+// a function of these alone, after the Fetch Standard, section 4.
+#![tactic(auto)]
+
+mod blocking;
+mod ending;
+mod known_hosts;
+mod policies;
+mod switch;
+mod upgrading;
+
+pub use blocking::{is_at_http, refusal_before};
+pub use ending::{has_null_body, is_coded};
+pub use known_hosts::{match_of, note_of};
+pub use policies::with_policy;
+pub use switch::{Switch, switch_of, with_tainting};
+pub use upgrading::{secured, upgraded};

@@ -1,0 +1,76 @@
+ghost use Rattle.std.specs.Prelude.{◌≡◌, IfOk, IsTrue, Ok};
+ghost use Rattle.url.specs.Parser.{Gives, GivesBy};
+ghost use Rattle.wf_rules.specs.Upgrading as spec;
+ghost use Rattle.wf_types.specs.Requests.{IsRequest, IsAtHttp, is_http_url};
+
+use url::{ParseResult, Url};
+use wf_mixed::upgrade;
+use wf_text::OutOfMemory;
+use wf_types::{Client, Request};
+
+// Gives an http or https URL the scheme https.
+fn set_https(url: &mut Url) -> ParseResult<()>
+    requires { IsTrue (is_http_url url.old) }
+    ensures { GivesBy (λ _. url.new) result (Ok (spec.with_https url.old)) }
+{
+    if url.scheme() == "https" {
+        return Ok(());
+    }
+    url.set_scheme("https")
+}
+
+// A copy of an http or https URL with the scheme https, or why it could not be made.
+fn https_copy(url: &Url) -> ParseResult<Url>
+    requires { IsTrue (is_http_url url.now) }
+    ensures { Gives result (Ok (spec.with_https url.now)) }
+{
+    let mut copy = url.clone()?;
+    set_https(&mut copy)?;
+    Ok(copy)
+}
+
+// A copy of an http or https URL with the scheme https.
+fn with_https(url: &Url) -> Result<Url, OutOfMemory>
+    requires { IsTrue (is_http_url url.now) }
+    ensures { IfOk result (λ copy. copy ≡ spec.with_https url.now) }
+{
+    match https_copy(url) {
+        Ok(copy) => Ok(copy),
+        Err(_) => Err(OutOfMemory),
+    }
+}
+
+/// The request with the scheme https in its current URL, which is http or https; a port 443 is then the
+/// default one and is left out (URL Standard, the scheme's setter). It is what becomes of a request to a
+/// known HSTS host (Fetch, section 4.1, "main fetch") and of one that is upgraded. The only error is want of
+/// memory, which a URL of 4 GB counts as.
+pub fn secured(request: Request) -> Result<Request, OutOfMemory>
+    requires valid { IsRequest request }
+    requires http { IsAtHttp request }
+    ensures value { IfOk result (λ secured. secured ≡ spec.secured request) }
+    ensures valid { IfOk result IsRequest }
+    ensures http { IfOk result IsAtHttp }
+{
+    let mut request = request;
+    let url = with_https(request.current_url())?;
+    request.urls.set_last(url);
+    Ok(request)
+}
+
+/// The request of a client as it goes on: with the scheme https in its current URL, which is http or https,
+/// exactly where it is one for upgradeable content that would be mixed, and else as it is (Mixed Content,
+/// section 4, "upgrade a mixed content request to a potentially trustworthy URL, if appropriate"). The
+/// only error is want of memory, as that of `secured`.
+pub fn upgraded(request: Request, client: &Client) -> Result<Request, OutOfMemory>
+    requires valid { IsRequest request }
+    requires http { IsAtHttp request }
+    ensures value { IfOk result (λ upgraded. upgraded ≡ spec.upgraded client.now request) }
+    ensures valid { IfOk result IsRequest }
+    ensures http { IfOk result IsAtHttp }
+{
+    if upgrade(&request, &client.origin, &client.top) {
+        secured(request)
+    } else {
+        Ok(request)
+    }
+}
