@@ -1,0 +1,79 @@
+-- The request after a redirect to a URL (Fetch, "HTTP-redirect fetch").
+use Rattle.std.specs.Prelude.{ℕ, ◌+◌, Bool, not, ◌==◌, ◌&&◌, ◌||◌, List, [], ◌∷◌, ◌++◌, filter, codes, bytes_eq, None}
+use Rattle.std.specs.Prelude.{if◌then◌else◌}
+use Rattle.url.specs.Parts.{Parts}
+use Rattle.wf_headers.specs.declared.headers.Header.{Header}
+use Rattle.wf_headers.specs.Headers.{without}
+use Rattle.wf_origin.specs.Origins.{have_same_origin}
+use Rattle.wf_types.specs.declared.hop.Head.{Head}
+use Rattle.wf_types.specs.declared.mode.ReferrerPolicy.{ReferrerPolicy}
+use Rattle.wf_types.specs.declared.mode.ReferrerPolicy.TheVariants as policy
+use Rattle.wf_types.specs.declared.request.Request.{Request}
+use Rattle.wf_types.specs.Methods.{is_get_or_head}
+use Rattle.wf_types.specs.PermittedNames.{has_name_among}
+use Rattle.wf_types.specs.ReferrerPolicies.{policy_of_header}
+use Rattle.wf_types.specs.Requests.{current_url}
+
+-- ---- the method
+
+-- a redirect of this status turns the method to GET: 301 and 302 POST, and 303 any but GET and HEAD
+abbrev pub turns_to_get : List ℕ → ℕ → Bool
+turns_to_get method status =
+    ((status == 301 || status == 302) && bytes_eq method (codes "POST"))
+    || (status == 303 && not (is_get_or_head method))
+
+-- "request-body-header name"
+abbrev pub body_header_names : List (List ℕ)
+body_header_names =
+    codes "Content-Encoding" ∷ codes "Content-Language" ∷ codes "Content-Location" ∷ codes "Content-Type" ∷ []
+
+-- the headers without those that have a request-body-header name
+abbrev pub without_body_headers : List Header → List Header
+without_body_headers headers = filter (λ header. not (has_name_among body_header_names header)) headers
+
+-- the request with the method GET, without a body and without the headers that speak of it
+abbrev pub turned_to_get : Request → Request
+turned_to_get request = record request {
+  method = codes "GET";
+  headers = without_body_headers request.headers;
+  body = None;
+}
+
+-- so it is where a redirect of this status turns its method
+abbrev pub with_method_after : ℕ → Request → Request
+with_method_after status request =
+    if turns_to_get request.method status then turned_to_get request else request
+
+-- ---- the headers
+
+-- the request without Authorization
+abbrev pub without_authorization : Request → Request
+without_authorization request = record request { headers = without (codes "Authorization") request.headers }
+
+-- so it is where the URL has another origin than the current URL
+abbrev pub with_authorization_at : Parts → Request → Request
+with_authorization_at url request =
+    if have_same_origin (current_url request) url then request else without_authorization request
+
+-- ---- the referrer policy
+
+-- the policy that an answer names, or else the one that there is
+abbrev pub policy_after : ReferrerPolicy → ReferrerPolicy → ReferrerPolicy
+policy_after policy.Empty old = old
+policy_after named old = named
+
+-- the request with the referrer policy that the headers of the answer name, where they do ("set request's referrer
+-- policy on redirect", Referrer Policy, section 8.2)
+abbrev pub with_policy_of : List Header → Request → Request
+with_policy_of headers request = record request { policy = policy_after (policy_of_header headers) request.policy }
+
+-- ---- the URL list
+
+-- the request at one URL more, and redirected once more
+abbrev pub at_next : Parts → Request → Request
+at_next url request = record request { urls = request.urls ++ url ∷ []; redirects = request.redirects + 1 }
+
+-- "HTTP-redirect fetch": the request after the redirect of this head to this URL
+abbrev pub redirected_request : Request → Head → Parts → Request
+redirected_request request head url =
+    at_next url (with_policy_of head.headers (with_authorization_at url (with_method_after head.status request)))

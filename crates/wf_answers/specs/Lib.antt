@@ -1,0 +1,5 @@
+pub mod Bodies
+pub mod Endings
+pub mod Following
+pub mod Judging
+pub mod Redirects
