@@ -1,1 +1,2 @@
 mod StripLemmas
+pub mod HttpLemmas

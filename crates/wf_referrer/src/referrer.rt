@@ -1,4 +1,4 @@
-ghost use Rattle.std.specs.Prelude.{◌≡◌, IfOk, IsTrue};
+ghost use Rattle.std.specs.Prelude.{◌≡◌, IfOk, IfSome, IsTrue};
 ghost use Rattle.wf_referrer.specs.Referrer as spec;
 ghost use Rattle.wf_types.specs.Requests.{is_http_url, is_policy};
 
@@ -16,20 +16,9 @@ fn is_downgrade(source: &Url, target: &Url) -> bool
     is_trustworthy_url(source) && !is_trustworthy_url(target)
 }
 
-/// The referrer that a policy tells a target URL of a source URL, or none (Referrer Policy, section
-/// 8.3, "determine request's Referrer"): the source without user name, password and fragment, which
-/// is cut to its origin where its text is longer than 4,096 bytes, or the source's origin with the
-/// path `/`. The policy is not the empty one, and both URLs are http or https. The only error is want
-/// of memory, which a URL of 4 GB counts as.
-pub fn determine(
-    alloc: Global,
-    policy: ReferrerPolicy,
-    source: &Url,
-    target: &Url,
-) -> Result<Option<Url>, OutOfMemory>
-    requires policy { IsTrue (is_policy policy) }
+// What a policy tells a target URL of a source URL, or none.
+fn told(policy: ReferrerPolicy, source: &Url, target: &Url) -> Result<Option<Url>, OutOfMemory>
     requires source { IsTrue (is_http_url source.now) }
-    requires target { IsTrue (is_http_url target.now) }
     ensures { IfOk result (λ referrer. referrer ≡ spec.determine policy source.now target.now) }
 {
     match policy {
@@ -74,4 +63,24 @@ pub fn determine(
             }
         }
     }
+}
+
+/// The referrer that a policy tells a target URL of a source URL, or none (Referrer Policy, section
+/// 8.3, "determine request's Referrer"): the source without user name, password and fragment, which
+/// is cut to its origin where its text is longer than 4,096 bytes, or the source's origin with the
+/// path `/`. It is http or https. The policy is not the empty one, and both URLs are http or https. The
+/// only error is want of memory, which a URL of 4 GB counts as; a URL is copied by its own allocator.
+pub fn determine(
+    _alloc: Global,
+    policy: ReferrerPolicy,
+    source: &Url,
+    target: &Url,
+) -> Result<Option<Url>, OutOfMemory>
+    requires policy { IsTrue (is_policy policy) }
+    requires source { IsTrue (is_http_url source.now) }
+    requires target { IsTrue (is_http_url target.now) }
+    ensures value { IfOk result (λ referrer. referrer ≡ spec.determine policy source.now target.now) }
+    ensures http { IfOk result (λ referrer. IfSome referrer (λ url. IsTrue (is_http_url url))) }
+{
+    told(policy, source, target)
 }

@@ -1,5 +1,5 @@
 -- The definitions computed on worked examples: requests of documents at http://a.test and https://a.test.
-use Rattle.std.proofs.Common.{◌≡◌, refl, ℕ, List, [], ◌∷◌, Bool, true, false, codes, Option, Some, None}
+use Rattle.std.proofs.Common.{◌≡◌, refl, ℕ, List, [], ◌∷◌, true, false, codes, Option, Some, None}
 use Rattle.url.proofs.OnLiterals.{url_on_literals}
 use Rattle.url.specs.declared.host.Host.{Host}
 use Rattle.url.specs.declared.host.Host.TheVariants.{Domain, Ipv4}
@@ -22,11 +22,10 @@ use Rattle.wf_types.specs.Clients.{client_of}
 use Rattle.wf_types.specs.Lines.{header}
 use Rattle.wf_rules.specs.declared.switch.Switch.TheVariants.{Fetches, Preflights, Refuses}
 use Rattle.wf_rules.specs.Blocking.{refusal_before}
-use Rattle.wf_rules.specs.Ending.{is_coded}
 use Rattle.wf_rules.specs.KnownHosts.{match_of, note_of}
 use Rattle.wf_rules.specs.Policies.{policy_or}
 use Rattle.wf_rules.specs.Switch.{switch_of}
-use Rattle.wf_rules.specs.Upgrading.{secured, upgraded, with_https}
+use Rattle.wf_rules.specs.Upgrading.{mixed_upgraded, secured, with_https}
 
 -- SCHEME://HOST:PORT/
 abbrev at : List ℕ → Host (List ℕ) → Option ℕ → Parts
@@ -153,20 +152,12 @@ abbrev image : Request
 image = record (get (insecure (codes "b.test"))) { destination = Image }
 
 -- an image in a page that is secure is asked for by https, and other content is not
-upgrades : (upgraded (client (secure (codes "a.test"))) image
+upgrades : (mixed_upgraded (client (secure (codes "a.test"))) image
     ≡ record (get (secure (codes "b.test"))) { destination = Image })
-    × (upgraded (client (secure (codes "a.test"))) (get (insecure (codes "b.test"))) ≡ get (insecure (codes "b.test")))
-    × (upgraded (client (insecure (codes "a.test"))) image ≡ image)
+    × (mixed_upgraded (client (secure (codes "a.test"))) (get (insecure (codes "b.test"))) ≡ get (insecure (codes "b.test")))
+    × (mixed_upgraded (client (insecure (codes "a.test"))) image ≡ image)
 unfolding url_on_literals
 upgrades = (refl, refl, refl)
-
-abbrev coding : List ℕ → Bool
-coding value = is_coded (head (header (codes "content-encoding") value ∷ []))
-
--- which codings change a body
-codings : (coding (codes "identity, , identity") ≡ false) × (coding (codes "gzip") ≡ true)
-    × (coding (codes "identity, br") ≡ true) × (coding (codes "Identity") ≡ true) × (is_coded (head []) ≡ false)
-codings = (refl, refl, refl, refl, refl)
 
 -- a policy of its own stays
 policies : (policy_or policy.Empty policy.Origin ≡ policy.Origin)

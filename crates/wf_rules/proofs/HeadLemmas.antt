@@ -5,10 +5,8 @@ use Rattle.std.specs.List.{find}
 use Rattle.std.specs.Prelude.{codes, option_and_then, option_map}
 use Rattle.wf_book.specs.declared.op.Op.TheVariants.{Note}
 use Rattle.wf_headers.specs.declared.headers.Header.{Header}
-use Rattle.wf_headers.specs.Headers.{is_named, joined, values_of}
-use Rattle.wf_headers.specs.Split.{split}
+use Rattle.wf_headers.specs.Headers.{is_named, values_of}
 use Rattle.wf_hsts.specs.Reading.{sts_in}
-use Rattle.wf_rules.specs.Ending.{changes_body, is_coded}
 use Rattle.wf_rules.specs.KnownHosts.{first_of, first_value, host_to_note, note_of}
 use Rattle.wf_types.specs.declared.hop.Head.{Head}
 use Rattle.wf_types.specs.declared.request.Request.{Request}
@@ -26,9 +24,3 @@ pub note-alike : (now : ℕ) (request : Request) (a b : Head)
 note-alike now request a b same =
     ap (λ values. option_and_then (λ host. option_map (λ sts. Note host sts now)
     (option_and_then sts_in (first_of values))) (host_to_note request)) same
-
--- two heads with the same Content-Encoding are both coded, or neither is
-pub coded-alike : (a b : Head)
-    → values_of (codes "Content-Encoding") a.headers ≡ values_of (codes "Content-Encoding") b.headers
-    → is_coded a ≡ is_coded b
-coded-alike a b same = ap (λ values. changes_body (option_map split (joined values))) same

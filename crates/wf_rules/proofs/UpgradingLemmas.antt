@@ -1,7 +1,6 @@
 -- What the scheme's setter makes of an http or https URL, and what stays true of a request that is made an https one.
 use Rattle.std.proofs.Common.{◌≡◌, ◌≢◌, ◌∙◌, ◌<◌, ◌^◌, ◌-◌, ◌++◌, ℕ, suc, zero, true, List, [], ◌∷◌, length, take}
 use Rattle.std.proofs.Common.{refl, sym, ap, arith}
-use Rattle.std.proofs.lemmas.Bool.{cond_both}
 use Rattle.std.specs.Prelude.{codes, IsTrue, IfSome, Option, Some, None, Ok, unwrap_or}
 use Rattle.std.specs.List.{last_or}
 use Rattle.url.specs.declared.scheme.SchemeType.TheVariants.{SpecialNotFile}
@@ -10,9 +9,7 @@ use Rattle.url.specs.Parser.{without_default_port}
 use Rattle.url.specs.Parts.{Parts, IsValid}
 use Rattle.url.specs.Scheme.{default_port, scheme_len, scheme_type}
 use Rattle.url.specs.Setters as setters
-use Rattle.wf_mixed.specs.Mixed.{is_upgraded}
-use Rattle.wf_rules.specs.Upgrading.{secured, upgraded, with_https, with_last}
-use Rattle.wf_types.specs.declared.client.Client.{Client}
+use Rattle.wf_rules.specs.Upgrading.{secured, with_https, with_last}
 use Rattle.wf_types.specs.declared.request.Request.{Request}
 use Rattle.wf_types.specs.Requests.{IsAtHttp, IsRequest, current_url, no_url, were_http}
 use Rattle.wf_types.specs.Urls.{IsWeb}
@@ -92,15 +89,3 @@ secured-request request valid = record {
   redirects = valid.redirects;
   referrer = valid.referrer;
 }
-
--- the same of an upgrade, which makes it an https one or leaves it as it is
-pub upgraded-request : (client : Client) (request : Request) → IsRequest request
-    → IsRequest (upgraded client request)
-upgraded-request client request valid =
-    cond_both (is_upgraded request client.origin client.top) (secured request) request IsRequest
-    (λ is. secured-request request valid) (λ is. valid)
-
-pub upgraded-http : (client : Client) (request : Request) → IsAtHttp request → IsAtHttp (upgraded client request)
-upgraded-http client request http =
-    cond_both (is_upgraded request client.origin client.top) (secured request) request IsAtHttp
-    (λ is. secured-http request) (λ is. http)

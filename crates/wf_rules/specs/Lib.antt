@@ -1,6 +1,7 @@
 pub mod Blocking
-pub mod Ending
 pub mod KnownHosts
 pub mod Policies
 pub mod Switch
 pub mod Upgrading
+pub mod Questions
+pub mod Referrers

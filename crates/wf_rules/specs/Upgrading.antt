@@ -1,8 +1,10 @@
 -- Requests that are made https ones (Mixed Content, section 4, "upgrade a mixed content request to a potentially
 -- trustworthy URL, if appropriate"; Fetch, section 4.1, "main fetch", where a known host is asked for).
-use Rattle.std.specs.Prelude.{◌-◌, List, [], ◌∷◌, ◌++◌, length, take, codes, if◌then◌else◌}
+use Rattle.std.specs.Prelude.{Bool, true, false, ◌-◌, List, [], ◌∷◌, ◌++◌, length, take, codes}
 use Rattle.url.specs.Parser.{without_default_port}
 use Rattle.url.specs.Parts.{Parts}
+use Rattle.wf_csp.specs.Violations.{upgrades}
+use Rattle.wf_csp_text.specs.declared.policy.Policy.{Policy}
 use Rattle.wf_mixed.specs.Mixed.{is_upgraded}
 use Rattle.wf_types.specs.declared.client.Client.{Client}
 use Rattle.wf_types.specs.declared.request.Request.{Request}
@@ -20,7 +22,20 @@ with_last url urls = take (length urls - 1) urls ++ url ∷ []
 abbrev pub secured : Request → Request
 secured request = record request { urls = with_last (with_https (current_url request)) request.urls }
 
--- "upgrade a mixed content request to a potentially trustworthy URL, if appropriate": the request of a client as it
--- goes on
-abbrev pub upgraded : Client → Request → Request
-upgraded client request = if is_upgraded request client.origin client.top then secured request else request
+-- the same, where so
+abbrev pub secured_where : Bool → Request → Request
+secured_where true request = secured request
+secured_where false request = request
+
+-- "upgrade request to a potentially trustworthy URL, if appropriate" (Upgrade Insecure Requests): an enforced policy asks
+-- for it
+abbrev pub insecure_upgraded : List Policy → Request → Request
+insecure_upgraded policies request = secured_where (upgrades policies) request
+
+-- "upgrade a mixed content request to a potentially trustworthy URL, if appropriate"
+abbrev pub mixed_upgraded : Client → Request → Request
+mixed_upgraded client request = secured_where (is_upgraded request client.origin client.top) request
+
+-- the request of a client with these policies as it goes on
+abbrev pub upgraded : Client → List Policy → Request → Request
+upgraded client policies request = mixed_upgraded client (insecure_upgraded policies request)

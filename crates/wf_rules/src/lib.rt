@@ -3,15 +3,17 @@
 #![tactic(auto)]
 
 mod blocking;
-mod ending;
 mod known_hosts;
 mod policies;
+mod questions;
+mod referrers;
 mod switch;
 mod upgrading;
 
 pub use blocking::{is_at_http, refusal_before};
-pub use ending::{has_null_body, is_coded};
 pub use known_hosts::{match_of, note_of};
 pub use policies::with_policy;
+pub use questions::{clear_of, covers_of, learn_of};
+pub use referrers::with_referrer;
 pub use switch::{Switch, switch_of, with_tainting};
 pub use upgrading::{secured, upgraded};

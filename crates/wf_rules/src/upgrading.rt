@@ -4,6 +4,7 @@ ghost use Rattle.wf_rules.specs.Upgrading as spec;
 ghost use Rattle.wf_types.specs.Requests.{IsRequest, IsAtHttp, is_http_url};
 
 use url::{ParseResult, Url};
+use wf_csp::Compiled;
 use wf_mixed::upgrade;
 use wf_text::OutOfMemory;
 use wf_types::{Client, Request};
@@ -57,20 +58,34 @@ pub fn secured(request: Request) -> Result<Request, OutOfMemory>
     Ok(request)
 }
 
-/// The request of a client as it goes on: with the scheme https in its current URL, which is http or https,
-/// exactly where it is one for upgradeable content that would be mixed, and else as it is (Mixed Content,
-/// section 4, "upgrade a mixed content request to a potentially trustworthy URL, if appropriate"). The
-/// only error is want of memory, as that of `secured`.
-pub fn upgraded(request: Request, client: &Client) -> Result<Request, OutOfMemory>
+// The same, where so.
+fn secured_where(yes: bool, request: Request) -> Result<Request, OutOfMemory>
     requires valid { IsRequest request }
     requires http { IsAtHttp request }
-    ensures value { IfOk result (λ upgraded. upgraded ≡ spec.upgraded client.now request) }
+    ensures value { IfOk result (λ secured. secured ≡ spec.secured_where yes request) }
     ensures valid { IfOk result IsRequest }
     ensures http { IfOk result IsAtHttp }
 {
-    if upgrade(&request, &client.origin, &client.top) {
-        secured(request)
-    } else {
-        Ok(request)
-    }
+    if yes { secured(request) } else { Ok(request) }
+}
+
+/// The request of a client with these policies as it goes on: with the scheme https in its current URL, which is
+/// http or https, where an enforced policy has `upgrade-insecure-requests` (Upgrade Insecure Requests, "upgrade
+/// request to a potentially trustworthy URL, if appropriate"), or where it is for upgradeable content that would
+/// be mixed (Mixed Content, section 4, "upgrade a mixed content request to a potentially trustworthy URL, if
+/// appropriate"); and else as it is. The only error is want of memory, as that of `secured`.
+pub fn upgraded(
+    request: Request,
+    client: &Client,
+    policies: &Compiled,
+) -> Result<Request, OutOfMemory>
+    requires valid { IsRequest request }
+    requires http { IsAtHttp request }
+    ensures value { IfOk result (λ upgraded. upgraded ≡ spec.upgraded client.now policies.now request) }
+    ensures valid { IfOk result IsRequest }
+    ensures http { IfOk result IsAtHttp }
+{
+    let request = secured_where(policies.upgrades(), request)?;
+    let mixed = upgrade(&request, &client.origin, &client.top);
+    secured_where(mixed, request)
 }

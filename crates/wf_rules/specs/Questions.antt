@@ -1,0 +1,48 @@
+-- What a fetch asks, teaches and takes back of the preflight cache (Fetch, section 4.4 "HTTP fetch", section 4.8
+-- "CORS-preflight fetch", section 4.9 "CORS-preflight cache").
+use Rattle.std.specs.Prelude.{ℕ, ◌&&◌, not, List, Option, Some, None, if◌then◌else◌}
+use Rattle.url.specs.Parts.{serialize}
+use Rattle.wf_book.specs.declared.op.Op.{Op}
+use Rattle.wf_book.specs.declared.op.Op.TheVariants.{Clear, Covers, Learn}
+use Rattle.wf_safelist.specs.UnsafeNames.{unsafe_names}
+use Rattle.wf_types.specs.declared.client.Client.{Client}
+use Rattle.wf_types.specs.declared.request.Request.{Request}
+use Rattle.wf_types.specs.CorsCheck.{is_include}
+use Rattle.wf_types.specs.Methods.{is_safelisted_method}
+use Rattle.wf_types.specs.Requests.{current_url, serialized_request_origin}
+
+-- the URL by which entries are found: the text of the current URL
+abbrev pub url_text : Request → List ℕ
+url_text request = serialize (current_url request)
+
+-- the method that is asked for: one that is not CORS-safelisted, or any with the use-CORS-preflight flag
+abbrev pub asked_method : Request → Option (List ℕ)
+asked_method request =
+    if is_safelisted_method request.method && not request.use_preflight then None else Some request.method
+
+-- whether the cache covers the request: its method and its CORS-unsafe request-header names
+abbrev pub covers_of : Client → Request → ℕ → Op
+covers_of client request now = Covers (record {
+  key = client.key;
+  origin = serialized_request_origin request;
+  url = url_text request;
+  include = is_include request.credentials;
+  method = asked_method request;
+  names = unsafe_names request.headers;
+}) now
+
+-- what the answer to the request's preflight allows, for so many seconds
+abbrev pub learn_of : Client → Request → ℕ → List (List ℕ) → List (List ℕ) → ℕ → Op
+learn_of client request age methods names now = Learn (record {
+  key = client.key;
+  origin = serialized_request_origin request;
+  url = url_text request;
+  include = is_include request.credentials;
+  age = age;
+  methods = methods;
+  names = names;
+}) now
+
+-- the entries of the request as it stands are taken back
+abbrev pub clear_of : Client → Request → ℕ → Op
+clear_of client request now = Clear client.key (serialized_request_origin request) (url_text request) now
