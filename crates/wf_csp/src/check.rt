@@ -2,7 +2,7 @@ ghost use Rattle.std.specs.Prelude.{◌≡◌, ◌<◌, ◌^◌, length, codes, 
 ghost use Rattle.std.specs.List.{list_any};
 ghost use Rattle.wf_csp.specs.Violations as spec;
 ghost use Rattle.wf_integrity.specs.Metadata.{metadata_of};
-ghost use Rattle.wf_types.specs.Requests.{IsRequest, is_http_url};
+ghost use Rattle.wf_types.specs.Requests.{IsRequest};
 
 use crate::compiled::{Compiled, CompiledDirective, CompiledPolicy};
 use crate::directives::{deciding_sources, effective_directive};
@@ -10,7 +10,7 @@ use crate::listed::passes;
 use std::alloc::Global;
 use url::Url;
 use wf_integrity::{Metadata, parse_metadata};
-use wf_origin::Origin;
+use wf_origin::{Origin, is_http_url};
 use wf_text::{Bytes, Items, OutOfMemory};
 use wf_types::{Request, Violation, strip};
 
@@ -33,13 +33,6 @@ fn is_violated(
         None => false,
         Some(sources) => !passes(sources, metadata, request, document),
     }
-}
-
-// Whether the scheme of a URL is http or https.
-fn is_http_url(url: &Url) -> bool
-    ensures { result ≡ is_http_url url.now }
-{
-    url.scheme() == "http" || url.scheme() == "https"
 }
 
 // "strip URL for use in reports".

@@ -6,7 +6,7 @@ use crate::grammar::has_wildcard;
 use crate::paths::path_part_matches;
 use crate::source::{HostSource, Source, SourcePort};
 use url::Url;
-use wf_origin::{Origin, is_host_of, is_origin_of};
+use wf_origin::{Origin, is_default_port, is_host_of, is_http_url, is_origin_of, port_of};
 use wf_text::{Bytes, eq_fold, parse_digits};
 
 // "scheme-part matches".
@@ -96,20 +96,6 @@ fn host_source_matches(source: &HostSource, url: &Url, document: &Origin, redire
         && path_matches(&source.path, url, redirects)
 }
 
-// The port of a URL, or the default one of its scheme where it has none.
-fn port_of(url: &Url) -> u16
-    ensures { result ≡ (origins.tuple_origin url.now).port }
-{
-    url.port_or_known_default().unwrap_or(0)
-}
-
-// Whether the port is the default one of http or of https.
-fn is_default_port(scheme: &[u8], port: u16) -> bool
-    ensures { result ≡ origins.is_default_port scheme.now port }
-{
-    (scheme == b"http".as_slice() && port == 80) || (scheme == b"https".as_slice() && port == 443)
-}
-
 // Whether the port of the document's origin is that of the URL, or each is the default one of its own
 // scheme.
 fn same_or_default_port(document: &Origin, url: &Url) -> bool
@@ -131,13 +117,6 @@ fn self_matches(url: &Url, document: &Origin) -> bool
             && same_or_default_port(document, url))
 }
 
-// Whether the URL is http or https.
-fn is_http(url: &Url) -> bool
-    ensures { result ≡ origins.is_http url.now.scheme }
-{
-    url.scheme() == "http" || url.scheme() == "https"
-}
-
 /// Whether a source expression matches a URL in a document's origin after so many redirects (CSP 3, "does
 /// url match expression in origin with redirect count"). `*` matches each http and https URL, a scheme what
 /// it stands for, a host-source what each of its parts matches, `'self'` the document's origin and its
@@ -148,7 +127,7 @@ pub fn matches(source: &Source, url: &Url, document: &Origin, redirects: u32) ->
     ensures { result ≡ spec.matches source.now url.now document.now redirects }
 {
     match source {
-        Source::Any => is_http(url),
+        Source::Any => is_http_url(url),
         Source::Scheme(scheme) => scheme_part_matches(scheme.as_slice(), url.scheme().as_bytes()),
         Source::Host(host) => host_source_matches(host, url, document, redirects),
         Source::SelfOrigin => self_matches(url, document),

@@ -2,7 +2,7 @@ ghost use Rattle.std.specs.Prelude.{◌≡◌, ◌∷◌, IfOk, IsTrue, Ok, Err}
 ghost use Rattle.std.specs.List.{list_any};
 ghost use Rattle.wf_types.specs.declared.client.Client.{Client as LentClient};
 ghost use Rattle.wf_types.specs.declared.mode.Mode.TheVariants.{SameOrigin};
-ghost use Rattle.wf_types.specs.Requests.{IsRequest, IsAtHttp, is_determined, is_http_url};
+ghost use Rattle.wf_types.specs.Requests.{IsRequest, IsAtHttp, is_determined};
 ghost use Rattle.wf_fetch.specs.Fetch as spec;
 ghost use Rattle.wf_fetch.specs.Fetch.{Context, lent};
 ghost use Rattle.wf_fetch.specs.Process.{fits, run};
@@ -11,9 +11,8 @@ ghost use Rattle.wf_fetch.specs.Machine.{AsksPlainly, Does, Leads, RunsAs, last_
 use crate::act::{Act, Input};
 use crate::place::{Fetching, Place, Step};
 use std::alloc::Global;
-use url::Url;
 use wf_headers::HeaderList;
-use wf_origin::is_origin_of;
+use wf_origin::{is_http_url, is_origin_of};
 use wf_send::hop_of;
 use wf_text::{Bytes, BytesList, OutOfMemory};
 use wf_types::{
@@ -225,13 +224,6 @@ fn policy_or(own: ReferrerPolicy, client: ReferrerPolicy) -> ReferrerPolicy
     }
 }
 
-// Whether the URL is http or https.
-fn is_http(url: &Url) -> bool
-    ensures { result ≡ is_http_url url.now }
-{
-    url.scheme() == "http" || url.scheme() == "https"
-}
-
 // Main fetch up to the response.
 fn main_level(
     alloc: Global,
@@ -245,7 +237,7 @@ fn main_level(
         (spec.main_level (lent client.now cookies.now) spec.finished request) }
     ensures plain { IfOk result AsksPlainly }
 {
-    if !is_http(request.current_url()) {
+    if !is_http_url(request.current_url()) {
         return finished(alloc, request, Err(NetError::Scheme));
     }
     let mut request = request;

@@ -1,5 +1,6 @@
 pub mod Computed
 pub mod CollectingLemmas
+pub mod ExposureLemmas
 pub mod KeepingLemmas
 pub mod ViewLemmas
 pub mod OwnViewLemmas

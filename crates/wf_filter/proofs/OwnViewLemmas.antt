@@ -1,5 +1,5 @@
 -- A permitted view is its own permitted view.
-use Rattle.std.proofs.Common.{◌≡◌, ◌&&◌, ◌||◌, [], ℕ, Bool, true, false, not, List, codes, cond, filter, refl, ap}
+use Rattle.std.proofs.Common.{◌≡◌, ◌&&◌, [], ℕ, Bool, true, false, not, List, codes, cond, filter, refl, ap}
 use Rattle.std.proofs.Common.{sym, ◌∙◌}
 use Rattle.std.proofs.Common.{arith, inl, inr}
 use Rattle.std.proofs.lemmas.Bool.{cases_Bool}
@@ -18,27 +18,20 @@ use Rattle.wf_types.specs.declared.request.Request.{Request}
 use Rattle.wf_types.specs.CorsCheck.{is_include}
 use Rattle.wf_types.specs.PermittedNames.{has_name_among, preflight_names, preflight_view}
 use Rattle.wf_types.specs.Statuses.{is_ok_status, is_redirect_status}
+use Rattle.wf_filter.proofs.ExposureLemmas.{safelisted_if, told_if}
 use Rattle.wf_filter.proofs.ViewLemmas.{KeepsChecked, basic-named, contains-fewer, contains-kept, cors-told}
 use Rattle.wf_filter.proofs.ViewLemmas.{filter-all_named}
 use Rattle.wf_filter.proofs.ViewLemmas.{filter-twice, filter-within, first-passes, refused-kept, told-checked}
 use Rattle.wf_filter.proofs.ViewLemmas.{told-named}
 use Rattle.wf_filter.specs.Exposed.{exposed_by, has_star, header_names}
 use Rattle.wf_filter.specs.Filtered.{exposed_to}
-use Rattle.wf_filter.specs.Names.{is_forbidden, is_safelisted, safelisted_names}
+use Rattle.wf_filter.specs.Names.{is_forbidden, is_safelisted}
 use Rattle.wf_filter.specs.Views.{followed_view, is_follow, is_followed, is_refused, is_told, is_told_cors}
 use Rattle.wf_filter.specs.Views.{is_unfollowed, permitted_view, redirect_names, refused_view, response_names}
 use Rattle.wf_filter.specs.Views.{response_view}
 use Rattle.wf_filter.specs.Views.{type_names, unfollowed_view}
 
 -- ---- the headers of a CORS response
-
--- the tests, where it is known whether the header has an exposed name
-abbrev safelisted_if : Bool → Header → Bool
-safelisted_if named header =
-    has_name_among safelisted_names header || (named && not (is_forbidden header))
-
-abbrev told_if : Bool → Header → Bool
-told_if named header = safelisted_if named header || is_told tainting.Cors response_names header
 
 -- what is safelisted is told
 safelisted-told : (exposed : List (List ℕ)) (header : Header) → is_safelisted exposed header ≡ true

@@ -3,10 +3,20 @@ ghost use Rattle.std.specs.Str.{str_eq_ignore_ascii_case};
 ghost use Rattle.std.specs.List.{list_any};
 ghost use Rattle.wf_filter.specs.Exposed as spec;
 ghost use Rattle.wf_filter.specs.Private.Collecting.{with_new};
+ghost use Rattle.wf_filter.specs.Private.Exposing as private;
 
 use std::alloc::Global;
 use wf_headers::{Extracted, Header, HeaderList, Rule};
 use wf_text::{Bytes, BytesList, OutOfMemory, eq_fold};
+
+/// The names of response headers that a CORS response exposes.
+#[derive(Drop)]
+pub enum Exposure {
+    /// All names of its header list.
+    All,
+    /// These.
+    Names(BytesList),
+}
 
 // Whether a name is one of these, ASCII case aside.
 fn is_one_of(names: &[Bytes], name: &[u8]) -> bool
@@ -44,12 +54,41 @@ fn has_star(names: &[Bytes]) -> bool
     names.iter().any(|name| name.as_slice() == b"*".as_slice())
 }
 
+// What the extracted names of Access-Control-Expose-Headers expose.
+fn exposure_by(alloc: Global, include: bool, found: Extracted) -> Exposure
+    ensures { result ≡ private.exposure_by include found }
+{
+    match found {
+        Extracted::Items(names) => {
+            if !include && has_star(names.as_slice()) {
+                Exposure::All
+            } else {
+                Exposure::Names(names)
+            }
+        }
+        Extracted::Absent | Extracted::Failure => Exposure::Names(BytesList::new(alloc)),
+    }
+}
+
+// What a header list exposes, where the credentials mode is include or another.
+pub fn exposure_of(
+    alloc: Global,
+    headers: &HeaderList,
+    include: bool,
+) -> Result<Exposure, OutOfMemory>
+    ensures { IfOk result (λ exposure. exposure ≡ private.exposure include headers.now) }
+{
+    let found = headers.extract(alloc, b"Access-Control-Expose-Headers", Rule::Tokens)?;
+    Ok(exposure_by(alloc, include, found))
+}
+
 /// The names of response headers that a CORS response exposes ("CORS-exposed header-name list",
 /// Fetch, section 2.2.6, as main fetch sets it): those of Access-Control-Expose-Headers extracted
 /// as a list, none where it is absent or a failure. Where `*` is one of them and the credentials
 /// mode is not include, they are all names of the list, each once; with include `*` is a name like
 /// another. Each name of the list is then compared with those before it; a head has at most 128
 /// lines. The only error is want of memory.
+#[tactic(auto, using(crate::proofs::ExposureLemmas::exposed_names_of))]
 pub fn exposed_names(
     alloc: Global,
     headers: &HeaderList,
@@ -57,14 +96,8 @@ pub fn exposed_names(
 ) -> Result<BytesList, OutOfMemory>
     ensures { IfOk result (λ names. names ≡ spec.exposed_names include headers.now) }
 {
-    match headers.extract(alloc, b"Access-Control-Expose-Headers", Rule::Tokens)? {
-        Extracted::Items(names) => {
-            if !include && has_star(names.as_slice()) {
-                header_names(alloc, headers.as_slice())
-            } else {
-                Ok(names)
-            }
-        }
-        Extracted::Absent | Extracted::Failure => Ok(BytesList::new(alloc)),
+    match exposure_of(alloc, headers, include)? {
+        Exposure::All => header_names(alloc, headers.as_slice()),
+        Exposure::Names(names) => Ok(names),
     }
 }

@@ -1,12 +1,12 @@
-ghost use Rattle.std.specs.Prelude.{◌≡◌, ◌||◌, filter, IfOk};
+ghost use Rattle.std.specs.Prelude.{◌≡◌};
+ghost use Rattle.wf_filter.specs.Private.Exposing.{is_safelisted_in};
 ghost use Rattle.wf_filter.specs.Private.Keeping as private;
 ghost use Rattle.wf_filter.specs.Views as views;
 ghost use Rattle.wf_types.specs.PermittedNames as permitted;
 
-use crate::names::{has_name_among, is_safelisted};
-use std::alloc::Global;
-use wf_headers::{Header, HeaderList};
-use wf_text::{Bytes, OutOfMemory};
+use crate::exposed::Exposure;
+use crate::names::{has_name_among, is_forbidden, is_safelisted};
+use wf_headers::{Header, HeaderTest};
 use wf_types::Tainting;
 
 // The headers that a verdict on the answer to a preflight rests on.
@@ -46,14 +46,27 @@ const RESPONSE_NAMES: [&[u8]; 4] = [
 /// Which headers of a head are kept.
 #[derive(Clone, Copy)]
 pub enum Keep<'a> {
+    /// Those without a forbidden response-header name.
+    Allowed,
     /// Those that a verdict on the answer to a preflight rests on.
     Preflight,
     /// Those that the check of this tainting rests on, and those with these names.
     Told(Tainting, &'a [&'a [u8]]),
-    /// Those with a CORS-safelisted response-header name, given these exposed names.
-    Safelisted(&'a [Bytes]),
+    /// Those with a CORS-safelisted response-header name, of a list that exposes so much.
+    Safelisted(&'a Exposure),
     /// The same, and those that the end of main fetch rests on.
-    ToldCors(&'a [Bytes]),
+    ToldCors(&'a Exposure),
+}
+
+// Whether a header of a list that exposes so much has a CORS-safelisted response-header name. Where
+// all names are exposed, its own is one of them, so it is only asked whether it is forbidden.
+fn is_safelisted_in(exposure: &Exposure, header: &Header) -> bool
+    ensures { result ≡ is_safelisted_in exposure.now header.now }
+{
+    match exposure {
+        Exposure::All => !is_forbidden(header),
+        Exposure::Names(names) => is_safelisted(names.as_slice(), header),
+    }
 }
 
 // Whether the check of this tainting rests on the header.
@@ -67,34 +80,22 @@ fn is_checked(tainting: Tainting, header: &Header) -> bool
     }
 }
 
-// Whether a header is kept.
-fn keeps(keep: Keep, header: &Header) -> bool
-    ensures { result ≡ private.keeps keep.entry header.now }
-{
-    match keep {
-        Keep::Preflight => has_name_among(&PREFLIGHT_NAMES, header),
-        Keep::Told(tainting, names) => {
-            is_checked(tainting, header) || has_name_among(names, header)
-        }
-        Keep::Safelisted(exposed) => is_safelisted(exposed, header),
-        Keep::ToldCors(exposed) => {
-            is_safelisted(exposed, header)
-                || is_checked(Tainting::Cors, header)
-                || has_name_among(&RESPONSE_NAMES, header)
-        }
-    }
-}
+impl<'a> HeaderTest for Keep<'a> {
+    ghost passing = { private.keeps };
 
-// The headers that are kept, in order and as they are spelled.
-pub fn kept(alloc: Global, headers: &HeaderList, keep: Keep) -> Result<HeaderList, OutOfMemory>
-    ensures { IfOk result (λ list. list ≡ filter (private.keeps keep.entry) headers.now) }
-{
-    headers.law_one_spelling();
-    let mut list = HeaderList::new(alloc);
-    for header in headers.as_slice() {
-        if keeps(keep, header) {
-            list.append(header.name.as_slice(), header.value.as_slice())?;
+    fn passes(&self, header: &Header) -> bool {
+        match self {
+            Keep::Allowed => !is_forbidden(header),
+            Keep::Preflight => has_name_among(&PREFLIGHT_NAMES, header),
+            Keep::Told(tainting, names) => {
+                is_checked(*tainting, header) || has_name_among(names, header)
+            }
+            Keep::Safelisted(exposure) => is_safelisted_in(exposure, header),
+            Keep::ToldCors(exposure) => {
+                is_safelisted_in(exposure, header)
+                    || is_checked(Tainting::Cors, header)
+                    || has_name_among(&RESPONSE_NAMES, header)
+            }
         }
     }
-    Ok(list)
 }

@@ -1,12 +1,14 @@
-ghost use Rattle.std.specs.Prelude.{◌≡◌, IfOk};
+ghost use Rattle.std.specs.Prelude.{◌≡◌, filter, IfOk};
 ghost use Rattle.wf_filter.specs.Filtered as spec;
+ghost use Rattle.wf_filter.specs.Names.{is_safelisted};
+ghost use Rattle.wf_filter.specs.Private.Exposing as private;
 ghost use Rattle.wf_types.specs.Requests.{IsRequest};
 
-use crate::exposed::exposed_names;
-use crate::keep::{Keep, kept};
+use crate::exposed::{Exposure, exposure_of};
+use crate::keep::Keep;
 use std::alloc::Global;
 use wf_headers::HeaderList;
-use wf_text::{Bytes, BytesList, OutOfMemory};
+use wf_text::{Bytes, OutOfMemory};
 use wf_types::{BodyEnd, Head, Request, Response, ResponseKind, Tainting, without_fragment};
 
 // The URL of a response.
@@ -21,21 +23,32 @@ fn response_url(alloc: Global, request: &Request) -> Result<Bytes, OutOfMemory>
 pub fn without_forbidden(alloc: Global, headers: &HeaderList) -> Result<HeaderList, OutOfMemory>
     ensures { IfOk result (λ list. list ≡ spec.without_forbidden headers.now) }
 {
-    let mut list = headers.copy(alloc)?;
-    list.delete(b"Set-Cookie");
-    list.delete(b"Set-Cookie2");
-    Ok(list)
+    headers.copy_where(alloc, &Keep::Allowed)
 }
 
-// The names that a header list exposes to a request.
-pub fn exposed_to(
+// What a header list exposes to a request.
+pub fn exposure_to(
     alloc: Global,
     request: &Request,
     headers: &HeaderList,
-) -> Result<BytesList, OutOfMemory>
-    ensures { IfOk result (λ names. names ≡ spec.exposed_to request.now headers.now) }
+) -> Result<Exposure, OutOfMemory>
+    ensures { IfOk result (λ exposure. exposure ≡ private.exposure_to request.now headers.now) }
 {
-    exposed_names(alloc, headers, request.credentials.is_include())
+    exposure_of(alloc, headers, request.credentials.is_include())
+}
+
+// The headers with a CORS-safelisted response-header name, given the names that the list exposes to a
+// request.
+fn safelisted_headers(
+    alloc: Global,
+    request: &Request,
+    headers: &HeaderList,
+) -> Result<HeaderList, OutOfMemory>
+    ensures { IfOk result (λ list. list
+        ≡ filter (is_safelisted (spec.exposed_to request.now headers.now)) headers.now) }
+{
+    let exposure = exposure_to(alloc, request, headers)?;
+    headers.copy_where(alloc, &Keep::Safelisted(&exposure))
 }
 
 // "basic filtered response"
@@ -60,8 +73,7 @@ fn cors_filtered(alloc: Global, request: &Request, head: &Head) -> Result<Respon
     ensures { IfOk result (λ response. response ≡ spec.cors_filtered request.now head.now) }
 {
     let url = response_url(alloc, request)?;
-    let exposed = exposed_to(alloc, request, &head.headers)?;
-    let headers = kept(alloc, &head.headers, Keep::Safelisted(exposed.as_slice()))?;
+    let headers = safelisted_headers(alloc, request, &head.headers)?;
     Ok(Response {
         kind: ResponseKind::Cors,
         status: head.status,
@@ -102,8 +114,8 @@ fn redirect_filtered(alloc: Global, request: &Request) -> Result<Response, OutOf
 /// The filtered response of a head (Fetch, section 2.2.6), whose body is null until it is read: an
 /// opaque-redirect one where the head is a redirect and the redirect mode is manual, which `manual`
 /// tells, and else a basic, CORS or opaque one by the request's tainting. Headers stand in order
-/// and as they are spelled. Each header of a CORS response is compared with the exposed names and
-/// the headers that were kept; a head has at most 128 lines. The only error is want of memory.
+/// and as they are spelled. Each header of a CORS response is compared with the exposed names that
+/// are listed. The only error is want of memory.
 pub fn filtered(
     alloc: Global,
     request: &Request,

@@ -1,4 +1,5 @@
-ghost use Rattle.std.specs.Prelude.{◌≡◌, IfOk, map};
+ghost use Rattle.std.specs.Prelude.{◌≡◌, filter, IfOk, map};
+ghost use Rattle.wf_filter.specs.Filtered.{exposed_to};
 ghost use Rattle.wf_filter.specs.Views as spec;
 ghost use Rattle.wf_types.specs.CorsCheck as cors;
 ghost use Rattle.wf_types.specs.OriginHeader as origin_header;
@@ -6,8 +7,8 @@ ghost use Rattle.wf_types.specs.PermittedNames.{preflight_status as status_told,
 ghost use Rattle.wf_types.specs.Requests.{IsRequest};
 ghost use Rattle.wf_types.specs.ResourcePolicy as resource;
 
-use crate::keep::{Keep, kept};
-use crate::responses::{exposed_to, without_forbidden};
+use crate::keep::Keep;
+use crate::responses::{exposure_to, without_forbidden};
 use std::alloc::Global;
 use wf_headers::HeaderList;
 use wf_origin::{Origin, same_origin, same_site, tuple_origin};
@@ -134,7 +135,9 @@ fn told(
     ensures { IfOk result (λ view. view
         ≡ spec.told tainting (map (λ name. name.now) names.now) status head.now) }
 {
-    let headers = kept(alloc, &head.headers, Keep::Told(tainting, names))?;
+    let headers = head
+        .headers
+        .copy_where(alloc, &Keep::Told(tainting, names))?;
     Ok(Head { status, headers })
 }
 
@@ -149,7 +152,7 @@ fn preflight_status(status: u16) -> u16
 fn preflight_view(alloc: Global, head: &Head) -> Result<Head, OutOfMemory>
     ensures { IfOk result (λ view. view ≡ preflight_told head.now) }
 {
-    let headers = kept(alloc, &head.headers, Keep::Preflight)?;
+    let headers = head.headers.copy_where(alloc, &Keep::Preflight)?;
     let status = preflight_status(head.status);
     Ok(Head { status, headers })
 }
@@ -166,13 +169,25 @@ fn opaque_view(alloc: Global, request: &Request, head: &Head) -> Result<Head, Ou
     }
 }
 
+// The headers that its filtered response keeps and those that the end of main fetch rests on.
+fn cors_headers(
+    alloc: Global,
+    request: &Request,
+    headers: &HeaderList,
+) -> Result<HeaderList, OutOfMemory>
+    ensures { IfOk result (λ list. list
+        ≡ filter (spec.is_told_cors (exposed_to request.now headers.now)) headers.now) }
+{
+    let exposure = exposure_to(alloc, request, headers)?;
+    headers.copy_where(alloc, &Keep::ToldCors(&exposure))
+}
+
 // Of a CORS response, its status, what its filtered response keeps and what the end of main fetch
 // rests on.
 fn cors_view(alloc: Global, request: &Request, head: &Head) -> Result<Head, OutOfMemory>
     ensures { IfOk result (λ view. view ≡ spec.cors_view request.now head.now) }
 {
-    let exposed = exposed_to(alloc, request, &head.headers)?;
-    let headers = kept(alloc, &head.headers, Keep::ToldCors(exposed.as_slice()))?;
+    let headers = cors_headers(alloc, request, &head.headers)?;
     Ok(Head {
         status: head.status,
         headers,
@@ -207,8 +222,8 @@ fn response_view(alloc: Global, request: &Request, head: &Head) -> Result<Head, 
 /// the first case that applies: the answer to a preflight, a response that the CORS check or the
 /// cross-origin resource policy check refuses, a redirect that is not to be followed, one that is
 /// followed, a response by the request's tainting. Each header is compared with the names of its
-/// case and with the headers that were kept; a head has at most 128 lines. The only error is want
-/// of memory.
+/// case, and of a CORS response with the exposed names that are listed. The only error is want of
+/// memory.
 pub fn hide(alloc: Global, request: &Request, hop: &Hop, head: &Head) -> Result<Head, OutOfMemory>
     requires { IsRequest request.now }
     ensures { IfOk result (λ view. view ≡ spec.permitted_view request.now hop.now head.now) }

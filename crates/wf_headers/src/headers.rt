@@ -1,7 +1,8 @@
 ghost use Rattle.std.specs.Prelude.{ℕ, List, [], length, take, vec_len, vec_capacity, IsTrue};
 ghost use Rattle.std.specs.Prelude.{◌≤◌, ◌≡◌, ◌≢◌, ◌↔◌, ◌<◌, ◌++◌};
 ghost use Rattle.std.specs.Prelude.{IfOk, OnOk, OnErr, MatchOption, Some, slice_get, option_map, codes, if◌then◌else◌};
-ghost use Rattle.wf_headers.specs.Headers.{all_appended, appended, combined, contains, has_value, spelling};
+ghost use Rattle.std.specs.Prelude.{Bool, filter, not};
+ghost use Rattle.wf_headers.specs.Headers.{all_appended, appended, combined, contains, has_value, is_named, spelling};
 ghost use Rattle.wf_headers.specs.Headers.{with_only, without};
 ghost use Rattle.wf_headers.specs.Private.Joining.{behind_value};
 ghost use Rattle.wf_headers.specs.Private.Places.{first_of};
@@ -49,6 +50,30 @@ impl Model for HeaderList {
     ghost invariant = { λ list. HaveOneSpelling list.headers.items };
 }
 
+/// A test of headers.
+pub trait HeaderTest {
+    /// The headers that pass.
+    ghost passing: { Self → Header → Bool };
+
+    /// Whether a header passes.
+    fn passes(&self, header: &Header) -> bool
+        ensures { result ≡ passing self.now header.now };
+}
+
+// The headers of another name than this one pass.
+#[derive(Drop)]
+struct Others<'a> {
+    name: &'a [u8],
+}
+
+impl<'a> HeaderTest for Others<'a> {
+    ghost passing = { λ others header. not (is_named others.name.now header) };
+
+    fn passes(&self, header: &Header) -> bool {
+        !eq_fold(header.name.as_slice(), self.name)
+    }
+}
+
 // The spelling of a name that the headers have already.
 fn spelling_in<'a>(headers: &'a [Header], name: &'a [u8]) -> &'a [u8]
     ensures { result.now ≡ spelling name.now headers.now }
@@ -73,13 +98,13 @@ fn first_named(headers: &[Header], name: &[u8]) -> usize
     headers.len()
 }
 
-// Takes out the headers of that name.
-fn take_out(headers: &mut Vec<Header>, name: &[u8])
-    ensures items { headers.new.items ≡ without name.now headers.old.items }
+// Keeps the headers that pass.
+fn keep_in<T: HeaderTest>(headers: &mut Vec<Header>, test: &T)
+    ensures items { headers.new.items ≡ filter (T.passing test.now) headers.old.items }
     ensures len { vec_len headers.new ≤ vec_len headers.old }
     ensures capacity { vec_capacity headers.new ≡ vec_capacity headers.old }
 {
-    headers.retain(|header| !eq_fold(header.name.as_slice(), name));
+    headers.retain(|header| test.passes(header));
 }
 
 // Gives the first header of the name this value and takes out the others of that name.
@@ -89,7 +114,7 @@ fn replace(headers: &mut Vec<Header>, at: usize, name: &[u8], value: Bytes)
     ensures { headers.new.items ≡ with_only name.now value headers.old.items }
 {
     let first = headers.remove(at);
-    take_out(headers, name);
+    keep_in(headers, &Others { name });
     let name = first.name;
     let Ok(()) = headers.insert(at, Header { name, value }) else {
         // One header was taken out, so there is room.
@@ -125,6 +150,23 @@ fn copy_of(alloc: Global, headers: &[Header]) -> Result<Vec<Header>, OutOfMemory
     let mut copy = Vec::with_capacity(alloc, headers.len())?;
     for header in headers {
         copy.push(header.copy(alloc)?)?;
+    }
+    Ok(copy)
+}
+
+// A copy of each header that passes.
+fn copy_of_some<T: HeaderTest>(
+    alloc: Global,
+    headers: &[Header],
+    test: &T,
+) -> Result<Vec<Header>, OutOfMemory>
+    ensures { IfOk result (λ copy. copy.items ≡ filter (T.passing test.now) headers.now) }
+{
+    let mut copy = Vec::new(alloc);
+    for header in headers {
+        if test.passes(header) {
+            copy.push(header.copy(alloc)?)?;
+        }
     }
     Ok(copy)
 }
@@ -282,7 +324,14 @@ impl HeaderList {
     pub fn delete(&mut self, name: &[u8])
         ensures { self.new ≡ without name.now self.old }
     {
-        take_out(&mut self.headers, name);
+        self.retain(&Others { name });
+    }
+
+    /// Keeps the headers that pass a test, in order, and takes out the others. It takes no memory.
+    pub fn retain<T: HeaderTest>(&mut self, test: &T)
+        ensures { self.new ≡ filter (T.passing test.now) self.old }
+    {
+        keep_in(&mut self.headers, test);
     }
 
     // Appends each of these headers, in order. Where memory is refused, those before it are there.
@@ -314,6 +363,18 @@ impl HeaderList {
         ensures { IfOk result (λ list. list ≡ self.now) }
     {
         let headers = copy_of(alloc, self.headers.as_slice())?;
+        Ok(HeaderList { headers })
+    }
+
+    /// A copy of the list that has only the headers that pass a test, in order.
+    pub fn copy_where<T: HeaderTest>(
+        &self,
+        alloc: Global,
+        test: &T,
+    ) -> Result<HeaderList, OutOfMemory>
+        ensures { IfOk result (λ list. list ≡ filter (T.passing test.now) self.now) }
+    {
+        let headers = copy_of_some(alloc, self.headers.as_slice(), test)?;
         Ok(HeaderList { headers })
     }
 

@@ -8,5 +8,5 @@ mod split;
 mod tests;
 
 pub use extract::{Extracted, Rule};
-pub use headers::{Header, HeaderList};
+pub use headers::{Header, HeaderList, HeaderTest};
 pub use split::split_value;

@@ -1,8 +1,6 @@
-ghost use Rattle.std.specs.Prelude.{◌≡◌, ◌↔◌, ◌++◌, IsTrue, IfOk, OnOk, ◌||◌, codes, bytes_eq, unwrap_or};
+ghost use Rattle.std.specs.Prelude.{◌≡◌, ◌↔◌, ◌++◌, IsTrue, IfOk, OnOk};
 ghost use Rattle.wf_origin.specs.Origins as spec;
-ghost use Rattle.std.specs.Option.{option_or};
 ghost use Rattle.url.specs.Parts.{nonempty_host};
-ghost use Rattle.url.specs.Scheme.{default_port};
 
 use std::alloc::Global;
 use std::net::{Ipv4Addr, Ipv6Addr};
@@ -50,11 +48,12 @@ impl Origin {
     }
 }
 
-// Whether the scheme is http or https.
-fn is_http(scheme: &str) -> bool
-    ensures { result ≡ spec.is_http scheme.now }
+/// Whether the scheme of a URL is http or https, an HTTP(S) scheme (Fetch, section 2.1). It takes no
+/// memory.
+pub fn is_http_url(url: &Url) -> bool
+    ensures { result ≡ spec.is_http url.now.scheme }
 {
-    scheme == "http" || scheme == "https"
+    url.scheme() == "http" || url.scheme() == "https"
 }
 
 // The host of a URL by its kind; one without a host has the empty domain.
@@ -85,7 +84,7 @@ pub fn tuple_origin(alloc: Global, url: &Url) -> Result<Origin, OutOfMemory>
 pub fn origin_of(alloc: Global, url: &Url) -> Result<Option<Origin>, OutOfMemory>
     ensures { IfOk result (λ origin. origin ≡ spec.origin_of url.now) }
 {
-    if !is_http(url.scheme()) {
+    if !is_http_url(url) {
         return Ok(None);
     }
     Ok(Some(tuple_origin(alloc, url)?))
@@ -126,9 +125,10 @@ pub fn is_host_of(origin: &Origin, url: &Url) -> bool
     }
 }
 
-// The port of a URL, or the default one of its scheme where it has none.
-fn port_of(url: &Url) -> u16
-    ensures { result ≡ unwrap_or (option_or url.now.port (default_port url.now.scheme)) 0 }
+/// The port of a URL, or the default one of its scheme where it has none, as its tuple origin has it (URL,
+/// section 4.7, "origin"); 0 where its scheme has none. It takes no memory.
+pub fn port_of(url: &Url) -> u16
+    ensures { result ≡ (spec.tuple_origin url.now).port }
 {
     url.port_or_known_default().unwrap_or(0)
 }
@@ -138,7 +138,7 @@ fn port_of(url: &Url) -> u16
 pub fn is_origin_of(origin: &Origin, url: &Url) -> bool
     ensures { result ≡ spec.is_origin_of origin.now url.now }
 {
-    is_http(url.scheme())
+    is_http_url(url)
         && origin.scheme.as_slice() == url.scheme().as_bytes()
         && is_host_of(origin, url)
         && origin.port == port_of(url)
@@ -165,15 +165,16 @@ fn have_same_host(url: &Url, other: &Url) -> bool
 pub fn have_same_origin(url: &Url, other: &Url) -> bool
     ensures { result ≡ spec.have_same_origin url.now other.now }
 {
-    is_http(url.scheme())
-        && is_http(other.scheme())
+    is_http_url(url)
+        && is_http_url(other)
         && url.scheme() == other.scheme()
         && have_same_host(url, other)
         && port_of(url) == port_of(other)
 }
 
-// Whether the port is the default one of http or of https.
-fn is_default_port(scheme: &[u8], port: u16) -> bool
+/// Whether the port is the default port of this scheme, which is http or https (URL, section 4.2, "special
+/// scheme"). It takes no memory.
+pub fn is_default_port(scheme: &[u8], port: u16) -> bool
     ensures { result ≡ spec.is_default_port scheme.now port }
 {
     (scheme == b"http".as_slice() && port == 80) || (scheme == b"https".as_slice() && port == 443)

@@ -14,11 +14,11 @@ returns c =
     let within : c.args.at < length c.args.headers.now.items = grind (arith, c.requires.within) in
     let found = with_only-found c.args.name.now c.args.value c.args.headers.now.items c.args.at c.remove-first.result
     c.requires.first within c.remove-first.ensures.value in
-    let room : vec_len c.take_out.new.headers < vec_capacity c.take_out.new.headers =
+    let room : vec_len c.keep_in.new.headers < vec_capacity c.keep_in.new.headers =
     grind (
       arith,
-      c.take_out.ensures.len,
-      c.take_out.ensures.capacity,
+      c.keep_in.ensures.len,
+      c.keep_in.ensures.capacity,
       c.remove-first.ensures.len,
       c.remove-first.ensures.capacity,
     ) in

@@ -1,0 +1,13 @@
+use Rattle.std.proofs.Common.{◌≡◌, ◌∙◌, List, IfOk, ap, filter, subst}
+use Rattle.wf_headers.specs.declared.headers.Header.{Header}
+use Rattle.wf_filter.specs.declared.exposed.Exposure.{Exposure}
+use Rattle.wf_filter.specs.Private.Exposing.{is_safelisted_in}
+use Rattle.wf_filter.proofs.ExposureLemmas.{safelisted-headers}
+use Rattle.wf_filter.proofs.responses.safelisted_headers.Goals as goal
+
+pub returns : goal.returns
+returns c =
+    let headers : List Header = c.args.headers.now in
+    subst (λ (kept : List Header). IfOk c.copy_where.result (λ list. list ≡ kept))
+    (ap (λ (exposure : Exposure). filter (is_safelisted_in exposure) headers) c.in_ok-exposure.ensures
+    ∙ safelisted-headers c.args.request.now headers) c.copy_where.ensures
