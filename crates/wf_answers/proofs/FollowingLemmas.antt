@@ -28,7 +28,8 @@ none_of_four false false false false = refl
 -- the four names are taken out, one after the other
 pub body_headers_out : (headers : List Header)
     → without (codes "Content-Type")
-    (without (codes "Content-Location") (without (codes "Content-Language") (without (codes "Content-Encoding") headers)))
+    (without (codes "Content-Location")
+    (without (codes "Content-Language") (without (codes "Content-Encoding") headers)))
     ≡ without_body_headers headers
 body_headers_out headers =
     let a : Header → Bool = λ header. is_named (codes "Content-Encoding") header in

@@ -1,2 +1,4 @@
+pub mod Computed
 pub mod FollowingLemmas
 pub mod FragmentLemmas
+pub mod LawLemmas

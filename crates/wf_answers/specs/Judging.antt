@@ -1,5 +1,5 @@
--- How the head of an answer is judged (Fetch, "HTTP fetch"): what it is refused for, and whether it is a redirect that is
--- to be followed.
+-- How the head of an answer is judged (Fetch, "HTTP fetch"): what it is refused for, and whether it is a redirect that
+-- is to be followed.
 use Rattle.std.specs.Prelude.{Bool, not, ◌&&◌, List, Option, Some, None, if◌then◌else◌}
 use Rattle.std.specs.Option.{option_or}
 use Rattle.wf_headers.specs.declared.headers.Header.{Header}
@@ -16,7 +16,8 @@ use Rattle.wf_filter.specs.Views.{is_blocked, is_error, is_follow, passes_check}
 abbrev pub error_where : Bool → NetError → Option NetError
 error_where is error = if is then Some error else None
 
--- the network error of the check of a response by this tainting: the CORS check, or the cross-origin resource policy check
+-- the network error of the check of a response by this tainting: the CORS check, or the cross-origin resource policy
+-- check
 abbrev pub check_error : Tainting → Request → List Header → Option NetError
 check_error tainting.Basic request headers = None
 check_error tainting.Cors request headers = error_where (not (passes_check request headers)) CorsCheck

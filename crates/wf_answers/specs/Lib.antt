@@ -2,4 +2,5 @@ pub mod Bodies
 pub mod Endings
 pub mod Following
 pub mod Judging
+pub mod Laws
 pub mod Redirects

@@ -26,8 +26,8 @@ use Rattle.wf_answers.specs.Judging.{is_to_follow}
 abbrev pub with_fragment_of : Parts → Parts → Parts
 with_fragment_of current url = record url { fragment = option_or url.fragment current.fragment }
 
--- the URL that the value of Location gives against the current URL, with the fragment of that where it has none; none of
--- which the text has more than 8,192 bytes (this project's own choice)
+-- the URL that the value of Location gives against the current URL, with the fragment of that where it has none; one
+-- whose text has more than 8,192 bytes is none (this project's own choice)
 abbrev pub location_url : Parts → List ℕ → Option Parts
 location_url current text = unless_long (option_map (with_fragment_of current) (url_against current text))
 
@@ -71,7 +71,8 @@ redirection_by request location = redirection_where request (extracted_url (curr
 -- "HTTP-redirect fetch", up to its change of the request; a head that is no redirect to be followed is the response
 abbrev pub redirection : Request → Head → Redirection
 redirection request head =
-    if is_to_follow request head then redirection_by request (extracted Single (codes "Location") head.headers) else Stays
+    if is_to_follow request head then redirection_by request (extracted Single (codes "Location") head.headers)
+    else Stays
 
 -- where it goes to a URL, fewer redirects were followed and the URL is http or https
 abbrev pub MayGo : Request → Redirection → Type 0

@@ -7,6 +7,7 @@ mod bodies;
 mod endings;
 mod following;
 mod judging;
+mod laws;
 mod redirects;
 
 pub use answers::{Ended, Redirection};
@@ -14,4 +15,5 @@ pub use bodies::{has_null_body, is_coded};
 pub use endings::{after_body, ended};
 pub use following::redirected;
 pub use judging::{is_manual, is_to_follow, refusal_after};
+pub use laws::{law_ending, law_redirected, law_redirection, law_refusal};
 pub use redirects::redirection;
