@@ -1,49 +1,17 @@
 -- The request after a redirect is a request.
-use Rattle.std.proofs.Common.{◌≡◌, ◌∙◌, ◌<◌, ◌&&◌, ◌||◌, ◌∷◌, ◌++◌, [], ℕ, Bool, true, false, not, List, codes}
+use Rattle.std.proofs.Common.{◌≡◌, ◌∙◌, ◌<◌, ◌&&◌, ◌∷◌, ◌++◌, [], ℕ, Bool, true, false, List}
 use Rattle.std.proofs.Common.{refl, ap, sym, subst, arith, cond, length}
 use Rattle.std.specs.Prelude.{IsTrue, unwrap_or, Some, None}
 use Rattle.std.specs.List.{last_or}
 use Rattle.url.specs.Parts.{Parts}
-use Rattle.wf_filter.proofs.KeepingLemmas.{filter-both}
 use Rattle.wf_headers.specs.declared.headers.Header.{Header}
-use Rattle.wf_headers.specs.Headers.{is_named, without}
 use Rattle.wf_origin.specs.Origins.{have_same_origin}
 use Rattle.wf_text.specs.Tokens.{is_token}
 use Rattle.wf_types.specs.declared.hop.Head.{Head}
 use Rattle.wf_types.specs.declared.request.Request.{Request}
 use Rattle.wf_types.specs.Requests.{IsAtHttp, IsRequest, current_url, is_http_url, no_url, were_http}
 use Rattle.wf_answers.specs.Following.{at_next, turned_to_get, turns_to_get, with_authorization_at}
-use Rattle.wf_answers.specs.Following.{with_method_after, with_policy_of, without_authorization, without_body_headers}
-
--- ---- the request-body headers
-
-none_of_four : (a b c d : Bool)
-    → not (a || (b || (c || (d || false)))) ≡ (((not a && not b) && not c) && not d)
-none_of_four true b c d = refl
-none_of_four false true c d = refl
-none_of_four false false true d = refl
-none_of_four false false false true = refl
-none_of_four false false false false = refl
-
--- the four names are taken out, one after the other
-pub body_headers_out : (headers : List Header)
-    → without (codes "Content-Type")
-    (without (codes "Content-Location")
-    (without (codes "Content-Language") (without (codes "Content-Encoding") headers)))
-    ≡ without_body_headers headers
-body_headers_out headers =
-    let a : Header → Bool = λ header. is_named (codes "Content-Encoding") header in
-    let b : Header → Bool = λ header. is_named (codes "Content-Language") header in
-    let c : Header → Bool = λ header. is_named (codes "Content-Location") header in
-    let d : Header → Bool = λ header. is_named (codes "Content-Type") header in
-    ap (λ hs. without (codes "Content-Type") (without (codes "Content-Location") hs))
-    (filter-both (λ header. not (b header)) (λ header. not (a header)) (λ header. not (a header) && not (b header))
-    (λ header. refl) headers)
-    ∙ ap (without (codes "Content-Type"))
-    (filter-both (λ header. not (c header)) (λ header. not (a header) && not (b header))
-    (λ header. (not (a header) && not (b header)) && not (c header)) (λ header. refl) headers)
-    ∙ filter-both (λ header. not (d header)) (λ header. (not (a header) && not (b header)) && not (c header)) _
-    (λ header. none_of_four (a header) (b header) (c header) (d header)) headers
+use Rattle.wf_answers.specs.Following.{with_method_after, with_policy_of, without_authorization}
 
 -- ---- what the rules leave alone
 

@@ -1,13 +1,22 @@
-ghost use Rattle.std.specs.Prelude.{◌≡◌, ◌<◌, length, IfOk};
+ghost use Rattle.std.specs.Prelude.{◌≡◌, ◌<◌, length, map, not, IfOk};
+ghost use Rattle.wf_types.specs.PermittedNames as permitted;
 ghost use Rattle.wf_types.specs.Requests.{IsAtHttp, IsRequest};
 ghost use Rattle.wf_answers.specs.Following as spec;
 
 use std::alloc::Global;
 use url::Url;
-use wf_headers::HeaderList;
+use wf_headers::{Header, HeaderList, HeaderTest};
 use wf_origin::have_same_origin;
-use wf_text::{Bytes, OutOfMemory};
+use wf_text::{Bytes, OutOfMemory, is_among_fold};
 use wf_types::{Head, ReferrerPolicy, Request, is_get_or_head, policy_of_header};
+
+// The request-body-header names.
+const BODY_HEADER_NAMES: [&[u8]; 4] = [
+    b"Content-Encoding",
+    b"Content-Language",
+    b"Content-Location",
+    b"Content-Type",
+];
 
 // Whether a redirect of this status turns the method to GET.
 fn turns_to_get(method: &[u8], status: u16) -> bool
@@ -17,15 +26,31 @@ fn turns_to_get(method: &[u8], status: u16) -> bool
         || (status == 303 && !is_get_or_head(method))
 }
 
+// Whether the header has one of these names.
+fn has_name_among(names: &[&[u8]], header: &Header) -> bool
+    ensures { result ≡ permitted.has_name_among (map (λ name. name.now) names.now) header.now }
+{
+    is_among_fold(names, header.name.as_slice())
+}
+
+// Headers without a request-body-header name pass.
+#[derive(Drop)]
+struct NotOfBody;
+
+impl HeaderTest for NotOfBody {
+    ghost passing = { λ _ header. not (permitted.has_name_among spec.body_header_names header) };
+
+    fn passes(&self, header: &Header) -> bool {
+        !has_name_among(&BODY_HEADER_NAMES, header)
+    }
+}
+
 // The headers without those that have a request-body-header name.
 fn without_body_headers(headers: HeaderList) -> HeaderList
     ensures { result ≡ spec.without_body_headers headers }
 {
     let mut kept = headers;
-    kept.delete(b"Content-Encoding");
-    kept.delete(b"Content-Language");
-    kept.delete(b"Content-Location");
-    kept.delete(b"Content-Type");
+    kept.retain(&NotOfBody);
     kept
 }
 

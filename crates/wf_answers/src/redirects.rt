@@ -4,7 +4,6 @@ ghost use Rattle.url.specs.Parts as parts;
 ghost use Rattle.url.specs.declared.sets.TheConstants.{FRAGMENT};
 ghost use Rattle.wf_send.specs.Making as making;
 ghost use Rattle.wf_types.specs.OriginHeader as origin_header;
-ghost use Rattle.wf_types.specs.Requests as requests;
 ghost use Rattle.wf_types.specs.Requests.{IsRequest};
 ghost use Rattle.wf_answers.specs.Redirects as spec;
 
@@ -13,7 +12,7 @@ use crate::judging::is_to_follow;
 use std::alloc::Global;
 use url::Url;
 use wf_headers::{Extracted, Rule};
-use wf_origin::is_origin_of;
+use wf_origin::{is_http_url, is_origin_of};
 use wf_text::{BytesList, OutOfMemory};
 use wf_types::{Head, Mode, NetError, Request, Tainting, url_against};
 
@@ -82,13 +81,6 @@ fn extracted_url(
     } else {
         Ok(None)
     }
-}
-
-// Whether the URL is http or https.
-fn is_http_url(url: &Url) -> bool
-    ensures { result ≡ requests.is_http_url url.now }
-{
-    url.scheme() == "http" || url.scheme() == "https"
 }
 
 // Whether the URL has a user name or a password.
