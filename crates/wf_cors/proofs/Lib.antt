@@ -1,3 +1,4 @@
 pub mod Computed
 pub mod LineLemmas
 pub mod ViewLemmas
+pub mod LessonLemmas

@@ -213,7 +213,7 @@ fn verdict_of(
 /// `*` covers where it is listed and the credentials mode is not include. Where
 /// Access-Control-Allow-Methods is absent, no method is listed, or with the use-CORS-preflight flag the
 /// request's own. A pass tells the two lists, and for how many seconds they hold:
-/// Access-Control-Max-Age, at most 7,200, and 5 where it is absent or no number.
+/// Access-Control-Max-Age, at most 7,200, and 5 where it is absent, stands twice or is no number.
 pub fn verdict(
     alloc: Global,
     request: &Request,

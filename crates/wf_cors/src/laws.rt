@@ -1,4 +1,4 @@
-ghost use Rattle.wf_cors.specs.Laws.{ChecksAreOfViews, CredentialsNeverByWildcard, VerdictsAreOfViews};
+ghost use Rattle.wf_cors.specs.Laws.{PassesAreLessons, ChecksAreOfViews, CredentialsNeverByWildcard, VerdictsAreOfViews};
 
 /// A law: with credentials the CORS check never passes where Access-Control-Allow-Origin is `*`, for
 /// an origin text other than `*`.
@@ -14,4 +14,10 @@ pub fn law_verdict_of_view()
 /// A law: the CORS check of the head that answers a preflight is that of what a document may learn of it.
 pub fn law_check_of_view()
     ensures { ChecksAreOfViews }
+{}
+
+/// A law: what an answer that passes teaches is for at most 7,200 seconds, and its methods and names are
+/// tokens, for every valid request.
+pub fn law_passes_are_lessons()
+    ensures { PassesAreLessons }
 {}

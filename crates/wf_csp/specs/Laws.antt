@@ -1,18 +1,30 @@
 -- What holds of all policies (CSP 3, sections 2.3.1 and 4.1).
-use Rattle.std.specs.Prelude.{◌≡◌, Bool, true, false, List, [], ◌∷◌, map, codes}
+use Rattle.std.specs.Prelude.{◌≡◌, ℕ, Bool, true, false, List, [], ◌∷◌, map, codes}
+use Rattle.wf_csp_text.specs.declared.policy.Directive.{Directive}
 use Rattle.wf_csp_text.specs.declared.policy.Policy.{Policy}
 use Rattle.wf_origin.specs.declared.origin.Origin.{Origin}
 use Rattle.wf_types.specs.declared.policy.Violation.{Violation}
 use Rattle.wf_types.specs.declared.request.Request.{Request}
-use Rattle.wf_csp.specs.Reading.{source_list}
-use Rattle.wf_csp.specs.SourceLists.{passes}
 use Rattle.wf_csp.specs.Violations.{request_violations}
 
--- a directive without words lets the same requests through as one whose only word is 'none'
-abbrev pub IsEmptyAsNone : Request → Origin → Type 0
-IsEmptyAsNone request document =
-    passes (source_list []) request document request.destination
-    ≡ passes (source_list (codes "'none'" ∷ [])) request document request.destination
+-- the words of a directive, with 'none' in the place of none
+abbrev pub or_none : List (List ℕ) → List (List ℕ)
+or_none [] = codes "'none'" ∷ []
+or_none (word ∷ words) = word ∷ words
+
+-- the directive with the word 'none' where it has no words
+abbrev pub saying_none : Directive → Directive
+saying_none directive = record directive { words = or_none directive.words }
+
+-- the policy whose directives have the word 'none' where they have no words
+abbrev pub with_none : Policy → Policy
+with_none policy = record policy { directives = map saying_none policy.directives }
+
+-- directives without words are violated as those whose only word is 'none'
+abbrev pub AreEmptyAsNone : List Policy → Request → Origin → Bool → Type 0
+AreEmptyAsNone policies request document enforced =
+    request_violations (map with_none policies) request document enforced
+    ≡ request_violations policies request document enforced
 
 -- the policy in this disposition
 abbrev pub in_disposition : Bool → Policy → Policy

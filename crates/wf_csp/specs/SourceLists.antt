@@ -1,6 +1,5 @@
--- Whether a source list lets a request through (CSP 3, section 6.7: "does a source list match"). The order in which
--- nonce, integrity, 'strict-dynamic' and URL decide is this project's own choice where the standard's differs by kinds of
--- directive.
+-- Whether a source list lets a request through (CSP 3, section 6.7.2: "does request match source list?" and what it asks).
+-- The order in which nonce, integrity, 'strict-dynamic' and URL decide is this project's own choice.
 use Rattle.std.specs.Prelude.{ℕ, Bool, true, false, not, ◌==◌, ◌&&◌, ◌||◌, List, [], ◌∷◌, length, bytes_eq}
 use Rattle.std.specs.Prelude.{if◌then◌else◌}
 use Rattle.std.specs.List.{list_all, list_any}
@@ -33,7 +32,7 @@ abbrev pub is_hash : HashExpression → Source → Bool
 is_hash hash (source.Hash algorithm value) = algorithm == hash.algorithm && bytes_eq value hash.value
 is_hash hash _ = false
 
--- the integrity metadata has hash expressions, and for each of them there is a hash-source
+-- "does integrity metadata match source list?": there are hash expressions, and for each of them there is a hash-source
 abbrev pub integrity_matches : List HashExpression → List Source → Bool
 integrity_matches metadata sources =
     not (length metadata == 0) && list_all (λ hash. list_any (is_hash hash) sources) metadata
@@ -66,7 +65,7 @@ url_matches sources request document =
 
 -- ---- source lists
 
--- the same for a script: by its nonce, by its integrity metadata, by 'strict-dynamic' where no parser inserted it, and
+-- a script is let through by its nonce, by its integrity metadata, by 'strict-dynamic' where no parser inserted it, and
 -- without that word by its URL
 abbrev pub script_passes : List Source → Request → Origin → Bool
 script_passes sources request document =
@@ -74,7 +73,7 @@ script_passes sources request document =
     || integrity_matches (metadata_of request.integrity) sources
     || (if list_any is_strict_dynamic sources then not request.parser else url_matches sources request document)
 
--- for a style: by its nonce or its URL
+-- a style is let through by its nonce or its URL
 abbrev pub style_passes : List Source → Request → Origin → Bool
 style_passes sources request document =
     nonce_matches request.nonce sources || url_matches sources request document

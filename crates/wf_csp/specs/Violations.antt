@@ -85,6 +85,6 @@ upgrades_policy policy =
     && list_any (λ directive. bytes_eq directive.name (codes "upgrade-insecure-requests")) policy.directives
 
 -- "upgrade-insecure-requests" is a directive of an enforced policy (Upgrade Insecure Requests; that every http URL is then
--- upgraded, and that report-only policies do not count, is this project's own choice)
+-- upgraded is this project's own choice)
 abbrev pub upgrades : List Policy → Bool
 upgrades policies = list_any upgrades_policy (map read_policy policies)

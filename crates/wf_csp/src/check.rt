@@ -138,8 +138,8 @@ fn any_upgrades(policies: &[CompiledPolicy]) -> bool
 
 impl Compiled {
     /// Whether an enforced policy has `upgrade-insecure-requests`: the document's requests for http URLs
-    /// are then made for https ones (Upgrade Insecure Requests, "upgrade request to an a priori
-    /// authenticated URL, if appropriate"). It takes no memory.
+    /// are then made for https ones (Fetch, "upgrade request to a potentially trustworthy URL, if
+    /// appropriate"). It takes no memory.
     pub fn upgrades(&self) -> bool
         ensures { result ≡ spec.upgrades self.now }
     {

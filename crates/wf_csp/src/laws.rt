@@ -1,12 +1,13 @@
-ghost use Rattle.std.specs.Prelude.{List};
-ghost use Rattle.wf_csp.specs.Laws.{AreViolatedAlike, IsEmptyAsNone};
+ghost use Rattle.std.specs.Prelude.{Bool, List};
+ghost use Rattle.wf_csp.specs.Laws.{AreEmptyAsNone, AreViolatedAlike};
 ghost use Rattle.wf_csp_text.specs.declared.policy.Policy.{Policy};
 ghost use Rattle.wf_origin.specs.declared.origin.Origin.{Origin};
 ghost use Rattle.wf_types.specs.declared.request.Request.{Request};
 
-/// A directive without words lets the same requests through as one whose only word is `'none'`.
+/// A directive without words is violated by the same requests as one whose only word is `'none'`.
 pub fn law_empty_as_none()
-    ensures { (request : Request) (document : Origin) → IsEmptyAsNone request document }
+    ensures { (policies : List Policy) (request : Request) (document : Origin) (enforced : Bool)
+        → AreEmptyAsNone policies request document enforced }
 {}
 
 /// A policy is violated by the same requests, and reported with the same number, directive and URL,

@@ -1,21 +1,18 @@
 ghost use Rattle.std.specs.Prelude.{◌≡◌, filter, IfOk, map};
 ghost use Rattle.wf_filter.specs.Filtered.{exposed_to};
 ghost use Rattle.wf_filter.specs.Views as spec;
-ghost use Rattle.wf_types.specs.CorsCheck as cors;
-ghost use Rattle.wf_types.specs.OriginHeader as origin_header;
 ghost use Rattle.wf_types.specs.PermittedNames.{preflight_status as status_told, preflight_view as preflight_told};
 ghost use Rattle.wf_types.specs.Requests.{IsRequest};
-ghost use Rattle.wf_types.specs.ResourcePolicy as resource;
 
 use crate::keep::Keep;
 use crate::responses::{exposure_to, without_forbidden};
 use std::alloc::Global;
 use wf_headers::HeaderList;
-use wf_origin::{Origin, same_origin, same_site, tuple_origin};
+use wf_origin::tuple_origin;
 use wf_text::OutOfMemory;
 use wf_types::{
-    Destination, Head, Hop, RedirectMode, Request, Tainting, is_ok_status, is_redirect_status,
-    serialized_origin,
+    Destination, Head, Hop, RedirectMode, Request, Tainting, corp_blocks, is_ok_status,
+    is_redirect_status, passes_cors_check, serialized_origin,
 };
 
 // The headers that following a redirect rests on.
@@ -23,52 +20,6 @@ const REDIRECT_NAMES: [&[u8]; 2] = [b"Location", b"Referrer-Policy"];
 
 // The headers that blocking for a MIME type rests on.
 const TYPE_NAMES: [&[u8]; 2] = [b"X-Content-Type-Options", b"Content-Type"];
-
-// The CORS check of a serialised origin, and whether the credentials mode is include.
-fn passes_cors_check(origin: &[u8], include: bool, headers: &HeaderList) -> bool
-    ensures { result ≡ cors.passes_cors_check origin.now include headers.now }
-{
-    let allows_origin = headers.has_value(b"Access-Control-Allow-Origin", origin);
-    if include {
-        allows_origin && headers.has_value(b"Access-Control-Allow-Credentials", b"true")
-    } else {
-        headers.has_value(b"Access-Control-Allow-Origin", b"*") || allows_origin
-    }
-}
-
-// Whether the scheme is https.
-fn is_https(origin: &Origin) -> bool
-    ensures { result ≡ origin_header.is_https origin.now.scheme }
-{
-    origin.scheme.as_slice() == b"https".as_slice()
-}
-
-// Whether two origins are of one site, and no insecure origin looks into a secure one.
-fn is_within_site(origin: &Origin, url: &Origin) -> bool
-    ensures { result ≡ resource.is_within_site origin.now url.now }
-{
-    same_site(origin, url) && (is_https(origin) || !is_https(url))
-}
-
-// Whether the value of Cross-Origin-Resource-Policy is this text.
-fn has_resource_policy(text: &[u8], headers: &HeaderList) -> bool
-    ensures { result ≡ resource.has_resource_policy text.now headers.now }
-{
-    headers.has_value(b"Cross-Origin-Resource-Policy", text)
-}
-
-// Whether the cross-origin resource policy check fails.
-fn corp_blocks(origin: &Origin, url: &Origin, headers: &HeaderList) -> bool
-    ensures { result ≡ resource.corp_blocks origin.now url.now headers.now }
-{
-    if has_resource_policy(b"same-origin", headers) {
-        !same_origin(origin, url)
-    } else if has_resource_policy(b"same-site", headers) {
-        !is_within_site(origin, url)
-    } else {
-        false
-    }
-}
 
 // Whether the CORS check of a request passes.
 fn passes_check(alloc: Global, request: &Request, headers: &HeaderList) -> Result<bool, OutOfMemory>

@@ -1,2 +1,1 @@
 mod StripLemmas
-pub mod HttpLemmas

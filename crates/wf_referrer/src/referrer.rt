@@ -16,10 +16,22 @@ fn is_downgrade(source: &Url, target: &Url) -> bool
     is_trustworthy_url(source) && !is_trustworthy_url(target)
 }
 
-// What a policy tells a target URL of a source URL, or none.
-fn told(policy: ReferrerPolicy, source: &Url, target: &Url) -> Result<Option<Url>, OutOfMemory>
+/// The referrer that a policy tells a target URL of a source URL, or none (Referrer Policy, section
+/// 8.3, "determine request's Referrer"): the source without user name, password and fragment, which
+/// is cut to its origin where its text is longer than 4,096 bytes, or the source's origin with the
+/// path `/`; it is http or https. The policy is not the empty one, and both URLs are. The only error is want
+/// of memory, which a URL of 4 GB counts as.
+pub fn determine(
+    alloc: Global,
+    policy: ReferrerPolicy,
+    source: &Url,
+    target: &Url,
+) -> Result<Option<Url>, OutOfMemory>
+    requires policy { IsTrue (is_policy policy) }
     requires source { IsTrue (is_http_url source.now) }
-    ensures { IfOk result (λ referrer. referrer ≡ spec.determine policy source.now target.now) }
+    requires target { IsTrue (is_http_url target.now) }
+    ensures value { IfOk result (λ referrer. referrer ≡ spec.determine policy source.now target.now) }
+    ensures http { IfOk result (λ referrer. IfSome referrer (λ url. IsTrue (is_http_url url))) }
 {
     match policy {
         ReferrerPolicy::Empty | ReferrerPolicy::NoReferrer => Ok(None),
@@ -63,24 +75,4 @@ fn told(policy: ReferrerPolicy, source: &Url, target: &Url) -> Result<Option<Url
             }
         }
     }
-}
-
-/// The referrer that a policy tells a target URL of a source URL, or none (Referrer Policy, section
-/// 8.3, "determine request's Referrer"): the source without user name, password and fragment, which
-/// is cut to its origin where its text is longer than 4,096 bytes, or the source's origin with the
-/// path `/`. It is http or https. The policy is not the empty one, and both URLs are http or https. The
-/// only error is want of memory, which a URL of 4 GB counts as; a URL is copied by its own allocator.
-pub fn determine(
-    _alloc: Global,
-    policy: ReferrerPolicy,
-    source: &Url,
-    target: &Url,
-) -> Result<Option<Url>, OutOfMemory>
-    requires policy { IsTrue (is_policy policy) }
-    requires source { IsTrue (is_http_url source.now) }
-    requires target { IsTrue (is_http_url target.now) }
-    ensures value { IfOk result (λ referrer. referrer ≡ spec.determine policy source.now target.now) }
-    ensures http { IfOk result (λ referrer. IfSome referrer (λ url. IsTrue (is_http_url url))) }
-{
-    told(policy, source, target)
 }

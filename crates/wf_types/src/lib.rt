@@ -3,6 +3,7 @@
 #![tactic(auto)]
 
 mod client;
+mod cors_check;
 mod error;
 mod fault;
 mod hop;
@@ -15,6 +16,7 @@ mod origin_header;
 mod policy;
 mod referrer_policy;
 mod request;
+mod resource_policy;
 mod response;
 mod status;
 mod stripping;
@@ -22,6 +24,7 @@ mod target;
 mod urls;
 
 pub use client::{Client, Cookie, Cookies};
+pub use cors_check::passes_cors_check;
 pub use error::NetError;
 pub use fault::TypeFault;
 pub use hop::{Head, Hop};
@@ -34,6 +37,7 @@ pub use origin_header::{origin_value, referrer_value};
 pub use policy::{Destination, Directive, Violation};
 pub use referrer_policy::policy_of_header;
 pub use request::{Referrer, Request, Urls};
+pub use resource_policy::corp_blocks;
 pub use response::{BodyEnd, Outcome, Response, ResponseKind};
 pub use status::{is_null_body_status, is_ok_status, is_redirect_status};
 pub use stripping::{strip, without_fragment};

@@ -1,5 +1,6 @@
-use Rattle.wf_csp.proofs.LawLemmas.{empty_as_none}
+use Rattle.std.proofs.Common.{Some}
+use Rattle.wf_csp.proofs.LawLemmas.{none-from}
 use Rattle.wf_csp.proofs.laws.law_empty_as_none.Goals as goal
 
 pub returns : goal.returns
-returns c = λ request document. empty_as_none request document request.destination
+returns c = λ policies request document enforced. none-from 0 (Some enforced) policies request document
