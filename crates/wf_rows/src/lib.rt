@@ -14,5 +14,5 @@ pub use failed::Failed;
 pub use lists::list_of;
 pub use requests::request_of;
 pub use row::Row;
-pub use urls::{is_http_url, origin_written, url_written};
+pub use urls::{origin_written, url_written};
 pub use words::{destination_named, policy_named, value_of};

@@ -21,12 +21,12 @@ ghost use Rattle.wf_text.specs.Tokens.{is_token};
 ghost use Rattle.wf_types.specs.Requests as spec;
 
 use crate::failed::Failed;
-use crate::urls::{is_http_url, origin_written, url_written};
+use crate::urls::{origin_written, url_written};
 use crate::words::{destination_named, policy_named, value_of};
 use std::alloc::Global;
 use url::Url;
 use wf_headers::HeaderList;
-use wf_origin::Origin;
+use wf_origin::{Origin, is_http_url};
 use wf_text::{Bytes, after_byte, before_byte, is_token, parse_digits};
 use wf_types::{Credentials, Mode, RedirectMode, Referrer, Request, Tainting, Urls};
 

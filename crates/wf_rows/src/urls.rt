@@ -1,18 +1,8 @@
-ghost use Rattle.std.specs.Prelude.{◌≡◌};
-ghost use Rattle.wf_types.specs.Requests as spec;
-
 use crate::failed::Failed;
 use std::alloc::Global;
 use url::Url;
 use wf_origin::{Origin, origin_of};
 use wf_types::{url_alone, utf8_text};
-
-/// Whether the URL is http or https. It takes no memory.
-pub fn is_http_url(url: &Url) -> bool
-    ensures { result ≡ spec.is_http_url url.now }
-{
-    url.scheme() == "http" || url.scheme() == "https"
-}
 
 /// The URL that a text writes.
 pub fn url_written(alloc: Global, text: &[u8]) -> Result<Url, Failed> {

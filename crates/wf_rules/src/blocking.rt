@@ -3,6 +3,7 @@ ghost use Rattle.wf_rules.specs.Blocking as spec;
 ghost use Rattle.wf_types.specs.Requests.{IsRequest, current_url, is_http_url};
 
 use wf_mixed::{bad_port, blocked};
+use wf_origin::is_http_url;
 use wf_types::{Client, NetError, Request};
 
 /// Whether the current URL of a request is http or https. Main fetch refuses another with the network error
@@ -11,8 +12,7 @@ pub fn is_at_http(request: &Request) -> bool
     requires { IsRequest request.now }
     ensures { result ≡ is_http_url (current_url request.now) }
 {
-    let scheme = request.current_url().scheme();
-    scheme == "http" || scheme == "https"
+    is_http_url(request.current_url())
 }
 
 /// The network error with which main fetch refuses a request of this client before anything is sent, if one

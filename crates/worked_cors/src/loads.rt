@@ -9,10 +9,8 @@ ghost use Rattle.wf_types.specs.Requests.{IsClient, IsRequest};
 
 use crate::heads::short;
 use std::alloc::Global;
-use wf_origin::same_origin;
-use wf_rows::{
-    Failed, Row, destination_named, is_http_url, policy_named, show, url_written, value_of,
-};
+use wf_origin::{is_http_url, same_origin};
+use wf_rows::{Failed, Row, destination_named, policy_named, show, url_written, value_of};
 use wf_send::new_load;
 use wf_text::Bytes;
 use wf_types::{

@@ -7,8 +7,9 @@ ghost use Rattle.wf_types.specs.Requests.{is_policy};
 
 use crate::heads::short;
 use std::alloc::Global;
+use wf_origin::is_http_url;
 use wf_referrer::determine;
-use wf_rows::{Failed, Row, is_http_url, list_of, policy_named, show, url_written};
+use wf_rows::{Failed, Row, list_of, policy_named, show, url_written};
 use wf_text::Bytes;
 use wf_types::{ReferrerPolicy, policy_of_header};
 
