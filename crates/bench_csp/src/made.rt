@@ -89,12 +89,7 @@ fn request_for(alloc: Global, url: Url, origin: Origin) -> Result<Request, OutOf
 }
 
 /// A request for a URL of the last host with this path.
-pub fn request(
-    alloc: Global,
-    hosts: u64,
-    path: &[u8],
-    origin: Origin,
-) -> Result<Request, Failed>
+pub fn request(alloc: Global, hosts: u64, path: &[u8], origin: Origin) -> Result<Request, Failed>
     ensures { IfOk result IsRequest }
 {
     let mut text = Bytes::of(alloc, b"https://")?;

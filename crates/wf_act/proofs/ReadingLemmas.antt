@@ -8,4 +8,5 @@ use Rattle.wf_act.specs.declared.act.Input.{Input}
 pub run-read : (process : Process) (tape : List Input) → run process tape ≡ read runs process tape
 run-read (ended outcome) tape = refl
 run-read (act request first after) [] = refl
-run-read (act request first after) (input ∷ tape) = ap (λ (rest : Run). began first (cond (fits first input) rest nothing)) (run-read (after input) tape)
+run-read (act request first after) (input ∷ tape) = ap (λ (rest : Run). began first (cond
+    (fits first input) rest nothing)) (run-read (after input) tape)

@@ -7,11 +7,16 @@ use Rattle.wf_act.specs.Readings.{shown}
 use Rattle.wf_act.specs.declared.act.Act.{Act}
 use Rattle.wf_act.specs.declared.act.Input.{Input}
 
--- By exchanges, from a world: with exactly these items of a tape the first process shows these events, and goes on as the
--- second in the world that is left.
-pub data Trace {World Event : Type 0} (exchange : World → Act → Input → List Event → World → Type 0) : Process → World → List Input → List Event → Process → World → Type 0 where
+-- By exchanges, from a world: with exactly these items of a tape the first process shows these events, and goes on as
+-- the second in the world that is left.
+pub data Trace {World Event : Type 0} (exchange : World → Act → Input → List Event → World → Type 0) : Process
+    → World → List Input → List Event → Process → World → Type 0 where
   stop : {p : Process} {world : World} → Trace exchange p world [] [] p world
-  stepped : {q : Process} {world mid last : World} {tape : List Input} {made events : List Event} → (request : Request) (first : Act) (after : Input → Process) (input : Input) → exchange world first input made mid → IsTrue (fits first input) → Trace exchange (after input) mid tape events q last → Trace exchange (act request first after) world (input ∷ tape) (made ++ events) q last
+  stepped : {q : Process} {world mid last : World} {tape : List Input} {made events : List Event}
+      → (request : Request) (first : Act) (after : Input → Process) (input : Input)
+      → exchange world first input made mid → IsTrue (fits first input)
+      → Trace exchange (after input) mid tape events q last
+      → Trace exchange (act request first after) world (input ∷ tape) (made ++ events) q last
 
 -- an exchange in a world that answers, with the events that an act and its input show
 abbrev pub with_events : {World Event : Type 0} → (World → Act → Input → World → Type 0) → (Act → Input → List Event)

@@ -73,7 +73,8 @@ methods-tokens request (value ∷ values) token = listed-methods request (flat_m
 
 -- ---- the verdict
 
-unless-lesson : (refused : Option (List ℕ)) (age : ℕ) (methods names : List (List ℕ)) → IsLesson (Pass age methods names)
+unless-lesson : (refused : Option (List ℕ)) (age : ℕ) (methods names : List (List ℕ))
+    → IsLesson (Pass age methods names)
     → IsLesson (unless_refused refused (Pass age methods names))
 unless-lesson None age methods names lesson = lesson
 unless-lesson (Some name) age methods names lesson = tt

@@ -19,9 +19,9 @@ abbrev pub names_value : List (List ℕ) → Option (List ℕ)
 names_value [] = None
 names_value (name ∷ names) = Some (join_with_byte comma (name ∷ names))
 
--- its header list as it is sent, from Host on: Accept and what the request asks leave for, then what is sent with every
--- request (the user agent's name, the coding and the closed connection are this project's choice). Its tainting is cors,
--- so Origin is the serialised request origin, and no credentials are included
+-- its header list as it is sent, from Host on: Accept and what the request asks leave for, then what is sent with
+-- every request (the user agent's name, the coding and the closed connection are this project's choice). Its tainting
+-- is cors, so Origin is the serialised request origin, and no credentials are included
 abbrev pub preflight_lines : Request → List (List ℕ) → Parts → List Header
 preflight_lines request names url =
     present

@@ -1,5 +1,6 @@
 -- The laws of source lists and of dispositions.
-use Rattle.std.proofs.Common.{◌≡◌, ◌∙◌, ◌+◌, ◌∷◌, [], ℕ, Bool, true, false, not, List, Option, Some, None, refl, ap, sym, map, codes}
+use Rattle.std.proofs.Common.{◌≡◌, ◌∙◌, ◌+◌, ◌∷◌, [], ℕ, Bool, true, false, not, List, Option, Some, None, refl, ap}
+use Rattle.std.proofs.Common.{sym, map, codes}
 use Rattle.std.proofs.Common.{inl, inr, arith}
 use Rattle.std.proofs.lemmas.Bool.{cases_Bool}
 use Rattle.std.proofs.lemmas.Grind.{common_steps}
@@ -12,7 +13,8 @@ use Rattle.wf_csp_text.specs.declared.policy.Directive.{Directive}
 use Rattle.wf_csp_text.specs.declared.policy.Policy.{Policy}
 use Rattle.wf_origin.specs.declared.origin.Origin.{Origin}
 use Rattle.wf_types.specs.declared.policy.Destination.{Destination}
-use Rattle.wf_types.specs.declared.policy.Destination.TheVariants.{Fetch, Image, Audio, Video, Style, Script, Font, Manifest}
+use Rattle.wf_types.specs.declared.policy.Destination.TheVariants.{Fetch, Image, Audio, Video, Style, Script, Font}
+use Rattle.wf_types.specs.declared.policy.Destination.TheVariants.{Manifest}
 use Rattle.wf_types.specs.declared.request.Request.{Request}
 use Rattle.wf_csp.specs.Directives.{deciding_sources, effective_directive, fallback_list, sources_named}
 use Rattle.wf_csp.specs.Laws.{in_disposition, or_none, saying_none, with_none, without_disposition}
@@ -109,6 +111,7 @@ pub alike-from : (number : ℕ) (policies : List Policy) (request : Request) (do
 alike-from number [] request document = refl
 alike-from number (policy ∷ policies) request document =
     elim (cases_Bool (is_violated (read_policy policy) request document)) [
-      | inl violated ↦ rw violated (ap (λ found. without_disposition (violation number (read_policy policy) request) ∷ found) (alike-from (number + 1) policies request document))
+      | inl violated ↦ rw violated (ap (λ found. without_disposition (violation number
+          (read_policy policy) request) ∷ found) (alike-from (number + 1) policies request document))
       | inr passed ↦ rw passed (alike-from (number + 1) policies request document)
     ]

@@ -1,5 +1,5 @@
--- Which directive of a policy decides about a request (CSP 3, section 6.8: "get the effective directive for request" and
--- "get fetch directive fallback list").
+-- Which directive of a policy decides about a request (CSP 3, section 6.8: "get the effective directive for request"
+-- and "get fetch directive fallback list").
 use Rattle.std.specs.Prelude.{ℕ, List, [], ◌∷◌, codes, bytes_eq, Option, Some, None, if◌then◌else◌}
 use Rattle.std.specs.Option.{option_or}
 use Rattle.wf_csp_match.specs.declared.source.Source.{Source}
@@ -20,7 +20,8 @@ effective_directive destination.Manifest = directive.ManifestSrc
 effective_directive destination.Style = directive.StyleSrcElem
 effective_directive destination.Script = directive.ScriptSrcElem
 
--- "get fetch directive fallback list": the names of the directives that decide in its place, the first that a policy has
+-- "get fetch directive fallback list": the names of the directives that decide in its place, the first that a policy
+-- has
 abbrev pub fallback_list : Directive → List (List ℕ)
 fallback_list directive.ConnectSrc = codes "connect-src" ∷ codes "default-src" ∷ []
 fallback_list directive.ImgSrc = codes "img-src" ∷ codes "default-src" ∷ []

@@ -1,5 +1,5 @@
--- Whether a source list lets a request through (CSP 3, section 6.7.2: "does request match source list?" and what it asks).
--- The order in which nonce, integrity, 'strict-dynamic' and URL decide is this project's own choice.
+-- Whether a source list lets a request through (CSP 3, section 6.7.2: "does request match source list?" and what it
+-- asks). The order in which nonce, integrity, 'strict-dynamic' and URL decide is this project's own choice.
 use Rattle.std.specs.Prelude.{ℕ, Bool, true, false, not, ◌==◌, ◌&&◌, ◌||◌, List, [], ◌∷◌, length, bytes_eq}
 use Rattle.std.specs.Prelude.{if◌then◌else◌}
 use Rattle.std.specs.List.{list_all, list_any}

@@ -36,8 +36,8 @@ abbrev pub first_url : List Parts → Parts
 first_url [] = no_url
 first_url (url ∷ urls) = url
 
--- "create a violation object for request, and policy": by the policy's number; what is told of the URL is that which the
--- request was made for, and not where a redirect led it
+-- "create a violation object for request, and policy": by the policy's number; what is told of the URL is that which
+-- the request was made for, and not where a redirect led it
 abbrev pub violation : ℕ → CompiledPolicy → Request → Violation
 violation number policy request = record {
   policy = number;
@@ -84,7 +84,7 @@ upgrades_policy policy =
     policy.enforced
     && list_any (λ directive. bytes_eq directive.name (codes "upgrade-insecure-requests")) policy.directives
 
--- "upgrade-insecure-requests" is a directive of an enforced policy (Upgrade Insecure Requests; that every http URL is then
--- upgraded is this project's own choice)
+-- "upgrade-insecure-requests" is a directive of an enforced policy (Upgrade Insecure Requests; that every http URL is
+-- then upgraded is this project's own choice)
 abbrev pub upgrades : List Policy → Bool
 upgrades policies = list_any upgrades_policy (map read_policy policies)

@@ -1,5 +1,6 @@
 -- A test of all elements, from one of them on.
-use Rattle.std.proofs.Common.{arith, ◌≡◌, ◌+◌, ◌&&◌, ◌∷◌, [], ℕ, zero, suc, List, refl, ap, ◌∙◌, Bool, true, false, drop, Some}
+use Rattle.std.proofs.Common.{arith, ◌≡◌, ◌+◌, ◌&&◌, ◌∷◌, [], ℕ, zero, suc, List, refl, ap, ◌∙◌, Bool, true, false}
+use Rattle.std.proofs.Common.{drop, Some}
 use Rattle.std.proofs.lemmas.Grind.{common_steps}
 use Rattle.std.specs.List.{list_all, slice_get}
 

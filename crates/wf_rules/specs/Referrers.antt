@@ -16,8 +16,8 @@ abbrev pub referrer_of : Option Parts → Referrer
 referrer_of None = referrer.NoReferrer
 referrer_of (Some url) = referrer.Address url
 
--- what a referrer becomes on the way to a URL: none stays none, and the client's URL or a URL is what the policy tells of
--- it. After a redirect it starts from what was told before (this project's own choice).
+-- what a referrer becomes on the way to a URL: none stays none, and the client's URL or a URL is what the policy
+-- tells of it. After a redirect it starts from what was told before (this project's own choice).
 abbrev pub determined : Client → ReferrerPolicy → Parts → Referrer → Referrer
 determined client policy target referrer.NoReferrer = referrer.NoReferrer
 determined client policy target referrer.Client = referrer_of (determine policy client.url target)

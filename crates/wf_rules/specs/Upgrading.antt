@@ -27,8 +27,8 @@ abbrev pub secured_where : Bool → Request → Request
 secured_where true request = secured request
 secured_where false request = request
 
--- "upgrade request to a potentially trustworthy URL, if appropriate" (Upgrade Insecure Requests): an enforced policy asks
--- for it
+-- "upgrade request to a potentially trustworthy URL, if appropriate" (Upgrade Insecure Requests): an enforced policy
+-- asks for it
 abbrev pub insecure_upgraded : List Policy → Request → Request
 insecure_upgraded policies request = secured_where (upgrades policies) request
 

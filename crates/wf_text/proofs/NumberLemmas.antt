@@ -116,7 +116,8 @@ by-length : (m n : ℕ) (test shown : Bool) → (m < n → test ≡ true) → (m
 by-length m n test shown less same more = grind (arith, nat_tests, less, same, more)
 
 -- how two numbers compare
-pub digits_at_most-compared : (start end : List ℕ) → are_digits start ≡ true → are_digits end ≡ true → digits_at_most start end
+pub digits_at_most-compared : (start end : List ℕ) → are_digits start ≡ true → are_digits end ≡ true
+    → digits_at_most start end
     ≡ (nat_lt (length (without_zeros start)) (length (without_zeros end))
     || (length (without_zeros start) == length (without_zeros end)
     && is_le (slice_cmp nat_cmp (without_zeros start) (without_zeros end))))

@@ -1,5 +1,5 @@
--- Heads of which only some headers are looked at, and what a document may learn of the answer to a CORS-preflight request
--- (this project's own definition; Fetch, "CORS-preflight fetch", looks at no more).
+-- Heads of which only some headers are looked at, and what a document may learn of the answer to a CORS-preflight
+-- request (this project's own definition; Fetch, "CORS-preflight fetch", looks at no more).
 use Rattle.std.specs.Prelude.{ℕ, Bool, List, [], ◌∷◌, filter, codes, if◌then◌else◌}
 use Rattle.std.specs.List.{list_any}
 use Rattle.wf_headers.specs.declared.headers.Header.{Header}
