@@ -1,6 +1,6 @@
 -- The definitions computed on worked examples: what scripted servers answer to a document that fetches its
 -- own root, and the run where there is no server.
-use Rattle.std.proofs.Common.{◌≡◌, refl, true, false, inr, List, [], ◌∷◌, codes, Some, None}
+use Rattle.std.proofs.Common.{◌≡◌, arith, refl, true, false, inr, List, [], ◌∷◌, codes, Some, None}
 use Rattle.url.proofs.OnLiterals.{url_on_literals}
 use Rattle.wf_types.specs.declared.response.Outcome.TheVariants.{Error}
 use Rattle.wf_types.specs.declared.error.NetError.TheVariants.{BadHead}
@@ -12,9 +12,9 @@ use Rattle.wf_print.specs.declared.events.Event.TheVariants as event
 use Rattle.wf_fetch.specs.declared.act.Input.TheVariants.{Sent, HeadBad}
 use Rattle.wf_fetch.specs.Runs.{document_run}
 use Rattle.wf_fetch.proofs.Computed.{document, hop}
-use Rattle.wf_top.specs.Plays.{RunsOver}
+use Rattle.wf_top.specs.Plays.{RunsOver, idle}
 use Rattle.wf_top.specs.Words.{is_play}
-use Rattle.wf_wire.specs.Exchanges.{idle}
+use Rattle.wf_wire.proofs.WireLemmas.{uncaused}
 
 -- a server that answers PUT by 201 and all else by 200 with the body `hi`
 abbrev servers : List Server
@@ -45,7 +45,22 @@ pub without_a_server : RunsOver 262144 (idle []) (document_run [] document)
 unfolding url_on_literals
 without_a_server = record {
   tape = Sent ∷ HeadBad ∷ [];
-  is_tape = (idle [], (refl, refl), (idle [], (inr nothing-unfinished, refl), refl));
+  is_tape = (
+    idle [],
+    record { answered = refl; framing_is = refl; state_is = refl; caused = uncaused Sent 0 0 (omega arith) refl },
+    (
+      idle [],
+      record {
+        head_is = (
+          record { bytes = []; told = refl; ends = inr nothing-unfinished },
+          record { end = refl; framing_is = refl },
+        );
+        state_is = refl;
+        caused = uncaused HeadBad 0 0 (omega arith) refl;
+      },
+      refl,
+    ),
+  );
   run_is = refl;
 }
 

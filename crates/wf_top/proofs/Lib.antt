@@ -3,3 +3,4 @@ pub mod PlayLemmas
 pub mod ProgramLemmas
 pub mod RequestLemmas
 pub mod RunLemmas
+pub mod StandingLemmas

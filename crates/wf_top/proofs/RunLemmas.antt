@@ -37,10 +37,9 @@ use Rattle.wf_fetch.specs.Play.{Play, PlayRun, emit, over, step, shows, events_o
 use Rattle.wf_fetch.specs.Runs.{Next, Progress, after_events, command_run, embed, fetched, finished as end_of}
 use Rattle.wf_fetch.specs.Runs.{limit_before, normalized_init, script_run, showing, started, unless_limit}
 use Rattle.wf_top.specs.declared.running.Running.{Running}
-use Rattle.wf_top.specs.Plays.{RunsOver, after_event}
+use Rattle.wf_top.specs.Plays.{RunsOver, Serves, Standing, after_event, idle}
+use Rattle.wf_top.specs.Private.Standings.{standing_of}
 use Rattle.wf_top.specs.Private.Runs.{Ends, Shows, Played, Fetched, progress_of}
-use Rattle.wf_wire.specs.Exchanges.{Exchange, Exchanges, idle}
-use Rattle.wf_wire.specs.Wires.{exchange_of}
 
 -- the events of two parts, and then the rest
 shows-append : (a b : List Event) (rest : PlayRun) → shows a (shows b rest) ≡ shows (a ++ b) rest
@@ -62,7 +61,7 @@ pub shows-then : {A : Type 0} (limit : ℕ) (first middle rest : A → Play) (a 
 shows-then limit first middle rest a b c m n = record {
   made = m.made ++ n.made;
   added = n.added ∙ ap (λ (l : List Event). l ++ n.made) m.added ∙ append_assoc a.events m.made n.made;
-  run = λ next later runs. subst (λ (r : PlayRun). RunsOver limit (exchange_of a.wire) (first next) r)
+  run = λ next later runs. subst (λ (r : PlayRun). RunsOver limit (standing_of a.wire) (first next) r)
       (shows-append m.made n.made later) (m.run next (shows n.made later) (n.run next later runs));
 }
 
@@ -78,10 +77,10 @@ pub progress-after : (a b : Running) (events : List Event) → b.commands ≡ a.
 progress-after a b events commands fetches shown = rw commands (rw fetches (rw shown refl))
 
 -- an event is shown, and then what the rest comes to
-emitted : (limit : ℕ) (exchange : Exchange) (event : Event) (play : Play) (later : PlayRun)
-    → RunsOver limit (after_event event exchange) play later
-    → RunsOver limit exchange (emit event play) (shows (event ∷ []) later)
-emitted limit exchange event play later runs = record {
+emitted : (limit : ℕ) (standing : Standing) (event : Event) (play : Play) (later : PlayRun)
+    → RunsOver limit (after_event event standing) play later
+    → RunsOver limit standing (emit event play) (shows (event ∷ []) later)
+emitted limit standing event play later runs = record {
   tape = runs.tape;
   is_tape = runs.is_tape;
   run_is = ap (λ (r : PlayRun). shows (event ∷ []) r) runs.run_is;
@@ -89,21 +88,21 @@ emitted limit exchange event play later runs = record {
 
 -- the same with the wire behind the event
 emitted-over : (limit : ℕ) (event : Event) (play : Play) (later : PlayRun) (a b : Running)
-    → exchange_of b.wire ≡ after_event event (exchange_of a.wire) → RunsOver limit (exchange_of b.wire) play later
-    → RunsOver limit (exchange_of a.wire) (emit event play) (shows (event ∷ []) later)
+    → standing_of b.wire ≡ after_event event (standing_of a.wire) → RunsOver limit (standing_of b.wire) play later
+    → RunsOver limit (standing_of a.wire) (emit event play) (shows (event ∷ []) later)
 emitted-over limit event play later a b stands runs =
-    emitted limit (exchange_of a.wire) event play later
-    (subst (λ (e : Exchange). RunsOver limit e play later) stands runs)
+    emitted limit (standing_of a.wire) event play later
+    (subst (λ (e : Standing). RunsOver limit e play later) stands runs)
 
 -- an event, and what stands there then
 played_event : (limit : ℕ) (event : Event) (a b : Running) → b.commands ≡ a.commands → b.fetches ≡ a.fetches
-    → b.events ≡ a.events ++ event ∷ [] → exchange_of b.wire ≡ after_event event (exchange_of a.wire)
+    → b.events ≡ a.events ++ event ∷ [] → standing_of b.wire ≡ after_event event (standing_of a.wire)
     → Played limit (showing event) a b
 played_event limit event a b commands fetches added stands = record {
   made = event ∷ [];
   added = added;
   run = λ next later runs. emitted-over limit event (next (after_events (event ∷ []) (progress_of a))) later a b stands
-      (subst (λ (p : Progress). RunsOver limit (exchange_of b.wire) (next p) later)
+      (subst (λ (p : Progress). RunsOver limit (standing_of b.wire) (next p) later)
       (progress-after a b (event ∷ []) commands fetches added) runs);
 }
 
@@ -112,14 +111,14 @@ pub played_fault : (limit : ℕ) (fault : TypeFault) (a b : Running) → b.comma
     → b.events ≡ a.events ++ event.TypeError fault ∷ [] → b.wire ≡ a.wire
     → Played limit (showing (event.TypeError fault)) a b
 played_fault limit fault a b commands fetches added wire =
-    played_event limit (event.TypeError fault) a b commands fetches added (ap exchange_of wire)
+    played_event limit (event.TypeError fault) a b commands fetches added (ap standing_of wire)
 
 -- an act with what came of it, and then what the rest comes to
-acted : (limit : ℕ) (exchange now : Exchange) (request : Request) (first : Act) (after : Input
-    → Play) (input : Input) (later : PlayRun) → Exchanges limit exchange first input now → IsTrue (fits first input)
+acted : (limit : ℕ) (standing now : Standing) (request : Request) (first : Act) (after : Input
+    → Play) (input : Input) (later : PlayRun) → Serves limit standing first input now → IsTrue (fits first input)
     → RunsOver limit now (after input) later
-    → RunsOver limit exchange (step request first after) (shows (events_of first input) later)
-acted limit exchange now request first after input later came fit runs = record {
+    → RunsOver limit standing (step request first after) (shows (events_of first input) later)
+acted limit standing now request first after input later came fit runs = record {
   tape = input ∷ runs.tape;
   is_tape = (now, came, runs.is_tape);
   run_is = rw fit (ap (λ (r : PlayRun). shows (events_of first input) r) runs.run_is);
@@ -128,12 +127,12 @@ acted limit exchange now request first after input later came fit runs = record 
 -- an act, and what comes of it
 shows-act : {A : Type 0} (limit : ℕ) (request : Request) (first : Act) (after : A → Input
     → Play) (input : Input) (a b : Running) → b.events ≡ a.events ++ events_of first input
-    → Exchanges limit (exchange_of a.wire) first input (exchange_of b.wire) → IsTrue (fits first input)
+    → Serves limit (standing_of a.wire) first input (standing_of b.wire) → IsTrue (fits first input)
     → Shows limit (λ next. step request first (after next)) (λ next. after next input) a b
 shows-act limit request first after input a b added came fit = record {
   made = events_of first input;
   added = added;
-  run = λ next later runs. acted limit (exchange_of a.wire) (exchange_of b.wire) request first (after next) input
+  run = λ next later runs. acted limit (standing_of a.wire) (standing_of b.wire) request first (after next) input
       later came fit runs;
 }
 
@@ -156,7 +155,7 @@ fetching-start context limit whole old at does = record {
 
 pub fetching-next : (context : Context) (limit : ℕ) (whole : Process) (old a b : Running) (fetching : Fetching)
     (first : Act) (input : Input) (at : Step) → IsFetching context limit whole old a (Going fetching first)
-    → Exchanges limit (exchange_of a.wire) first input (exchange_of b.wire) → IsTrue (fits first input) → b.events
+    → Serves limit (standing_of a.wire) first input (standing_of b.wire) → IsTrue (fits first input) → b.events
     ≡ a.events ++ events_of first input → b.commands ≡ a.commands → b.fetches ≡ a.fetches
     → Does context at (rest fetching input) → IsFetching context limit whole old b at
 fetching-next context limit whole old a b fetching first input at is came fit added commands fetches does =
@@ -294,7 +293,7 @@ fetching-smaller context limit whole old now at next fetching first input is so_
 -- and stands at the next step then
 pub fetching-on : (context : Context) (limit : ℕ) (whole : Process) (old a b : Running) (at next : Step)
     (fetching : Fetching) (first : Act) (input : Input) → at ≡ Going fetching first
-    → IsFetching context limit whole old a at → Exchanges limit (exchange_of a.wire) first input (exchange_of b.wire)
+    → IsFetching context limit whole old a at → Serves limit (standing_of a.wire) first input (standing_of b.wire)
     → IsTrue (fits first input) → b.events ≡ a.events ++ events_of first input → b.commands ≡ a.commands → b.fetches
     ≡ a.fetches → Does context next (rest fetching input) → IsFetching context limit whole old b next
 fetching-on context limit whole old a b at next fetching first input is so_far came fit added commands fetches does =
@@ -306,7 +305,7 @@ fetching-on context limit whole old a b at next fetching first input is so_far c
 -- a fetch, and what it came to
 pub played_fetched : (limit : ℕ) (whole : Process) (outcome : Outcome) (a b c : Running)
     → Fetched limit whole a b outcome → c.commands ≡ b.commands → c.fetches ≡ b.fetches → c.events ≡ b.events
-    ++ event.Result outcome ∷ [] → exchange_of c.wire ≡ idle (exchange_of b.wire).servers
+    ++ event.Result outcome ∷ [] → standing_of c.wire ≡ idle (standing_of b.wire).servers
     → Played limit (λ next. embed whole (λ outcome. showing (event.Result outcome) next)) a c
 played_fetched limit whole outcome a b c came commands fetches added last =
     shows-then limit (λ (next : Next). embed whole (λ outcome. showing (event.Result outcome) next) (progress_of a))
@@ -328,8 +327,8 @@ played_started limit rest a b c commands fetches added last played =
       added = added;
       run = λ next later runs. emitted-over limit (event.Fetch a.fetches)
           (rest next (after_events (event.Fetch a.fetches ∷ []) (started (progress_of a)))) later a b
-          (ap exchange_of last)
-          (subst (λ (p : Progress). RunsOver limit (exchange_of b.wire) (rest next p) later) stands runs);
+          (ap standing_of last)
+          (subst (λ (p : Progress). RunsOver limit (standing_of b.wire) (rest next p) later) stands runs);
     })
     played
   where
@@ -372,16 +371,16 @@ at-command context limit script index command old now within is at =
     (λ next. script_run context l next (progress_of now)) old now) (drop-at script index command within is) at
 
 -- a run that is over
-over-now : (limit : ℕ) (exchange : Exchange) (ending : Ending)
-    → RunsOver limit exchange (over ending 0) (record { events = []; ending = Some (ending, 0) })
-over-now limit exchange ending = record { tape = []; is_tape = refl; run_is = refl }
+over-now : (limit : ℕ) (standing : Standing) (ending : Ending)
+    → RunsOver limit standing (over ending 0) (record { events = []; ending = Some (ending, 0) })
+over-now limit standing ending = record { tape = []; is_tape = refl; run_is = refl }
 
 -- what was shown, and nothing after it
-ended-with : (limit : ℕ) (exchange : Exchange) (play : Play) (made : List Event) (ending : Ending)
-    → RunsOver limit exchange play (shows made (record { events = []; ending = Some (ending, 0) }))
-    → RunsOver limit exchange play (record { events = made; ending = Some (ending, 0) })
-ended-with limit exchange play made ending runs =
-    subst (λ (l : List Event). RunsOver limit exchange play (record { events = l; ending = Some (ending, 0) }))
+ended-with : (limit : ℕ) (standing : Standing) (play : Play) (made : List Event) (ending : Ending)
+    → RunsOver limit standing play (shows made (record { events = []; ending = Some (ending, 0) }))
+    → RunsOver limit standing play (record { events = made; ending = Some (ending, 0) })
+ended-with limit standing play made ending runs =
+    subst (λ (l : List Event). RunsOver limit standing play (record { events = l; ending = Some (ending, 0) }))
     (append-nil made) runs
 
 -- a limit ends the run before the command
@@ -394,12 +393,12 @@ script-limited-here context most script index command ending old now within is l
     record {
       made = shown.made;
       added = shown.added;
-      run = ended-with most (exchange_of old.wire) (script_run context script end_of (progress_of old)) shown.made
+      run = ended-with most (standing_of old.wire) (script_run context script end_of (progress_of old)) shown.made
           ending (shown.run end_of (record { events = []; ending = Some (ending, 0) })
-          (subst (λ (e : Option Ending). RunsOver most (exchange_of now.wire)
+          (subst (λ (e : Option Ending). RunsOver most (standing_of now.wire)
           (unless_limit e (command_run context command (script_run context (drop (index + 1) script) end_of)
           (progress_of now))) (record { events = []; ending = Some (ending, 0) })) (sym limit)
-          (over-now most (exchange_of now.wire) ending)));
+          (over-now most (standing_of now.wire) ending)));
     }
 
 -- the command was played
@@ -426,11 +425,11 @@ script-over-here : (context : Context) (limit : ℕ) (script : List Command) (in
 script-over-here context limit script index old now past at = record {
   made = at.made;
   added = at.added;
-  run = ended-with limit (exchange_of old.wire) (script_run context script end_of (progress_of old)) at.made Finished
+  run = ended-with limit (standing_of old.wire) (script_run context script end_of (progress_of old)) at.made Finished
       (at.run end_of (record { events = []; ending = Some (Finished, 0) })
-      (subst (λ (l : List Command). RunsOver limit (exchange_of now.wire)
+      (subst (λ (l : List Command). RunsOver limit (standing_of now.wire)
       (script_run context l end_of (progress_of now)) (record { events = []; ending = Some (Finished, 0) }))
-      (sym (drop_all index script past)) (over-now limit (exchange_of now.wire) Finished)));
+      (sym (drop_all index script past)) (over-now limit (standing_of now.wire) Finished)));
 }
 
 -- the same with the commands as the loop has them
@@ -470,7 +469,7 @@ pub played_request : (limit : ℕ) (context : Context) (made : Result Request Ty
     (outcome : Outcome) (a b c : Running) (result : Result ⊤ OutOfMemory) → made ≡ Ok request
     → Fetched limit (main_fetch context request) a b outcome
     → OnOk result (c.events ≡ b.events ++ event.Result outcome ∷ []) → c.commands ≡ b.commands → c.fetches ≡ b.fetches
-    → exchange_of c.wire ≡ idle (exchange_of b.wire).servers → OnOk result (Played limit (fetched context made) a c)
+    → standing_of c.wire ≡ idle (standing_of b.wire).servers → OnOk result (Played limit (fetched context made) a c)
 played_request limit context made request outcome a b c (Ok done) is came added commands fetches last =
     rw is (played_fetched limit (main_fetch context request) outcome a b c came commands fetches added last)
 played_request limit context made request outcome a b c (Err refused) is came added commands fetches last = tt

@@ -10,31 +10,67 @@ use Rattle.wf_print.specs.declared.events.Event.{Event}
 use Rattle.wf_print.specs.declared.events.Event.TheVariants as event
 use Rattle.wf_print.specs.declared.events.Transcript.{Transcript}
 use Rattle.wf_script.specs.declared.types.Document.{Document}
+use Rattle.wf_script.specs.Servers.{answer}
 use Rattle.wf_script.specs.declared.types.Scenario.{Scenario}
+use Rattle.wf_script.specs.declared.types.Server.{Server}
+use Rattle.wf_fetch.specs.declared.act.Act.{Act}
 use Rattle.wf_fetch.specs.declared.act.Input.{Input}
 use Rattle.wf_fetch.specs.Play.{Play, PlayRun, over, emit, step, run_play}
 use Rattle.wf_fetch.specs.Runs.{document_client, document_run}
-use Rattle.wf_wire.specs.Exchanges.{Exchange, Exchanges, idle}
+use Rattle.wf_http1.specs.declared.framing.Framing.{Framing}
+use Rattle.wf_http1.specs.declared.framing.Framing.TheVariants.{Nothing}
+use Rattle.wf_wire.specs.Exchanges.{Answering, Exchange, Exchanges}
+
+-- Where an exchange with scripted servers stands: the servers, the bytes of the answer still to come, and how its body
+-- is framed, where its head was read.
+pub record Standing : Type 0 where
+  pub servers : List Server
+  pub coming : List ℕ
+  pub framing : Framing
+
+-- nothing is to come
+abbrev pub idle : List Server → Standing
+idle servers = record { servers = servers; coming = []; framing = Nothing }
+
+-- the servers tell all, and never fail
+abbrev pub told : Standing → Exchange (List Server)
+told standing = record {
+  state = Some standing.servers;
+  coming = Some standing.coming;
+  framing = standing.framing;
+  faults = 0;
+}
+
+-- they answer a request by its method and its target, and stay as they are
+abbrev pub by_rules : Answering (List Server)
+by_rules = record {
+  answer = λ servers hop. answer servers hop.origin hop.method hop.url;
+  next = λ servers hop. servers;
+}
+
+-- what comes of an act, with bodies of so many bytes at most, and where the exchange stands then
+abbrev pub Serves : ℕ → Standing → Act → Input → Standing → Type 0
+Serves limit old act input new = Exchanges by_rules limit (told old) act input (told new)
 
 -- where an exchange stands after an event: with the result of a fetch nothing more of its answer is to come,
 -- read or not
-abbrev pub after_event : Event → Exchange → Exchange
-after_event (event.Result outcome) exchange = idle exchange.servers
-after_event _ exchange = exchange
+abbrev pub after_event : Event → Standing → Standing
+after_event (event.Result outcome) standing = idle standing.servers
+after_event _ standing = standing
 
 -- the tape is what comes of the acts of a run, one after another, up to its end
-abbrev pub IsTape : ℕ → Exchange → Play → List Input → Type 0
-IsTape limit exchange (over ending clock) tape = tape ≡ []
-IsTape limit exchange (emit shown rest) tape = IsTape limit (after_event shown exchange) rest tape
-IsTape limit exchange (step request act after) [] = ⊥
-IsTape limit exchange (step request act after) (input ∷ tape) =
-    (next : Exchange) × Exchanges limit exchange act input next × IsTape limit next (after input) tape
+abbrev pub IsTape : ℕ → Standing → Play → List Input → Type 0
+IsTape limit standing (over ending clock) tape = tape ≡ []
+IsTape limit standing (emit shown rest) tape = IsTape limit (after_event shown standing) rest tape
+IsTape limit standing (step request act after) [] = ⊥
+IsTape limit standing (step request act after) (input ∷ tape) =
+    (next : Standing) × Serves limit standing act input next × IsTape limit next (after input) tape
 
 -- From where the exchange stands the run comes to this: over the tape that the servers give, with bodies
 -- of so many bytes at most.
-pub record RunsOver (limit : ℕ) (exchange : Exchange) (play : Play) (run : PlayRun) : Type 0 where
+pub record RunsOver (limit : ℕ) (standing : Standing) (play : Play) (run : PlayRun) : Type 0 where
   pub tape : List Input
-  pub is_tape : IsTape limit exchange play tape
+  pub is_tape : IsTape limit standing play tape
   pub run_is : run_play play tape ≡ run
 
 -- the transcript is that of the scenario's document of this number: its key is its client's, and its run

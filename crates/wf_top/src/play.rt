@@ -10,10 +10,9 @@ ghost use Rattle.wf_fetch.specs.Play.{events_of};
 ghost use Rattle.wf_fetch.specs.Process.{IsPlain, fits};
 ghost use Rattle.wf_fetch.specs.Runs.{command_run, script_run, fetched, finished, limit_before};
 ghost use Rattle.wf_fetch.specs.Runs.{normalized_init as normal_init};
-ghost use Rattle.wf_top.specs.Plays.{IsPlay, IsTranscript};
+ghost use Rattle.wf_top.specs.Plays.{IsPlay, IsTranscript, Serves};
 ghost use Rattle.wf_top.specs.Private.Runs.{Ends, Fetched, IsFetchable, Played, progress_of};
-ghost use Rattle.wf_wire.specs.Exchanges.{Exchanges};
-ghost use Rattle.wf_wire.specs.Wires.{exchange_of};
+ghost use Rattle.wf_top.specs.Private.Standings.{standing_of};
 
 use crate::running::Running;
 use std::alloc::Global;
@@ -42,8 +41,8 @@ fn exchange(
     act: Act,
 ) -> Result<Input, OutOfMemory>
     requires { IsPlain act }
-    ensures came { IfOk result (λ input. Exchanges limit (exchange_of running.old.wire) act input
-        (exchange_of running.new.wire)) }
+    ensures came { IfOk result (λ input. Serves limit (standing_of running.old.wire) act input
+        (standing_of running.new.wire)) }
     ensures fits { IfOk result (λ input. IsTrue (fits act input)) }
     ensures events { IfOk result (λ input. running.new.events ≡ running.old.events ++ events_of act input) }
     ensures commands { running.new.commands ≡ running.old.commands }

@@ -4,13 +4,14 @@ ghost use Rattle.wf_print.specs.Lengths.{capped};
 ghost use Rattle.wf_script.specs.Valid.{IsValid};
 ghost use Rattle.wf_fetch.specs.Play.{events_of};
 ghost use Rattle.wf_fetch.specs.Runs.{text_length};
-ghost use Rattle.wf_wire.specs.Exchanges.{idle};
-ghost use Rattle.wf_wire.specs.Wires.{exchange_of};
+ghost use Rattle.wf_top.specs.Plays.{idle};
+ghost use Rattle.wf_top.specs.Private.Standings.{standing_of};
 
 use std::alloc::Global;
 use wf_fetch::Act;
 use wf_print::{Event, Events, event_len};
 use wf_script::Scenario;
+use wf_sim::SimLink;
 use wf_text::OutOfMemory;
 use wf_types::Outcome;
 use wf_wire::Wire;
@@ -24,7 +25,7 @@ pub(crate) struct Running<'a> {
     pub(crate) fetches: u32,
     pub(crate) events: Events,
     pub(crate) printed: u64,
-    pub(crate) wire: Wire<'a>,
+    pub(crate) wire: Wire<SimLink<'a>>,
     pub ghost measured: { printed ≡ capped (text_length events) },
     pub ghost few_commands: { commands ≤ 16384 },
     pub ghost few_fetches: { fetches ≤ 1024 },
@@ -32,19 +33,20 @@ pub(crate) struct Running<'a> {
 
 impl<'a> Running<'a> {
     // The beginning of a run over a new wire to the servers of a scenario.
+    #[tactic(auto, using(crate::proofs::StandingLemmas::standing_idle))]
     pub(crate) fn new(alloc: Global, scenario: &'a Scenario) -> Result<Running<'a>, OutOfMemory>
         requires { IsValid scenario.now }
         ensures commands { IfOk result (λ running. running.commands ≡ 0) }
         ensures fetches { IfOk result (λ running. running.fetches ≡ 0) }
         ensures events { IfOk result (λ running. running.events ≡ []) }
-        ensures wire { IfOk result (λ running. exchange_of running.wire ≡ idle scenario.now.servers) }
+        ensures wire { IfOk result (λ running. standing_of running.wire ≡ idle scenario.now.servers) }
     {
         Ok(Running {
             commands: 0,
             fetches: 0,
             events: Events::new(alloc),
             printed: 0,
-            wire: Wire::new(alloc, scenario)?,
+            wire: Wire::new(alloc, SimLink::new(scenario))?,
         })
     }
 
@@ -76,11 +78,12 @@ impl<'a> Running<'a> {
     }
 
     // Hangs up, since nothing more of the answer is wanted, and adds what the fetch came to.
+    #[tactic(auto, using(crate::proofs::StandingLemmas::standing_idle))]
     pub(crate) fn show_outcome(&mut self, outcome: Outcome) -> Result<(), OutOfMemory>
         ensures events { OnOk result (self.new.events ≡ self.old.events ++ Event.Result outcome ∷ []) }
         ensures commands { self.new.commands ≡ self.old.commands }
         ensures fetches { self.new.fetches ≡ self.old.fetches }
-        ensures wire { exchange_of self.new.wire ≡ idle (exchange_of self.old.wire).servers }
+        ensures wire { standing_of self.new.wire ≡ idle (standing_of self.old.wire).servers }
     {
         self.wire.close();
         self.show(Event::Result(outcome))

@@ -1,1 +1,3 @@
 pub mod WireLemmas
+pub mod HeadLemmas
+pub mod BodyLemmas

@@ -1,55 +1,155 @@
--- What comes of the acts of a fetch over the scripted servers of a scenario: a request is answered by its
--- method and its target, and a head and a body are read from the bytes of the answer (RFC 9112).
-use Rattle.std.specs.Prelude.{◌≡◌, ℕ, List, [], drop}
+-- What comes of the acts of a fetch over a link (RFC 9112): a request is sent, and the head and the body are read
+-- of the bytes of its answer, or the link fails. A link may tell its state and the bytes to come, or not: of bytes
+-- that are not told it is said that there are some, and not which.
+use Rattle.std.specs.Prelude.{◌≡◌, ℕ, ◌≤◌, Bool, true, false, List, take, length, Option, option_map}
+use Rattle.wf_types.specs.declared.hop.Head.{Head}
 use Rattle.wf_types.specs.declared.hop.Hop.{Hop}
-use Rattle.wf_script.specs.Servers.{answer}
-use Rattle.wf_script.specs.declared.types.Server.{Server}
-use Rattle.wf_http1.specs.Answers.{IsHeadEnd, final, bad, long}
-use Rattle.wf_http1.specs.Bodies.{body_end}
+use Rattle.wf_types.specs.declared.response.BodyEnd.{BodyEnd}
+use Rattle.wf_types.specs.declared.response.BodyEnd.TheVariants as body
+use Rattle.wf_link.specs.Counts.{Rose}
+use Rattle.wf_link.specs.Links.{IsTold}
+use Rattle.wf_link.specs.Sources.{Gave, IsAtEnd}
+use Rattle.wf_http1.specs.Answers.{HeadEnd, IsHeadEnd, final, bad, long}
+use Rattle.wf_http1.specs.Bodies.{IsOpen, body_end}
 use Rattle.wf_http1.specs.Framings.{framing_of}
 use Rattle.wf_http1.specs.declared.framing.Framing.{Framing}
-use Rattle.wf_http1.specs.declared.framing.Framing.TheVariants.{Nothing}
+use Rattle.wf_http1.specs.declared.framing.Framing.TheVariants as framing
 use Rattle.wf_fetch.specs.declared.act.Act.{Act}
 use Rattle.wf_fetch.specs.declared.act.Act.TheVariants.{Send, ReadHead, ReadBody}
 use Rattle.wf_fetch.specs.declared.act.Input.{Input}
 use Rattle.wf_fetch.specs.declared.act.Input.TheVariants.{Sent, HeadIs, HeadBad, HeadLong, BodyIs, Fault}
 
--- Where an exchange stands: the servers that answer, the bytes of the answer still to come, and how its
--- body is framed, where its head was read.
-pub record Exchange : Type 0 where
-  pub servers : List Server
-  pub coming : List ℕ
+-- What answers: in a state, the bytes of the answer to a hop, and the state behind it.
+pub record Answering (State : Type 0) : Type 0 where
+  pub answer : State → Hop → List ℕ
+  pub next : State → Hop → State
+
+-- Where an exchange stands: the state and the bytes of the answer still to come, where told; how its body is framed,
+-- where its head was read; and how often the link failed.
+pub record Exchange (State : Type 0) : Type 0 where
+  pub state : Option State
+  pub coming : Option (List ℕ)
   pub framing : Framing
+  pub faults : ℕ
 
--- nothing is to come
-abbrev pub idle : List Server → Exchange
-idle servers = record { servers = servers; coming = []; framing = Nothing }
+-- Nothing is to come.
+pub record IsIdle {State : Type 0} (exchange : Exchange State) : Type 0 where
+  pub end : IsAtEnd exchange.coming
+  pub framing_is : exchange.framing ≡ framing.Nothing
 
--- the request was sent: the servers' answer to its method and its target is to come
-abbrev pub IsSent : Exchange → Hop → Input → Exchange → Type 0
-IsSent old hop input new =
-    (input ≡ Sent)
-    × (new ≡ record (idle old.servers) { coming = answer old.servers hop.origin hop.method hop.url })
+-- ---- faults
 
--- the head was read: the final one, behind which the body's bytes follow; or what came is none, or too
--- long a one, and then nothing is to come
-abbrev pub IsHeadRead : Exchange → Input → Exchange → Type 0
-IsHeadRead old (HeadIs head) new =
-    (n : ℕ) × IsHeadEnd old.coming (final head n)
-    × (new ≡ record old { coming = drop n old.coming; framing = framing_of head })
-IsHeadRead old HeadBad new = IsHeadEnd old.coming bad × (new ≡ idle old.servers)
-IsHeadRead old HeadLong new = IsHeadEnd old.coming long × (new ≡ idle old.servers)
-IsHeadRead old Sent new = ⊥
-IsHeadRead old (BodyIs end) new = ⊥
-IsHeadRead old Fault new = ⊥
+-- the input tells that the link failed
+abbrev pub is_fault : Input → Bool
+is_fault Fault = true
+is_fault (BodyIs (body.Fault n)) = true
+is_fault _ = false
 
--- the body was read, with so many bytes at most
-abbrev pub IsBodyRead : ℕ → Exchange → Input → Exchange → Type 0
-IsBodyRead limit old input new =
-    (input ≡ BodyIs (body_end old.framing limit old.coming)) × (new ≡ idle old.servers)
+-- The count of faults has not fallen, and it rose where the input is a fault.
+pub record IsCaused (input : Input) (before now : ℕ) : Type 0 where
+  pub later : before ≤ now
+  pub rose : is_fault input ≡ true → Rose before now
+
+-- ---- the request
+
+-- the answer is to come, or nothing where the link failed
+abbrev pub IsAnswered : {State : Type 0} → (State → List ℕ) → Exchange State → Input → Exchange State → Type 0
+IsAnswered answer old Sent new = new.coming ≡ option_map answer old.state
+IsAnswered answer old Fault new = IsAtEnd new.coming
+IsAnswered answer old _ new = ⊥
+
+-- A request was sent, or the link failed. In both the state goes on.
+pub record IsAsked {State : Type 0} (answer : State → List ℕ) (next : State → State) (old : Exchange State)
+    (input : Input) (new : Exchange State) : Type 0 where
+  pub answered : IsAnswered answer old input new
+  pub framing_is : new.framing ≡ framing.Nothing
+  pub state_is : new.state ≡ option_map next old.state
+  pub caused : IsCaused input old.faults new.faults
+
+-- the request of a hop was sent, or the link failed
+abbrev pub IsSent : {State : Type 0} → Answering State → Exchange State → Hop → Input → Exchange State → Type 0
+IsSent by old hop input new = IsAsked (λ state. by.answer state hop) (λ state. by.next state hop) old input new
+
+-- ---- the head
+
+-- Some bytes, those to come where told, have this final head, and what stands behind it is to come then.
+pub record HasHead (coming : Option (List ℕ)) (head : Head) (behind : Option (List ℕ)) : Type 0 where
+  pub bytes : List ℕ
+  pub told : IsTold coming bytes
+  pub n : ℕ
+  pub ends : IsHeadEnd bytes (final head n)
+  pub left : Gave coming behind (take n bytes)
+
+-- Some bytes, those to come where told, have no head or too long a one.
+pub record HasNoHead (coming : Option (List ℕ)) (end : HeadEnd) : Type 0 where
+  pub bytes : List ℕ
+  pub told : IsTold coming bytes
+  pub ends : IsHeadEnd bytes end
+
+-- what the head came to; where there is none nothing is to come then
+abbrev pub FindsHead : {State : Type 0} → Exchange State → Input → Exchange State → Type 0
+FindsHead old (HeadIs head) new = HasHead old.coming head new.coming × (new.framing ≡ framing_of head)
+FindsHead old HeadBad new = HasNoHead old.coming bad × IsIdle new
+FindsHead old HeadLong new = HasNoHead old.coming long × IsIdle new
+FindsHead old Fault new = IsIdle new
+FindsHead old _ new = ⊥
+
+-- The head was read, or the link failed.
+pub record IsHeadRead {State : Type 0} (old : Exchange State) (input : Input) (new : Exchange State) : Type 0 where
+  pub head_is : FindsHead old input new
+  pub state_is : new.state ≡ old.state
+  pub caused : IsCaused input old.faults new.faults
+
+-- ---- the body
+
+-- Some bytes, those to come where told, have a body that comes to this end.
+pub record HasBody (how : Framing) (limit : ℕ) (coming : Option (List ℕ)) (end : BodyEnd) : Type 0 where
+  pub bytes : List ℕ
+  pub told : IsTold coming bytes
+  pub ends : end ≡ body_end how limit bytes
+
+-- how many bytes a body had that came to this end
+abbrev pub count_of : BodyEnd → ℕ
+count_of (body.Cut n) = n
+count_of (body.Whole bytes) = length bytes
+count_of _ = 0
+
+-- Some bytes, which those to come begin with where told, leave a body open, and had the answer ended there the body
+-- would have had so many bytes.
+pub record HasOpenBody (how : Framing) (limit : ℕ) (coming : Option (List ℕ)) (n : ℕ) : Type 0 where
+  pub bytes : List ℕ
+  pub rest : Option (List ℕ)
+  pub front : Gave coming rest bytes
+  pub waits : IsOpen how limit bytes
+  pub count_is : n ≡ count_of (body_end how limit bytes)
+
+-- what the body came to; the link failed while it was open, or not before it was decided
+abbrev pub EndsBody : Framing → ℕ → Option (List ℕ) → BodyEnd → Type 0
+EndsBody how limit coming (body.Fault n) = HasOpenBody how limit coming n
+EndsBody how limit coming end = HasBody how limit coming end
+
+-- what the input tells of the body
+abbrev pub FindsBody : {State : Type 0} → ℕ → Exchange State → Input → Type 0
+FindsBody limit old (BodyIs end) = EndsBody old.framing limit old.coming end
+FindsBody limit old _ = ⊥
+
+-- The body was read, with so many bytes at most, or the link failed. Nothing is to come then.
+pub record IsBodyRead {State : Type 0} (limit : ℕ) (old : Exchange State) (input : Input) (new : Exchange State)
+    : Type 0 where
+  pub body_is : FindsBody limit old input
+  pub idle : IsIdle new
+  pub state_is : new.state ≡ old.state
+  pub caused : IsCaused input old.faults new.faults
+
+-- ---- acts
 
 -- what comes of an act, and where the exchange stands then
-abbrev pub Exchanges : ℕ → Exchange → Act → Input → Exchange → Type 0
-Exchanges limit old (Send hop) input new = IsSent old hop input new
-Exchanges limit old ReadHead input new = IsHeadRead old input new
-Exchanges limit old ReadBody input new = IsBodyRead limit old input new
+abbrev pub Exchanges : {State : Type 0} → Answering State → ℕ → Exchange State → Act → Input → Exchange State → Type 0
+Exchanges by limit old (Send hop) input new = IsSent by old hop input new
+Exchanges by limit old ReadHead input new = IsHeadRead old input new
+Exchanges by limit old ReadBody input new = IsBodyRead limit old input new
+
+-- Where memory was refused the state is as it was, and the count of faults has not fallen.
+pub record IsRefused {State : Type 0} (old new : Exchange State) : Type 0 where
+  pub state_is : new.state ≡ old.state
+  pub later : old.faults ≤ new.faults

@@ -1,14 +1,13 @@
 // What is done over a wire: a request goes out, and the head and the body of its answer come in.
-ghost use Rattle.std.specs.Prelude.{◌≡◌, ◌≤◌, ◌+◌, length, IfOk, IsTrue};
+ghost use Rattle.std.specs.Prelude.{◌≡◌, ◌≤◌, ◌+◌, ◌-◌, ◌^◌, length, IfOk, OnErr, IsTrue};
+ghost use Rattle.wf_link.specs.Counts.{Rose};
+ghost use Rattle.wf_link.specs.Sources.{GaveAtMost};
 ghost use Rattle.wf_http1.specs.Answers.{most_bytes};
-ghost use Rattle.wf_http1.specs.Bodies.{body_end};
-ghost use Rattle.wf_fetch.specs.Process.{IsPlain, fits};
-ghost use Rattle.wf_types.specs.Targets.{IsSendable};
-ghost use Rattle.wf_sim.specs.Sim.{answer_to};
+ghost use Rattle.wf_fetch.specs.Process.{fits};
 ghost use Rattle.wf_wire.specs.Exchanges as spec;
-ghost use Rattle.wf_wire.specs.Exchanges.{idle};
-ghost use Rattle.wf_wire.specs.Private.Heads.{Finds};
-ghost use Rattle.wf_wire.specs.Wires.{exchange_of};
+ghost use Rattle.wf_wire.specs.Exchanges.{IsAsked, IsCaused, IsIdle, IsRefused};
+ghost use Rattle.wf_wire.specs.Private.Reads.{Finds, HasAtMost, Reads};
+ghost use Rattle.wf_wire.specs.Wires.{coming_of, exchange_of, over_link, window_of};
 
 use crate::wire::{RECEIVED, Wire};
 use std::alloc::Global;
@@ -18,7 +17,7 @@ use wf_link::{Failed, Link, Target};
 use wf_text::OutOfMemory;
 use wf_types::{BodyEnd, Head, Hop};
 
-/// How many bytes of the link a head takes at most: the last is one too many.
+/// How many bytes of an answer a head takes at most: the last is one too many.
 const MOST_OF_HEAD: usize = 65_537;
 
 /// What the bytes of an answer have before its body.
@@ -34,12 +33,15 @@ pub(crate) enum Found {
     Fault,
 }
 
-// The end of a body whose link failed, by its end if the answer had ended there.
-fn broken_off(end: BodyEnd) -> BodyEnd {
+// The end of a body whose link failed: a fault behind as many bytes as the body would have had.
+fn broken_off(end: BodyEnd) -> BodyEnd
+    requires { HasAtMost end (2 ^ 32 - 1) }
+    ensures { result ≡ BodyEnd.Fault (spec.count_of end) }
+{
     match end {
         BodyEnd::Cut(count) => BodyEnd::Fault(count),
-        BodyEnd::Whole(bytes) => BodyEnd::Fault(bytes.len().min(u32::MAX as usize) as u32),
-        other => other,
+        BodyEnd::Whole(bytes) => BodyEnd::Fault(bytes.len() as u32),
+        _ => BodyEnd::Fault(0),
     }
 }
 
@@ -53,16 +55,17 @@ fn fitted(alloc: Global, end: BodyEnd) -> Result<BodyEnd, OutOfMemory>
     }
 }
 
-impl<'a> Wire<'a> {
-    /// Does an act and answers what comes of it: a request is sent to the scripted servers; the head of
-    /// their answer is read, of which the link gives 65,537 bytes at most; or the body behind it, which
-    /// has at most so many bytes. The link is hung up where no head came and at the end of a body. After
-    /// `OutOfMemory` nothing is said of what is to come.
+impl<L: Link> Wire<L> {
+    /// Does an act and answers what comes of it: a request is sent, the head of its answer is read, or the
+    /// body behind it, which has at most so many bytes. Where memory was refused nothing is said of what is
+    /// to come.
     pub fn exchange(&mut self, alloc: Global, limit: u32, act: &Act) -> Result<Input, OutOfMemory>
-        requires { IsPlain act.now }
-        ensures came { IfOk result (λ input. spec.Exchanges limit (exchange_of self.old) act.now input
-            (exchange_of self.new)) }
+        ensures came { IfOk result (λ input. spec.Exchanges (over_link L.answer L.next) limit
+            (exchange_of L.state L.left L.faults self.old) act.now input
+            (exchange_of L.state L.left L.faults self.new)) }
         ensures fits { IfOk result (λ input. IsTrue (fits act.now input)) }
+        ensures refused { OnErr result (IsRefused (exchange_of L.state L.left L.faults self.old)
+            (exchange_of L.state L.left L.faults self.new)) }
     {
         match act {
             Act::Send(hop) => self.send(alloc, hop),
@@ -71,10 +74,16 @@ impl<'a> Wire<'a> {
         }
     }
 
-    // Sends a request. Its answer is to come.
-    fn send(&mut self, alloc: Global, hop: &Hop) -> Result<Input, OutOfMemory>
-        requires { IsSendable hop.now }
-        ensures { IfOk result (λ input. spec.IsSent (exchange_of self.old) hop.now input (exchange_of self.new)) }
+    /// Sends a request (RFC 9112, section 3). Its answer is to come, and nothing of the one before. `Fault`
+    /// only where the link's count of faults rose; then the link is hung up. Where memory was refused
+    /// nothing is sent.
+    pub fn send(&mut self, alloc: Global, hop: &Hop) -> Result<Input, OutOfMemory>
+        ensures sent { IfOk result (λ input. spec.IsSent (over_link L.answer L.next)
+            (exchange_of L.state L.left L.faults self.old) hop.now input
+            (exchange_of L.state L.left L.faults self.new)) }
+        ensures fits { IfOk result (λ input. IsTrue (fits (Act.Send hop.now) input)) }
+        ensures refused { OnErr result (exchange_of L.state L.left L.faults self.new
+            ≡ exchange_of L.state L.left L.faults self.old) }
     {
         let request = write_request(alloc, hop)?;
         let target = Target {
@@ -84,22 +93,31 @@ impl<'a> Wire<'a> {
     }
 
     // Asks for the answer to the bytes of a request, and for nothing that was to come before.
+    #[tactic(auto, using(crate::proofs::WireLemmas::onto_nothing))]
     fn ask(&mut self, target: &Target, request: &[u8]) -> Input
-        ensures sent { result ≡ Input.Sent }
-        ensures coming { exchange_of self.new ≡ record (idle (exchange_of self.old).servers) {
-          coming = answer_to (exchange_of self.old).servers target.now.origin request.now;
-        } }
+        ensures { IsAsked (λ state. L.answer state target.now.origin request.now)
+            (λ state. L.next state target.now.origin request.now) (exchange_of L.state L.left L.faults self.old)
+            result (exchange_of L.state L.left L.faults self.new) }
     {
-        self.close();
+        self.hang_up();
         match self.link.ask(target, request) {
             Ok(()) => Input::Sent,
-            Err(Failed) => Input::Fault,
+            Err(Failed) => {
+                self.close();
+                Input::Fault
+            }
         }
     }
 
-    // Reads the head of the answer. Where none came the wire is closed.
-    fn read_head(&mut self, alloc: Global) -> Result<Input, OutOfMemory>
-        ensures { IfOk result (λ input. spec.IsHeadRead (exchange_of self.old) input (exchange_of self.new)) }
+    /// Reads the head of the answer to the last request (RFC 9112, section 4): the final head, or what came
+    /// is none, or it is longer than 65,536 bytes. Of the answer 65,537 bytes are received at most. `Fault`
+    /// only where the link's count of faults rose. Where no head came the link is hung up.
+    pub fn read_head(&mut self, alloc: Global) -> Result<Input, OutOfMemory>
+        ensures read { IfOk result (λ input. spec.IsHeadRead (exchange_of L.state L.left L.faults self.old) input
+            (exchange_of L.state L.left L.faults self.new)) }
+        ensures fits { IfOk result (λ input. IsTrue (fits Act.ReadHead input)) }
+        ensures refused { OnErr result (IsRefused (exchange_of L.state L.left L.faults self.old)
+            (exchange_of L.state L.left L.faults self.new)) }
     {
         match self.find_head(alloc)? {
             Found::Head(head, count) => {
@@ -116,9 +134,13 @@ impl<'a> Wire<'a> {
     // Finds the final head in what was received and as much more as it needs. Of the link it takes no
     // byte behind the one that makes a head too long.
     fn find_head(&mut self, alloc: Global) -> Result<Found, OutOfMemory>
-        ensures found { IfOk result (λ found. Finds (exchange_of self.old).coming found self.new) }
-        ensures servers { self.new.link.servers ≡ self.old.link.servers }
-        ensures few { length self.old.link.left ≤ length self.new.link.left + (most_bytes + 1) }
+        ensures found { IfOk result (λ found. Finds (coming_of L.left self.old) found (window_of self.new)
+            (L.left self.new.link)) }
+        ensures state { L.state self.new.link ≡ L.state self.old.link }
+        ensures later { L.faults self.old.link ≤ L.faults self.new.link }
+        ensures rose { IfOk result (λ found. found ≡ Found.Fault
+            → Rose (L.faults self.old.link) (L.faults self.new.link)) }
+        ensures few { GaveAtMost (L.left self.old.link) (L.left self.new.link) (most_bytes + 1) }
     {
         let mut reader = HeadReader::new(alloc)?;
         loop {
@@ -128,7 +150,8 @@ impl<'a> Wire<'a> {
                 HeadStep::TooBig => return Ok(Found::Long),
                 HeadStep::More(next) => reader = next,
             }
-            match self.refill(MOST_OF_HEAD - reader.seen_bytes() as usize) {
+            let room = MOST_OF_HEAD - reader.seen_bytes() as usize;
+            match self.refill(room.min(RECEIVED)) {
                 Ok(true) => {}
                 Ok(false) => return Ok(Found::Bad),
                 Err(Failed) => return Ok(Found::Fault),
@@ -139,15 +162,25 @@ impl<'a> Wire<'a> {
     // The wire is closed, since no head came.
     fn without_head(&mut self, input: Input) -> Input
         ensures input { result ≡ input }
-        ensures closed { exchange_of self.new ≡ idle (exchange_of self.old).servers }
+        ensures idle { IsIdle (exchange_of L.state L.left L.faults self.new) }
+        ensures state { (exchange_of L.state L.left L.faults self.new).state
+            ≡ (exchange_of L.state L.left L.faults self.old).state }
+        ensures faults { (exchange_of L.state L.left L.faults self.new).faults
+            ≡ (exchange_of L.state L.left L.faults self.old).faults }
     {
         self.close();
         input
     }
 
-    // Reads the body behind the last head, of so many bytes at most, and closes the wire.
-    fn read_body(&mut self, alloc: Global, limit: u32) -> Result<Input, OutOfMemory>
-        ensures { IfOk result (λ input. spec.IsBodyRead limit (exchange_of self.old) input (exchange_of self.new)) }
+    /// Reads the body behind the last head, of so many bytes at most (RFC 9112, section 6), and hangs up. A
+    /// body `Fault`, with the number of bytes that had come of it, only where the link's count of faults
+    /// rose while the body was not decided.
+    pub fn read_body(&mut self, alloc: Global, limit: u32) -> Result<Input, OutOfMemory>
+        ensures read { IfOk result (λ input. spec.IsBodyRead limit (exchange_of L.state L.left L.faults self.old)
+            input (exchange_of L.state L.left L.faults self.new)) }
+        ensures fits { IfOk result (λ input. IsTrue (fits Act.ReadBody input)) }
+        ensures refused { OnErr result (IsRefused (exchange_of L.state L.left L.faults self.old)
+            (exchange_of L.state L.left L.faults self.new)) }
     {
         let end = self.body(alloc, limit)?;
         self.close();
@@ -156,8 +189,12 @@ impl<'a> Wire<'a> {
 
     // How the body behind the last head comes to its end.
     fn body(&mut self, alloc: Global, limit: u32) -> Result<BodyEnd, OutOfMemory>
-        ensures end { IfOk result (λ end. end ≡ body_end self.old.framing limit (exchange_of self.old).coming) }
-        ensures servers { self.new.link.servers ≡ self.old.link.servers }
+        ensures end { IfOk result (λ end. Reads self.old.framing limit (coming_of L.left self.old) end
+            (L.left self.new.link)) }
+        ensures state { L.state self.new.link ≡ L.state self.old.link }
+        ensures later { L.faults self.old.link ≤ L.faults self.new.link }
+        ensures caused { IfOk result (λ end. IsCaused (Input.BodyIs end) (L.faults self.old.link)
+            (L.faults self.new.link)) }
     {
         let mut reader = BodyReader::framed(alloc, self.framing, limit)?;
         loop {

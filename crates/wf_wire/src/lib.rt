@@ -1,4 +1,4 @@
-// What comes of the acts of a fetch over the scripted servers: requests go out, heads and bodies come in.
+// What comes of the acts of a fetch over a link: requests go out, heads and bodies come in.
 #![tactic(auto)]
 
 mod exchange;

@@ -1,22 +1,20 @@
-ghost use Rattle.std.specs.Prelude.{◌≡◌, ◌≤◌, ◌<◌, ◌++◌, [], length, drop, take, true, false, IfOk, OnOk, OnErr};
-ghost use Rattle.wf_link.specs.Sources.{Gave};
-ghost use Rattle.wf_script.specs.Valid.{IsValid};
+ghost use Rattle.std.specs.Prelude.{◌≡◌, ◌≤◌, ◌<◌, [], length, drop, take, true, false, Ok, IfOk, OnOk, OnErr};
+ghost use Rattle.wf_link.specs.Counts.{HasCause};
+ghost use Rattle.wf_link.specs.Sources.{Gave, IsAtEnd};
 
 use std::alloc::Global;
 use wf_http1::Framing;
-use wf_link::{Failed, Link, Target};
-use wf_script::Scenario;
-use wf_sim::SimLink;
+use wf_link::{Failed, Link};
 use wf_text::OutOfMemory;
 
-/// How many bytes are received at once.
+/// How many bytes are received at once at most.
 pub(crate) const RECEIVED: usize = 4_096;
 
-/// A wire to the scripted servers: the link, a buffer for what it gives, where in the buffer the bytes
-/// stand that were received and not yet read, and how the body behind the last head is framed.
+/// A wire over a link: the link, a buffer for what it gives, where in the buffer the bytes stand that
+/// were received and not yet read, and how the body behind the last head is framed.
 #[derive(Drop)]
-pub struct Wire<'a> {
-    pub(crate) link: SimLink<'a>,
+pub struct Wire<L> {
+    pub(crate) link: L,
     pub(crate) buffer: Vec<u8>,
     pub(crate) from: usize,
     pub(crate) to: usize,
@@ -27,42 +25,84 @@ pub struct Wire<'a> {
 }
 
 // Receives at most so many bytes at the front of the buffer, and answers how many.
-fn receive(link: &mut SimLink<'_>, buffer: &mut [u8], most: usize) -> Result<usize, Failed>
+fn receive<L: Link>(link: &mut L, buffer: &mut [u8], most: usize) -> Result<usize, Failed>
     requires some { 0 < most }
     requires room { 0 < length buffer.old }
-    ensures servers { link.new.servers ≡ link.old.servers }
+    ensures state { L.state link.new ≡ L.state link.old }
     ensures length { length buffer.new ≡ length buffer.old }
     ensures within { IfOk result (λ count. count ≤ length buffer.new) }
     ensures few { IfOk result (λ count. count ≤ most) }
-    ensures gave { IfOk result (λ count. link.old.left ≡ take count buffer.new ++ link.new.left) }
-    ensures end { result ≡ Ok 0 → link.new.left ≡ [] }
-    ensures told { OnErr result ⊥ }
+    ensures gave { IfOk result (λ count. Gave (L.left link.old) (L.left link.new) (take count buffer.new)) }
+    ensures end { result ≡ Ok 0 → IsAtEnd (L.left link.new) }
+    ensures failed { OnErr result (L.left link.new ≡ L.left link.old) }
+    ensures cause { HasCause (L.faults link.old) (L.faults link.new) result }
 {
     let room = buffer.len().min(most);
     link.recv(&mut buffer[..room])
 }
 
-impl<'a> Wire<'a> {
-    ghost use Rattle.wf_wire.specs.Exchanges.{idle};
-    ghost use Rattle.wf_wire.specs.Wires.{exchange_of, window_of};
+impl<L: Link + Drop> Wire<L> {
+    ghost use Rattle.wf_wire.specs.Exchanges.{IsIdle};
+    ghost use Rattle.wf_wire.specs.Wires.{exchange_of};
 
-    /// A wire to the servers of a scenario, with a buffer of 4,096 bytes. Nothing is to come.
-    pub fn new(alloc: Global, scenario: &'a Scenario) -> Result<Wire<'a>, OutOfMemory>
-        requires { IsValid scenario.now }
-        ensures { IfOk result (λ wire. exchange_of wire ≡ idle scenario.now.servers) }
+    /// A wire over a link, with a buffer of 4,096 bytes. Nothing is to come: the link is hung up.
+    pub fn new(alloc: Global, link: L) -> Result<Wire<L>, OutOfMemory>
+        ensures idle { IfOk result (λ wire. IsIdle (exchange_of L.state L.left L.faults wire)) }
+        ensures state { IfOk result (λ wire. (exchange_of L.state L.left L.faults wire).state ≡ L.state link) }
+        ensures faults { IfOk result (λ wire. (exchange_of L.state L.left L.faults wire).faults ≡ L.faults link) }
     {
-        Ok(Wire {
-            link: SimLink::new(scenario),
+        let mut wire = Wire {
+            link,
             buffer: vec![in alloc; 0u8; RECEIVED]?,
             from: 0,
             to: 0,
             framing: Framing::Nothing,
-        })
+        };
+        wire.close();
+        Ok(wire)
     }
+}
+
+impl<L: Link> Wire<L> {
+    ghost use Rattle.wf_wire.specs.Exchanges.{IsIdle};
+    ghost use Rattle.wf_wire.specs.Wires.{exchange_of, onto_left, window_of};
 
     /// Hangs up: nothing is to come any more.
+    #[tactic(auto, using(crate::proofs::WireLemmas::onto_nothing))]
     pub fn close(&mut self)
-        ensures { exchange_of self.new ≡ idle (exchange_of self.old).servers }
+        ensures idle { IsIdle (exchange_of L.state L.left L.faults self.new) }
+        ensures state { (exchange_of L.state L.left L.faults self.new).state
+            ≡ (exchange_of L.state L.left L.faults self.old).state }
+        ensures faults { (exchange_of L.state L.left L.faults self.new).faults
+            ≡ (exchange_of L.state L.left L.faults self.old).faults }
+    {
+        self.hang_up();
+    }
+
+    /// Hangs up and gives the link back.
+    pub fn into_link(self) -> L
+        ensures end { IsAtEnd (L.left result) }
+        ensures state { L.state result ≡ (exchange_of L.state L.left L.faults self).state }
+        ensures faults { L.faults result ≡ (exchange_of L.state L.left L.faults self).faults }
+    {
+        let Wire {
+            mut link,
+            buffer: _,
+            from: _,
+            to: _,
+            framing: _,
+        } = self;
+        link.hang_up();
+        link
+    }
+
+    // Hangs up, and empties the window.
+    pub(crate) fn hang_up(&mut self)
+        ensures window { window_of self.new ≡ [] }
+        ensures end { IsAtEnd (L.left self.new.link) }
+        ensures framing { self.new.framing ≡ Framing.Nothing }
+        ensures state { L.state self.new.link ≡ L.state self.old.link }
+        ensures faults { L.faults self.new.link ≡ L.faults self.old.link }
     {
         self.link.hang_up();
         self.from = 0;
@@ -81,13 +121,15 @@ impl<'a> Wire<'a> {
     // there were any.
     pub(crate) fn refill(&mut self, most: usize) -> Result<bool, Failed>
         requires { 0 < most }
-        ensures servers { self.new.link.servers ≡ self.old.link.servers }
+        ensures state { L.state self.new.link ≡ L.state self.old.link }
         ensures framing { self.new.framing ≡ self.old.framing }
-        ensures coming { OnOk result (window_of self.new ++ self.new.link.left ≡ self.old.link.left) }
+        ensures gave { OnOk result (Gave (L.left self.old.link) (L.left self.new.link) (window_of self.new)) }
         ensures few { OnOk result (length (window_of self.new) ≤ most) }
-        ensures fewer { IfOk result (λ more. more ≡ true → length self.new.link.left < length self.old.link.left) }
-        ensures end { IfOk result (λ more. more ≡ false → self.old.link.left ≡ []) }
-        ensures told { OnErr result ⊥ }
+        ensures some { IfOk result (λ more. more ≡ true → 0 < length (window_of self.new)) }
+        ensures none { IfOk result (λ more. more ≡ false → window_of self.new ≡ []) }
+        ensures end { IfOk result (λ more. more ≡ false → IsAtEnd (L.left self.new.link)) }
+        ensures failed { OnErr result (L.left self.new.link ≡ L.left self.old.link) }
+        ensures cause { HasCause (L.faults self.old.link) (L.faults self.new.link) result }
     {
         let count = receive(&mut self.link, self.buffer.as_mut_slice(), most)?;
         self.from = 0;
@@ -98,10 +140,11 @@ impl<'a> Wire<'a> {
     // So many bytes of the window were read, and a body of this framing follows.
     pub(crate) fn begin_body(&mut self, count: usize, framing: Framing)
         requires { count ≤ length (window_of self.old) }
-        ensures { exchange_of self.new ≡ record (exchange_of self.old) {
-          coming = drop count (window_of self.old) ++ self.old.link.left;
-          framing = framing;
-        } }
+        ensures { exchange_of L.state L.left L.faults self.new
+            ≡ record (exchange_of L.state L.left L.faults self.old) {
+              coming = onto_left (drop count (window_of self.old)) (L.left self.old.link);
+              framing = framing;
+            } }
     {
         self.from += count;
         self.framing = framing;

@@ -1,16 +1,21 @@
-use Rattle.std.proofs.Common.{◌≡◌, ◌++◌, length}
-use Rattle.wf_wire.specs.Wires.{exchange_of}
+use Rattle.std.proofs.Common.{◌≡◌, ◌≤◌, ◌+◌, ◌-◌, length}
+use Rattle.wf_http1.specs.BodyLaws.{most_open}
+use Rattle.wf_wire.specs.Wires.{window_of}
+use Rattle.wf_wire.proofs.WireLemmas.{Receives}
 use Rattle.wf_wire.proofs.wire.Wire.body.Given as goal
 
--- what the reader has, and what is to come, is what was to come
+-- what was received was read or stands in the window
 abbrev pub invariant-loop-end : goal.invariant-loop-end
-invariant-loop-end l = record {
-  coming : l.reader.bytes ++ (exchange_of l.self).coming ≡ (exchange_of l.fn.self).coming;
-  servers : l.self.link.servers ≡ l.fn.self.link.servers;
+invariant-loop-end g l = record {
+  received : Receives (window_of l.fn.self) (g.L.Link.left l.fn.self.link) l.reader.bytes (window_of l.self)
+      (g.L.Link.left l.self.link);
   framing : l.reader.framing ≡ l.fn.self.framing;
   limit : l.reader.limit ≡ l.limit;
+  state : g.L.Link.state l.self.link ≡ g.L.Link.state l.fn.self.link;
+  later : g.L.Link.faults l.fn.self.link ≤ g.L.Link.faults l.self.link;
 }
 
--- each receive takes a byte
+-- each receive takes a byte, and bytes that leave a body open are so many at most
 abbrev pub decreases-loop-end : goal.decreases-loop-end
-decreases-loop-end l = length l.self.link.left
+decreases-loop-end g l =
+    (most_open l.fn.self.framing l.limit + 1) - (length l.reader.bytes + length (window_of l.self))

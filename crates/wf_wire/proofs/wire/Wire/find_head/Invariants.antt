@@ -1,16 +1,20 @@
-use Rattle.std.proofs.Common.{◌≡◌, ◌≤◌, ◌+◌, ◌++◌, length}
+use Rattle.std.proofs.Common.{◌≡◌, ◌≤◌, ◌+◌, ◌-◌, length}
+use Rattle.wf_link.specs.Sources.{GaveAtMost}
 use Rattle.wf_http1.specs.Answers.{most_bytes}
-use Rattle.wf_wire.specs.Wires.{exchange_of}
+use Rattle.wf_wire.specs.Wires.{window_of}
+use Rattle.wf_wire.proofs.WireLemmas.{Receives}
 use Rattle.wf_wire.proofs.wire.Wire.find_head.Given as goal
 
--- what the reader has, and what is to come, is what was to come; and the link has given a few bytes
+-- what was received was read or stands in the window, and the link has given a few bytes
 abbrev pub invariant-loop-head : goal.invariant-loop-head
-invariant-loop-head l = record {
-  coming : l.reader ++ (exchange_of l.self).coming ≡ (exchange_of l.fn.self).coming;
-  servers : l.self.link.servers ≡ l.fn.self.link.servers;
-  few : length l.fn.self.link.left ≤ length l.self.link.left + (most_bytes + 1);
+invariant-loop-head g l = record {
+  received : Receives (window_of l.fn.self) (g.L.Link.left l.fn.self.link) l.reader (window_of l.self)
+      (g.L.Link.left l.self.link);
+  few : GaveAtMost (g.L.Link.left l.fn.self.link) (g.L.Link.left l.self.link) (most_bytes + 1);
+  state : g.L.Link.state l.self.link ≡ g.L.Link.state l.fn.self.link;
+  later : g.L.Link.faults l.fn.self.link ≤ g.L.Link.faults l.self.link;
 }
 
--- each receive takes a byte
+-- each receive takes a byte, and bytes that leave a head open are a few
 abbrev pub decreases-loop-head : goal.decreases-loop-head
-decreases-loop-head l = length l.self.link.left
+decreases-loop-head g l = (most_bytes + 1) - (length l.reader + length (window_of l.self))
