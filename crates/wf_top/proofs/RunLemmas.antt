@@ -61,7 +61,7 @@ pub shows-then : {A : Type 0} (limit : ℕ) (first middle rest : A → Play) (a 
 shows-then limit first middle rest a b c m n = record {
   made = m.made ++ n.made;
   added = n.added ∙ ap (λ (l : List Event). l ++ n.made) m.added ∙ append_assoc a.events m.made n.made;
-  run = λ next later runs. subst (λ (r : PlayRun). RunsOver limit (standing_of a.wire) (first next) r)
+  run = λ next later runs. subst (λ (r : PlayRun). RunsOver limit (standing_of a.link a.wire) (first next) r)
       (shows-append m.made n.made later) (m.run next (shows n.made later) (n.run next later runs));
 }
 
@@ -88,30 +88,31 @@ emitted limit standing event play later runs = record {
 
 -- the same with the wire behind the event
 emitted-over : (limit : ℕ) (event : Event) (play : Play) (later : PlayRun) (a b : Running)
-    → standing_of b.wire ≡ after_event event (standing_of a.wire) → RunsOver limit (standing_of b.wire) play later
-    → RunsOver limit (standing_of a.wire) (emit event play) (shows (event ∷ []) later)
+    → standing_of b.link b.wire ≡ after_event event (standing_of a.link a.wire)
+    → RunsOver limit (standing_of b.link b.wire) play later
+    → RunsOver limit (standing_of a.link a.wire) (emit event play) (shows (event ∷ []) later)
 emitted-over limit event play later a b stands runs =
-    emitted limit (standing_of a.wire) event play later
+    emitted limit (standing_of a.link a.wire) event play later
     (subst (λ (e : Standing). RunsOver limit e play later) stands runs)
 
 -- an event, and what stands there then
 played_event : (limit : ℕ) (event : Event) (a b : Running) → b.commands ≡ a.commands → b.fetches ≡ a.fetches
-    → b.events ≡ a.events ++ event ∷ [] → standing_of b.wire ≡ after_event event (standing_of a.wire)
+    → b.events ≡ a.events ++ event ∷ [] → standing_of b.link b.wire ≡ after_event event (standing_of a.link a.wire)
     → Played limit (showing event) a b
 played_event limit event a b commands fetches added stands = record {
   made = event ∷ [];
   added = added;
   run = λ next later runs. emitted-over limit event (next (after_events (event ∷ []) (progress_of a))) later a b stands
-      (subst (λ (p : Progress). RunsOver limit (standing_of b.wire) (next p) later)
+      (subst (λ (p : Progress). RunsOver limit (standing_of b.link b.wire) (next p) later)
       (progress-after a b (event ∷ []) commands fetches added) runs);
 }
 
 -- no request was made
 pub played_fault : (limit : ℕ) (fault : TypeFault) (a b : Running) → b.commands ≡ a.commands → b.fetches ≡ a.fetches
-    → b.events ≡ a.events ++ event.TypeError fault ∷ [] → b.wire ≡ a.wire
+    → b.events ≡ a.events ++ event.TypeError fault ∷ [] → standing_of b.link b.wire ≡ standing_of a.link a.wire
     → Played limit (showing (event.TypeError fault)) a b
 played_fault limit fault a b commands fetches added wire =
-    played_event limit (event.TypeError fault) a b commands fetches added (ap standing_of wire)
+    played_event limit (event.TypeError fault) a b commands fetches added wire
 
 -- an act with what came of it, and then what the rest comes to
 acted : (limit : ℕ) (standing now : Standing) (request : Request) (first : Act) (after : Input
@@ -127,12 +128,13 @@ acted limit standing now request first after input later came fit runs = record 
 -- an act, and what comes of it
 shows-act : {A : Type 0} (limit : ℕ) (request : Request) (first : Act) (after : A → Input
     → Play) (input : Input) (a b : Running) → b.events ≡ a.events ++ events_of first input
-    → Serves limit (standing_of a.wire) first input (standing_of b.wire) → IsTrue (fits first input)
+    → Serves limit (standing_of a.link a.wire) first input (standing_of b.link b.wire) → IsTrue (fits first input)
     → Shows limit (λ next. step request first (after next)) (λ next. after next input) a b
 shows-act limit request first after input a b added came fit = record {
   made = events_of first input;
   added = added;
-  run = λ next later runs. acted limit (standing_of a.wire) (standing_of b.wire) request first (after next) input
+  run = λ next later runs. acted limit (standing_of a.link a.wire) (standing_of b.link b.wire) request first
+      (after next) input
       later came fit runs;
 }
 
@@ -155,7 +157,8 @@ fetching-start context limit whole old at does = record {
 
 pub fetching-next : (context : Context) (limit : ℕ) (whole : Process) (old a b : Running) (fetching : Fetching)
     (first : Act) (input : Input) (at : Step) → IsFetching context limit whole old a (Going fetching first)
-    → Serves limit (standing_of a.wire) first input (standing_of b.wire) → IsTrue (fits first input) → b.events
+    → Serves limit (standing_of a.link a.wire) first input (standing_of b.link b.wire) → IsTrue (fits first input)
+    → b.events
     ≡ a.events ++ events_of first input → b.commands ≡ a.commands → b.fetches ≡ a.fetches
     → Does context at (rest fetching input) → IsFetching context limit whole old b at
 fetching-next context limit whole old a b fetching first input at is came fit added commands fetches does =
@@ -293,7 +296,8 @@ fetching-smaller context limit whole old now at next fetching first input is so_
 -- and stands at the next step then
 pub fetching-on : (context : Context) (limit : ℕ) (whole : Process) (old a b : Running) (at next : Step)
     (fetching : Fetching) (first : Act) (input : Input) → at ≡ Going fetching first
-    → IsFetching context limit whole old a at → Serves limit (standing_of a.wire) first input (standing_of b.wire)
+    → IsFetching context limit whole old a at → Serves limit (standing_of a.link a.wire) first input
+    (standing_of b.link b.wire)
     → IsTrue (fits first input) → b.events ≡ a.events ++ events_of first input → b.commands ≡ a.commands → b.fetches
     ≡ a.fetches → Does context next (rest fetching input) → IsFetching context limit whole old b next
 fetching-on context limit whole old a b at next fetching first input is so_far came fit added commands fetches does =
@@ -305,7 +309,7 @@ fetching-on context limit whole old a b at next fetching first input is so_far c
 -- a fetch, and what it came to
 pub played_fetched : (limit : ℕ) (whole : Process) (outcome : Outcome) (a b c : Running)
     → Fetched limit whole a b outcome → c.commands ≡ b.commands → c.fetches ≡ b.fetches → c.events ≡ b.events
-    ++ event.Result outcome ∷ [] → standing_of c.wire ≡ idle (standing_of b.wire).servers
+    ++ event.Result outcome ∷ [] → standing_of c.link c.wire ≡ idle (standing_of b.link b.wire).servers
     → Played limit (λ next. embed whole (λ outcome. showing (event.Result outcome) next)) a c
 played_fetched limit whole outcome a b c came commands fetches added last =
     shows-then limit (λ (next : Next). embed whole (λ outcome. showing (event.Result outcome) next) (progress_of a))
@@ -316,7 +320,8 @@ played_fetched limit whole outcome a b c came commands fetches added last =
 
 -- a fetch has started, and goes on as the rest
 played_started : (limit : ℕ) (rest : Next → Next) (a b c : Running) → b.commands ≡ a.commands + 1 → b.fetches
-    ≡ a.fetches + 1 → b.events ≡ a.events ++ event.Fetch a.fetches ∷ [] → b.wire ≡ a.wire → Played limit rest b c
+    ≡ a.fetches + 1 → b.events ≡ a.events ++ event.Fetch a.fetches ∷ []
+    → standing_of b.link b.wire ≡ standing_of a.link a.wire → Played limit rest b c
     → Shows limit (λ (next : Next). showing (event.Fetch a.fetches) (rest next) (started (progress_of a)))
     (λ next. next (progress_of c)) a c
 played_started limit rest a b c commands fetches added last played =
@@ -327,8 +332,8 @@ played_started limit rest a b c commands fetches added last played =
       added = added;
       run = λ next later runs. emitted-over limit (event.Fetch a.fetches)
           (rest next (after_events (event.Fetch a.fetches ∷ []) (started (progress_of a)))) later a b
-          (ap standing_of last)
-          (subst (λ (p : Progress). RunsOver limit (standing_of b.wire) (rest next p) later) stands runs);
+          last
+          (subst (λ (p : Progress). RunsOver limit (standing_of b.link b.wire) (rest next p) later) stands runs);
     })
     played
   where
@@ -338,7 +343,8 @@ played_started limit rest a b c commands fetches added last played =
 -- a command `fetch` was played
 pub played_command : (limit : ℕ) (context : Context) (init : Init) (made : Result Request TypeFault) (a b c : Running)
     (result : Result ⊤ OutOfMemory) → b.commands ≡ a.commands + 1 → b.fetches ≡ a.fetches + 1 → b.events ≡ a.events
-    ++ event.Fetch a.fetches ∷ [] → b.wire ≡ a.wire → made ≡ new_request context.client (normalized_init init)
+    ++ event.Fetch a.fetches ∷ [] → standing_of b.link b.wire ≡ standing_of a.link a.wire
+    → made ≡ new_request context.client (normalized_init init)
     → OnOk result (Played limit (fetched context made) b c)
     → OnOk result (Played limit (command_run context (command.Fetch init)) a c)
 played_command limit context init made a b c (Ok done) commands fetches added wire is played =
@@ -393,12 +399,13 @@ script-limited-here context most script index command ending old now within is l
     record {
       made = shown.made;
       added = shown.added;
-      run = ended-with most (standing_of old.wire) (script_run context script end_of (progress_of old)) shown.made
+      run = ended-with most (standing_of old.link old.wire) (script_run context script end_of
+          (progress_of old)) shown.made
           ending (shown.run end_of (record { events = []; ending = Some (ending, 0) })
-          (subst (λ (e : Option Ending). RunsOver most (standing_of now.wire)
+          (subst (λ (e : Option Ending). RunsOver most (standing_of now.link now.wire)
           (unless_limit e (command_run context command (script_run context (drop (index + 1) script) end_of)
           (progress_of now))) (record { events = []; ending = Some (ending, 0) })) (sym limit)
-          (over-now most (standing_of now.wire) ending)));
+          (over-now most (standing_of now.link now.wire) ending)));
     }
 
 -- the command was played
@@ -425,11 +432,12 @@ script-over-here : (context : Context) (limit : ℕ) (script : List Command) (in
 script-over-here context limit script index old now past at = record {
   made = at.made;
   added = at.added;
-  run = ended-with limit (standing_of old.wire) (script_run context script end_of (progress_of old)) at.made Finished
+  run = ended-with limit (standing_of old.link old.wire) (script_run context script end_of
+      (progress_of old)) at.made Finished
       (at.run end_of (record { events = []; ending = Some (Finished, 0) })
-      (subst (λ (l : List Command). RunsOver limit (standing_of now.wire)
+      (subst (λ (l : List Command). RunsOver limit (standing_of now.link now.wire)
       (script_run context l end_of (progress_of now)) (record { events = []; ending = Some (Finished, 0) }))
-      (sym (drop_all index script past)) (over-now limit (standing_of now.wire) Finished)));
+      (sym (drop_all index script past)) (over-now limit (standing_of now.link now.wire) Finished)));
 }
 
 -- the same with the commands as the loop has them
@@ -469,7 +477,8 @@ pub played_request : (limit : ℕ) (context : Context) (made : Result Request Ty
     (outcome : Outcome) (a b c : Running) (result : Result ⊤ OutOfMemory) → made ≡ Ok request
     → Fetched limit (main_fetch context request) a b outcome
     → OnOk result (c.events ≡ b.events ++ event.Result outcome ∷ []) → c.commands ≡ b.commands → c.fetches ≡ b.fetches
-    → standing_of c.wire ≡ idle (standing_of b.wire).servers → OnOk result (Played limit (fetched context made) a c)
+    → standing_of c.link c.wire ≡ idle (standing_of b.link b.wire).servers
+    → OnOk result (Played limit (fetched context made) a c)
 played_request limit context made request outcome a b c (Ok done) is came added commands fetches last =
     rw is (played_fetched limit (main_fetch context request) outcome a b c came commands fetches added last)
 played_request limit context made request outcome a b c (Err refused) is came added commands fetches last = tt

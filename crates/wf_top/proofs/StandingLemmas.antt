@@ -18,10 +18,10 @@ use Rattle.wf_top.specs.Plays.{Serves, Standing, by_rules, idle, told}
 use Rattle.wf_top.specs.Private.Standings.{standing_of}
 
 -- a wire to which nothing is to come
-pub standing_idle : (wire : Wire SimState) (servers : List Server) → IsIdle (told (standing_of wire))
-    → Some wire.link.servers ≡ Some servers → standing_of wire ≡ idle servers
-standing_idle wire servers is same =
-    let here : wire.link.servers ≡ servers = cc in
+pub standing_idle : (link : SimState) (wire : Wire) (servers : List Server) → IsIdle (told (standing_of link wire))
+    → Some link.servers ≡ Some servers → standing_of link wire ≡ idle servers
+standing_idle link wire servers is same =
+    let here : link.servers ≡ servers = cc in
     rw (here, is.end, is.framing_is) refl
 
 -- the request's bytes are answered by its method and its target

@@ -41,14 +41,16 @@ fn exchange(
     act: Act,
 ) -> Result<Input, OutOfMemory>
     requires { IsPlain act }
-    ensures came { IfOk result (λ input. Serves limit (standing_of running.old.wire) act input
-        (standing_of running.new.wire)) }
+    ensures came { IfOk result (λ input. Serves limit (standing_of running.old.link running.old.wire) act input
+        (standing_of running.new.link running.new.wire)) }
     ensures fits { IfOk result (λ input. IsTrue (fits act input)) }
     ensures events { IfOk result (λ input. running.new.events ≡ running.old.events ++ events_of act input) }
     ensures commands { running.new.commands ≡ running.old.commands }
     ensures fetches { running.new.fetches ≡ running.old.fetches }
 {
-    let input = running.wire.exchange(alloc, limit, &act)?;
+    let input = running
+        .wire
+        .exchange(&mut running.link, alloc, limit, &act)?;
     running.show_act(act)?;
     Ok(input)
 }

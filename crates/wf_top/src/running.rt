@@ -17,15 +17,16 @@ use wf_types::Outcome;
 use wf_wire::Wire;
 
 /// Where a document's run stands: how many commands and how many fetches have started, the events so
-/// far with the number of bytes that their lines have, as far as 64 bits tell it, and the wire to the
-/// servers.
+/// far with the number of bytes that their lines have, as far as 64 bits tell it, and the link to the
+/// servers with its wire.
 #[derive(Drop)]
 pub(crate) struct Running<'a> {
     pub(crate) commands: u32,
     pub(crate) fetches: u32,
     pub(crate) events: Events,
     pub(crate) printed: u64,
-    pub(crate) wire: Wire<SimLink<'a>>,
+    pub(crate) link: SimLink<'a>,
+    pub(crate) wire: Wire,
     pub ghost measured: { printed ≡ capped (text_length events) },
     pub ghost few_commands: { commands ≤ 16384 },
     pub ghost few_fetches: { fetches ≤ 1024 },
@@ -39,14 +40,17 @@ impl<'a> Running<'a> {
         ensures commands { IfOk result (λ running. running.commands ≡ 0) }
         ensures fetches { IfOk result (λ running. running.fetches ≡ 0) }
         ensures events { IfOk result (λ running. running.events ≡ []) }
-        ensures wire { IfOk result (λ running. standing_of running.wire ≡ idle scenario.now.servers) }
+        ensures wire { IfOk result (λ running. standing_of running.link running.wire ≡ idle scenario.now.servers) }
     {
+        let mut link = SimLink::new(scenario);
+        let wire = Wire::new(alloc, &mut link)?;
         Ok(Running {
             commands: 0,
             fetches: 0,
             events: Events::new(alloc),
             printed: 0,
-            wire: Wire::new(alloc, SimLink::new(scenario))?,
+            link,
+            wire,
         })
     }
 
@@ -55,7 +59,7 @@ impl<'a> Running<'a> {
         ensures events { OnOk result (self.new.events ≡ self.old.events ++ event ∷ []) }
         ensures commands { self.new.commands ≡ self.old.commands }
         ensures fetches { self.new.fetches ≡ self.old.fetches }
-        ensures wire { self.new.wire ≡ self.old.wire }
+        ensures wire { standing_of self.new.link self.new.wire ≡ standing_of self.old.link self.old.wire }
     {
         let printed = self.printed.saturating_add(event_len(&event));
         self.events.push(event)?;
@@ -68,7 +72,7 @@ impl<'a> Running<'a> {
         ensures events { (input : Input) → OnOk result (self.new.events ≡ self.old.events ++ events_of act input) }
         ensures commands { self.new.commands ≡ self.old.commands }
         ensures fetches { self.new.fetches ≡ self.old.fetches }
-        ensures wire { self.new.wire ≡ self.old.wire }
+        ensures wire { standing_of self.new.link self.new.wire ≡ standing_of self.old.link self.old.wire }
     {
         match act {
             Act::Send(hop) => self.show(Event::Sent(hop)),
@@ -83,9 +87,10 @@ impl<'a> Running<'a> {
         ensures events { OnOk result (self.new.events ≡ self.old.events ++ Event.Result outcome ∷ []) }
         ensures commands { self.new.commands ≡ self.old.commands }
         ensures fetches { self.new.fetches ≡ self.old.fetches }
-        ensures wire { standing_of self.new.wire ≡ idle (standing_of self.old.wire).servers }
+        ensures wire { standing_of self.new.link self.new.wire
+            ≡ idle (standing_of self.old.link self.old.wire).servers }
     {
-        self.wire.close();
+        self.wire.close(&mut self.link);
         self.show(Event::Result(outcome))
     }
 
@@ -96,7 +101,7 @@ impl<'a> Running<'a> {
         ensures events { OnOk result (self.new.events ≡ self.old.events ++ Event.Fetch self.old.fetches ∷ []) }
         ensures commands { OnOk result (self.new.commands ≡ self.old.commands + 1) }
         ensures fetches { OnOk result (self.new.fetches ≡ self.old.fetches + 1) }
-        ensures wire { self.new.wire ≡ self.old.wire }
+        ensures wire { standing_of self.new.link self.new.wire ≡ standing_of self.old.link self.old.wire }
     {
         self.show(Event::Fetch(self.fetches))?;
         self.commands += 1;

@@ -13,7 +13,7 @@ over_link answer next = record {
 }
 
 -- the bytes that were received and not yet read
-abbrev pub window_of : {L : Type 0} → Wire L → List ℕ
+abbrev pub window_of : Wire → List ℕ
 window_of wire = slice_range wire.buffer.items wire.from wire.to
 
 -- these bytes, and then what a link has left, where it tells
@@ -21,15 +21,15 @@ abbrev pub onto_left : List ℕ → Option (List ℕ) → Option (List ℕ)
 onto_left window left = option_map (λ rest. window ++ rest) left
 
 -- the bytes to come, where the link tells: those that were received, and then what it has left
-abbrev pub coming_of : {L : Type 0} → (L → Option (List ℕ)) → Wire L → Option (List ℕ)
-coming_of left wire = onto_left (window_of wire) (left wire.link)
+abbrev pub coming_of : {L : Type 0} → (L → Option (List ℕ)) → L → Wire → Option (List ℕ)
+coming_of left link wire = onto_left (window_of wire) (left link)
 
 -- what the link tells of its state, the bytes to come, the framing, and the link's count of faults
-abbrev pub exchange_of : {L State : Type 0} → (L → Option State) → (L → Option (List ℕ)) → (L → ℕ) → Wire L
+abbrev pub exchange_of : {L State : Type 0} → (L → Option State) → (L → Option (List ℕ)) → (L → ℕ) → L → Wire
     → Exchange State
-exchange_of state left faults wire = record {
-  state = state wire.link;
-  coming = coming_of left wire;
+exchange_of state left faults link wire = record {
+  state = state link;
+  coming = coming_of left link wire;
   framing = wire.framing;
-  faults = faults wire.link;
+  faults = faults link;
 }

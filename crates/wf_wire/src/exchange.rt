@@ -55,55 +55,67 @@ fn fitted(alloc: Global, end: BodyEnd) -> Result<BodyEnd, OutOfMemory>
     }
 }
 
-impl<L: Link> Wire<L> {
+impl Wire {
     /// Does an act and answers what comes of it: a request is sent, the head of its answer is read, or the
     /// body behind it, which has at most so many bytes. Where memory was refused nothing is said of what is
     /// to come.
-    pub fn exchange(&mut self, alloc: Global, limit: u32, act: &Act) -> Result<Input, OutOfMemory>
+    pub fn exchange<L: Link>(
+        &mut self,
+        link: &mut L,
+        alloc: Global,
+        limit: u32,
+        act: &Act,
+    ) -> Result<Input, OutOfMemory>
         ensures came { IfOk result (λ input. spec.Exchanges (over_link L.answer L.next) limit
-            (exchange_of L.state L.left L.faults self.old) act.now input
-            (exchange_of L.state L.left L.faults self.new)) }
+            (exchange_of L.state L.left L.faults link.old self.old) act.now input
+            (exchange_of L.state L.left L.faults link.new self.new)) }
         ensures fits { IfOk result (λ input. IsTrue (fits act.now input)) }
-        ensures refused { OnErr result (IsRefused (exchange_of L.state L.left L.faults self.old)
-            (exchange_of L.state L.left L.faults self.new)) }
+        ensures refused { OnErr result (IsRefused (exchange_of L.state L.left L.faults link.old self.old)
+            (exchange_of L.state L.left L.faults link.new self.new)) }
     {
         match act {
-            Act::Send(hop) => self.send(alloc, hop),
-            Act::ReadHead => self.read_head(alloc),
-            Act::ReadBody => self.read_body(alloc, limit),
+            Act::Send(hop) => self.send(link, alloc, hop),
+            Act::ReadHead => self.read_head(link, alloc),
+            Act::ReadBody => self.read_body(link, alloc, limit),
         }
     }
 
     /// Sends a request (RFC 9112, section 3). Its answer is to come, and nothing of the one before. `Fault`
     /// only where the link's count of faults rose; then the link is hung up. Where memory was refused
     /// nothing is sent.
-    pub fn send(&mut self, alloc: Global, hop: &Hop) -> Result<Input, OutOfMemory>
+    pub fn send<L: Link>(
+        &mut self,
+        link: &mut L,
+        alloc: Global,
+        hop: &Hop,
+    ) -> Result<Input, OutOfMemory>
         ensures sent { IfOk result (λ input. spec.IsSent (over_link L.answer L.next)
-            (exchange_of L.state L.left L.faults self.old) hop.now input
-            (exchange_of L.state L.left L.faults self.new)) }
+            (exchange_of L.state L.left L.faults link.old self.old) hop.now input
+            (exchange_of L.state L.left L.faults link.new self.new)) }
         ensures fits { IfOk result (λ input. IsTrue (fits (Act.Send hop.now) input)) }
-        ensures refused { OnErr result (exchange_of L.state L.left L.faults self.new
-            ≡ exchange_of L.state L.left L.faults self.old) }
+        ensures refused { OnErr result (exchange_of L.state L.left L.faults link.new self.new
+            ≡ exchange_of L.state L.left L.faults link.old self.old) }
     {
         let request = write_request(alloc, hop)?;
         let target = Target {
             origin: hop.origin.copy(alloc)?,
         };
-        Ok(self.ask(&target, request.as_slice()))
+        Ok(self.ask(link, &target, request.as_slice()))
     }
 
     // Asks for the answer to the bytes of a request, and for nothing that was to come before.
     #[tactic(auto, using(crate::proofs::WireLemmas::onto_nothing))]
-    fn ask(&mut self, target: &Target, request: &[u8]) -> Input
+    fn ask<L: Link>(&mut self, link: &mut L, target: &Target, request: &[u8]) -> Input
         ensures { IsAsked (λ state. L.answer state target.now.origin request.now)
-            (λ state. L.next state target.now.origin request.now) (exchange_of L.state L.left L.faults self.old)
-            result (exchange_of L.state L.left L.faults self.new) }
+            (λ state. L.next state target.now.origin request.now)
+            (exchange_of L.state L.left L.faults link.old self.old)
+            result (exchange_of L.state L.left L.faults link.new self.new) }
     {
-        self.hang_up();
-        match self.link.ask(target, request) {
+        self.hang_up(link);
+        match link.ask(target, request) {
             Ok(()) => Input::Sent,
             Err(Failed) => {
-                self.close();
+                self.close(link);
                 Input::Fault
             }
         }
@@ -112,35 +124,36 @@ impl<L: Link> Wire<L> {
     /// Reads the head of the answer to the last request (RFC 9112, section 4): the final head, or what came
     /// is none, or it is longer than 65,536 bytes. Of the answer 65,537 bytes are received at most. `Fault`
     /// only where the link's count of faults rose. Where no head came the link is hung up.
-    pub fn read_head(&mut self, alloc: Global) -> Result<Input, OutOfMemory>
-        ensures read { IfOk result (λ input. spec.IsHeadRead (exchange_of L.state L.left L.faults self.old) input
-            (exchange_of L.state L.left L.faults self.new)) }
+    pub fn read_head<L: Link>(&mut self, link: &mut L, alloc: Global) -> Result<Input, OutOfMemory>
+        ensures read { IfOk result (λ input. spec.IsHeadRead
+            (exchange_of L.state L.left L.faults link.old self.old) input
+            (exchange_of L.state L.left L.faults link.new self.new)) }
         ensures fits { IfOk result (λ input. IsTrue (fits Act.ReadHead input)) }
-        ensures refused { OnErr result (IsRefused (exchange_of L.state L.left L.faults self.old)
-            (exchange_of L.state L.left L.faults self.new)) }
+        ensures refused { OnErr result (IsRefused (exchange_of L.state L.left L.faults link.old self.old)
+            (exchange_of L.state L.left L.faults link.new self.new)) }
     {
-        match self.find_head(alloc)? {
+        match self.find_head(link, alloc)? {
             Found::Head(head, count) => {
                 let framing = framing_of(alloc, &head)?;
                 self.begin_body(count, framing);
                 Ok(Input::HeadIs(head))
             }
-            Found::Bad => Ok(self.without_head(Input::HeadBad)),
-            Found::Long => Ok(self.without_head(Input::HeadLong)),
-            Found::Fault => Ok(self.without_head(Input::Fault)),
+            Found::Bad => Ok(self.without_head(link, Input::HeadBad)),
+            Found::Long => Ok(self.without_head(link, Input::HeadLong)),
+            Found::Fault => Ok(self.without_head(link, Input::Fault)),
         }
     }
 
     // Finds the final head in what was received and as much more as it needs. Of the link it takes no
     // byte behind the one that makes a head too long.
-    fn find_head(&mut self, alloc: Global) -> Result<Found, OutOfMemory>
-        ensures found { IfOk result (λ found. Finds (coming_of L.left self.old) found (window_of self.new)
-            (L.left self.new.link)) }
-        ensures state { L.state self.new.link ≡ L.state self.old.link }
-        ensures later { L.faults self.old.link ≤ L.faults self.new.link }
+    fn find_head<L: Link>(&mut self, link: &mut L, alloc: Global) -> Result<Found, OutOfMemory>
+        ensures found { IfOk result (λ found. Finds (coming_of L.left link.old self.old) found (window_of self.new)
+            (L.left link.new)) }
+        ensures state { L.state link.new ≡ L.state link.old }
+        ensures later { L.faults link.old ≤ L.faults link.new }
         ensures rose { IfOk result (λ found. found ≡ Found.Fault
-            → Rose (L.faults self.old.link) (L.faults self.new.link)) }
-        ensures few { GaveAtMost (L.left self.old.link) (L.left self.new.link) (most_bytes + 1) }
+            → Rose (L.faults link.old) (L.faults link.new)) }
+        ensures few { GaveAtMost (L.left link.old) (L.left link.new) (most_bytes + 1) }
     {
         let mut reader = HeadReader::new(alloc)?;
         loop {
@@ -151,7 +164,7 @@ impl<L: Link> Wire<L> {
                 HeadStep::More(next) => reader = next,
             }
             let room = MOST_OF_HEAD - reader.seen_bytes() as usize;
-            match self.refill(room.min(RECEIVED)) {
+            match self.refill(link, room.min(RECEIVED)) {
                 Ok(true) => {}
                 Ok(false) => return Ok(Found::Bad),
                 Err(Failed) => return Ok(Found::Fault),
@@ -160,41 +173,52 @@ impl<L: Link> Wire<L> {
     }
 
     // The wire is closed, since no head came.
-    fn without_head(&mut self, input: Input) -> Input
+    fn without_head<L: Link>(&mut self, link: &mut L, input: Input) -> Input
         ensures input { result ≡ input }
-        ensures idle { IsIdle (exchange_of L.state L.left L.faults self.new) }
-        ensures state { (exchange_of L.state L.left L.faults self.new).state
-            ≡ (exchange_of L.state L.left L.faults self.old).state }
-        ensures faults { (exchange_of L.state L.left L.faults self.new).faults
-            ≡ (exchange_of L.state L.left L.faults self.old).faults }
+        ensures idle { IsIdle (exchange_of L.state L.left L.faults link.new self.new) }
+        ensures state { (exchange_of L.state L.left L.faults link.new self.new).state
+            ≡ (exchange_of L.state L.left L.faults link.old self.old).state }
+        ensures faults { (exchange_of L.state L.left L.faults link.new self.new).faults
+            ≡ (exchange_of L.state L.left L.faults link.old self.old).faults }
     {
-        self.close();
+        self.close(link);
         input
     }
 
     /// Reads the body behind the last head, of so many bytes at most (RFC 9112, section 6), and hangs up. A
     /// body `Fault`, with the number of bytes that had come of it, only where the link's count of faults
     /// rose while the body was not decided.
-    pub fn read_body(&mut self, alloc: Global, limit: u32) -> Result<Input, OutOfMemory>
-        ensures read { IfOk result (λ input. spec.IsBodyRead limit (exchange_of L.state L.left L.faults self.old)
-            input (exchange_of L.state L.left L.faults self.new)) }
+    pub fn read_body<L: Link>(
+        &mut self,
+        link: &mut L,
+        alloc: Global,
+        limit: u32,
+    ) -> Result<Input, OutOfMemory>
+        ensures read { IfOk result (λ input. spec.IsBodyRead limit
+            (exchange_of L.state L.left L.faults link.old self.old)
+            input (exchange_of L.state L.left L.faults link.new self.new)) }
         ensures fits { IfOk result (λ input. IsTrue (fits Act.ReadBody input)) }
-        ensures refused { OnErr result (IsRefused (exchange_of L.state L.left L.faults self.old)
-            (exchange_of L.state L.left L.faults self.new)) }
+        ensures refused { OnErr result (IsRefused (exchange_of L.state L.left L.faults link.old self.old)
+            (exchange_of L.state L.left L.faults link.new self.new)) }
     {
-        let end = self.body(alloc, limit)?;
-        self.close();
+        let end = self.body(link, alloc, limit)?;
+        self.close(link);
         Ok(Input::BodyIs(fitted(alloc, end)?))
     }
 
     // How the body behind the last head comes to its end.
-    fn body(&mut self, alloc: Global, limit: u32) -> Result<BodyEnd, OutOfMemory>
-        ensures end { IfOk result (λ end. Reads self.old.framing limit (coming_of L.left self.old) end
-            (L.left self.new.link)) }
-        ensures state { L.state self.new.link ≡ L.state self.old.link }
-        ensures later { L.faults self.old.link ≤ L.faults self.new.link }
-        ensures caused { IfOk result (λ end. IsCaused (Input.BodyIs end) (L.faults self.old.link)
-            (L.faults self.new.link)) }
+    fn body<L: Link>(
+        &mut self,
+        link: &mut L,
+        alloc: Global,
+        limit: u32,
+    ) -> Result<BodyEnd, OutOfMemory>
+        ensures end { IfOk result (λ end. Reads self.old.framing limit (coming_of L.left link.old self.old) end
+            (L.left link.new)) }
+        ensures state { L.state link.new ≡ L.state link.old }
+        ensures later { L.faults link.old ≤ L.faults link.new }
+        ensures caused { IfOk result (λ end. IsCaused (Input.BodyIs end) (L.faults link.old)
+            (L.faults link.new)) }
     {
         let mut reader = BodyReader::framed(alloc, self.framing, limit)?;
         loop {
@@ -202,7 +226,7 @@ impl<L: Link> Wire<L> {
                 BodyStep::Over(end) => return Ok(end),
                 BodyStep::More(next) => reader = next,
             }
-            match self.refill(RECEIVED) {
+            match self.refill(link, RECEIVED) {
                 Ok(true) => {}
                 Ok(false) => return Ok(reader.finish()),
                 Err(Failed) => return Ok(broken_off(reader.finish())),

@@ -10,11 +10,10 @@ use wf_text::OutOfMemory;
 /// How many bytes are received at once at most.
 pub(crate) const RECEIVED: usize = 4_096;
 
-/// A wire over a link: the link, a buffer for what it gives, where in the buffer the bytes stand that
-/// were received and not yet read, and how the body behind the last head is framed.
+/// A wire over a link that it is lent: a buffer for what the link gives, where in the buffer the bytes
+/// stand that were received and not yet read, and how the body behind the last head is framed.
 #[derive(Drop)]
-pub struct Wire<L> {
-    pub(crate) link: L,
+pub struct Wire {
     pub(crate) buffer: Vec<u8>,
     pub(crate) from: usize,
     pub(crate) to: usize,
@@ -41,70 +40,47 @@ fn receive<L: Link>(link: &mut L, buffer: &mut [u8], most: usize) -> Result<usiz
     link.recv(&mut buffer[..room])
 }
 
-impl<L: Link + Drop> Wire<L> {
+impl Wire {
     ghost use Rattle.wf_wire.specs.Exchanges.{IsIdle};
-    ghost use Rattle.wf_wire.specs.Wires.{exchange_of};
+    ghost use Rattle.wf_wire.specs.Wires.{exchange_of, window_of};
 
     /// A wire over a link, with a buffer of 4,096 bytes. Nothing is to come: the link is hung up.
-    pub fn new(alloc: Global, link: L) -> Result<Wire<L>, OutOfMemory>
-        ensures idle { IfOk result (λ wire. IsIdle (exchange_of L.state L.left L.faults wire)) }
-        ensures state { IfOk result (λ wire. (exchange_of L.state L.left L.faults wire).state ≡ L.state link) }
-        ensures faults { IfOk result (λ wire. (exchange_of L.state L.left L.faults wire).faults ≡ L.faults link) }
+    pub fn new<L: Link>(alloc: Global, link: &mut L) -> Result<Wire, OutOfMemory>
+        ensures idle { IfOk result (λ wire. IsIdle (exchange_of L.state L.left L.faults link.new wire)) }
+        ensures state { L.state link.new ≡ L.state link.old }
+        ensures faults { L.faults link.new ≡ L.faults link.old }
     {
         let mut wire = Wire {
-            link,
             buffer: vec![in alloc; 0u8; RECEIVED]?,
             from: 0,
             to: 0,
             framing: Framing::Nothing,
         };
-        wire.close();
+        wire.close(link);
         Ok(wire)
     }
-}
-
-impl<L: Link> Wire<L> {
-    ghost use Rattle.wf_wire.specs.Exchanges.{IsIdle};
-    ghost use Rattle.wf_wire.specs.Wires.{exchange_of, onto_left, window_of};
 
     /// Hangs up: nothing is to come any more.
     #[tactic(auto, using(crate::proofs::WireLemmas::onto_nothing))]
-    pub fn close(&mut self)
-        ensures idle { IsIdle (exchange_of L.state L.left L.faults self.new) }
-        ensures state { (exchange_of L.state L.left L.faults self.new).state
-            ≡ (exchange_of L.state L.left L.faults self.old).state }
-        ensures faults { (exchange_of L.state L.left L.faults self.new).faults
-            ≡ (exchange_of L.state L.left L.faults self.old).faults }
+    pub fn close<L: Link>(&mut self, link: &mut L)
+        ensures idle { IsIdle (exchange_of L.state L.left L.faults link.new self.new) }
+        ensures state { (exchange_of L.state L.left L.faults link.new self.new).state
+            ≡ (exchange_of L.state L.left L.faults link.old self.old).state }
+        ensures faults { (exchange_of L.state L.left L.faults link.new self.new).faults
+            ≡ (exchange_of L.state L.left L.faults link.old self.old).faults }
     {
-        self.hang_up();
-    }
-
-    /// Hangs up and gives the link back.
-    pub fn into_link(self) -> L
-        ensures end { IsAtEnd (L.left result) }
-        ensures state { L.state result ≡ (exchange_of L.state L.left L.faults self).state }
-        ensures faults { L.faults result ≡ (exchange_of L.state L.left L.faults self).faults }
-    {
-        let Wire {
-            mut link,
-            buffer: _,
-            from: _,
-            to: _,
-            framing: _,
-        } = self;
-        link.hang_up();
-        link
+        self.hang_up(link);
     }
 
     // Hangs up, and empties the window.
-    pub(crate) fn hang_up(&mut self)
+    pub(crate) fn hang_up<L: Link>(&mut self, link: &mut L)
         ensures window { window_of self.new ≡ [] }
-        ensures end { IsAtEnd (L.left self.new.link) }
+        ensures end { IsAtEnd (L.left link.new) }
         ensures framing { self.new.framing ≡ Framing.Nothing }
-        ensures state { L.state self.new.link ≡ L.state self.old.link }
-        ensures faults { L.faults self.new.link ≡ L.faults self.old.link }
+        ensures state { L.state link.new ≡ L.state link.old }
+        ensures faults { L.faults link.new ≡ L.faults link.old }
     {
-        self.link.hang_up();
+        link.hang_up();
         self.from = 0;
         self.to = 0;
         self.framing = Framing::Nothing;
@@ -119,19 +95,19 @@ impl<L: Link> Wire<L> {
 
     // Receives the next bytes, so many at most, in place of those in the window, and answers whether
     // there were any.
-    pub(crate) fn refill(&mut self, most: usize) -> Result<bool, Failed>
+    pub(crate) fn refill<L: Link>(&mut self, link: &mut L, most: usize) -> Result<bool, Failed>
         requires { 0 < most }
-        ensures state { L.state self.new.link ≡ L.state self.old.link }
+        ensures state { L.state link.new ≡ L.state link.old }
         ensures framing { self.new.framing ≡ self.old.framing }
-        ensures gave { OnOk result (Gave (L.left self.old.link) (L.left self.new.link) (window_of self.new)) }
+        ensures gave { OnOk result (Gave (L.left link.old) (L.left link.new) (window_of self.new)) }
         ensures few { OnOk result (length (window_of self.new) ≤ most) }
         ensures some { IfOk result (λ more. more ≡ true → 0 < length (window_of self.new)) }
         ensures none { IfOk result (λ more. more ≡ false → window_of self.new ≡ []) }
-        ensures end { IfOk result (λ more. more ≡ false → IsAtEnd (L.left self.new.link)) }
-        ensures failed { OnErr result (L.left self.new.link ≡ L.left self.old.link) }
-        ensures cause { HasCause (L.faults self.old.link) (L.faults self.new.link) result }
+        ensures end { IfOk result (λ more. more ≡ false → IsAtEnd (L.left link.new)) }
+        ensures failed { OnErr result (L.left link.new ≡ L.left link.old) }
+        ensures cause { HasCause (L.faults link.old) (L.faults link.new) result }
     {
-        let count = receive(&mut self.link, self.buffer.as_mut_slice(), most)?;
+        let count = receive(link, self.buffer.as_mut_slice(), most)?;
         self.from = 0;
         self.to = count;
         Ok(count != 0)
@@ -140,11 +116,8 @@ impl<L: Link> Wire<L> {
     // So many bytes of the window were read, and a body of this framing follows.
     pub(crate) fn begin_body(&mut self, count: usize, framing: Framing)
         requires { count ≤ length (window_of self.old) }
-        ensures { exchange_of L.state L.left L.faults self.new
-            ≡ record (exchange_of L.state L.left L.faults self.old) {
-              coming = onto_left (drop count (window_of self.old)) (L.left self.old.link);
-              framing = framing;
-            } }
+        ensures window { window_of self.new ≡ drop count (window_of self.old) }
+        ensures framing { self.new.framing ≡ framing }
     {
         self.from += count;
         self.framing = framing;

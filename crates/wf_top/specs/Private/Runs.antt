@@ -27,8 +27,8 @@ progress_of running = record {
 pub record Shows {A : Type 0} (limit : ℕ) (part rest : A → Play) (old new : Running) : Type 0 where
   pub made : List Event
   pub added : new.events ≡ old.events ++ made
-  pub run : (next : A) (later : PlayRun) → RunsOver limit (standing_of new.wire) (rest next) later
-      → RunsOver limit (standing_of old.wire) (part next) (shows made later)
+  pub run : (next : A) (later : PlayRun) → RunsOver limit (standing_of new.link new.wire) (rest next) later
+      → RunsOver limit (standing_of old.link old.wire) (part next) (shows made later)
 
 -- a part of a script was played
 abbrev pub Played : ℕ → (Next → Next) → Running → Running → Type 0
@@ -51,4 +51,4 @@ Fetched limit whole old new outcome =
 pub record Ends (limit : ℕ) (whole : Play) (old new : Running) (ending : Ending) : Type 0 where
   pub made : List Event
   pub added : new.events ≡ old.events ++ made
-  pub run : RunsOver limit (standing_of old.wire) whole (record { events = made; ending = Some (ending, 0) })
+  pub run : RunsOver limit (standing_of old.link old.wire) whole (record { events = made; ending = Some (ending, 0) })

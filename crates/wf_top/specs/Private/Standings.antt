@@ -6,9 +6,9 @@ use Rattle.wf_wire.specs.declared.wire.Wire.{Wire}
 use Rattle.wf_top.specs.Plays.{Standing}
 
 -- the servers behind the link; what was received and then what the link has left; and the framing
-abbrev pub standing_of : Wire SimState → Standing
-standing_of wire = record {
-  servers = wire.link.servers;
-  coming = window_of wire ++ wire.link.left;
+abbrev pub standing_of : SimState → Wire → Standing
+standing_of link wire = record {
+  servers = link.servers;
+  coming = window_of wire ++ link.left;
   framing = wire.framing;
 }

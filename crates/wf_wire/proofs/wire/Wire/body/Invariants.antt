@@ -7,12 +7,12 @@ use Rattle.wf_wire.proofs.wire.Wire.body.Given as goal
 -- what was received was read or stands in the window
 abbrev pub invariant-loop-end : goal.invariant-loop-end
 invariant-loop-end g l = record {
-  received : Receives (window_of l.fn.self) (g.L.Link.left l.fn.self.link) l.reader.bytes (window_of l.self)
-      (g.L.Link.left l.self.link);
+  received : Receives (window_of l.fn.self) (g.L.Link.left l.fn.link) l.reader.bytes (window_of l.self)
+      (g.L.Link.left l.link);
   framing : l.reader.framing ≡ l.fn.self.framing;
   limit : l.reader.limit ≡ l.limit;
-  state : g.L.Link.state l.self.link ≡ g.L.Link.state l.fn.self.link;
-  later : g.L.Link.faults l.fn.self.link ≤ g.L.Link.faults l.self.link;
+  state : g.L.Link.state l.link ≡ g.L.Link.state l.fn.link;
+  later : g.L.Link.faults l.fn.link ≤ g.L.Link.faults l.link;
 }
 
 -- each receive takes a byte, and bytes that leave a body open are so many at most

@@ -7,50 +7,50 @@ use Rattle.wf_wire.proofs.wire.Wire.find_head.Goals as goal
 
 pub returns-in-Final-clause-found : goal.returns-in-Final-clause-found
 returns-in-Final-clause-found g c =
-    finds-head (window_of c.args.self.now) (g.L.Link.left c.args.self.now.link) c.loop-head.reader c.window.result.now
-    (window_of c.loop-head.self) (g.L.Link.left c.loop-head.self.link) c.in_ok-head.field-0 c.window.ensures
+    finds-head (window_of c.args.self.now) (g.L.Link.left c.args.link.now) c.loop-head.reader c.window.result.now
+    (window_of c.loop-head.self) (g.L.Link.left c.loop-head.link) c.in_ok-head.field-0 c.window.ensures
     c.in_ok-head.ensures c.loop-head.invariant.received c.in-Final.head c.in-Final.count c.in-Final.is
 
 pub returns-in-Bad-clause-found : goal.returns-in-Bad-clause-found
 returns-in-Bad-clause-found g c =
-    finds-bad (window_of c.args.self.now) (g.L.Link.left c.args.self.now.link) c.loop-head.reader c.window.result.now
-    (window_of c.loop-head.self) (g.L.Link.left c.loop-head.self.link) c.in_ok-head.field-0 c.window.ensures
+    finds-bad (window_of c.args.self.now) (g.L.Link.left c.args.link.now) c.loop-head.reader c.window.result.now
+    (window_of c.loop-head.self) (g.L.Link.left c.loop-head.link) c.in_ok-head.field-0 c.window.ensures
     c.in_ok-head.ensures c.loop-head.invariant.received c.in-Bad.is
 
 pub returns-in-TooBig-clause-found : goal.returns-in-TooBig-clause-found
 returns-in-TooBig-clause-found g c =
-    finds-long (window_of c.args.self.now) (g.L.Link.left c.args.self.now.link) c.loop-head.reader c.window.result.now
-    (window_of c.loop-head.self) (g.L.Link.left c.loop-head.self.link) c.in_ok-head.field-0 c.window.ensures
+    finds-long (window_of c.args.self.now) (g.L.Link.left c.args.link.now) c.loop-head.reader c.window.result.now
+    (window_of c.loop-head.self) (g.L.Link.left c.loop-head.link) c.in_ok-head.field-0 c.window.ensures
     c.in_ok-head.ensures c.loop-head.invariant.received c.in-TooBig.is
 
 pub returns-in-Ok-false-clause-found : goal.returns-in-Ok-false-clause-found
 returns-in-Ok-false-clause-found g c =
-    finds-end (window_of c.args.self.now) (g.L.Link.left c.args.self.now.link) c.loop-head.reader c.window.result.now
-    (window_of c.loop-head.self) (g.L.Link.left c.loop-head.self.link) c.in_ok-head.field-0 c.window.ensures
+    finds-end (window_of c.args.self.now) (g.L.Link.left c.args.link.now) c.loop-head.reader c.window.result.now
+    (window_of c.loop-head.self) (g.L.Link.left c.loop-head.link) c.in_ok-head.field-0 c.window.ensures
     c.in_ok-head.ensures c.loop-head.invariant.received c.in-More.next (window_of c.refill.new.self)
-    (window_of c.refill.new.self) (g.L.Link.left c.refill.new.self.link) c.in-More.is c.in-Ok-false.ensures.gave
+    (window_of c.refill.new.self) (g.L.Link.left c.refill.new.link) c.in-More.is c.in-Ok-false.ensures.gave
     (c.in-Ok-false.ensures.none c.in-Ok-false.field-0-test) (c.in-Ok-false.ensures.end c.in-Ok-false.field-0-test)
 
 pub returns-in-Err-clause-found : goal.returns-in-Err-clause-found
 returns-in-Err-clause-found g c =
-    finds-fault (window_of c.args.self.now) (g.L.Link.left c.args.self.now.link) c.loop-head.reader
-    c.window.result.now (window_of c.loop-head.self) (g.L.Link.left c.loop-head.self.link) c.in_ok-head.field-0
+    finds-fault (window_of c.args.self.now) (g.L.Link.left c.args.link.now) c.loop-head.reader
+    c.window.result.now (window_of c.loop-head.self) (g.L.Link.left c.loop-head.link) c.in_ok-head.field-0
     c.window.ensures c.in_ok-head.ensures c.loop-head.invariant.received c.in-More.next
-    (window_of c.refill.new.self) (g.L.Link.left c.refill.new.self.link) c.in-More.is c.in-Err.ensures.failed
+    (window_of c.refill.new.self) (g.L.Link.left c.refill.new.link) c.in-More.is c.in-Err.ensures.failed
 
 pub loop-head-preserved : goal.loop-head-preserved
 loop-head-preserved g c =
     let received = c.in-Ok-true.ensures in
-    let on = head-goes-on (window_of c.args.self.now) (g.L.Link.left c.args.self.now.link) c.loop-head.reader
-    c.window.result.now (window_of c.loop-head.self) (g.L.Link.left c.loop-head.self.link) c.in_ok-head.field-0
+    let on = head-goes-on (window_of c.args.self.now) (g.L.Link.left c.args.link.now) c.loop-head.reader
+    c.window.result.now (window_of c.loop-head.self) (g.L.Link.left c.loop-head.link) c.in_ok-head.field-0
     c.window.ensures c.in_ok-head.ensures c.loop-head.invariant.received c.in-More.next
-    (window_of c.refill.new.self) (g.L.Link.left c.refill.new.self.link) c.in-More.is received.gave in
+    (window_of c.refill.new.self) (g.L.Link.left c.refill.new.link) c.in-More.is received.gave in
     let few : length c.in-More.next + length (window_of c.refill.new.self) ≤ most_bytes + 1 =
     omega (arith, received.few, c.min.ensures, c.seen_bytes.ensures.value, c.seen_bytes.ensures.few) in
     record {
       received = on;
-      few = received-most (window_of c.args.self.now) (g.L.Link.left c.args.self.now.link) c.in-More.next
-          (window_of c.refill.new.self) (g.L.Link.left c.refill.new.self.link) (most_bytes + 1) few on;
+      few = received-most (window_of c.args.self.now) (g.L.Link.left c.args.link.now) c.in-More.next
+          (window_of c.refill.new.self) (g.L.Link.left c.refill.new.link) (most_bytes + 1) few on;
       state = received.state ∙ c.loop-head.invariant.state;
       later = omega (arith, c.loop-head.invariant.later, received.cause.later);
     }

@@ -8,11 +8,11 @@ use Rattle.wf_wire.proofs.wire.Wire.find_head.Given as goal
 -- what was received was read or stands in the window, and the link has given a few bytes
 abbrev pub invariant-loop-head : goal.invariant-loop-head
 invariant-loop-head g l = record {
-  received : Receives (window_of l.fn.self) (g.L.Link.left l.fn.self.link) l.reader (window_of l.self)
-      (g.L.Link.left l.self.link);
-  few : GaveAtMost (g.L.Link.left l.fn.self.link) (g.L.Link.left l.self.link) (most_bytes + 1);
-  state : g.L.Link.state l.self.link ≡ g.L.Link.state l.fn.self.link;
-  later : g.L.Link.faults l.fn.self.link ≤ g.L.Link.faults l.self.link;
+  received : Receives (window_of l.fn.self) (g.L.Link.left l.fn.link) l.reader (window_of l.self)
+      (g.L.Link.left l.link);
+  few : GaveAtMost (g.L.Link.left l.fn.link) (g.L.Link.left l.link) (most_bytes + 1);
+  state : g.L.Link.state l.link ≡ g.L.Link.state l.fn.link;
+  later : g.L.Link.faults l.fn.link ≤ g.L.Link.faults l.link;
 }
 
 -- each receive takes a byte, and bytes that leave a head open are a few

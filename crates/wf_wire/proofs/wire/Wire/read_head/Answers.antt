@@ -7,8 +7,9 @@ pub returns-in-Long-clause-read : goal.returns-in-Long-clause-read
 returns-in-Long-clause-read g c =
     let closed = c.without_head-in-Long.ensures in
     let found = c.in_ok-head.ensures in
-    read-long (exchange_of g.L.Link.state g.L.Link.left g.L.Link.faults c.args.self.now)
-    (exchange_of g.L.Link.state g.L.Link.left g.L.Link.faults c.without_head-in-Long.new.self)
+    read-long (exchange_of g.L.Link.state g.L.Link.left g.L.Link.faults c.args.link.now c.args.self.now)
+    (exchange_of g.L.Link.state g.L.Link.left g.L.Link.faults c.without_head-in-Long.new.link
+    c.without_head-in-Long.new.self)
     c.without_head-in-Long.result c.in_ok-head.field-0 (window_of c.find_head.new.self)
-    (g.L.Link.left c.find_head.new.self.link) c.in-Long.is found.found closed.input closed.idle
+    (g.L.Link.left c.find_head.new.link) c.in-Long.is found.found closed.input closed.idle
     (closed.state ∙ found.state) (omega (arith, closed.faults, found.later))
