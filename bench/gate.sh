@@ -7,11 +7,12 @@ set -eu
 source "$(dirname "${BASH_SOURCE[0]}")/common.bash"
 cd "$root"
 
-# One line for each running check: its process, the seconds it has taken, its crate, and whether it proves the
-# crate, its tests or an edit.
+# One line for each running check of this repository: its process, the seconds it has taken, its crate, and whether it
+# proves the crate, its tests or an edit.
 checks() {
     local process seconds words name kind
     while read -r process seconds words; do
+        case "$(readlink "/proc/$process/cwd") $words" in *"$root/"*) ;; *) continue ;; esac
         name=${words#*--crate-name }
         kind=proofs
         case " $words " in *" --test "*) kind=tests ;; esac

@@ -1,0 +1,12 @@
+// A fetch, as a machine that is resumed, against the main fetch of the Fetch Standard.
+#![tactic(auto)]
+
+mod http;
+mod lent;
+mod main_fetch;
+mod place;
+mod preflight;
+mod resume;
+mod steps;
+
+pub use place::{Fetching, Step};
