@@ -155,7 +155,7 @@ image = record (get (insecure (codes "b.test"))) { destination = Image }
 upgrades : (mixed_upgraded (client (secure (codes "a.test"))) image
     ≡ record (get (secure (codes "b.test"))) { destination = Image })
     × (mixed_upgraded (client (secure (codes "a.test"))) (get (insecure (codes "b.test"))) ≡ get (insecure
-        (codes "b.test")))
+    (codes "b.test")))
     × (mixed_upgraded (client (insecure (codes "a.test"))) image ≡ image)
 unfolding url_on_literals
 upgrades = (refl, refl, refl)
