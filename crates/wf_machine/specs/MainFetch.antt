@@ -54,7 +54,7 @@ unless_violated onward context next request [] = matched onward context next (wi
 unless_violated onward context next request (violation ∷ violations) =
     tell_all request (violation ∷ violations) (next request (Err CspRequest))
 
--- a bad port and mixed content block the request before its policies are asked
+-- a bad port and mixed content block the request before its enforced policies are asked
 abbrev pub unless_refused : Onward → Context → Then → Request → Option NetError → Process
 unless_refused onward context next request (Some error) = next request (Err error)
 unless_refused onward context next request None =

@@ -1,6 +1,6 @@
 -- HTTP fetch with a CORS-preflight (Fetch, section 4.4 "HTTP fetch" and section 4.8 "CORS-preflight fetch"): the
--- preflight cache is asked, a preflight is sent where it does not cover the request, and an error takes back what was
--- learned.
+-- preflight cache is asked, a preflight is sent where it does not cover the request, and after an error what is known
+-- of the request as it then stands is taken back.
 use Rattle.std.specs.Prelude.{ℕ, Bool, List, Result, Ok, Err, if◌then◌else◌}
 use Rattle.wf_types.specs.declared.error.NetError.{NetError}
 use Rattle.wf_types.specs.declared.error.NetError.TheVariants.{LinkFault}

@@ -88,7 +88,7 @@ fn upgraded_level(lent: &Lent<'_>, level: Level) -> Result<Level, OutOfMemory>
     })
 }
 
-// The level with the referrer of its request determined.
+// The level with the referrer policy of its request, and its referrer by that policy.
 fn referred(alloc: Global, lent: &Lent<'_>, level: Level) -> Result<Level, OutOfMemory>
     requires http { IsAtHttp level.request }
     requires client { IsClient lent.now.client.now }

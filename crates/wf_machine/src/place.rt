@@ -50,7 +50,7 @@ pub enum Place {
     Ending(Violations, usize, Ended),
     /// The body of the response is read.
     BodyReading(Response),
-    /// What the preflight cache learned was taken back after an error.
+    /// After an error the preflight cache was told to forget the request as it then stood.
     Clearing(NetError),
 }
 

@@ -9,8 +9,8 @@ use Rattle.wf_types.specs.declared.error.NetError.TheVariants.{BadPort, Mixed}
 use Rattle.wf_types.specs.declared.request.Request.{Request}
 use Rattle.wf_types.specs.Requests.{current_url}
 
--- the network error of the first that refuses: a bad port, then mixed content. Content security policies are looked
--- at after both; the standard names no order among the three (this project's own choice).
+-- the network error of the first that refuses: a bad port, then mixed content. Enforced content security policies are
+-- looked at after both; the standard names no order among the three (this project's own choice).
 abbrev pub refusal_before : Client → Request → Option NetError
 refusal_before client request =
     if is_bad_port (current_url request).port then Some BadPort
