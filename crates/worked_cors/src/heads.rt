@@ -1,7 +1,7 @@
-// Heads of answers, and long texts as they are printed.
+// Heads of answers.
 use std::alloc::Global;
-use wf_rows::{Failed, Row, list_of, show};
-use wf_text::{Bytes, parse_digits};
+use wf_rows::{Failed, Row, list_of};
+use wf_text::parse_digits;
 use wf_types::Head;
 
 // The head whose status is the text at an index, and whose headers the texts behind it make.
@@ -13,17 +13,4 @@ pub(crate) fn head_of(alloc: Global, row: &Row, index: usize) -> Result<Head, Fa
         }),
         _ => Err(Failed),
     }
-}
-
-// A text, or how many bytes one of more than 1,000 has.
-pub(crate) fn short(alloc: Global, text: &[u8]) -> Result<Bytes, Failed> {
-    let mut shown = Bytes::new(alloc);
-    if text.len() <= 1_000 {
-        show::append(&mut shown, text)?;
-        return Ok(shown);
-    }
-    shown.append(b"{")?;
-    shown.append(text.len().to_string(alloc)?.as_bytes())?;
-    shown.append(b" bytes}")?;
-    Ok(shown)
 }

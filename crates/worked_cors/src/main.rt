@@ -1,5 +1,5 @@
-// Reads worked rows of the CORS protocol, filtered responses, referrers and loads, one a line, and prints each
-// with what its call answers. A line that begins with `#` is a title, which is printed as it stands, and so
+// Reads worked rows of the CORS protocol and of filtered responses, one a line, and prints each with what its
+// call answers. A line that begins with `#` is a title, which is printed as it stands, and so
 // is an empty line. A row is a kind and its texts, with a tab between; `wf_rows`'s `row.rt` says how a text is
 // written and `requests.rt` how a request is, and each file here which kinds it knows.
 #![tactic(auto)]
@@ -7,8 +7,6 @@
 mod answers;
 mod cors;
 mod heads;
-mod loads;
-mod referrers;
 
 use std::alloc::Global;
 use std::io;
@@ -21,13 +19,7 @@ fn answer(alloc: Global, row: &Row) -> Result<Bytes, Failed> {
     if let Some(answer) = cors::answer(alloc, row)? {
         return Ok(answer);
     }
-    if let Some(answer) = answers::answer(alloc, row)? {
-        return Ok(answer);
-    }
-    if let Some(answer) = referrers::answer(alloc, row)? {
-        return Ok(answer);
-    }
-    match loads::answer(alloc, row)? {
+    match answers::answer(alloc, row)? {
         Some(answer) => Ok(answer),
         None => Err(Failed),
     }

@@ -5,7 +5,7 @@
 ghost use Rattle.std.specs.Prelude.{◌≡◌};
 ghost use Rattle.wf_types.specs.Requests.{is_policy};
 
-use crate::heads::short;
+use crate::short::short;
 use std::alloc::Global;
 use wf_origin::is_http_url;
 use wf_referrer::determine;

@@ -7,7 +7,7 @@
 ghost use Rattle.std.specs.Prelude.{◌≢◌, IfOk};
 ghost use Rattle.wf_types.specs.Requests.{IsClient, IsRequest};
 
-use crate::heads::short;
+use crate::short::short;
 use std::alloc::Global;
 use wf_origin::{is_http_url, same_origin};
 use wf_rows::{Failed, Row, destination_named, policy_named, show, url_written, value_of};
