@@ -1,5 +1,8 @@
-pub mod Process
 pub mod Fetch
+pub mod HttpFetch
+pub mod Lending
 pub mod Machine
-pub mod Play
-pub mod Runs
+pub mod MainFetch
+pub mod PreflightFetch
+pub mod Ready
+pub mod Then

@@ -1,11 +1,12 @@
 // A fetch, as a machine that is resumed, against the main fetch of the Fetch Standard.
 #![tactic(auto)]
 
-mod act;
-mod machine;
-mod normalize;
+mod http;
+mod lent;
+mod main_fetch;
 mod place;
+mod preflight;
+mod resume;
+mod steps;
 
-pub use act::{Act, Input, fits};
-pub use normalize::normalized_init;
-pub use place::{Fetching, Place, Step};
+pub use place::{Fetching, Step};

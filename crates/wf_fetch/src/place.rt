@@ -1,28 +1,70 @@
+ghost use Rattle.std.specs.Prelude.{◌≡◌, ◌≤◌, ◌<◌, ◌^◌, false, IsTrue};
 ghost use Rattle.wf_types.specs.Requests.{IsRequest};
+ghost use Rattle.wf_fetch.specs.Ready.{is_ready_at, owes_early};
 
-use crate::act::Act;
-use wf_types::{Head, Outcome, Request};
+use std::snapshot::Snapshot;
+use wf_act::Act;
+use wf_answers::Ended;
+use wf_cors::Checked;
+use wf_csp::Violations;
+use wf_types::{Head, NetError, Outcome, Request, Response};
+
+/// The request as it stands, how many outer levels owe a clear, whether this one does, and the time.
+#[derive(Drop)]
+pub struct Level {
+    pub(crate) request: Request,
+    pub(crate) owed: u32,
+    pub(crate) owes: bool,
+    pub(crate) now: u64,
+    pub ghost valid: { IsRequest request },
+    pub ghost few: { owed ≤ request.redirects },
+    pub ghost timely: { now < 2 ^ 48 },
+}
 
 /// What a fetch waits for.
 #[derive(Drop)]
 pub enum Place {
-    /// That the request was sent.
+    /// Violations of report-only policies were told, so many of them.
+    Reporting(Violations, usize),
+    /// Violations of enforced policies were told, so many of them.
+    Blocking(Violations, usize),
+    /// The book was asked for a known host.
+    Matching,
+    /// The preflight cache was asked.
+    Covering,
+    /// The preflight was sent.
+    PreflightSending,
+    /// The head of its answer is read.
+    PreflightReading,
+    /// A known host was noted by that head, on which this is the verdict.
+    PreflightNoting(Checked),
+    /// What the preflight allows was learned.
+    Learning,
+    /// The request was sent.
     Sending,
-    /// The head of the answer.
+    /// The head of its answer is read.
     HeadReading,
-    /// The body of the answer with this head.
-    BodyReading(Head),
+    /// A known host was noted by that head.
+    Noting(Head),
+    /// Violations by the response were told, so many of them, and then the fetch ends so.
+    Ending(Violations, usize, Ended),
+    /// The body of the response is read.
+    BodyReading(Response),
+    /// After an error the preflight cache was told to forget the request as it then stood.
+    Clearing(NetError),
 }
 
-/// A fetch of a request, as it stands, that waits for the input that follows its last act.
+/// A fetch that waits for an input: the level it is at, the place there, and the act that it asked for.
 #[derive(Drop)]
 pub struct Fetching {
-    pub request: Request,
-    pub place: Place,
-    pub ghost valid: { IsRequest request },
+    pub(crate) level: Level,
+    pub(crate) place: Place,
+    pub(crate) last: Snapshot<Act>,
+    pub ghost ready: { IsTrue (is_ready_at place level.request) },
+    pub ghost fresh: { owes_early place level.owes ≡ false },
 }
 
-/// How far a fetch has come: it goes on and asks for an act, or it is over.
+/// What a fetch does: it asks for an act and waits, or is over.
 #[derive(Drop)]
 pub enum Step {
     Going(Fetching, Act),

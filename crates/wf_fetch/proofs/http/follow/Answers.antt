@@ -1,0 +1,24 @@
+use Rattle.std.proofs.Common.{arith, false}
+use Rattle.wf_answers.specs.Following.{redirected_request}
+use Rattle.wf_fetch.specs.Lending.{lent_at}
+use Rattle.wf_fetch.specs.Machine.{next_of}
+use Rattle.wf_fetch.proofs.MachineLemmas.{goes-on, redirected-count}
+use Rattle.wf_fetch.proofs.http.follow.Goals as goal
+
+pub invariant_of-level : goal.invariant_of-level
+invariant_of-level c = record {
+  valid = c.in_ok-redirected.ensures.request;
+  few = rw (c.in_ok-redirected.ensures.value, redirected-count c.args.level.request c.args.head c.args.url)
+      (omega (arith, c.total_owed.ensures.few, c.args.level.few));
+  timely = c.args.level.timely;
+}
+
+pub returns : goal.returns
+returns c =
+    let context = lent_at c.args.lent.now c.args.level.now in
+    let next = next_of context c.args.level.owed c.args.level.owes in
+    goes-on context c.begin.result c.args.level.request.redirects c.in_ok-redirected.field-0
+    (redirected_request c.args.level.request c.args.head c.args.url) (next_of context c.total_owed.result false) next
+    c.requires.few c.in_ok-redirected.ensures.value
+    (redirected-count c.args.level.request c.args.head c.args.url) (c.total_owed.ensures.same context)
+    c.begin.ensures

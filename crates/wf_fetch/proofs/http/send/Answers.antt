@@ -1,0 +1,15 @@
+use Rattle.std.proofs.Common.{IsTrue, subst, sym}
+use Rattle.wf_text.proofs.SpaceLemmas.{token-lacks_space}
+use Rattle.wf_text.specs.Ascii.{lacks_space}
+use Rattle.wf_types.specs.declared.hop.Hop.{Hop}
+use Rattle.wf_fetch.proofs.http.send.Goals as goal
+
+pub going-requires-clause-plain : goal.going-requires-clause-plain
+going-requires-clause-plain c = (
+  subst (λ (h : Hop). IsTrue (lacks_space h.method)) (sym c.in_ok-hop.ensures.hop)
+      (token-lacks_space c.args.level.request.method c.args.level.valid.method),
+  c.in_ok-hop.ensures.target,
+)
+
+pub returns : goal.returns
+returns c = rw c.in_ok-hop.ensures.hop at c.going.ensures

@@ -1,0 +1,37 @@
+use Rattle.std.proofs.Common.{◌∙◌, ap, arith, sym}
+use Rattle.wf_rules.specs.Upgrading.{upgraded}
+use Rattle.wf_fetch.specs.Fetch.{onward_of}
+use Rattle.wf_fetch.specs.Lending.{lent_at}
+use Rattle.wf_fetch.specs.Machine.{next_of}
+use Rattle.wf_fetch.specs.MainFetch.{checked}
+use Rattle.wf_fetch.specs.Then.{tell_all}
+use Rattle.wf_fetch.proofs.MachineLemmas.{does-same, drop-found, drop-past, leads-changed, leads-same, onward-same}
+use Rattle.wf_fetch.proofs.MachineLemmas.{upgraded-redirects}
+use Rattle.wf_fetch.proofs.main_fetch.tell_reports.Goals as goal
+
+pub returns-then-at-len : goal.returns-then-at-len
+returns-then-at-len c =
+    let context = lent_at c.args.lent.now c.args.level.now in
+    let next = next_of context c.args.level.owed c.args.level.owes in
+    let onward = onward_of context c.args.level.request in
+    let made = upgraded context.client context.policies c.args.level.request in
+    does-same context c.going.result _ _
+    (ap (λ left. tell_all c.args.level.request left (checked onward context next made))
+    (drop-found c.args.violations c.args.at c.at.result.now c.at.ensures))
+    (rw c.in_ok-violation.ensures at c.going.ensures)
+
+pub returns : goal.returns
+returns c =
+    let context = lent_at c.args.lent.now c.args.level.now in
+    let next = next_of context c.args.level.owed c.args.level.owes in
+    let made = upgraded context.client context.policies c.args.level.request in
+    let changed = c.in_ok-upgraded_level.ensures.value in
+    leads-same context c.check.result _ _
+    (ap (λ left. tell_all c.args.level.request left
+    (checked (onward_of context c.args.level.request) context next made))
+    (drop-past c.args.violations c.args.at (omega (arith, c.if-at-len.false, c.len.ensures)))
+    ∙ ap (λ onward. checked onward context next made)
+    (onward-same context c.args.level.request made
+    (sym (upgraded-redirects context.client context.policies c.args.level.request))))
+    (leads-changed c.args.lent.now c.check.result c.args.level c.in_ok-upgraded_level.field-0 made checked
+    changed.0 changed.1 changed.2 changed.3 c.check.ensures)

@@ -1,0 +1,8 @@
+use Rattle.std.proofs.Common.{◌∙◌, ap}
+use Rattle.wf_cors.specs.Preflight.{preflight_of}
+use Rattle.wf_fetch.proofs.preflight.send_preflight.Goals as goal
+
+pub returns : goal.returns
+returns c =
+    let hop = c.in_ok-hop.ensures.hop ∙ ap (preflight_of c.args.level.request) c.in_ok-names.ensures.names in
+    rw hop at c.going.ensures

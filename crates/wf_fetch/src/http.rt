@@ -1,0 +1,155 @@
+ghost use Rattle.std.specs.Prelude.{◌≡◌, ◌<◌, ◌≤◌, ◌+◌, false, IfOk, IsTrue, Option, Ok, Err};
+ghost use Rattle.wf_types.specs.Requests.{IsClient, IsRequest, is_http_url};
+ghost use Rattle.wf_answers.specs.Judging.{refusal_after as refusal_of};
+ghost use Rattle.wf_answers.specs.Following.{redirected_request as after_redirect};
+ghost use Rattle.wf_answers.specs.Redirects.{redirection as redirection_of};
+ghost use Rattle.wf_fetch.specs.Fetch.{onward_of};
+ghost use Rattle.wf_fetch.specs.HttpFetch as spec;
+ghost use Rattle.wf_fetch.specs.Lending.{lent_at};
+ghost use Rattle.wf_fetch.specs.Machine.{Leads, at_level, next_of};
+ghost use Rattle.wf_fetch.specs.Ready.{IsReady};
+ghost use Rattle.wf_fetch.specs.Then.{Context};
+
+use crate::lent::Lent;
+use crate::main_fetch::begin;
+use crate::place::{Level, Place, Step};
+use crate::steps::{finish, going, refused};
+use std::alloc::Global;
+use url::Url;
+use wf_act::Act;
+use wf_answers::{Redirection, redirected, redirection, refusal_after};
+use wf_rules::note_of;
+use wf_send::hop_of;
+use wf_text::OutOfMemory;
+use wf_types::{Head, NetError, Request};
+
+// HTTP fetch: the request is sent.
+pub(crate) fn send(alloc: Global, lent: &Lent<'_>, level: Level) -> Result<Step, OutOfMemory>
+    requires { IsReady level.request }
+    ensures { Leads (lent_at lent.now level.now) result
+        (at_level (lent_at lent.now level.now) level spec.http_fetch) }
+{
+    let hop = hop_of(alloc, &level.request, lent.cookies)?;
+    Ok(going(lent, level, Place::Sending, Act::Send(hop)))
+}
+
+// The head of the answer is read, unless the link failed.
+pub(crate) fn read_head(
+    alloc: Global,
+    lent: &Lent<'_>,
+    level: Level,
+    sent: bool,
+) -> Result<Step, OutOfMemory>
+    requires { IsReady level.request }
+    ensures { Leads (lent_at lent.now level.now) result
+        (at_level (lent_at lent.now level.now) level (λ onward context next request.
+        spec.read_head onward context next request sent)) }
+{
+    if sent {
+        Ok(going(lent, level, Place::HeadReading, Act::ReadHead))
+    } else {
+        refused(alloc, lent, level, NetError::LinkFault)
+    }
+}
+
+// The head of the answer has come, or a network error: a known host is noted before the head is judged.
+pub(crate) fn answered(
+    alloc: Global,
+    lent: &Lent<'_>,
+    level: Level,
+    came: Result<Head, NetError>,
+) -> Result<Step, OutOfMemory>
+    requires client { IsClient lent.now.client.now }
+    requires ready { IsReady level.request }
+    ensures { Leads (lent_at lent.now level.now) result
+        (at_level (lent_at lent.now level.now) level (λ onward context next request.
+        spec.answered onward context next request came)) }
+{
+    let head = match came {
+        Err(error) => return refused(alloc, lent, level, error),
+        Ok(head) => head,
+    };
+    match note_of(alloc, &level.request, &head, level.now)? {
+        None => judge(alloc, lent, level, head),
+        Some(op) => Ok(going(lent, level, Place::Noting(head), Act::Ask(op))),
+    }
+}
+
+// The answer is judged: it is refused, goes on as a redirect, or is the response.
+pub(crate) fn judge(
+    alloc: Global,
+    lent: &Lent<'_>,
+    level: Level,
+    head: Head,
+) -> Result<Step, OutOfMemory>
+    requires client { IsClient lent.now.client.now }
+    requires ready { IsReady level.request }
+    ensures { Leads (lent_at lent.now level.now) result
+        (at_level (lent_at lent.now level.now) level (λ onward context next request.
+        spec.judged onward next request head (refusal_of request head))) }
+{
+    if let Some(error) = refusal_after(alloc, &level.request, &head)? {
+        return refused(alloc, lent, level, error);
+    }
+    redirect(alloc, lent, level, head)
+}
+
+// HTTP-redirect fetch: the answer is the response, is refused, or main fetch goes on at the new URL.
+pub(crate) fn redirect(
+    alloc: Global,
+    lent: &Lent<'_>,
+    level: Level,
+    head: Head,
+) -> Result<Step, OutOfMemory>
+    requires client { IsClient lent.now.client.now }
+    requires ready { IsReady level.request }
+    ensures { Leads (lent_at lent.now level.now) result
+        (at_level (lent_at lent.now level.now) level (λ onward context next request.
+        spec.redirected onward next request head (redirection_of request head))) }
+{
+    match redirection(alloc, &level.request, &head)? {
+        Redirection::Stays => finish(alloc, lent, level, head),
+        Redirection::Refuses(error) => refused(alloc, lent, level, error),
+        Redirection::Goes(url) => follow(alloc, lent, level, head, url),
+    }
+}
+
+// How many levels owe a clear, with this one.
+fn total_owed(owed: u32, owes: bool) -> u32
+    requires { owed ≤ 20 }
+    ensures same { (context : Context) → next_of context result false ≡ next_of context owed owes }
+    ensures few { result ≤ owed + 1 }
+{
+    if owes { owed + 1 } else { owed }
+}
+
+// A redirect is followed to a URL: main fetch again, for the request after it.
+pub(crate) fn follow(
+    alloc: Global,
+    lent: &Lent<'_>,
+    level: Level,
+    head: Head,
+    url: Url,
+) -> Result<Step, OutOfMemory>
+    requires client { IsClient lent.now.client.now }
+    requires few { level.request.redirects < 20 }
+    requires http { IsTrue (is_http_url url) }
+    requires ready { IsReady level.request }
+    ensures { Leads (lent_at lent.now level.now) result
+        (onward_of (lent_at lent.now level.now) level.request
+        (next_of (lent_at lent.now level.now) level.owed level.owes) (after_redirect level.request head url)) }
+{
+    let Level {
+        request,
+        owed,
+        owes,
+        now,
+    } = level;
+    let level = Level {
+        request: redirected(alloc, request, &head, url)?,
+        owed: total_owed(owed, owes),
+        owes: false,
+        now,
+    };
+    begin(alloc, lent, level)
+}

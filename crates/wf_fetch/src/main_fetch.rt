@@ -1,0 +1,254 @@
+ghost use Rattle.std.specs.Prelude.{◌≡◌, true, false, drop, IfOk, Err};
+ghost use Rattle.wf_types.specs.declared.error.NetError.TheVariants.{CspRequest};
+ghost use Rattle.wf_types.specs.Requests.{IsAtHttp, IsClient};
+ghost use Rattle.wf_csp.specs.Violations.{request_violations};
+ghost use Rattle.wf_rules.specs.Referrers.{with_referrer as referred_for};
+ghost use Rattle.wf_rules.specs.Switch.{with_tainting as tainted_with};
+ghost use Rattle.wf_rules.specs.Upgrading.{secured as secured_as, secured_where};
+ghost use Rattle.wf_fetch.specs.Lending.{lent_at};
+ghost use Rattle.wf_fetch.specs.Machine.{IsLevelWith, Leads, at_level};
+ghost use Rattle.wf_fetch.specs.MainFetch as spec;
+ghost use Rattle.wf_fetch.specs.Ready.{IsReady};
+ghost use Rattle.wf_fetch.specs.Then.{tell_all};
+ghost use Rattle.wf_rules.specs.Upgrading.{upgraded as upgraded_for};
+
+use crate::http::send;
+use crate::lent::Lent;
+use crate::place::{Level, Place, Step};
+use crate::preflight::ask_cache;
+use crate::steps::{copied, going, refused};
+use std::alloc::Global;
+use wf_act::Act;
+use wf_csp::Violations;
+use wf_rules::{
+    Switch, is_at_http, match_of, refusal_before, secured, switch_of, upgraded, with_referrer,
+    with_tainting,
+};
+use wf_text::OutOfMemory;
+use wf_types::{NetError, Tainting};
+
+// The level with this response tainting of its request.
+fn tainted(level: Level, tainting: Tainting) -> Level
+    requires { IsReady level.request }
+    ensures value { IsLevelWith (tainted_with tainting level.request) level result }
+    ensures ready { IsReady result.request }
+{
+    let Level {
+        request,
+        owed,
+        owes,
+        now,
+    } = level;
+    Level {
+        request: with_tainting(request, tainting),
+        owed,
+        owes,
+        now,
+    }
+}
+
+// The level with its request over https.
+fn secured_level(level: Level) -> Result<Level, OutOfMemory>
+    requires { IsReady level.request }
+    ensures value { IfOk result (IsLevelWith (secured_as level.request) level) }
+    ensures ready { IfOk result (λ secured. IsReady secured.request) }
+{
+    let Level {
+        request,
+        owed,
+        owes,
+        now,
+    } = level;
+    Ok(Level {
+        request: secured(request)?,
+        owed,
+        owes,
+        now,
+    })
+}
+
+// The level with its request upgraded where it is to be.
+fn upgraded_level(lent: &Lent<'_>, level: Level) -> Result<Level, OutOfMemory>
+    requires { IsAtHttp level.request }
+    ensures value { IfOk result (IsLevelWith
+        (upgraded_for lent.now.client.now lent.now.policies.now level.request) level) }
+    ensures http { IfOk result (λ upgraded. IsAtHttp upgraded.request) }
+{
+    let Level {
+        request,
+        owed,
+        owes,
+        now,
+    } = level;
+    Ok(Level {
+        request: upgraded(request, lent.client, lent.policies)?,
+        owed,
+        owes,
+        now,
+    })
+}
+
+// The level with the referrer policy of its request, and its referrer by that policy.
+fn referred(alloc: Global, lent: &Lent<'_>, level: Level) -> Result<Level, OutOfMemory>
+    requires http { IsAtHttp level.request }
+    requires client { IsClient lent.now.client.now }
+    ensures value { IfOk result (IsLevelWith (referred_for lent.now.client.now level.request) level) }
+    ensures ready { IfOk result (λ referred. IsReady referred.request) }
+{
+    let Level {
+        request,
+        owed,
+        owes,
+        now,
+    } = level;
+    Ok(Level {
+        request: with_referrer(alloc, request, lent.client)?,
+        owed,
+        owes,
+        now,
+    })
+}
+
+// The switch of main fetch.
+pub(crate) fn switch(alloc: Global, lent: &Lent<'_>, level: Level) -> Result<Step, OutOfMemory>
+    requires ready { IsReady level.request }
+    requires owes { level.owes ≡ false }
+    ensures { Leads (lent_at lent.now level.now) result
+        (at_level (lent_at lent.now level.now) level spec.switched) }
+{
+    match switch_of(alloc, &level.request)? {
+        Switch::Fetches(tainting) => send(alloc, lent, tainted(level, tainting)),
+        Switch::Preflights => ask_cache(alloc, lent, tainted(level, Tainting::Cors)),
+        Switch::Refuses(error) => refused(alloc, lent, level, error),
+    }
+}
+
+// The book said whether the host is known.
+pub(crate) fn matched(
+    alloc: Global,
+    lent: &Lent<'_>,
+    level: Level,
+    yes: bool,
+) -> Result<Step, OutOfMemory>
+    requires ready { IsReady level.request }
+    requires owes { level.owes ≡ false }
+    ensures { Leads (lent_at lent.now level.now) result
+        (at_level (lent_at lent.now level.now) level (λ onward context next request.
+        spec.switched onward context next (secured_where yes request))) }
+{
+    if !yes {
+        return switch(alloc, lent, level);
+    }
+    switch(alloc, lent, secured_level(level)?)
+}
+
+// The book is asked for the host, where there is a question.
+pub(crate) fn ask_host(alloc: Global, lent: &Lent<'_>, level: Level) -> Result<Step, OutOfMemory>
+    requires ready { IsReady level.request }
+    requires owes { level.owes ≡ false }
+    ensures { Leads (lent_at lent.now level.now) result
+        (at_level (lent_at lent.now level.now) level spec.matched) }
+{
+    match match_of(alloc, &level.request, level.now)? {
+        None => switch(alloc, lent, level),
+        Some(op) => Ok(going(lent, level, Place::Matching, Act::Ask(op))),
+    }
+}
+
+// The violations of enforced policies from a place on are told, and then the request is blocked.
+pub(crate) fn tell_blocks(
+    alloc: Global,
+    lent: &Lent<'_>,
+    level: Level,
+    violations: Violations,
+    at: usize,
+) -> Result<Step, OutOfMemory>
+    requires http { IsAtHttp level.request }
+    requires owes { level.owes ≡ false }
+    ensures { Leads (lent_at lent.now level.now) result
+        (at_level (lent_at lent.now level.now) level
+        (λ onward context next request. tell_all request (drop at violations)
+        (next request (Err CspRequest)))) }
+{
+    if at >= violations.len() {
+        return refused(alloc, lent, level, NetError::CspRequest);
+    }
+    let violation = copied(alloc, violations.at(at))?;
+    let place = Place::Blocking(violations, at + 1);
+    Ok(going(lent, level, place, Act::Tell(violation)))
+}
+
+// Enforced policies that are violated block the request.
+fn check_policies(alloc: Global, lent: &Lent<'_>, level: Level) -> Result<Step, OutOfMemory>
+    requires client { IsClient lent.now.client.now }
+    requires http { IsAtHttp level.request }
+    requires owes { level.owes ≡ false }
+    ensures { Leads (lent_at lent.now level.now) result (at_level (lent_at lent.now level.now) level
+        (λ onward context next request. spec.unless_violated onward context next request
+        (request_violations context.policies request context.client.origin true))) }
+{
+    let origin = &lent.client.origin;
+    let violations = lent
+        .policies
+        .check_request(alloc, &level.request, origin, true)?;
+    if violations.is_empty() {
+        ask_host(alloc, lent, referred(alloc, lent, level)?)
+    } else {
+        tell_blocks(alloc, lent, level, violations, 0)
+    }
+}
+
+// A bad port, mixed content and enforced policies block the request, in this order.
+fn check(alloc: Global, lent: &Lent<'_>, level: Level) -> Result<Step, OutOfMemory>
+    requires client { IsClient lent.now.client.now }
+    requires http { IsAtHttp level.request }
+    requires owes { level.owes ≡ false }
+    ensures { Leads (lent_at lent.now level.now) result
+        (at_level (lent_at lent.now level.now) level spec.checked) }
+{
+    match refusal_before(&level.request, lent.client) {
+        Some(error) => refused(alloc, lent, level, error),
+        None => check_policies(alloc, lent, level),
+    }
+}
+
+// The violations of report-only policies from a place on are told, and then the request is upgraded and checked.
+pub(crate) fn tell_reports(
+    alloc: Global,
+    lent: &Lent<'_>,
+    level: Level,
+    violations: Violations,
+    at: usize,
+) -> Result<Step, OutOfMemory>
+    requires client { IsClient lent.now.client.now }
+    requires http { IsAtHttp level.request }
+    requires owes { level.owes ≡ false }
+    ensures { Leads (lent_at lent.now level.now) result
+        (at_level (lent_at lent.now level.now) level
+        (λ onward context next request. tell_all request (drop at violations)
+        (spec.checked onward context next (upgraded_for context.client context.policies request)))) }
+{
+    if at < violations.len() {
+        let violation = copied(alloc, violations.at(at))?;
+        let place = Place::Reporting(violations, at + 1);
+        return Ok(going(lent, level, place, Act::Tell(violation)));
+    }
+    check(alloc, lent, upgraded_level(lent, level)?)
+}
+
+// Main fetch.
+pub(crate) fn begin(alloc: Global, lent: &Lent<'_>, level: Level) -> Result<Step, OutOfMemory>
+    requires client { IsClient lent.now.client.now }
+    requires owes { level.owes ≡ false }
+    ensures { Leads (lent_at lent.now level.now) result
+        (at_level (lent_at lent.now level.now) level spec.main_fetch) }
+{
+    if !is_at_http(&level.request) {
+        return refused(alloc, lent, level, NetError::Scheme);
+    }
+    let origin = &lent.client.origin;
+    let violations = lent
+        .policies
+        .check_request(alloc, &level.request, origin, false)?;
+    tell_reports(alloc, lent, level, violations, 0)
+}

@@ -1,0 +1,148 @@
+ghost use Rattle.std.specs.Prelude.{◌≡◌, ◌∷◌, ◌<◌, ◌^◌, IfOk, IsTrue};
+ghost use Rattle.wf_act.specs.Process.{fits, run};
+ghost use Rattle.wf_fetch.specs.Fetch.{fetch};
+ghost use Rattle.wf_fetch.specs.Lending.{lent_at};
+ghost use Rattle.wf_fetch.specs.Machine.{Leads, RunsAs, rest, rest_of};
+ghost use Rattle.wf_fetch.specs.Then as spec;
+ghost use Rattle.wf_fetch.specs.Then.{context_of};
+ghost use Rattle.wf_types.specs.Requests.{IsClient, IsRequest};
+
+use crate::http::{answered, judge, read_head, send};
+use crate::lent::Lent;
+use crate::main_fetch::{begin, matched, tell_blocks, tell_reports};
+use crate::place::{Fetching, Level, Place, Step};
+use crate::preflight::{covered, judge_preflight, preflight_answered, read_preflight_head};
+use crate::steps::{body_read, refused, tell_at_end};
+use std::alloc::Global;
+use wf_act::Input;
+use wf_book::Reply;
+use wf_csp::Compiled;
+use wf_text::OutOfMemory;
+use wf_types::{BodyEnd, Client, Cookies, Head, NetError, Request};
+
+// Whether the book said yes.
+fn said_yes(input: &Input) -> bool
+    ensures { result ≡ spec.said_yes input.now }
+{
+    matches!(input, Input::Replied(Reply::Yes))
+}
+
+// Whether the request was sent.
+fn was_sent(input: &Input) -> bool
+    ensures { result ≡ spec.was_sent input.now }
+{
+    matches!(input, Input::Sent)
+}
+
+// The head that an input brings, or the network error in its place.
+fn head_of(input: Input) -> Result<Head, NetError>
+    ensures { result ≡ spec.head_of input }
+{
+    match input {
+        Input::HeadIs(head) => Ok(head),
+        Input::HeadBad => Err(NetError::BadHead),
+        Input::HeadLong => Err(NetError::HeadTooBig),
+        _ => Err(NetError::LinkFault),
+    }
+}
+
+// How the body came to its end.
+fn body_of(input: Input) -> BodyEnd
+    ensures { result ≡ spec.body_of input }
+{
+    match input {
+        Input::BodyIs(end) => end,
+        _ => BodyEnd::Null,
+    }
+}
+
+impl Fetching {
+    /// Begins a fetch of a request for a client, with its policies and a table of cookies, at a time in
+    /// seconds (Fetch, section 4.1, "main fetch"). The time is below 2^48. What is done first is told, or
+    /// the outcome.
+    pub fn start(
+        alloc: Global,
+        request: Request,
+        client: &Client,
+        policies: &Compiled,
+        cookies: &Cookies,
+        now: u64,
+    ) -> Result<Step, OutOfMemory>
+        requires request { IsRequest request }
+        requires client { IsClient client.now }
+        requires timely { now < 2 ^ 48 }
+        ensures process { Leads (context_of client.now policies.now cookies.now now) result
+            (fetch (context_of client.now policies.now cookies.now now) request) }
+        ensures runs { IfOk result (λ step. RunsAs (context_of client.now policies.now cookies.now now) step
+            (run (fetch (context_of client.now policies.now cookies.now now) request))) }
+    {
+        let lent = Lent {
+            client,
+            policies,
+            cookies,
+        };
+        let level = Level {
+            request,
+            owed: 0,
+            owes: false,
+            now,
+        };
+        begin(alloc, &lent, level)
+    }
+
+    /// Goes on from the input that followed the last act, with the client, the policies and the cookies that
+    /// this call is lent, at the time of the start. After `OutOfMemory` the fetch is gone.
+    pub fn resume(
+        self,
+        alloc: Global,
+        client: &Client,
+        policies: &Compiled,
+        cookies: &Cookies,
+        input: Input,
+    ) -> Result<Step, OutOfMemory>
+        requires client { IsClient client.now }
+        requires fits { IsTrue (fits self.last.value input) }
+        ensures process { Leads (context_of client.now policies.now cookies.now self.level.now) result
+            (rest (context_of client.now policies.now cookies.now self.level.now) self input) }
+        ensures runs { IfOk result (λ step. RunsAs (context_of client.now policies.now cookies.now self.level.now)
+            step (λ tape. rest_of (context_of client.now policies.now cookies.now self.level.now) self
+            (input ∷ tape))) }
+    {
+        let lent = Lent {
+            client,
+            policies,
+            cookies,
+        };
+        self.go_on(alloc, &lent, input)
+    }
+
+    // Goes on from an input, whatever it is.
+    fn go_on(self, alloc: Global, lent: &Lent<'_>, input: Input) -> Result<Step, OutOfMemory>
+        requires { IsClient lent.now.client.now }
+        ensures { Leads (lent_at lent.now self.level.now) result (rest (lent_at lent.now self.level.now) self input) }
+    {
+        let Fetching {
+            level,
+            place,
+            last: _,
+        } = self;
+        match place {
+            Place::Reporting(violations, at) => tell_reports(alloc, lent, level, violations, at),
+            Place::Blocking(violations, at) => tell_blocks(alloc, lent, level, violations, at),
+            Place::Matching => matched(alloc, lent, level, said_yes(&input)),
+            Place::Covering => covered(alloc, lent, level, said_yes(&input)),
+            Place::PreflightSending => read_preflight_head(alloc, lent, level, was_sent(&input)),
+            Place::PreflightReading => preflight_answered(alloc, lent, level, head_of(input)),
+            Place::PreflightNoting(checked) => judge_preflight(alloc, lent, level, checked),
+            Place::Learning => send(alloc, lent, level),
+            Place::Sending => read_head(alloc, lent, level, was_sent(&input)),
+            Place::HeadReading => answered(alloc, lent, level, head_of(input)),
+            Place::Noting(head) => judge(alloc, lent, level, head),
+            Place::Ending(violations, at, ended) => tell_at_end(
+                alloc, lent, level, violations, at, ended,
+            ),
+            Place::BodyReading(response) => body_read(alloc, level, response, body_of(input)),
+            Place::Clearing(error) => refused(alloc, lent, level, error),
+        }
+    }
+}

@@ -1,0 +1,152 @@
+ghost use Rattle.std.specs.Prelude.{◌≡◌, ◌<◌, ◌≤◌, false, length, drop, IfOk, IsTrue, Ok, Err};
+ghost use Rattle.wf_rules.specs.Questions.{clear_of as clear_at};
+ghost use Rattle.wf_types.specs.declared.error.NetError.{NetError as AnError};
+ghost use Rattle.wf_types.specs.declared.request.Request.{Request};
+ghost use Rattle.wf_act.specs.Process.{IsPlain, act as acting, ended as ended_with};
+ghost use Rattle.wf_answers.specs.Endings.{after_body as outcome_of};
+ghost use Rattle.wf_fetch.specs.Fetch.{ends};
+ghost use Rattle.wf_fetch.specs.Machine.{Does, Leads, next_of, rest_at};
+ghost use Rattle.wf_fetch.specs.Ready.{is_ready_at, owes_early};
+ghost use Rattle.wf_fetch.specs.Lending.{lent_at};
+ghost use Rattle.wf_fetch.specs.Then.{Context, tell_all, then_ask};
+
+use crate::lent::Lent;
+use crate::place::{Fetching, Level, Place, Step};
+use std::alloc::Global;
+use std::snapshot::Snapshot;
+use wf_act::Act;
+use wf_answers::{Ended, after_body, ended};
+use wf_book::Op;
+use wf_csp::Violations;
+use wf_rules::clear_of;
+use wf_text::OutOfMemory;
+use wf_types::{BodyEnd, Head, NetError, Outcome, Response, Violation};
+
+// A copy of a violation.
+pub(crate) fn copied(alloc: Global, violation: &Violation) -> Result<Violation, OutOfMemory>
+    ensures { IfOk result (λ copy. copy ≡ violation.now) }
+{
+    Ok(Violation {
+        policy: violation.policy,
+        enforced: violation.enforced,
+        directive: violation.directive,
+        url: violation.url.copy(alloc)?,
+    })
+}
+
+// It asks for an act at a place of the level, and waits.
+pub(crate) fn going(lent: &Lent<'_>, level: Level, place: Place, act: Act) -> Step
+    requires ready { IsTrue (is_ready_at place level.request) }
+    requires fresh { owes_early place level.owes ≡ false }
+    requires plain { IsPlain act }
+    ensures { Does (lent_at lent.now level.now) result
+        (acting level.request act (rest_at (lent_at lent.now level.now) level place)) }
+{
+    let last = Snapshot::of(&act);
+    Step::Going(Fetching { level, place, last }, act)
+}
+
+// How many clears are owed behind the next one.
+#[tactic(auto, using(crate::proofs::MachineLemmas::clear_first))]
+fn one_less(owed: u32, owes: bool) -> u32
+    requires { owes ≡ false → 0 < owed }
+    ensures clears { (context : Context) (request : Request) (error : AnError)
+        → next_of context owed owes request (Err error)
+        ≡ then_ask request (clear_at context.client request context.now)
+        (next_of context result false request (Err error)) }
+    ensures few { result ≤ owed }
+{
+    if owes { owed } else { owed - 1 }
+}
+
+// A network error: each level that owes a clear asks for it, the innermost first, and then it is the
+// outcome.
+pub(crate) fn refused(
+    alloc: Global,
+    lent: &Lent<'_>,
+    level: Level,
+    error: NetError,
+) -> Result<Step, OutOfMemory>
+    ensures { Leads (lent_at lent.now level.now) result
+        (next_of (lent_at lent.now level.now) level.owed level.owes level.request (Err error)) }
+{
+    let Level {
+        request,
+        owed,
+        owes,
+        now,
+    } = level;
+    if !owes && owed == 0 {
+        return Ok(Step::Over(Outcome::Error(error)));
+    }
+    let op = clear_of(alloc, lent.client, &request, now)?;
+    let level = Level {
+        request,
+        owed: one_less(owed, owes),
+        owes: false,
+        now,
+    };
+    Ok(going(lent, level, Place::Clearing(error), Act::Ask(op)))
+}
+
+// The fetch is over, or the body is read.
+fn end(lent: &Lent<'_>, level: Level, ended: Ended) -> Step
+    ensures { Does (lent_at lent.now level.now) result (ends level.request ended) }
+{
+    match ended {
+        Ended::Over(outcome) => Step::Over(outcome),
+        Ended::Reads(response) => going(lent, level, Place::BodyReading(response), Act::ReadBody),
+    }
+}
+
+// The violations from a place on are told, and then the fetch ends so.
+pub(crate) fn tell_at_end(
+    alloc: Global,
+    lent: &Lent<'_>,
+    level: Level,
+    violations: Violations,
+    at: usize,
+    ended: Ended,
+) -> Result<Step, OutOfMemory>
+    ensures { Leads (lent_at lent.now level.now) result
+        (tell_all level.request (drop at violations) (ends level.request ended)) }
+{
+    if at >= violations.len() {
+        return Ok(end(lent, level, ended));
+    }
+    let violation = copied(alloc, violations.at(at))?;
+    let place = Place::Ending(violations, at + 1, ended);
+    Ok(going(lent, level, place, Act::Tell(violation)))
+}
+
+// The response: the policies that it violates are told, and then it is blocked, handed over, or its
+// body is read.
+pub(crate) fn finish(
+    alloc: Global,
+    lent: &Lent<'_>,
+    level: Level,
+    head: Head,
+) -> Result<Step, OutOfMemory>
+    ensures { Leads (lent_at lent.now level.now) result
+        (next_of (lent_at lent.now level.now) level.owed level.owes level.request (Ok head)) }
+{
+    let (violations, blocked) = lent
+        .policies
+        .check_response(alloc, &level.request, &lent.client.origin)?;
+    let end = ended(alloc, &level.request, &head, blocked)?;
+    tell_at_end(alloc, lent, level, violations, 0, end)
+}
+
+// The body is at its end, and the fetch over.
+pub(crate) fn body_read(
+    alloc: Global,
+    level: Level,
+    response: Response,
+    end: BodyEnd,
+) -> Result<Step, OutOfMemory>
+    ensures { (context : Context) → Leads context result
+        (ended_with (outcome_of level.request response end)) }
+{
+    let outcome = after_body(alloc, &level.request, response, end)?;
+    Ok(Step::Over(outcome))
+}

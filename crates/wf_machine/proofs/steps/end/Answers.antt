@@ -1,4 +1,0 @@
-use Rattle.wf_machine.proofs.steps.end.Goals as goal
-
-pub returns-in-Reads : goal.returns-in-Reads
-returns-in-Reads c = rw c.in-Reads.is c.going.ensures

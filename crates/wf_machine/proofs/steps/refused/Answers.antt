@@ -1,9 +1,0 @@
-use Rattle.wf_machine.specs.Lending.{lent_at}
-use Rattle.wf_machine.proofs.MachineLemmas.{does-same}
-use Rattle.wf_machine.proofs.steps.refused.Goals as goal
-
-pub returns : goal.returns
-returns c =
-    let context = lent_at c.args.lent.now c.args.level.now in
-    does-same context c.going.result _ _
-    (c.one_less.ensures.clears context c.args.level.request c.args.error) (rw c.in_ok-op.ensures at c.going.ensures)

@@ -1,8 +1,0 @@
-pub mod Fetch
-pub mod HttpFetch
-pub mod Lending
-pub mod Machine
-pub mod MainFetch
-pub mod PreflightFetch
-pub mod Ready
-pub mod Then
