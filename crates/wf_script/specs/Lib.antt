@@ -1,3 +1,4 @@
+pub mod Hosts
 pub mod OriginTexts
 pub mod Private
 pub mod Reading

@@ -1,7 +1,6 @@
 -- What every scenario that is read keeps: the bounds and the forms of its values.
-use Rattle.std.specs.Prelude.{◌≡◌, ◌≤◌, Bool, true, false, [], length, IfSome, IsTrue}
+use Rattle.std.specs.Prelude.{◌≡◌, ◌≤◌, ◌<◌, ◌^◌, Bool, true, false, [], length, IfSome, IsTrue}
 use Rattle.std.specs.List.{All}
-use Rattle.url.specs.Parts.{Parts}
 use Rattle.wf_text.specs.Tokens.{is_token}
 use Rattle.wf_types.specs.declared.client.Cookie.{Cookie}
 use Rattle.wf_types.specs.declared.init.Init.{Init}
@@ -11,15 +10,23 @@ use Rattle.wf_types.specs.declared.mode.Mode.{Mode}
 use Rattle.wf_types.specs.declared.mode.Mode.TheVariants as mode
 use Rattle.wf_types.specs.declared.mode.RedirectMode.TheVariants as redirect
 use Rattle.wf_types.specs.declared.mode.ReferrerPolicy.TheVariants as policy
+use Rattle.wf_script.specs.declared.types.KnownHost.{KnownHost}
 use Rattle.wf_script.specs.declared.types.Rule.{Rule}
 use Rattle.wf_script.specs.declared.types.Server.{Server}
 use Rattle.wf_script.specs.declared.types.Command.{Command}
-use Rattle.wf_script.specs.declared.types.Command.TheVariants.{Fetch}
+use Rattle.wf_script.specs.declared.types.Command.TheVariants.{Fetch, Wait}
 use Rattle.wf_script.specs.declared.types.Document.{Document}
 use Rattle.wf_script.specs.declared.types.Scenario.{Scenario}
+use Rattle.wf_script.specs.Hosts.{is_host_name}
 use Rattle.wf_script.specs.Texts.{lacks_template, is_cookie_value}
 use Rattle.wf_script.specs.OriginTexts.{is_origin_text}
-use Rattle.wf_script.specs.Urls.{is_plain_https, is_fetch_url}
+use Rattle.wf_script.specs.Urls.{is_document_url}
+
+-- a domain as a URL has it, which is no localhost name, and the second in which its term ends
+pub record IsValidHost (known : KnownHost) : Type 0 where
+  pub host : IsTrue (is_host_name known.host)
+  pub some_host : 1 ≤ length known.host
+  pub until : known.until ≤ 281474976710655
 
 -- a serialized origin, and a header value of 1 to 4,096 bytes
 pub record IsValidCookie (cookie : Cookie) : Type 0 where
@@ -46,10 +53,10 @@ is_opened_mode mode.Navigate = true
 abbrev pub IsPlainPair : Pair → Type 0
 IsPlainPair pair = IsTrue (lacks_template pair.value)
 
--- Neither its URL nor its values have templates, and its URL is opened against the document's; it has
--- at most 64 headers and no referrer, and what no key says is as `fetch` has it by itself.
-pub record IsValidInit (document : Parts) (init : Init) : Type 0 where
-  pub url : IsTrue (is_fetch_url document init.url)
+-- Neither its URL nor its values have templates; it has at most 64 headers and no referrer, and what no key
+-- says is as `fetch` has it by itself.
+pub record IsValidInit (init : Init) : Type 0 where
+  pub url : IsTrue (lacks_template init.url)
   pub mode : IsTrue (is_opened_mode init.mode)
   pub few : length init.headers ≤ 64
   pub headers : All IsPlainPair init.headers
@@ -61,18 +68,23 @@ pub record IsValidInit (document : Parts) (init : Init) : Type 0 where
   pub integrity : init.integrity ≡ []
   pub upload : init.upload ≡ false
 
--- what a fetch asks for may be asked by the document
-abbrev pub IsValidCommand : Parts → Command → Type 0
-IsValidCommand document (Fetch init) = IsValidInit document init
+-- what a fetch asks for may be asked, and a wait is less than 2^32 seconds long
+abbrev pub IsValidCommand : Command → Type 0
+IsValidCommand (Fetch init) = IsValidInit init
+IsValidCommand (Wait seconds) = seconds < 2 ^ 32
 
--- plain https URLs of the document and of the page at the top, and commands
+-- URLs of the document and of the page at the top that a document may have, and commands
 pub record IsValidDocument (document : Document) : Type 0 where
-  pub url : IsTrue (is_plain_https document.url)
-  pub top : IsTrue (is_plain_https document.top)
-  pub script : All (IsValidCommand document.url) document.script
+  pub url : IsTrue (is_document_url document.url)
+  pub top : IsTrue (is_document_url document.top)
+  pub script : All IsValidCommand document.script
 
--- a piece of 1 to 65,536 bytes, and at most one document
+-- a time of at most 2^40 seconds, at most 4,096 known hosts, a piece of 1 to 65,536 bytes, and at most one
+-- document
 pub record IsValid (scenario : Scenario) : Type 0 where
+  pub now : scenario.now ≤ 1099511627776
+  pub few_hosts : length scenario.hosts ≤ 4096
+  pub hosts : All IsValidHost scenario.hosts
   pub cookies : All IsValidCookie scenario.cookies
   pub servers : All IsValidServer scenario.servers
   pub some_piece : 1 ≤ scenario.piece

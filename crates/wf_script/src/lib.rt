@@ -19,5 +19,6 @@ mod words;
 
 pub use origins::read_origin;
 pub use types::{
-    Command, Document, Documents, Place, Rule, Rules, Scenario, Script, Server, Servers,
+    Command, Document, Documents, Hosts, KnownHost, Place, Rule, Rules, Scenario, Script, Server,
+    Servers,
 };

@@ -6,6 +6,18 @@ use url::Url;
 use wf_text::{Bytes, Items, OutOfMemory};
 use wf_types::{Cookies, Init};
 
+/// A known HSTS host (RFC 6797, section 8.1.1): its domain as a URL has it, whether the names under it
+/// are known too, and the first second in which it is not known any more.
+#[derive(Drop)]
+pub struct KnownHost {
+    pub host: Bytes,
+    pub subdomains: bool,
+    pub until: u64,
+}
+
+/// The known hosts of a scenario, in order. Of equal ones the last counts.
+pub type Hosts = Items<KnownHost>;
+
 /// What a server answers: to which method and to which request target, each where it says so, and
 /// the bytes of the answer.
 #[derive(Drop)]
@@ -91,6 +103,8 @@ impl Servers {
 pub enum Command {
     /// A call of `fetch`.
     Fetch(Init),
+    /// So many seconds pass.
+    Wait(u32),
 }
 
 /// The commands of a document, in order.
@@ -108,11 +122,13 @@ pub struct Document {
 /// The documents of a scenario, in order.
 pub type Documents = Items<Document>;
 
-/// A scenario: the cookies that are sent, the servers that answer, the greatest number of bytes that
-/// come of an answer at once, the documents that fetch, and the greatest number of bytes that a
-/// response's body may have.
+/// A scenario: the second in which it begins, the hosts that are known then, the cookies that are
+/// sent, the servers that answer, the greatest number of bytes that come of an answer at once, the
+/// documents that fetch, and the greatest number of bytes that a response's body may have.
 #[derive(Drop)]
 pub struct Scenario {
+    pub now: u64,
+    pub hosts: Hosts,
     pub cookies: Cookies,
     pub servers: Servers,
     pub piece: u32,
