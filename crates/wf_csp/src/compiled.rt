@@ -1,3 +1,5 @@
+ghost use Rattle.std.specs.Prelude.{◌≡◌, length};
+
 use std::marker::Model;
 use std::snapshot::Snapshot;
 use wf_csp_match::Source;
@@ -37,4 +39,13 @@ impl Model for Compiled {
 
     ghost invariant = { λ compiled. (compiled.policies ≡ map read_policy compiled.made_of.value)
         × (length compiled.policies < 2 ^ 32) };
+}
+
+impl Compiled {
+    /// How many policies there are. It takes no memory.
+    pub fn len(&self) -> usize
+        ensures { result ≡ length self.now }
+    {
+        self.policies.len()
+    }
 }

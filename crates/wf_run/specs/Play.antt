@@ -1,13 +1,17 @@
--- A document's run as a tree: what it shows, the acts of its fetches, and its ending.
+-- A document's run as a tree: what it shows, the acts of its fetches, and its ending (this project's own; Fetch,
+-- section 5.6, where a script calls `fetch`).
 use Rattle.std.specs.Prelude.{ℕ, List, [], ◌∷◌, ◌++◌, Option, Some, None, if◌then◌else◌}
+use Rattle.wf_act.specs.declared.act.Act.{Act}
+use Rattle.wf_act.specs.declared.act.Act.TheVariants.{Ask, Send, ReadHead, ReadBody, Tell}
+use Rattle.wf_act.specs.declared.act.Input.{Input}
+use Rattle.wf_act.specs.declared.act.Input.TheVariants.{Replied}
+use Rattle.wf_act.specs.Process.{fits}
+use Rattle.wf_book.specs.declared.op.Reply.{Reply}
+use Rattle.wf_book.specs.declared.op.Reply.TheVariants.{Done}
 use Rattle.wf_types.specs.declared.request.Request.{Request}
 use Rattle.wf_print.specs.declared.events.Ending.{Ending}
 use Rattle.wf_print.specs.declared.events.Event.{Event}
-use Rattle.wf_print.specs.declared.events.Event.TheVariants.{Sent}
-use Rattle.wf_fetch.specs.declared.act.Act.{Act}
-use Rattle.wf_fetch.specs.declared.act.Act.TheVariants.{Send, ReadHead, ReadBody}
-use Rattle.wf_fetch.specs.declared.act.Input.{Input}
-use Rattle.wf_fetch.specs.Process.{fits}
+use Rattle.wf_print.specs.declared.events.Event.TheVariants.{Call, Sent, Told}
 
 -- It is over, with an ending and the clock then; or it shows an event and goes on; or it acts for a
 -- request and goes on from the input that comes.
@@ -16,11 +20,19 @@ pub data Play : Type 0 where
   emit : Event → Play → Play
   step : Request → Act → (Input → Play) → Play
 
--- what an act shows when its input has come
+-- the reply that an input brings
+abbrev pub reply_of : Input → Reply
+reply_of (Replied reply) = reply
+reply_of _ = Done
+
+-- what an act shows when its input has come: a call of the book with its reply, a request that was sent, also one that
+-- failed, and a violation; what is read shows nothing
 abbrev pub events_of : Act → Input → List Event
+events_of (Ask op) input = Call op (reply_of input) ∷ []
 events_of (Send hop) input = Sent hop ∷ []
 events_of ReadHead input = []
 events_of ReadBody input = []
+events_of (Tell violation) input = Told violation ∷ []
 
 -- What a run has shown, and its ending with the clock where it came to one.
 pub record PlayRun : Type 0 where

@@ -1,5 +1,5 @@
 -- A document's run: its script's commands in order, each fetch with what it shows and what it came to
--- (Fetch, section 5.6, for each `fetch` of a script), and the limits at which a run ends early.
+-- (Fetch, section 5.6, for each `fetch` of a script), its clock, and the limits at which a run ends early.
 use Rattle.std.specs.Prelude.{ℕ, ◌+◌, nat_le, nat_lt, List, [], ◌∷◌, ◌++◌, map, sum_by, length, Option, Some, None}
 use Rattle.std.specs.Prelude.{Result, Ok, Err, if◌then◌else◌}
 use Rattle.wf_text.specs.Trims.{http_whitespace, trimmed}
@@ -12,6 +12,7 @@ use Rattle.wf_types.specs.declared.mode.ReferrerPolicy.TheVariants.{StrictOrigin
 use Rattle.wf_types.specs.declared.request.Request.{Request}
 use Rattle.wf_types.specs.declared.response.Outcome.{Outcome}
 use Rattle.wf_types.specs.Clients.{client_of}
+use Rattle.wf_csp_text.specs.declared.policy.Policy.{Policy}
 use Rattle.wf_send.specs.Making.{new_request}
 use Rattle.wf_script.specs.declared.types.Command.{Command}
 use Rattle.wf_script.specs.declared.types.Command.TheVariants as command
@@ -21,12 +22,25 @@ use Rattle.wf_print.specs.declared.events.Ending.TheVariants.{Finished, Fetches,
 use Rattle.wf_print.specs.declared.events.Event.{Event}
 use Rattle.wf_print.specs.declared.events.Event.TheVariants.{Fetch, Result as ResultIs, TypeError}
 use Rattle.wf_print.specs.Text.{event_text}
-use Rattle.wf_fetch.specs.Fetch.{Context, lent, main_fetch}
-use Rattle.wf_fetch.specs.Play.{Play, over, emit, step, events_of}
-use Rattle.wf_fetch.specs.Process.{Process, ended, act}
+use Rattle.wf_act.specs.Process.{Process, ended, act}
+use Rattle.wf_fetch.specs.Fetch.{fetch}
+use Rattle.wf_fetch.specs.Then.{Context, context_of}
+use Rattle.wf_run.specs.Play.{Play, over, emit, step, events_of}
 
--- Where a run stands: how many commands and how many fetches have started, and the events so far.
+-- What the fetches of a document have in common: its client, the document's policies, and the table of cookies.
+pub record Setting : Type 0 where
+  pub client : Client
+  pub policies : List Policy
+  pub cookies : List Cookie
+
+-- what a fetch is lent at a time
+abbrev pub at_time : Setting → ℕ → Context
+at_time setting now = context_of setting.client setting.policies setting.cookies now
+
+-- Where a run stands: its clock, in seconds, how many commands and how many fetches have started, and the events so
+-- far.
 pub record Progress : Type 0 where
+  pub clock : ℕ
   pub commands : ℕ
   pub fetches : ℕ
   pub shown : List Event
@@ -73,10 +87,14 @@ fetch_limit progress =
     else if nat_lt most_printed (text_length progress.shown) then Some Text
     else None
 
+-- the limit that a command has of its own kind
+abbrev pub own_limit : Command → Progress → Option Ending
+own_limit (command.Fetch init) progress = fetch_limit progress
+own_limit (command.Wait seconds) progress = None
+
 -- the limit that a run has reached before a command
 abbrev pub limit_before : Command → Progress → Option Ending
-limit_before (command.Fetch init) progress =
-    if nat_le most_commands progress.commands then Some Commands else fetch_limit progress
+limit_before one progress = if nat_le most_commands progress.commands then Some Commands else own_limit one progress
 
 -- ---- commands
 
@@ -88,49 +106,62 @@ normalized_pair pair = record { name = pair.name; value = trimmed http_whitespac
 abbrev pub normalized_init : Init → Init
 normalized_init init = record init { headers = map normalized_pair init.headers }
 
--- the fetch of a request, or the fault where none was made
-abbrev pub fetched : Context → Result Request TypeFault → Next → Next
-fetched context (Err fault) next = showing (TypeError fault) next
-fetched context (Ok request) next = embed (main_fetch context request) (λ outcome. showing (ResultIs outcome) next)
+-- the fetch of a request at the run's time, or the fault where none was made
+abbrev pub fetched : Setting → Result Request TypeFault → Next → Next
+fetched setting (Err fault) next = showing (TypeError fault) next
+fetched setting (Ok request) next progress =
+    embed (fetch (at_time setting progress.clock) request) (λ outcome. showing (ResultIs outcome) next) progress
+
+-- a command has started
+abbrev pub started : Progress → Progress
+started progress = record progress { commands = progress.commands + 1 }
 
 -- a fetch has started
-abbrev pub started : Progress → Progress
-started progress = record progress { commands = progress.commands + 1; fetches = progress.fetches + 1 }
+abbrev pub fetch_started : Progress → Progress
+fetch_started progress = record progress { fetches = progress.fetches + 1 }
 
--- one command
-abbrev pub command_run : Context → Command → Next → Next
-command_run context (command.Fetch init) next progress =
-    showing (Fetch progress.fetches) (fetched context (new_request context.client (normalized_init init)) next)
-    (started progress)
+-- so many seconds have passed
+abbrev pub waited : ℕ → Progress → Progress
+waited seconds progress = record progress { clock = progress.clock + seconds }
 
--- the clock stands still
-abbrev pub ends : Ending → Play
-ends ending = over ending 0
+-- what a command does
+abbrev pub command_run : Setting → Command → Next → Next
+command_run setting (command.Fetch init) next progress =
+    showing (Fetch progress.fetches) (fetched setting (new_request setting.client (normalized_init init)) next)
+    (fetch_started progress)
+command_run setting (command.Wait seconds) next progress = next (waited seconds progress)
+
+-- a run ends at its clock
+abbrev pub ends : Ending → Next
+ends ending progress = over ending progress.clock
 
 -- a run that has reached a limit is over; else it goes on
-abbrev pub unless_limit : Option Ending → Play → Play
-unless_limit (Some ending) play = ends ending
-unless_limit None play = play
+abbrev pub unless_limit : Option Ending → Next → Next
+unless_limit (Some ending) next progress = ends ending progress
+unless_limit None next progress = next (started progress)
 
 -- the commands, in order, up to a limit
-abbrev pub script_run : Context → List Command → Next → Next
-script_run context [] next progress = next progress
-script_run context (one ∷ more) next progress =
-    unless_limit (limit_before one progress) (command_run context one (script_run context more next) progress)
+abbrev pub script_run : Setting → List Command → Next → Next
+script_run setting [] next progress = next progress
+script_run setting (one ∷ more) next progress =
+    unless_limit (limit_before one progress) (command_run setting one (script_run setting more next)) progress
 
--- nothing has started or been shown
-abbrev pub beginning : Progress
-beginning = record { commands = 0; fetches = 0; shown = [] }
+-- at this time nothing has started or been shown
+abbrev pub beginning : ℕ → Progress
+beginning base = record { clock = base; commands = 0; fetches = 0; shown = [] }
 
 -- after the last command
 abbrev pub finished : Next
-finished progress = ends Finished
+finished progress = ends Finished progress
 
 -- the client of a document that names no policy of its own
 abbrev pub document_client : Document → Client
 document_client document = client_of document.url document.top StrictOriginWhenCrossOrigin
 
--- the whole run
-abbrev pub document_run : List Cookie → Document → Play
-document_run cookies document =
-    script_run (lent (document_client document) cookies) document.script finished beginning
+-- a document's setting; it has no policies yet
+abbrev pub setting_of : List Cookie → Document → Setting
+setting_of cookies document = record { client = document_client document; policies = []; cookies = cookies }
+
+-- the whole run, from a time on
+abbrev pub document_run : List Cookie → ℕ → Document → Play
+document_run cookies base document = script_run (setting_of cookies document) document.script finished (beginning base)

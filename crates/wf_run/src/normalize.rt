@@ -1,5 +1,5 @@
 ghost use Rattle.std.specs.Prelude.{◌≡◌, IfOk, map, take};
-ghost use Rattle.wf_fetch.specs.Runs as spec;
+ghost use Rattle.wf_run.specs.Runs as spec;
 
 use std::alloc::Global;
 use wf_text::{Bytes, OutOfMemory, copy_of, trim_http};

@@ -1,6 +1,6 @@
 use Rattle.std.proofs.Common.{◌≡◌, ◌++◌, drop, map}
-use Rattle.wf_fetch.specs.Runs.{normalized_pair}
-use Rattle.wf_fetch.proofs.normalize.normalized_pairs.Given as goal
+use Rattle.wf_run.specs.Runs.{normalized_pair}
+use Rattle.wf_run.proofs.normalize.normalized_pairs.Given as goal
 
 -- the pairs so far are normalised, and the others follow
 abbrev pub invariant-loop-pair : goal.invariant-loop-pair

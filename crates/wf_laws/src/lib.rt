@@ -1,0 +1,2 @@
+// Laws of the whole fetch.
+#![tactic(auto)]

@@ -1,0 +1,55 @@
+-- What a fetch comes to in a document's world.
+use Rattle.std.specs.Prelude.{◌≡◌, ℕ, ◌+◌, ◌≤◌, List, ◌++◌, Result, Ok, Err}
+use Rattle.wf_text.specs.declared.memory.OutOfMemory.{OutOfMemory}
+use Rattle.wf_act.specs.declared.act.Act.{Act}
+use Rattle.wf_act.specs.declared.act.Input.{Input}
+use Rattle.wf_act.specs.Process.{Process, ended}
+use Rattle.wf_act.specs.Traces.{Trace, with_events}
+use Rattle.wf_print.specs.declared.events.Event.{Event}
+use Rattle.wf_run.specs.Play.{events_of}
+use Rattle.wf_types.specs.declared.response.Outcome.{Outcome}
+use Rattle.wf_wire.specs.Exchanges.{Answering}
+use Rattle.wf_player.specs.Worlds.{Answers, Refuses, World, outside_of}
+
+-- The world, and the events that were shown.
+pub record Moment (State : Type 0) : Type 0 where
+  pub world : World State
+  pub events : List Event
+
+-- a moment of these
+abbrev pub moment_of : {State : Type 0} → World State → List Event → Moment State
+moment_of world events = record { world = world; events = events }
+
+-- with these items of a tape a process shows these events in the world of a document, and goes on
+abbrev pub LeadsOn : {State : Type 0} → Answering State → ℕ → ℕ → Process → World State → List Input → List Event
+    → Process → World State → Type 0
+LeadsOn by limit document = Trace (with_events (Answers by limit document) events_of)
+
+-- The fetch came to its outcome: for some tape of the world's answers it has shown what was added to the events. It
+-- has made 126 calls at most.
+pub record FetchedTo {State : Type 0} (by : Answering State) (limit document : ℕ) (whole : Process)
+    (old : Moment State) (outcome : Outcome) (new : Moment State) : Type 0 where
+  pub tape : List Input
+  pub made : List Event
+  pub added : new.events ≡ old.events ++ made
+  pub trace : LeadsOn by limit document whole old.world tape made (ended outcome) new.world
+  pub few : old.world.left ≤ new.world.left + 126
+
+-- Memory was refused: the fetch came to some place, and what was added to the events begins what it showed on the way;
+-- what it missed is the one event of an act that was answered and could not be noted.
+pub record FetchCut {State : Type 0} (by : Answering State) (limit document : ℕ) (whole : Process)
+    (old new : Moment State) : Type 0 where
+  pub tape : List Input
+  pub made : List Event
+  pub missed : List Event
+  pub place : Process
+  pub last : World State
+  pub added : new.events ≡ old.events ++ made
+  pub trace : LeadsOn by limit document whole old.world tape (made ++ missed) place last
+  pub left : Refuses (outside_of last) (outside_of new.world)
+
+-- what a fetch comes to
+abbrev pub Fetched : {State : Type 0} → Answering State → ℕ → ℕ → Process → Moment State
+    → Result Outcome OutOfMemory → Moment State → Type 0
+Fetched by limit document whole old (Ok outcome) new = FetchedTo by limit document whole old outcome new
+Fetched by limit document whole old (Err refused) new = FetchCut by limit document whole old new

@@ -1,0 +1,4 @@
+pub mod Asking
+pub mod Driving
+pub mod Playing
+pub mod Worlds

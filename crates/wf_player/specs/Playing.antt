@@ -1,0 +1,103 @@
+-- What a document's run, and each part of it, comes to in the document's world.
+use Rattle.std.specs.Prelude.{◌≡◌, ℕ, ◌+◌, ◌≤◌, List, [], ◌++◌, Option, Some, Result, Ok, Err}
+use Rattle.wf_text.specs.declared.memory.OutOfMemory.{OutOfMemory}
+use Rattle.wf_act.specs.declared.act.Input.{Input}
+use Rattle.wf_print.specs.declared.events.Ending.{Ending}
+use Rattle.wf_print.specs.declared.events.Ending.TheVariants.{Memory}
+use Rattle.wf_print.specs.declared.events.Event.{Event}
+use Rattle.wf_run.specs.Play.{Play, over, run_play}
+use Rattle.wf_run.specs.Runs.{Next, Progress}
+use Rattle.wf_run.specs.Traces.{PlayTrace}
+use Rattle.wf_wire.specs.Exchanges.{Answering, IsIdle}
+use Rattle.wf_player.specs.Worlds.{Answers, Outside, Refuses, Settles, World, outside_of}
+
+-- The world, and where the run stands.
+pub record Standing (State : Type 0) : Type 0 where
+  pub world : World State
+  pub progress : Progress
+
+-- a standing of these
+abbrev pub standing_of : {State : Type 0} → World State → Progress → Standing State
+standing_of world progress = record { world = world; progress = progress }
+
+-- with these items of a tape a run shows these events in the world of a document, and goes on
+abbrev pub PlaysOn : {State : Type 0} → Answering State → ℕ → ℕ → Play → World State → List Input → List Event → Play
+    → World State → Type 0
+PlaysOn by limit document = PlayTrace (Answers by limit document) Settles
+
+-- For some tape of the world's answers, and whatever follows, the part has shown what was added to the events, and
+-- goes on as the rest.
+pub record PlayedTo {State N : Type 0} (by : Answering State) (limit document : ℕ) (part : N → Play)
+    (old : Standing State) (rest : N → Play) (new : Standing State) : Type 0 where
+  pub tape : List Input
+  pub made : List Event
+  pub added : new.progress.shown ≡ old.progress.shown ++ made
+  pub trace : (next : N) → PlaysOn by limit document (part next) old.world tape made (rest next) new.world
+
+-- Memory was refused somewhere: the part came to some place, and what was added to the events begins what it showed on
+-- the way.
+pub record CutShort {State N : Type 0} (by : Answering State) (limit document : ℕ) (part : N → Play)
+    (old new : Standing State) : Type 0 where
+  pub tape : List Input
+  pub made : List Event
+  pub missed : List Event
+  pub place : N → Play
+  pub last : World State
+  pub added : new.progress.shown ≡ old.progress.shown ++ made
+  pub trace : (next : N)
+      → PlaysOn by limit document (part next) old.world tape (made ++ missed) (place next) last
+  pub left : Refuses (outside_of last) (outside_of new.world)
+
+-- what a part comes to that goes on as the rest
+abbrev pub LedTo : {State N A : Type 0} → Answering State → ℕ → ℕ → (N → Play) → Standing State → (A → N → Play)
+    → Result A OutOfMemory → Standing State → Type 0
+LedTo by limit document part old rest (Ok answer) new = PlayedTo by limit document part old (rest answer) new
+LedTo by limit document part old rest (Err refused) new = CutShort by limit document part old new
+
+-- the same of a rule of the script, which leads on to what follows
+abbrev pub Played : {State : Type 0} → Answering State → ℕ → ℕ → (Next → Next) → Standing State → Result ⊤ OutOfMemory
+    → Standing State → Type 0
+Played by limit document part old result new =
+    LedTo by limit document (λ next. part next old.progress) old (λ _ next. next new.progress) result new
+
+-- the same of a whole run, which comes to an ending
+abbrev pub Ended : {State : Type 0} → Answering State → ℕ → ℕ → Play → Standing State → Result Ending OutOfMemory
+    → Standing State → Type 0
+Ended by limit document whole old result new =
+    LedTo by limit document (λ (next : Next). whole) old (λ ending next. over ending new.progress.clock) result new
+
+-- ---- whole runs
+
+-- From a world in which nothing is to come, for some tape each item is the world's answer, and what was shown is the
+-- run over that tape.
+pub record Ran {State : Type 0} (by : Answering State) (limit document : ℕ) (whole : Play) (old : Outside State)
+    (events : List Event) (ending : Ending) (clock : ℕ) (new : Outside State) : Type 0 where
+  pub first : World State
+  pub idle : IsIdle first.exchange
+  pub from : outside_of first ≡ old
+  pub tape : List Input
+  pub last : World State
+  pub trace : PlaysOn by limit document whole first tape events (over ending clock) last
+  pub to : outside_of last ≡ new
+  pub runs : run_play whole tape ≡ record { events = events; ending = Some (ending, clock) }
+
+-- The same of a run that ended for memory: what was shown begins the run over that tape, and the calls that were made
+-- are those on the way.
+pub record Began {State : Type 0} (by : Answering State) (limit document : ℕ) (whole : Play) (old : Outside State)
+    (events : List Event) (new : Outside State) : Type 0 where
+  pub first : World State
+  pub idle : IsIdle first.exchange
+  pub from : outside_of first ≡ old
+  pub tape : List Input
+  pub missed : List Event
+  pub place : Play
+  pub last : World State
+  pub trace : PlaysOn by limit document whole first tape (events ++ missed) place last
+  pub left : Refuses (outside_of last) new
+  pub runs : (run_play whole tape).events ≡ events ++ (missed ++ (run_play place []).events)
+
+-- what a document's run comes to, by its ending
+abbrev pub Came : {State : Type 0} → Answering State → ℕ → ℕ → Play → Outside State → List Event → Ending → ℕ
+    → Outside State → Type 0
+Came by limit document whole old events Memory clock new = Began by limit document whole old events new
+Came by limit document whole old events ending clock new = Ran by limit document whole old events ending clock new

@@ -1,0 +1,96 @@
+-- The world of a document's run: its link and its pass of the shared book, and what comes of each act there (this
+-- project's own; Fetch, section 4, where the algorithm waits for the network or the preflight cache).
+use Rattle.std.specs.Prelude.{◌≡◌, ℕ, ◌+◌, ◌≤◌, List, [], ◌∷◌, ◌++◌, Option}
+use Rattle.wf_act.specs.declared.act.Act.{Act}
+use Rattle.wf_act.specs.declared.act.Act.TheVariants.{Ask, Send, Tell}
+use Rattle.wf_act.specs.declared.act.Input.{Input}
+use Rattle.wf_act.specs.declared.act.Input.TheVariants.{Replied, Told}
+use Rattle.wf_book.specs.declared.entry.Entry.{Entry}
+use Rattle.wf_book.specs.declared.op.Op.{Op}
+use Rattle.wf_print.specs.declared.events.Event.{Event}
+use Rattle.wf_print.specs.declared.events.Event.TheVariants.{Result}
+use Rattle.wf_types.specs.Targets.{IsSendable}
+use Rattle.wf_wire.specs.declared.wire.Wire.{Wire}
+use Rattle.wf_wire.specs.Exchanges.{Answering, Exchange, Exchanges, IsIdle}
+use Rattle.wf_wire.specs.Wires.{exchange_of}
+
+-- Where the exchange over the link stands; the entries of the calls that the document has made; and how many more it
+-- may make.
+pub record World (State : Type 0) : Type 0 where
+  pub exchange : Exchange State
+  pub own : List Entry
+  pub left : ℕ
+
+-- a wire over a link, and a pass, as a world
+abbrev pub world_of : {P L State : Type 0} → (P → List Entry) → (P → ℕ) → (L → Option State)
+    → (L → Option (List ℕ)) → (L → ℕ) → P → L → Wire → World State
+world_of own calls state left faults pass link wire =
+    record { exchange = exchange_of state left faults link wire; own = own pass; left = calls pass }
+
+-- What of it outlives the run: the link's state, where told, its count of faults, and the pass.
+pub record Outside (State : Type 0) : Type 0 where
+  pub state : Option State
+  pub faults : ℕ
+  pub own : List Entry
+  pub left : ℕ
+
+-- what outlives the run, of a world
+abbrev pub outside_of : {State : Type 0} → World State → Outside State
+outside_of world = record {
+  state = world.exchange.state;
+  faults = world.exchange.faults;
+  own = world.own;
+  left = world.left;
+}
+
+-- the same, of a link and a pass
+abbrev pub outside : {P L State : Type 0} → (P → List Entry) → (P → ℕ) → (L → Option State) → (L → ℕ) → P → L
+    → Outside State
+outside own calls state faults pass link =
+    record { state = state link; faults = faults link; own = own pass; left = calls pass }
+
+-- ---- what comes of an act
+
+-- The document has made one call more: its entry is the last of the document's own, and the input is its reply.
+pub record IsCalled {State : Type 0} (document : ℕ) (op : Op) (old : World State) (input : Input)
+    (new : World State) : Type 0 where
+  pub entry : Entry
+  pub document_is : entry.document ≡ document
+  pub op_is : entry.op ≡ op
+  pub input_is : input ≡ Replied entry.reply
+  pub own_is : new.own ≡ old.own ++ entry ∷ []
+  pub left_is : old.left ≡ new.left + 1
+  pub exchange_is : new.exchange ≡ old.exchange
+
+-- What the link answers to an act. The pass is as it was.
+pub record IsExchanged {State : Type 0} (by : Answering State) (limit : ℕ) (old : World State) (first : Act)
+    (input : Input) (new : World State) : Type 0 where
+  pub exchanged : Exchanges by limit old.exchange first input new.exchange
+  pub own_is : new.own ≡ old.own
+  pub left_is : new.left ≡ old.left
+
+-- what comes of an act in a document's world, with bodies of so many bytes at most: a call of the book, a request
+-- whose method and target have no space, what is read of its answer, or that the document is told
+abbrev pub Answers : {State : Type 0} → Answering State → ℕ → ℕ → World State → Act → Input → World State → Type 0
+Answers by limit document old (Ask op) input new = IsCalled document op old input new
+Answers by limit document old (Send hop) input new = IsSendable hop × IsExchanged by limit old (Send hop) input new
+Answers by limit document old (Tell violation) input new = (input ≡ Told) × (new ≡ old)
+Answers by limit document old first input new = IsExchanged by limit old first input new
+
+-- Nothing more of the answer is to come.
+pub record IsHungUp {State : Type 0} (old new : World State) : Type 0 where
+  pub idle : IsIdle new.exchange
+  pub outside_is : outside_of new ≡ outside_of old
+
+-- what the world comes to with an event: the rest of an answer goes with the result of its fetch
+abbrev pub Settles : {State : Type 0} → Event → World State → World State → Type 0
+Settles (Result outcome) old new = IsHungUp old new
+Settles _ old new = new ≡ old
+
+-- Memory was refused: the document has made no call more, the link's state is as it was, and its count of faults has
+-- not fallen.
+pub record Refuses {State : Type 0} (old new : Outside State) : Type 0 where
+  pub state_is : new.state ≡ old.state
+  pub later : old.faults ≤ new.faults
+  pub own_is : new.own ≡ old.own
+  pub fewer : new.left ≤ old.left

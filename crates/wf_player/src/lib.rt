@@ -1,0 +1,13 @@
+// Documents, played: each fetch over a link and a share of the book, and each script.
+#![tactic(auto)]
+
+mod act;
+mod drive;
+mod fetch;
+mod lent;
+mod running;
+mod script;
+mod shown;
+
+pub use drive::drive;
+pub use fetch::{FetchRun, drive_fetch};
