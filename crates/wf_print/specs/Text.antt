@@ -1,6 +1,8 @@
--- The printed text of a play: each document with its events in order and how it ended (the output of `fetchplay play`).
+-- The printed text of a play: each document with its events in order and how it ended, then the history of the shared
+-- book (the output of `fetchplay play`).
 use Rattle.std.specs.Prelude.{ℕ, Bool, true, false, ◌≢◌, List, [], ◌++◌, length, codes, decimal, Option, Some, None}
 use Rattle.std.specs.List.{flat_map, All}
+use Rattle.wf_book.specs.declared.entry.Entry.{Entry}
 use Rattle.wf_headers.specs.declared.headers.Header.{Header}
 use Rattle.wf_types.specs.declared.error.NetError.{NetError}
 use Rattle.wf_types.specs.declared.error.NetError.TheVariants.{PreflightHeader}
@@ -15,6 +17,7 @@ use Rattle.wf_types.specs.declared.response.Outcome.TheVariants as outcome
 use Rattle.wf_types.specs.declared.response.Response.{Response}
 use Rattle.wf_types.specs.Errors.{error_number, error_name, fault_number, fault_name}
 use Rattle.wf_types.specs.Names.{destination_name, directive_name, kind_name}
+use Rattle.wf_print.specs.Calls.{call_text}
 use Rattle.wf_print.specs.declared.events.Ending.{Ending}
 use Rattle.wf_print.specs.declared.events.Ending.TheVariants as ending
 use Rattle.wf_print.specs.declared.events.Event.{Event}
@@ -118,6 +121,7 @@ abbrev pub event_text : Event → List ℕ
 event_text (event.Fetch number) = line (codes "fetch " ++ decimal number)
 event_text (event.Load number destination) =
     line (codes "load " ++ decimal number ++ codes " " ++ destination_name destination)
+event_text (event.Call op reply) = line (codes "call " ++ call_text op reply)
 event_text (event.Sent hop) = hop_lines hop
 event_text (event.Told violation) = violation_line violation
 event_text (event.Result outcome) = outcome_lines outcome
@@ -143,8 +147,13 @@ transcript_text transcript =
 abbrev pub HasText : List Transcript → Type 0
 HasText transcripts = All (λ transcript. transcript.ending ≢ ending.Memory) transcripts
 
--- the text of a play
-abbrev pub play_text : List Transcript → List ℕ
-play_text transcripts =
+-- an entry of the history: the turn and the document of an operation, the operation, and what it replied
+abbrev pub entry_line : Entry → List ℕ
+entry_line entry =
+    line (decimal entry.turn ++ codes " " ++ decimal entry.document ++ codes " " ++ call_text entry.op entry.reply)
+
+-- the text of a play: its documents, and the history
+abbrev pub play_text : List Transcript → List Entry → List ℕ
+play_text transcripts history =
     line (codes "fetchplay 1") ++ flat_map transcript_text transcripts ++ line (codes "history")
-    ++ line (codes "done")
+    ++ flat_map entry_line history ++ line (codes "done")

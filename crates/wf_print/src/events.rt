@@ -1,3 +1,4 @@
+use wf_book::{Op, Reply};
 use wf_text::{Bytes, Items};
 use wf_types::{Destination, Hop, NetError, Outcome, TypeFault, Violation};
 
@@ -8,6 +9,8 @@ pub enum Event {
     Fetch(u32),
     /// The load of that number starts.
     Load(u32, Destination),
+    /// An operation was done on the shared book, and replied.
+    Call(Op, Reply),
     /// A request was sent.
     Sent(Hop),
     /// A policy was violated.

@@ -1,9 +1,11 @@
 // What a play shows: the events of each document, and their printed text.
 #![tactic(auto)]
 
+mod calls;
 mod escape;
 mod events;
 mod failure;
+mod history;
 mod length;
 mod lines;
 mod output;

@@ -1,13 +1,16 @@
 ghost use Rattle.std.specs.Prelude.{◌≡◌, ◌++◌, codes, decimal, length, OnOk};
 ghost use Rattle.std.specs.List.{flat_map};
+ghost use Rattle.wf_print.specs.Calls.{call_text};
 ghost use Rattle.wf_print.specs.Escapes.{escaped};
 ghost use Rattle.wf_types.specs.Names.{destination_name};
 ghost use Rattle.wf_print.specs.Text as spec;
 
+use crate::calls::add_call;
 use crate::escape::add_escaped;
 use crate::events::Event;
 use crate::output::Output;
 use itoa::{Buffer, Integer};
+use wf_book::{Op, Reply};
 use wf_headers::{Header, HeaderList};
 use wf_text::Bytes;
 use wf_types::{BodyEnd, Destination, Hop, NetError, Outcome, Response, TypeFault, Violation};
@@ -230,6 +233,15 @@ fn add_load<W: Output>(text: &mut W, number: u32, destination: Destination) -> R
     text.add(b"\n")
 }
 
+// Adds an operation on the shared book.
+fn add_call_line<W: Output>(text: &mut W, op: &Op, reply: Reply) -> Result<(), W::Error>
+    ensures { OnOk result (text.new ≡ W.after text.old (spec.line (codes "call " ++ call_text op.now reply))) }
+{
+    text.add(b"call ")?;
+    add_call(text, op, reply)?;
+    text.add(b"\n")
+}
+
 // Adds the lines of an event.
 pub(crate) fn add_event<W: Output>(text: &mut W, event: &Event) -> Result<(), W::Error>
     ensures { OnOk result (text.new ≡ W.after text.old (spec.event_text event.now)) }
@@ -237,6 +249,7 @@ pub(crate) fn add_event<W: Output>(text: &mut W, event: &Event) -> Result<(), W:
     match event {
         Event::Fetch(number) => add_number_line(text, b"fetch ", *number),
         Event::Load(number, destination) => add_load(text, *number, *destination),
+        Event::Call(op, reply) => add_call_line(text, op, *reply),
         Event::Sent(hop) => add_hop(text, hop),
         Event::Told(violation) => add_violation(text, violation),
         Event::Result(outcome) => add_outcome(text, outcome),

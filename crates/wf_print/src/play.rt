@@ -7,11 +7,16 @@ ghost use Rattle.wf_print.specs.Private.Writes.{Writes};
 
 use crate::events::{Ending, Event, Transcript, Transcripts};
 use crate::failure::Failure;
+use crate::history::text_of_entries;
 use crate::lines::{add_event, add_number};
 use crate::output::Output;
 use std::alloc::Global;
+use wf_book::{Entry, History};
 use wf_link::{Sink, write_whole};
 use wf_text::{Bytes, OutOfMemory};
+
+// How many entries of the history are written together.
+const TOGETHER: usize = 256;
 
 // Adds how a document ended.
 fn add_ending(text: &mut Bytes, ending: Ending) -> Result<(), OutOfMemory>
@@ -74,13 +79,34 @@ fn put_transcripts<K: Sink>(
     Ok(())
 }
 
+// Writes the lines of the history, so many of them at a time.
+fn put_entries<K: Sink>(alloc: Global, entries: &[Entry], sink: &mut K) -> Result<(), Failure>
+    ensures { Writes K.taken K.faults K.zeros sink.old sink.new (flat_map spec.entry_line entries.now) result }
+{
+    let mut rest = entries;
+    while !rest.is_empty() {
+        let (first, others) = rest.split_at(rest.len().min(TOGETHER));
+        let text = text_of_entries(alloc, first)?;
+        put(sink, text.as_slice())?;
+        rest = others;
+    }
+    Ok(())
+}
+
 // Writes the text of the play.
-fn put_play<K: Sink>(alloc: Global, transcripts: &[Transcript], sink: &mut K) -> Result<(), Failure>
-    ensures { Writes K.taken K.faults K.zeros sink.old sink.new (spec.play_text transcripts.now) result }
+fn put_play<K: Sink>(
+    alloc: Global,
+    transcripts: &[Transcript],
+    history: &[Entry],
+    sink: &mut K,
+) -> Result<(), Failure>
+    ensures { Writes K.taken K.faults K.zeros sink.old sink.new (spec.play_text transcripts.now history.now) result }
 {
     put(sink, b"fetchplay 1\n")?;
     put_transcripts(alloc, transcripts, sink)?;
-    put(sink, b"history\ndone\n")
+    put(sink, b"history\n")?;
+    put_entries(alloc, history, sink)?;
+    put(sink, b"done\n")
 }
 
 /// Whether the play has a text: no document ended for want of memory.
@@ -93,18 +119,21 @@ pub fn has_text(transcripts: &Transcripts) -> bool
         .all(|transcript| transcript.ending != Ending::Memory)
 }
 
-/// Writes the text of a play, a document at a time. After a failure the sink has taken a first
-/// part of the text: `Fault` where the sink failed, `TookNothing` where it took nothing of a piece
-/// that was not empty, and `OutOfMemory` where memory was refused.
+/// Writes the text of a play: its documents, a document at a time, and the history. After a failure
+/// the sink has taken a first part of the text: `Fault` where the sink failed, `TookNothing` where it
+/// took nothing of a piece that was not empty, and `OutOfMemory` where memory was refused.
 pub fn write_play<K: Sink>(
     alloc: Global,
     transcripts: &Transcripts,
+    history: &History,
     sink: &mut K,
 ) -> Result<(), Failure>
     requires { spec.HasText transcripts.now }
 
-    ensures ok { OnOk result (Took (K.taken sink.old) (K.taken sink.new) (spec.play_text transcripts.now)) }
-    ensures err { OnErr result (TookPart (K.taken sink.old) (K.taken sink.new) (spec.play_text transcripts.now)) }
+    ensures ok { OnOk result
+        (Took (K.taken sink.old) (K.taken sink.new) (spec.play_text transcripts.now history.now)) }
+    ensures err { OnErr result
+        (TookPart (K.taken sink.old) (K.taken sink.new) (spec.play_text transcripts.now history.now)) }
 
     // The counts of the sink never fall, and tell the cause of a failure.
     ensures faults { K.faults sink.old ≤ K.faults sink.new }
@@ -112,5 +141,5 @@ pub fn write_play<K: Sink>(
     ensures fault { result ≡ Err Failure.Fault → Rose (K.faults sink.old) (K.faults sink.new) }
     ensures nothing { result ≡ Err Failure.TookNothing → Rose (K.zeros sink.old) (K.zeros sink.new) }
 {
-    put_play(alloc, transcripts.as_slice(), sink)
+    put_play(alloc, transcripts.as_slice(), history.as_slice(), sink)
 }

@@ -1,0 +1,165 @@
+ghost use Rattle.std.specs.Prelude.{◌≡◌, ◌++◌, codes, OnOk};
+ghost use Rattle.wf_print.specs.Calls as spec;
+
+use crate::lines::add_number;
+use crate::output::Output;
+use wf_book::{Op, Reply};
+use wf_hsts::Sts;
+use wf_precache::{Lesson, Question};
+use wf_text::Bytes;
+
+// What an operation replied.
+fn reply_text(reply: Reply) -> &'static [u8]
+    ensures { result.now ≡ spec.reply_text reply }
+{
+    match reply {
+        Reply::Yes => b"yes",
+        Reply::No => b"no",
+        Reply::Done => b"done",
+    }
+}
+
+// Whether the credentials mode is include.
+fn credentials_text(include: bool) -> &'static [u8]
+    ensures { result.now ≡ spec.credentials_text include }
+{
+    if include { b"include" } else { b"other" }
+}
+
+// Whether the names under a host are meant too.
+fn subdomains_text(subdomains: bool) -> &'static [u8]
+    ensures { result.now ≡ spec.subdomains_text subdomains }
+{
+    if subdomains { b"sub" } else { b"exact" }
+}
+
+// Adds texts, each behind a comma.
+fn add_comma_texts<W: Output>(text: &mut W, texts: &[Bytes]) -> Result<(), W::Error>
+    ensures { OnOk result (text.new ≡ W.after text.old (spec.comma_texts texts.now)) }
+{
+    for item in texts {
+        text.add(b",")?;
+        text.add(item.as_slice())?;
+    }
+    Ok(())
+}
+
+// Adds a list of texts.
+fn add_list<W: Output>(text: &mut W, texts: &[Bytes]) -> Result<(), W::Error>
+    ensures { OnOk result (text.new ≡ W.after text.old (spec.list_text texts.now)) }
+{
+    let Some((first, others)) = texts.split_first() else {
+        return text.add(b"()");
+    };
+    text.add(first.as_slice())?;
+    add_comma_texts(text, others)
+}
+
+// The method that is asked for.
+fn method_text(method: &Option<Bytes>) -> &[u8]
+    ensures { result.now ≡ spec.method_text method.now }
+{
+    match method {
+        None => b"()",
+        Some(method) => method.as_slice(),
+    }
+}
+
+// Adds a word and the space behind it.
+fn add_word<W: Output>(text: &mut W, word: &[u8]) -> Result<(), W::Error>
+    ensures { OnOk result (text.new ≡ W.after text.old (word.now ++ codes " ")) }
+{
+    text.add(word)?;
+    text.add(b" ")
+}
+
+// Adds what a Strict-Transport-Security field said.
+fn add_sts<W: Output>(text: &mut W, sts: &Sts) -> Result<(), W::Error>
+    ensures { OnOk result (text.new ≡ W.after text.old (spec.sts_text sts.now)) }
+{
+    add_number(text, sts.age)?;
+    text.add(b" ")?;
+    text.add(subdomains_text(sts.subdomains))
+}
+
+// Adds what a request would need of the preflight cache.
+fn add_question<W: Output>(text: &mut W, question: &Question) -> Result<(), W::Error>
+    ensures { OnOk result (text.new ≡ W.after text.old (spec.question_text question.now)) }
+{
+    add_word(text, question.key.as_slice())?;
+    add_word(text, question.origin.as_slice())?;
+    add_word(text, credentials_text(question.include))?;
+    add_word(text, method_text(&question.method))?;
+    add_list(text, question.names.as_slice())?;
+    text.add(b" ")?;
+    text.add(question.url.as_slice())
+}
+
+// Adds what a preflight taught.
+fn add_lesson<W: Output>(text: &mut W, lesson: &Lesson) -> Result<(), W::Error>
+    ensures { OnOk result (text.new ≡ W.after text.old (spec.lesson_text lesson.now)) }
+{
+    add_word(text, lesson.key.as_slice())?;
+    add_word(text, lesson.origin.as_slice())?;
+    add_word(text, credentials_text(lesson.include))?;
+    add_number(text, lesson.age)?;
+    text.add(b" ")?;
+    add_list(text, lesson.methods.as_slice())?;
+    text.add(b" ")?;
+    add_list(text, lesson.names.as_slice())?;
+    text.add(b" ")?;
+    text.add(lesson.url.as_slice())
+}
+
+// Adds the time of an operation.
+fn add_time<W: Output>(text: &mut W, now: u64) -> Result<(), W::Error>
+    ensures { OnOk result (text.new ≡ W.after text.old (spec.time_text now)) }
+{
+    text.add(b" at ")?;
+    add_number(text, now)
+}
+
+// Adds an operation and its time.
+fn add_op<W: Output>(text: &mut W, op: &Op) -> Result<(), W::Error>
+    ensures { OnOk result (text.new ≡ W.after text.old (spec.op_text op.now)) }
+{
+    match op {
+        Op::Match(host, now) => {
+            text.add(b"match ")?;
+            text.add(host.as_slice())?;
+            add_time(text, *now)
+        }
+        Op::Note(host, sts, now) => {
+            text.add(b"note ")?;
+            add_word(text, host.as_slice())?;
+            add_sts(text, sts)?;
+            add_time(text, *now)
+        }
+        Op::Covers(question, now) => {
+            text.add(b"covers ")?;
+            add_question(text, question)?;
+            add_time(text, *now)
+        }
+        Op::Learn(lesson, now) => {
+            text.add(b"learn ")?;
+            add_lesson(text, lesson)?;
+            add_time(text, *now)
+        }
+        Op::Clear(key, origin, url, now) => {
+            text.add(b"clear ")?;
+            add_word(text, key.as_slice())?;
+            add_word(text, origin.as_slice())?;
+            text.add(url.as_slice())?;
+            add_time(text, *now)
+        }
+    }
+}
+
+// Adds an operation, and what it replied.
+pub(crate) fn add_call<W: Output>(text: &mut W, op: &Op, reply: Reply) -> Result<(), W::Error>
+    ensures { OnOk result (text.new ≡ W.after text.old (spec.call_text op.now reply)) }
+{
+    add_op(text, op)?;
+    text.add(b": ")?;
+    text.add(reply_text(reply))
+}
