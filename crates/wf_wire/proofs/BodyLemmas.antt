@@ -16,11 +16,11 @@ use Rattle.wf_http1.specs.declared.body.BodyStep.TheVariants as bodies
 use Rattle.wf_http1.specs.declared.framing.Framing.{Framing}
 use Rattle.wf_http1.specs.declared.framing.Framing.TheVariants.{Nothing, Chunked, Length, ToEnd, Broken}
 use Rattle.wf_http1.proofs.OpenLemmas.{bodies-short}
-use Rattle.wf_fetch.specs.declared.act.Input.TheVariants.{BodyIs}
-use Rattle.wf_wire.specs.Exchanges.{HasBody, IsCaused, count_of}
-use Rattle.wf_wire.specs.Private.Reads.{HasAtMost, LeavesBody, Reads}
+use Rattle.wf_act.specs.declared.act.Input.TheVariants.{BodyIs}
+use Rattle.wf_wire.specs.Exchanges.{Exchange, HasBody, IsBodyRead, IsIdle, LeavesBody, count_of}
+use Rattle.wf_wire.specs.Private.Reads.{HasAtMost}
 use Rattle.wf_wire.specs.Wires.{onto_left}
-use Rattle.wf_wire.proofs.WireLemmas.{Receives, come-first, come-told, nothing-left, receives-more, receives-read}
+use Rattle.wf_wire.proofs.WireLemmas.{Receives, come-first, come-all, nothing-left, receives-more, receives-read}
 use Rattle.wf_wire.proofs.WireLemmas.{uncaused}
 
 -- ---- the end of an answer is no fault
@@ -39,31 +39,32 @@ body-no-fault (Length total) limit bytes n is = no-fault _ _ _ n is
 body-no-fault Chunked limit bytes n is =
     no-fault (nat_lt limit (length (decoded bytes).data_is)) (decoded bytes).complete (decoded bytes).data_is n is
 
--- a body that was decided was read
-pub body-reads : (how : Framing) (limit : ℕ) (coming left : Option (List ℕ)) (end : BodyEnd)
-    → HasBody how limit coming end → Reads how limit coming end left
-body-reads how limit coming left body.Null has = has
-body-reads how limit coming left (body.Whole bytes) has = has
-body-reads how limit coming left (body.Cut n) has = has
-body-reads how limit coming left body.TooBig has = has
-body-reads how limit coming left (body.Fault n) has = absurd (body-no-fault how limit has.bytes n (sym has.ends))
-
--- the link failed while it was open
-pub broken-reads : (how : Framing) (limit : ℕ) (coming left : Option (List ℕ)) (end : BodyEnd) (n : ℕ)
-    → end ≡ body.Fault n → LeavesBody how limit coming left n → Reads how limit coming end left
-broken-reads how limit coming left end n is leaves =
-    subst (λ (e : BodyEnd). Reads how limit coming e left) (sym is) leaves
-
--- a body that was decided needs no cause
-pub body-caused : (how : Framing) (limit : ℕ) (coming : Option (List ℕ)) (end : BodyEnd) (before now : ℕ)
-    → before ≤ now → HasBody how limit coming end → IsCaused (BodyIs end) before now
-body-caused how limit coming body.Null before now later has = uncaused (BodyIs body.Null) before now later refl
-body-caused how limit coming (body.Whole bytes) before now later has =
-    uncaused (BodyIs (body.Whole bytes)) before now later refl
-body-caused how limit coming (body.Cut n) before now later has = uncaused (BodyIs (body.Cut n)) before now later refl
-body-caused how limit coming body.TooBig before now later has = uncaused (BodyIs body.TooBig) before now later refl
-body-caused how limit coming (body.Fault n) before now later has =
-    absurd (body-no-fault how limit has.bytes n (sym has.ends))
+-- a body came to its end, and nothing is to come then
+pub body-is-read : {State : Type 0} (limit : ℕ) (old new : Exchange State) (end : BodyEnd)
+    → HasBody old.framing limit old.coming end → IsIdle new → new.state ≡ old.state → old.faults ≤ new.faults
+    → IsBodyRead limit old (BodyIs end) new
+body-is-read limit old new body.Null has idle state later = record {
+  body_is = (has, idle);
+  state_is = state;
+  caused = uncaused (BodyIs body.Null) old.faults new.faults later refl;
+}
+body-is-read limit old new (body.Whole bytes) has idle state later = record {
+  body_is = (has, idle);
+  state_is = state;
+  caused = uncaused (BodyIs (body.Whole bytes)) old.faults new.faults later refl;
+}
+body-is-read limit old new (body.Cut n) has idle state later = record {
+  body_is = (has, idle);
+  state_is = state;
+  caused = uncaused (BodyIs (body.Cut n)) old.faults new.faults later refl;
+}
+body-is-read limit old new body.TooBig has idle state later = record {
+  body_is = (has, idle);
+  state_is = state;
+  caused = uncaused (BodyIs body.TooBig) old.faults new.faults later refl;
+}
+body-is-read limit old new (body.Fault n) has idle state later =
+    absurd (body-no-fault old.framing limit has.bytes n (sym has.ends))
 
 -- ---- a body has no more bytes than its limit
 
@@ -111,7 +112,7 @@ module _ (window : List ℕ) (left : Option (List ℕ)) (how : Framing) (limit :
       (fed rest) in
       record {
         bytes = (reading.bytes ++ now) ++ rest;
-        told = come-told window reading.bytes now left left' so_far;
+        are_all = come-all window reading.bytes now left left' so_far;
         ends =
             sym (subst (λ (f : Framing). body_end f limit ((reading.bytes ++ now) ++ rest) ≡ end) framed
             (subst (λ (l : ℕ). body_end reading.framing l ((reading.bytes ++ now) ++ rest) ≡ end) limited here));
@@ -152,27 +153,27 @@ module _ (window : List ℕ) (left : Option (List ℕ)) (how : Framing) (limit :
       ∙ append-nil (next.bytes ++ more) ∙ ap (λ (l : List ℕ). next.bytes ++ l) none ∙ append-nil next.bytes) in
       record {
         bytes = (next.bytes ++ more) ++ unwrap_or left'' [];
-        told = come-told window next.bytes more left left'' (body-goes-on next more left'' fed gave);
+        are_all = come-all window next.bytes more left left'' (body-goes-on next more left'' fed gave);
         ends = ends ∙ ap (λ (f : Framing). body_end f next.limit next.bytes) (body-framed next fed)
             ∙ ap (λ (l : ℕ). body_end how l next.bytes) (body-limited next fed)
             ∙ ap (λ (l : List ℕ). body_end how limit l) all;
       }
 
   -- or the link failed
-  pub body-fails : (next : BodyReading) (left'' : Option (List ℕ)) (end : BodyEnd)
+  pub body-fails : (next : BodyReading) (left'' : Option (List ℕ)) (end : BodyEnd) (n : ℕ)
       → IsFed reading piece (bodies.More next) → left'' ≡ left'
-      → end ≡ body_end next.framing next.limit next.bytes
-      → LeavesBody how limit (onto_left window left) left'' (count_of end)
-  body-fails next left'' end fed kept ends =
+      → end ≡ body_end next.framing next.limit next.bytes → n ≡ count_of end
+      → LeavesBody how limit (onto_left window left) left'' n
+  body-fails next left'' end n fed kept ends counts =
       let reads =
       receives-read window left reading.bytes now next.bytes left' left'' (body-read next fed) kept so_far in
       let all : next.bytes ++ [] ≡ next.bytes = append-nil next.bytes in
       record {
         bytes = next.bytes;
-        gave = subst (λ (l : List ℕ). Gave (onto_left window left) left'' l) all
+        came = subst (λ (l : List ℕ). Gave (onto_left window left) left'' l) all
             (come-first window next.bytes [] left left'' reads);
         waits = body-open next fed;
-        count_is = ap count_of (ends
+        count_is = counts ∙ ap count_of (ends
             ∙ ap (λ (f : Framing). body_end f next.limit next.bytes) (body-framed next fed)
             ∙ ap (λ (l : ℕ). body_end how l next.bytes) (body-limited next fed));
       }

@@ -10,15 +10,11 @@ use Rattle.wf_http1.specs.HeadFeeding.{IsFed}
 use Rattle.wf_http1.specs.declared.head.HeadStep.{HeadStep}
 use Rattle.wf_http1.specs.declared.head.HeadStep.TheVariants as heads
 use Rattle.wf_http1.proofs.AnswerLemmas.{bad-more, final-more, long-more}
-use Rattle.wf_fetch.specs.declared.act.Input.{Input}
-use Rattle.wf_fetch.specs.declared.act.Input.TheVariants.{HeadLong}
-use Rattle.wf_wire.specs.declared.exchange.Found.{Found}
 use Rattle.wf_wire.specs.declared.exchange.Found.TheVariants as found
-use Rattle.wf_wire.specs.Exchanges.{Exchange, IsHeadRead, IsIdle}
 use Rattle.wf_wire.specs.Private.Reads.{Finds}
 use Rattle.wf_wire.specs.Wires.{onto_left}
-use Rattle.wf_wire.proofs.WireLemmas.{Receives, come-behind, come-first, come-told, nothing-left, receives-more}
-use Rattle.wf_wire.proofs.WireLemmas.{receives-read, uncaused}
+use Rattle.wf_wire.proofs.WireLemmas.{Receives, come-behind, come-first, come-all, nothing-left, receives-more}
+use Rattle.wf_wire.proofs.WireLemmas.{receives-read}
 
 -- what a step came to, of the window that was fed
 fed : (read piece now : List ℕ) (step is : HeadStep) → piece ≡ now → step ≡ is → IsFed read piece step
@@ -38,7 +34,7 @@ module _ (window : List ℕ) (left : Option (List ℕ)) (read piece now : List �
         here.0,
         record {
           bytes = (read ++ now) ++ unwrap_or left' [];
-          told = come-told window read now left left' so_far;
+          are_all = come-all window read now left left' so_far;
           n = length read + n;
           ends = final-more (read ++ now) (unwrap_or left' []) head (length read + n) here.1;
           left = come-behind window read now left left' n here.0 so_far;
@@ -51,7 +47,7 @@ module _ (window : List ℕ) (left : Option (List ℕ)) (read piece now : List �
       let here : HasBadBlock (read ++ now) = fed read piece now step heads.Bad same came feeds in
       record {
         bytes = (read ++ now) ++ unwrap_or left' [];
-        told = come-told window read now left left' so_far;
+        are_all = come-all window read now left left' so_far;
         ends = inl (bad-more (read ++ now) (unwrap_or left' []) here);
       }
 
@@ -61,7 +57,7 @@ module _ (window : List ℕ) (left : Option (List ℕ)) (read piece now : List �
       let here : IsTooLong (read ++ now) = fed read piece now step heads.TooBig same came feeds in
       record {
         bytes = (read ++ now) ++ unwrap_or left' [];
-        told = come-told window read now left left' so_far;
+        are_all = come-all window read now left left' so_far;
         ends = long-more (read ++ now) (unwrap_or left' []) here;
       }
 
@@ -85,7 +81,7 @@ module _ (window : List ℕ) (left : Option (List ℕ)) (read piece now : List �
       ∙ ap (λ (l : List ℕ). next ++ l) none ∙ append-nil next ∙ open_.0 in
       record {
         bytes = (next ++ more) ++ unwrap_or left'' [];
-        told = come-told window next more left left'' (head-goes-on next more left'' came gave);
+        are_all = come-all window next more left left'' (head-goes-on next more left'' came gave);
         ends = inr (subst (λ (l : List ℕ). IsUnfinished l) (sym all) open_.1);
       }
 
@@ -97,7 +93,7 @@ module _ (window : List ℕ) (left : Option (List ℕ)) (read piece now : List �
       let reads = receives-read window left read now next left' left'' open_.0 kept so_far in
       record {
         bytes = next ++ [];
-        gave = come-first window next [] left left'' reads;
+        came = come-first window next [] left left'' reads;
         waits = subst (λ (l : List ℕ). IsUnfinished l) (sym (append-nil next ∙ open_.0)) open_.1;
       }
 
@@ -106,14 +102,3 @@ module _ (window : List ℕ) (left : Option (List ℕ)) (read piece now : List �
       → most - (length next + length more) < most - (length read + length now)
   head-nears next more most came few some =
       omega (arith, ap length (head-open next came).0, length-append read now, few, some)
-
--- too long a head came, and nothing is to come then
-pub read-long : {State : Type 0} (old new : Exchange State) (input : Input) (it : Found) (window : List ℕ)
-    (left : Option (List ℕ)) → it ≡ found.Long → Finds old.coming it window left → input ≡ HeadLong → IsIdle new
-    → new.state ≡ old.state → old.faults ≤ new.faults → IsHeadRead old input new
-read-long old new input it window left is finds told idle state later =
-    subst (λ (i : Input). IsHeadRead old i new) (sym told) (record {
-      head_is = (subst (λ (f : Found). Finds old.coming f window left) is finds, idle);
-      state_is = state;
-      caused = uncaused HeadLong old.faults new.faults later refl;
-    })

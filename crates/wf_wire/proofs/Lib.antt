@@ -1,3 +1,4 @@
 pub mod WireLemmas
 pub mod HeadLemmas
 pub mod BodyLemmas
+pub mod LawLemmas

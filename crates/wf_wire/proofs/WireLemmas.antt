@@ -4,11 +4,10 @@ use Rattle.std.proofs.Common.{true, false, ◌∙◌, arith, append_assoc, lengt
 use Rattle.std.specs.Prelude.{slice_range, unwrap_or}
 use Rattle.std.proofs.lemmas.List.{append-nil, drop-append-le, drop-drop, drop-take, length-take, take-append-drop}
 use Rattle.std.proofs.Math.Seq.{drop-append-add}
-use Rattle.wf_link.specs.Links.{IsTold}
 use Rattle.wf_link.specs.Sources.{Gave, GaveAtMost, IsAtEnd}
 use Rattle.wf_link.proofs.SourceLemmas.{gave-again}
-use Rattle.wf_fetch.specs.declared.act.Input.{Input}
-use Rattle.wf_wire.specs.Exchanges.{IsCaused, is_fault}
+use Rattle.wf_act.specs.declared.act.Input.{Input}
+use Rattle.wf_wire.specs.Exchanges.{AreToCome, IsCaused, is_fault}
 use Rattle.wf_wire.specs.Wires.{onto_left}
 
 -- no bytes before what a link has left
@@ -85,14 +84,14 @@ module _ (window read now : List ℕ) where
       ∙ ap (λ (l : List ℕ). l ++ later) (sym whole)
 
   -- the same where the link tells
-  pub come-told : (left left' : Option (List ℕ)) → Receives window left read now left'
-      → IsTold (onto_left window left) ((read ++ now) ++ unwrap_or left' [])
-  come-told None left' so_far = tt
-  come-told (Some old) None so_far = absurd (no so_far.gave.1)
+  pub come-all : (left left' : Option (List ℕ)) → Receives window left read now left'
+      → AreToCome (onto_left window left) ((read ++ now) ++ unwrap_or left' [])
+  come-all None left' so_far = tt
+  come-all (Some old) None so_far = absurd (no so_far.gave.1)
     where
       no : None ≡ Some so_far.gave.0 → ⊥
       no h = cc
-  come-told (Some old) (Some later) so_far =
+  come-all (Some old) (Some later) so_far =
       let same : later ≡ so_far.gave.0 = cc in
       sym (whole_left old later so_far.given so_far.whole (so_far.gave.2 ∙ ap (λ (l : List ℕ). so_far.given ++ l)
       (sym same)))

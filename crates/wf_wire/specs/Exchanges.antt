@@ -1,34 +1,34 @@
 -- What comes of the acts of a fetch over a link (RFC 9112): a request is sent, and the head and the body are read
 -- of the bytes of its answer, or the link fails. A link may tell its state and the bytes to come, or not: of bytes
 -- that are not told it is said that there are some, and not which.
-use Rattle.std.specs.Prelude.{◌≡◌, ℕ, ◌≤◌, Bool, true, false, List, take, length, Option, option_map}
+use Rattle.std.specs.Prelude.{◌≡◌, ℕ, ◌≤◌, Bool, true, false, List, take, length, Option, Some, None, option_map}
 use Rattle.wf_types.specs.declared.hop.Head.{Head}
 use Rattle.wf_types.specs.declared.hop.Hop.{Hop}
 use Rattle.wf_types.specs.declared.response.BodyEnd.{BodyEnd}
 use Rattle.wf_types.specs.declared.response.BodyEnd.TheVariants as body
 use Rattle.wf_link.specs.Counts.{Rose}
-use Rattle.wf_link.specs.Links.{IsTold}
 use Rattle.wf_link.specs.Sources.{Gave, IsAtEnd}
-use Rattle.wf_http1.specs.Answers.{HeadEnd, IsHeadEnd, final, bad, long}
+use Rattle.wf_http1.specs.Answers.{HeadEnd, IsHeadEnd, IsUnfinished, final, bad, long}
 use Rattle.wf_http1.specs.Bodies.{IsOpen, body_end}
 use Rattle.wf_http1.specs.Framings.{framing_of}
 use Rattle.wf_http1.specs.declared.framing.Framing.{Framing}
 use Rattle.wf_http1.specs.declared.framing.Framing.TheVariants as framing
-use Rattle.wf_fetch.specs.declared.act.Act.{Act}
-use Rattle.wf_fetch.specs.declared.act.Act.TheVariants.{Send, ReadHead, ReadBody}
-use Rattle.wf_fetch.specs.declared.act.Input.{Input}
-use Rattle.wf_fetch.specs.declared.act.Input.TheVariants.{Sent, HeadIs, HeadBad, HeadLong, BodyIs, Fault}
+use Rattle.wf_act.specs.declared.act.Act.{Act}
+use Rattle.wf_act.specs.declared.act.Act.TheVariants.{Ask, Send, ReadHead, ReadBody, Tell}
+use Rattle.wf_act.specs.declared.act.Input.{Input}
+use Rattle.wf_act.specs.declared.act.Input.TheVariants.{Sent, HeadIs, HeadBad, HeadLong, BodyIs, Fault}
 
 -- What answers: in a state, the bytes of the answer to a hop, and the state behind it.
 pub record Answering (State : Type 0) : Type 0 where
   pub answer : State → Hop → List ℕ
   pub next : State → Hop → State
 
--- Where an exchange stands: the state and the bytes of the answer still to come, where told; how its body is framed,
--- where its head was read; and how often the link failed.
+-- Where an exchange stands: the state, where told; the bytes of the answer still to come, where told, and those of
+-- them that the link itself has left; how its body is framed, where its head was read; and how often the link failed.
 pub record Exchange (State : Type 0) : Type 0 where
   pub state : Option State
   pub coming : Option (List ℕ)
+  pub left : Option (List ℕ)
   pub framing : Framing
   pub faults : ℕ
 
@@ -36,6 +36,16 @@ pub record Exchange (State : Type 0) : Type 0 where
 pub record IsIdle {State : Type 0} (exchange : Exchange State) : Type 0 where
   pub end : IsAtEnd exchange.coming
   pub framing_is : exchange.framing ≡ framing.Nothing
+
+-- An answer was broken off: nothing is kept of what was received of it, and no body is to be read.
+pub record IsBrokenOff {State : Type 0} (exchange : Exchange State) : Type 0 where
+  pub none_kept : exchange.coming ≡ exchange.left
+  pub framing_is : exchange.framing ≡ framing.Nothing
+
+-- these bytes are to come, where told
+abbrev pub AreToCome : Option (List ℕ) → List ℕ → Type 0
+AreToCome None bytes = Unit {0}
+AreToCome (Some coming) bytes = bytes ≡ coming
 
 -- ---- faults
 
@@ -75,7 +85,7 @@ IsSent by old hop input new = IsAsked (λ state. by.answer state hop) (λ state.
 -- Some bytes, those to come where told, have this final head, and what stands behind it is to come then.
 pub record HasHead (coming : Option (List ℕ)) (head : Head) (behind : Option (List ℕ)) : Type 0 where
   pub bytes : List ℕ
-  pub told : IsTold coming bytes
+  pub are_all : AreToCome coming bytes
   pub n : ℕ
   pub ends : IsHeadEnd bytes (final head n)
   pub left : Gave coming behind (take n bytes)
@@ -83,15 +93,21 @@ pub record HasHead (coming : Option (List ℕ)) (head : Head) (behind : Option (
 -- Some bytes, those to come where told, have no head or too long a one.
 pub record HasNoHead (coming : Option (List ℕ)) (end : HeadEnd) : Type 0 where
   pub bytes : List ℕ
-  pub told : IsTold coming bytes
+  pub are_all : AreToCome coming bytes
   pub ends : IsHeadEnd bytes end
 
--- what the head came to; where there is none nothing is to come then
+-- Some bytes, those that came of the bytes to come where told, leave the head open: no beginning of them decides it.
+pub record LeavesHead (coming left : Option (List ℕ)) : Type 0 where
+  pub bytes : List ℕ
+  pub came : Gave coming left bytes
+  pub waits : IsUnfinished bytes
+
+-- what the head came to; where there is none nothing is to come then, and where the link failed the head was open
 abbrev pub FindsHead : {State : Type 0} → Exchange State → Input → Exchange State → Type 0
 FindsHead old (HeadIs head) new = HasHead old.coming head new.coming × (new.framing ≡ framing_of head)
 FindsHead old HeadBad new = HasNoHead old.coming bad × IsIdle new
 FindsHead old HeadLong new = HasNoHead old.coming long × IsIdle new
-FindsHead old Fault new = IsIdle new
+FindsHead old Fault new = LeavesHead old.coming new.left × IsBrokenOff new
 FindsHead old _ new = ⊥
 
 -- The head was read, or the link failed.
@@ -105,7 +121,7 @@ pub record IsHeadRead {State : Type 0} (old : Exchange State) (input : Input) (n
 -- Some bytes, those to come where told, have a body that comes to this end.
 pub record HasBody (how : Framing) (limit : ℕ) (coming : Option (List ℕ)) (end : BodyEnd) : Type 0 where
   pub bytes : List ℕ
-  pub told : IsTold coming bytes
+  pub are_all : AreToCome coming bytes
   pub ends : end ≡ body_end how limit bytes
 
 -- how many bytes a body had that came to this end
@@ -114,42 +130,48 @@ count_of (body.Cut n) = n
 count_of (body.Whole bytes) = length bytes
 count_of _ = 0
 
--- Some bytes, which those to come begin with where told, leave a body open, and had the answer ended there the body
--- would have had so many bytes.
-pub record HasOpenBody (how : Framing) (limit : ℕ) (coming : Option (List ℕ)) (n : ℕ) : Type 0 where
+-- Some bytes, those that came of the bytes to come where told, leave the body open, and had the answer ended there the
+-- body would have had so many bytes.
+pub record LeavesBody (how : Framing) (limit : ℕ) (coming left : Option (List ℕ)) (n : ℕ) : Type 0 where
   pub bytes : List ℕ
-  pub rest : Option (List ℕ)
-  pub front : Gave coming rest bytes
+  pub came : Gave coming left bytes
   pub waits : IsOpen how limit bytes
   pub count_is : n ≡ count_of (body_end how limit bytes)
 
--- what the body came to; the link failed while it was open, or not before it was decided
-abbrev pub EndsBody : Framing → ℕ → Option (List ℕ) → BodyEnd → Type 0
-EndsBody how limit coming (body.Fault n) = HasOpenBody how limit coming n
-EndsBody how limit coming end = HasBody how limit coming end
+-- what the body came to; or the link failed while it was open, and has left so many bytes
+abbrev pub EndsBody : Framing → ℕ → Option (List ℕ) → BodyEnd → Option (List ℕ) → Type 0
+EndsBody how limit coming (body.Fault n) left = LeavesBody how limit coming left n
+EndsBody how limit coming end left = HasBody how limit coming end
+
+-- behind a body nothing is to come; behind a fault nothing is kept
+abbrev pub IsBehind : {State : Type 0} → BodyEnd → Exchange State → Type 0
+IsBehind (body.Fault n) new = IsBrokenOff new
+IsBehind end new = IsIdle new
 
 -- what the input tells of the body
-abbrev pub FindsBody : {State : Type 0} → ℕ → Exchange State → Input → Type 0
-FindsBody limit old (BodyIs end) = EndsBody old.framing limit old.coming end
-FindsBody limit old _ = ⊥
+abbrev pub FindsBody : {State : Type 0} → ℕ → Exchange State → Input → Exchange State → Type 0
+FindsBody limit old (BodyIs end) new = EndsBody old.framing limit old.coming end new.left × IsBehind end new
+FindsBody limit old _ new = ⊥
 
--- The body was read, with so many bytes at most, or the link failed. Nothing is to come then.
+-- The body was read, with so many bytes at most, or the link failed.
 pub record IsBodyRead {State : Type 0} (limit : ℕ) (old : Exchange State) (input : Input) (new : Exchange State)
     : Type 0 where
-  pub body_is : FindsBody limit old input
-  pub idle : IsIdle new
+  pub body_is : FindsBody limit old input new
   pub state_is : new.state ≡ old.state
   pub caused : IsCaused input old.faults new.faults
 
 -- ---- acts
 
--- what comes of an act, and where the exchange stands then
+-- what comes of an act over a link, and where the exchange stands then; the shared book and the document are not
+-- asked over one
 abbrev pub Exchanges : {State : Type 0} → Answering State → ℕ → Exchange State → Act → Input → Exchange State → Type 0
 Exchanges by limit old (Send hop) input new = IsSent by old hop input new
 Exchanges by limit old ReadHead input new = IsHeadRead old input new
 Exchanges by limit old ReadBody input new = IsBodyRead limit old input new
+Exchanges by limit old (Ask op) input new = ⊥
+Exchanges by limit old (Tell violation) input new = ⊥
 
 -- Where memory was refused the state is as it was, and the count of faults has not fallen.
-pub record IsRefused {State : Type 0} (old new : Exchange State) : Type 0 where
+pub record Refuses {State : Type 0} (old new : Exchange State) : Type 0 where
   pub state_is : new.state ≡ old.state
   pub later : old.faults ≤ new.faults

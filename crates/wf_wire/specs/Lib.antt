@@ -1,3 +1,4 @@
+pub mod ExchangeLaws
 pub mod Exchanges
 pub mod Private
 pub mod Wires

@@ -3,15 +3,15 @@ ghost use Rattle.std.specs.Prelude.{◌≡◌, ◌≤◌, ◌+◌, ◌-◌, ◌^
 ghost use Rattle.wf_link.specs.Counts.{Rose};
 ghost use Rattle.wf_link.specs.Sources.{GaveAtMost};
 ghost use Rattle.wf_http1.specs.Answers.{most_bytes};
-ghost use Rattle.wf_fetch.specs.Process.{fits};
+ghost use Rattle.wf_act.specs.Process.{fits};
 ghost use Rattle.wf_wire.specs.Exchanges as spec;
-ghost use Rattle.wf_wire.specs.Exchanges.{IsAsked, IsCaused, IsIdle, IsRefused};
-ghost use Rattle.wf_wire.specs.Private.Reads.{Finds, HasAtMost, Reads};
+ghost use Rattle.wf_wire.specs.Exchanges.{IsAsked, IsBodyRead, IsHeadRead, IsSent, Refuses};
+ghost use Rattle.wf_wire.specs.Private.Reads.{Finds, HasAtMost, IsFault, Reads};
 ghost use Rattle.wf_wire.specs.Wires.{coming_of, exchange_of, over_link, window_of};
 
 use crate::wire::{RECEIVED, Wire};
 use std::alloc::Global;
-use wf_fetch::{Act, Input};
+use wf_act::{Act, Input};
 use wf_http1::{BodyReader, BodyStep, HeadReader, HeadStep, framing_of, write_request};
 use wf_link::{Failed, Link, Target};
 use wf_text::OutOfMemory;
@@ -33,15 +33,24 @@ pub(crate) enum Found {
     Fault,
 }
 
-// The end of a body whose link failed: a fault behind as many bytes as the body would have had.
-fn broken_off(end: BodyEnd) -> BodyEnd
-    requires { HasAtMost end (2 ^ 32 - 1) }
-    ensures { result ≡ BodyEnd.Fault (spec.count_of end) }
+/// What the bytes of an answer have behind its head.
+#[derive(Drop)]
+pub(crate) enum Ended {
+    /// A body that comes to this end.
+    Body(BodyEnd),
+    /// So many bytes of a body, and then the link failed.
+    Fault(u32),
+}
+
+// How many bytes a body had that came to this end.
+fn count_of(end: &BodyEnd) -> u32
+    requires { HasAtMost end.now (2 ^ 32 - 1) }
+    ensures { result ≡ spec.count_of end.now }
 {
     match end {
-        BodyEnd::Cut(count) => BodyEnd::Fault(count),
-        BodyEnd::Whole(bytes) => BodyEnd::Fault(bytes.len() as u32),
-        _ => BodyEnd::Fault(0),
+        BodyEnd::Cut(count) => *count,
+        BodyEnd::Whole(bytes) => bytes.len() as u32,
+        _ => 0,
     }
 }
 
@@ -56,44 +65,22 @@ fn fitted(alloc: Global, end: BodyEnd) -> Result<BodyEnd, OutOfMemory>
 }
 
 impl Wire {
-    /// Does an act and answers what comes of it: a request is sent, the head of its answer is read, or the
-    /// body behind it, which has at most so many bytes. Where memory was refused nothing is said of what is
-    /// to come.
-    pub fn exchange<L: Link>(
-        &mut self,
-        link: &mut L,
-        alloc: Global,
-        limit: u32,
-        act: &Act,
-    ) -> Result<Input, OutOfMemory>
-        ensures came { IfOk result (λ input. spec.Exchanges (over_link L.answer L.next) limit
-            (exchange_of L.state L.left L.faults link.old self.old) act.now input
-            (exchange_of L.state L.left L.faults link.new self.new)) }
-        ensures fits { IfOk result (λ input. IsTrue (fits act.now input)) }
-        ensures refused { OnErr result (IsRefused (exchange_of L.state L.left L.faults link.old self.old)
-            (exchange_of L.state L.left L.faults link.new self.new)) }
-    {
-        match act {
-            Act::Send(hop) => self.send(link, alloc, hop),
-            Act::ReadHead => self.read_head(link, alloc),
-            Act::ReadBody => self.read_body(link, alloc, limit),
-        }
-    }
-
     /// Sends a request (RFC 9112, section 3). Its answer is to come, and nothing of the one before. `Fault`
     /// only where the link's count of faults rose; then the link is hung up. Where memory was refused
-    /// nothing is sent.
+    /// nothing is sent, and all is as it was.
     pub fn send<L: Link>(
         &mut self,
         link: &mut L,
         alloc: Global,
         hop: &Hop,
     ) -> Result<Input, OutOfMemory>
-        ensures sent { IfOk result (λ input. spec.IsSent (over_link L.answer L.next)
+        ensures sent { IfOk result (λ input. IsSent (over_link L.answer L.next)
             (exchange_of L.state L.left L.faults link.old self.old) hop.now input
             (exchange_of L.state L.left L.faults link.new self.new)) }
         ensures fits { IfOk result (λ input. IsTrue (fits (Act.Send hop.now) input)) }
-        ensures refused { OnErr result (exchange_of L.state L.left L.faults link.new self.new
+        ensures refused { OnErr result (Refuses (exchange_of L.state L.left L.faults link.old self.old)
+            (exchange_of L.state L.left L.faults link.new self.new)) }
+        ensures kept { OnErr result (exchange_of L.state L.left L.faults link.new self.new
             ≡ exchange_of L.state L.left L.faults link.old self.old) }
     {
         let request = write_request(alloc, hop)?;
@@ -122,14 +109,16 @@ impl Wire {
     }
 
     /// Reads the head of the answer to the last request (RFC 9112, section 4): the final head, or what came
-    /// is none, or it is longer than 65,536 bytes. Of the answer 65,537 bytes are received at most. `Fault`
-    /// only where the link's count of faults rose. Where no head came the link is hung up.
+    /// is none, or it is longer than 65,536 bytes; then the link is hung up. Of the answer 65,537 bytes are
+    /// received at most. `Fault` only where the link's count of faults rose while the head was open; then
+    /// what was received is dropped. Where memory was refused nothing is said of what is to come.
+    #[tactic(auto, using(crate::proofs::WireLemmas::onto_nothing))]
     pub fn read_head<L: Link>(&mut self, link: &mut L, alloc: Global) -> Result<Input, OutOfMemory>
-        ensures read { IfOk result (λ input. spec.IsHeadRead
+        ensures read { IfOk result (λ input. IsHeadRead
             (exchange_of L.state L.left L.faults link.old self.old) input
             (exchange_of L.state L.left L.faults link.new self.new)) }
         ensures fits { IfOk result (λ input. IsTrue (fits Act.ReadHead input)) }
-        ensures refused { OnErr result (IsRefused (exchange_of L.state L.left L.faults link.old self.old)
+        ensures refused { OnErr result (Refuses (exchange_of L.state L.left L.faults link.old self.old)
             (exchange_of L.state L.left L.faults link.new self.new)) }
     {
         match self.find_head(link, alloc)? {
@@ -138,9 +127,18 @@ impl Wire {
                 self.begin_body(count, framing);
                 Ok(Input::HeadIs(head))
             }
-            Found::Bad => Ok(self.without_head(link, Input::HeadBad)),
-            Found::Long => Ok(self.without_head(link, Input::HeadLong)),
-            Found::Fault => Ok(self.without_head(link, Input::Fault)),
+            Found::Bad => {
+                self.close(link);
+                Ok(Input::HeadBad)
+            }
+            Found::Long => {
+                self.close(link);
+                Ok(Input::HeadLong)
+            }
+            Found::Fault => {
+                self.break_off();
+                Ok(Input::Fault)
+            }
         }
     }
 
@@ -172,64 +170,59 @@ impl Wire {
         }
     }
 
-    // The wire is closed, since no head came.
-    fn without_head<L: Link>(&mut self, link: &mut L, input: Input) -> Input
-        ensures input { result ≡ input }
-        ensures idle { IsIdle (exchange_of L.state L.left L.faults link.new self.new) }
-        ensures state { (exchange_of L.state L.left L.faults link.new self.new).state
-            ≡ (exchange_of L.state L.left L.faults link.old self.old).state }
-        ensures faults { (exchange_of L.state L.left L.faults link.new self.new).faults
-            ≡ (exchange_of L.state L.left L.faults link.old self.old).faults }
-    {
-        self.close(link);
-        input
-    }
-
     /// Reads the body behind the last head, of so many bytes at most (RFC 9112, section 6), and hangs up. A
     /// body `Fault`, with the number of bytes that had come of it, only where the link's count of faults
-    /// rose while the body was not decided.
+    /// rose while the body was open; then what was received is dropped. Where memory was refused nothing is
+    /// said of what is to come.
+    #[tactic(auto, using(crate::proofs::WireLemmas::onto_nothing))]
     pub fn read_body<L: Link>(
         &mut self,
         link: &mut L,
         alloc: Global,
         limit: u32,
     ) -> Result<Input, OutOfMemory>
-        ensures read { IfOk result (λ input. spec.IsBodyRead limit
+        ensures read { IfOk result (λ input. IsBodyRead limit
             (exchange_of L.state L.left L.faults link.old self.old)
             input (exchange_of L.state L.left L.faults link.new self.new)) }
         ensures fits { IfOk result (λ input. IsTrue (fits Act.ReadBody input)) }
-        ensures refused { OnErr result (IsRefused (exchange_of L.state L.left L.faults link.old self.old)
+        ensures refused { OnErr result (Refuses (exchange_of L.state L.left L.faults link.old self.old)
             (exchange_of L.state L.left L.faults link.new self.new)) }
     {
-        let end = self.body(link, alloc, limit)?;
-        self.close(link);
-        Ok(Input::BodyIs(fitted(alloc, end)?))
+        match self.find_end(link, alloc, limit)? {
+            Ended::Body(end) => {
+                self.close(link);
+                Ok(Input::BodyIs(fitted(alloc, end)?))
+            }
+            Ended::Fault(count) => {
+                self.break_off();
+                Ok(Input::BodyIs(BodyEnd::Fault(count)))
+            }
+        }
     }
 
-    // How the body behind the last head comes to its end.
-    fn body<L: Link>(
+    // Finds the end of the body behind the last head in what was received and as much more as it needs.
+    fn find_end<L: Link>(
         &mut self,
         link: &mut L,
         alloc: Global,
         limit: u32,
-    ) -> Result<BodyEnd, OutOfMemory>
-        ensures end { IfOk result (λ end. Reads self.old.framing limit (coming_of L.left link.old self.old) end
-            (L.left link.new)) }
+    ) -> Result<Ended, OutOfMemory>
+        ensures ended { IfOk result (λ ended. Reads self.old.framing limit (coming_of L.left link.old self.old)
+            ended (L.left link.new)) }
         ensures state { L.state link.new ≡ L.state link.old }
         ensures later { L.faults link.old ≤ L.faults link.new }
-        ensures caused { IfOk result (λ end. IsCaused (Input.BodyIs end) (L.faults link.old)
-            (L.faults link.new)) }
+        ensures rose { IfOk result (λ ended. IsFault ended → Rose (L.faults link.old) (L.faults link.new)) }
     {
         let mut reader = BodyReader::framed(alloc, self.framing, limit)?;
         loop {
             match reader.feed(self.window()) {
-                BodyStep::Over(end) => return Ok(end),
+                BodyStep::Over(end) => return Ok(Ended::Body(end)),
                 BodyStep::More(next) => reader = next,
             }
             match self.refill(link, RECEIVED) {
                 Ok(true) => {}
-                Ok(false) => return Ok(reader.finish()),
-                Err(Failed) => return Ok(broken_off(reader.finish())),
+                Ok(false) => return Ok(Ended::Body(reader.finish())),
+                Err(Failed) => return Ok(Ended::Fault(count_of(&reader.finish()))),
             }
         }
     }

@@ -2,6 +2,8 @@
 #![tactic(auto)]
 
 mod exchange;
+mod laws;
 mod wire;
 
+pub use laws::law_exchange_alike;
 pub use wire::Wire;

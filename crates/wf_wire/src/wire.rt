@@ -81,6 +81,14 @@ impl Wire {
         ensures faults { L.faults link.new ≡ L.faults link.old }
     {
         link.hang_up();
+        self.break_off();
+    }
+
+    // Drops what was received and not yet read. No body is to be read.
+    pub(crate) fn break_off(&mut self)
+        ensures window { window_of self.new ≡ [] }
+        ensures framing { self.new.framing ≡ Framing.Nothing }
+    {
         self.from = 0;
         self.to = 0;
         self.framing = Framing::Nothing;

@@ -1,21 +1,15 @@
 -- What is found of the head and of the body of an answer before the wire goes on or is closed.
-use Rattle.std.specs.Prelude.{◌≡◌, ℕ, ◌≤◌, List, drop, length, Option}
+use Rattle.std.specs.Prelude.{ℕ, ◌≤◌, List, drop, length, Option}
 use Rattle.wf_types.specs.declared.response.BodyEnd.{BodyEnd}
 use Rattle.wf_types.specs.declared.response.BodyEnd.TheVariants as body
-use Rattle.wf_link.specs.Sources.{Gave}
-use Rattle.wf_http1.specs.Answers.{IsUnfinished, bad, long}
-use Rattle.wf_http1.specs.Bodies.{IsOpen, body_end}
+use Rattle.wf_http1.specs.Answers.{bad, long}
 use Rattle.wf_http1.specs.declared.framing.Framing.{Framing}
+use Rattle.wf_wire.specs.declared.exchange.Ended.{Ended}
+use Rattle.wf_wire.specs.declared.exchange.Ended.TheVariants as ended
 use Rattle.wf_wire.specs.declared.exchange.Found.{Found}
 use Rattle.wf_wire.specs.declared.exchange.Found.TheVariants as found
-use Rattle.wf_wire.specs.Exchanges.{HasBody, HasHead, HasNoHead, count_of}
+use Rattle.wf_wire.specs.Exchanges.{HasBody, HasHead, HasNoHead, LeavesBody, LeavesHead}
 use Rattle.wf_wire.specs.Wires.{onto_left}
-
--- The bytes that were given leave the head open.
-pub record LeavesHead (coming left : Option (List ℕ)) : Type 0 where
-  pub bytes : List ℕ
-  pub gave : Gave coming left bytes
-  pub waits : IsUnfinished bytes
 
 -- what was to come has a final head, which ends so many bytes into the window; or none, or too long a one; or the
 -- link failed behind bytes that leave the head open
@@ -31,14 +25,12 @@ abbrev pub HasAtMost : BodyEnd → ℕ → Type 0
 HasAtMost (body.Whole bytes) most = length bytes ≤ most
 HasAtMost _ most = Unit {0}
 
--- The bytes that were given leave the body open, which would have had so many bytes.
-pub record LeavesBody (how : Framing) (limit : ℕ) (coming left : Option (List ℕ)) (n : ℕ) : Type 0 where
-  pub bytes : List ℕ
-  pub gave : Gave coming left bytes
-  pub waits : IsOpen how limit bytes
-  pub count_is : n ≡ count_of (body_end how limit bytes)
-
 -- what was to come has a body with this end, or the link failed behind bytes that leave it open
-abbrev pub Reads : Framing → ℕ → Option (List ℕ) → BodyEnd → Option (List ℕ) → Type 0
-Reads how limit coming (body.Fault n) left = LeavesBody how limit coming left n
-Reads how limit coming end left = HasBody how limit coming end
+abbrev pub Reads : Framing → ℕ → Option (List ℕ) → Ended → Option (List ℕ) → Type 0
+Reads how limit coming (ended.Body end) left = HasBody how limit coming end
+Reads how limit coming (ended.Fault n) left = LeavesBody how limit coming left n
+
+-- the link failed
+abbrev pub IsFault : Ended → Type 0
+IsFault (ended.Body end) = ⊥
+IsFault (ended.Fault n) = Unit {0}

@@ -2,7 +2,7 @@ use Rattle.std.proofs.Common.{◌≡◌, ◌≤◌, ◌+◌, ◌-◌, length}
 use Rattle.wf_http1.specs.BodyLaws.{most_open}
 use Rattle.wf_wire.specs.Wires.{window_of}
 use Rattle.wf_wire.proofs.WireLemmas.{Receives}
-use Rattle.wf_wire.proofs.wire.Wire.body.Given as goal
+use Rattle.wf_wire.proofs.wire.Wire.find_end.Given as goal
 
 -- what was received was read or stands in the window
 abbrev pub invariant-loop-end : goal.invariant-loop-end

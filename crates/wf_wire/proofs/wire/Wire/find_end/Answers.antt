@@ -1,0 +1,70 @@
+use Rattle.std.proofs.Common.{◌∙◌, ◌≡◌, ◌-◌, ◌^◌, arith}
+use Rattle.wf_wire.specs.Wires.{window_of}
+use Rattle.wf_wire.proofs.BodyLemmas.{body-ended, body-fails, body-framed, body-goes-on, body-limited, body-nears}
+use Rattle.wf_wire.proofs.BodyLemmas.{body-over, end-most}
+use Rattle.wf_wire.proofs.wire.Wire.find_end.Goals as goal
+
+pub returns-in-Over-clause-ended : goal.returns-in-Over-clause-ended
+returns-in-Over-clause-ended g c =
+    let is = c.loop-end.invariant in
+    body-over (window_of c.args.self.now) (g.L.Link.left c.args.link.now) c.args.self.now.framing c.args.limit
+    c.loop-end.reader c.window.result.now (window_of c.loop-end.self) (g.L.Link.left c.loop-end.link)
+    c.window.ensures is.framing is.limit is.received c.in-Over.end c.in-Over.ensures
+
+pub returns-in-Ok-false-clause-ended : goal.returns-in-Ok-false-clause-ended
+returns-in-Ok-false-clause-ended g c =
+    let is = c.loop-end.invariant in
+    let came = c.in-Ok-false.ensures in
+    body-ended (window_of c.args.self.now) (g.L.Link.left c.args.link.now) c.args.self.now.framing c.args.limit
+    c.loop-end.reader c.window.result.now (window_of c.loop-end.self) (g.L.Link.left c.loop-end.link)
+    c.window.ensures is.framing is.limit is.received c.in-More.next (window_of c.refill.new.self)
+    (g.L.Link.left c.refill.new.link) c.finish.result c.in-More.ensures came.gave
+    (came.none c.in-Ok-false.field-0-test) (came.end c.in-Ok-false.field-0-test) c.finish.ensures
+
+pub returns-in-Err-clause-ended : goal.returns-in-Err-clause-ended
+returns-in-Err-clause-ended g c =
+    let is = c.loop-end.invariant in
+    body-fails (window_of c.args.self.now) (g.L.Link.left c.args.link.now) c.args.self.now.framing c.args.limit
+    c.loop-end.reader c.window.result.now (window_of c.loop-end.self) (g.L.Link.left c.loop-end.link)
+    c.window.ensures is.framing is.limit is.received c.in-More.next (g.L.Link.left c.refill.new.link)
+    c.finish-in-Err.result c.count_of.result c.in-More.ensures c.in-Err.ensures.failed c.finish-in-Err.ensures
+    c.count_of.ensures
+
+pub count_of-requires : goal.count_of-requires
+count_of-requires g c =
+    let is = c.loop-end.invariant in
+    let same : c.in-More.next.limit ≡ c.args.limit =
+    body-limited (window_of c.args.self.now) (g.L.Link.left c.args.link.now) c.args.self.now.framing c.args.limit
+    c.loop-end.reader c.window.result.now (window_of c.loop-end.self) (g.L.Link.left c.loop-end.link)
+    c.window.ensures is.framing is.limit is.received c.in-More.next c.in-More.ensures in
+    end-most c.in-More.next.framing c.in-More.next.limit (2 ^ 32 - 1) c.in-More.next.bytes c.finish-in-Err.result
+    c.finish-in-Err.ensures (omega (arith, same, c.ranges.limit.fits))
+
+pub loop-end-smaller : goal.loop-end-smaller
+loop-end-smaller g c =
+    let is = c.loop-end.invariant in
+    body-nears (window_of c.args.self.now) (g.L.Link.left c.args.link.now) c.args.self.now.framing c.args.limit
+    c.loop-end.reader c.window.result.now (window_of c.loop-end.self) (g.L.Link.left c.loop-end.link)
+    c.window.ensures is.framing is.limit is.received c.in-More.next (window_of c.refill.new.self) c.in-More.ensures
+    (c.in-Ok-true.ensures.some c.in-Ok-true.field-0-test)
+
+pub loop-end-preserved : goal.loop-end-preserved
+loop-end-preserved g c =
+    let is = c.loop-end.invariant in
+    let came = c.in-Ok-true.ensures in
+    record {
+      received = body-goes-on (window_of c.args.self.now) (g.L.Link.left c.args.link.now) c.args.self.now.framing c.args.limit
+    c.loop-end.reader c.window.result.now (window_of c.loop-end.self) (g.L.Link.left c.loop-end.link)
+    c.window.ensures is.framing is.limit is.received c.in-More.next
+          (window_of c.refill.new.self) (g.L.Link.left c.refill.new.link) c.in-More.ensures came.gave;
+      framing = body-framed (window_of c.args.self.now) (g.L.Link.left c.args.link.now) c.args.self.now.framing c.args.limit
+    c.loop-end.reader c.window.result.now (window_of c.loop-end.self) (g.L.Link.left c.loop-end.link)
+    c.window.ensures is.framing is.limit is.received c.in-More.next
+          c.in-More.ensures;
+      limit = body-limited (window_of c.args.self.now) (g.L.Link.left c.args.link.now) c.args.self.now.framing c.args.limit
+    c.loop-end.reader c.window.result.now (window_of c.loop-end.self) (g.L.Link.left c.loop-end.link)
+    c.window.ensures is.framing is.limit is.received c.in-More.next
+          c.in-More.ensures;
+      state = came.state ∙ is.state;
+      later = omega (arith, is.later, came.cause.later);
+    }
