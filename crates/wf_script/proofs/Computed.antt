@@ -1,5 +1,5 @@
 -- The scenario of a text, computed on examples by the definitions alone.
-use Rattle.std.proofs.Common.{◌≡◌, ℕ, false, List, [], ◌∷◌, ◌++◌, codes, refl, Ok, Err, Some, None, Result}
+use Rattle.std.proofs.Common.{◌≡◌, ℕ, true, false, List, [], ◌∷◌, ◌++◌, codes, refl, Ok, Err, Some, None, Result}
 use Rattle.std.specs.Str.{is_utf8, chars}
 use Rattle.url.proofs.OnLiterals.{url_on_literals}
 use Rattle.serde_json.proofs.OnLiterals.{serde_json_on_literals}
@@ -10,7 +10,7 @@ use Rattle.wf_types.specs.declared.mode.Credentials.TheVariants as credentials
 use Rattle.wf_types.specs.declared.mode.Mode.TheVariants as mode
 use Rattle.wf_types.specs.declared.mode.RedirectMode.TheVariants as redirect
 use Rattle.wf_types.specs.declared.mode.ReferrerPolicy.TheVariants as policy
-use Rattle.wf_script.specs.declared.types.Command.TheVariants.{Fetch}
+use Rattle.wf_script.specs.declared.types.Command.TheVariants.{Fetch, Wait}
 use Rattle.wf_script.specs.declared.types.Scenario.{Scenario}
 use Rattle.wf_script.specs.declared.types.Place.{Place}
 use Rattle.wf_script.specs.declared.types.Server.{Server}
@@ -20,15 +20,17 @@ use Rattle.wf_script.specs.Servers.{answer, answer_bytes}
 abbrev refused : List ℕ → Result Scenario Place
 refused place = Err (record { text = place })
 
--- a text that is no tree, the root, keys, and a list that is too long
+-- a text that is no tree, URLs of documents, the root, a key, and a list that is too long
 pub computes-places : (scenario_of (codes "{\"format\":") ≡ refused (codes "json"))
     × (scenario_of (codes "{\"format\":1,\"documents\":[{\"url\":\"ftp://a/\",\"script\":[]}]}")
+    ≡ refused (codes "/documents/0/url"))
+    × (scenario_of (codes "{\"format\":1,\"documents\":[{\"url\":\"http://u@a.test/\",\"script\":[]}]}")
     ≡ refused (codes "/documents/0/url"))
     × (scenario_of (codes "{\"format\":1,\"documents\":[],\"extra\":0}") ≡ refused (codes "/"))
     × (scenario_of (codes "{\"servers\":[],\"format\":1.0}") ≡ refused (codes "/format"))
     × (scenario_of (codes "{\"format\":1,\"documents\":[0,0]}") ≡ refused (codes "/documents"))
 unfolding url_on_literals serde_json_on_literals is_utf8 chars
-computes-places = (refl, refl, refl, refl, refl)
+computes-places = (refl, refl, refl, refl, refl, refl)
 
 -- a document whose one command is this text
 abbrev with_command : List ℕ → List ℕ
@@ -83,6 +85,8 @@ pub computes-whole : scenario_of
     ++ codes "\"documents\":[{\"url\":\"https://a.test/\",\"script\":"
     ++ codes "[{\"fetch\":{\"url\":\"/\",\"mode\":\"same-origin\",\"referrer\":\"none\"}}]}]}")
     ≡ Ok (record {
+      now = 0;
+      hosts = [];
       cookies = [];
       servers = record {
         origin = codes "https://a.test";
@@ -102,6 +106,8 @@ pub computes-fetch : scenario_of
     "{\"fetch\":{\"url\":\"/x\",\"method\":\"PUT\",\"mode\":\"navigate\","
     ++ codes "\"headers\":[[\"X-A\",\"1\"]],\"body\":\"q\",\"referrer\":\"none\"}}"))
     ≡ Ok (record {
+      now = 0;
+      hosts = [];
       cookies = [];
       servers = [];
       piece = 4096;
@@ -119,6 +125,65 @@ pub computes-fetch : scenario_of
     })
 unfolding url_on_literals serde_json_on_literals is_utf8 chars
 computes-fetch = refl
+
+-- a scenario with no document and these keys
+abbrev with_keys : List ℕ → List ℕ
+with_keys keys = codes "{\"format\":1," ++ keys ++ codes ",\"documents\":[]}"
+
+-- the time and the known hosts
+pub computes-places-of-hosts : (scenario_of (with_keys (codes "\"now\":1099511627777")) ≡ refused (codes "/now"))
+    × (scenario_of (with_keys (codes "\"hsts\":[{\"host\":\"A.test\",\"subdomains\":true,\"until\":1}]"))
+    ≡ refused (codes "/hsts/0/host"))
+    × (scenario_of (with_keys (codes "\"hsts\":[{\"host\":\"a.test:80\",\"subdomains\":true,\"until\":1}]"))
+    ≡ refused (codes "/hsts/0/host"))
+    × (scenario_of (with_keys (codes "\"hsts\":[{\"host\":\"1.2\",\"subdomains\":true,\"until\":1}]"))
+    ≡ refused (codes "/hsts/0/host"))
+    × (scenario_of (with_keys (codes "\"hsts\":[{\"host\":\"x.localhost.\",\"subdomains\":true,\"until\":1}]"))
+    ≡ refused (codes "/hsts/0/host"))
+    × (scenario_of (with_keys (codes "\"hsts\":[{\"host\":\"a.test\",\"subdomains\":1,\"until\":1}]"))
+    ≡ refused (codes "/hsts/0/subdomains"))
+    × (scenario_of (with_keys (codes "\"hsts\":[{\"host\":\"a.test\",\"subdomains\":true}]"))
+    ≡ refused (codes "/hsts/0/until"))
+    × (scenario_of
+    (with_keys (codes "\"hsts\":[{\"host\":\"a.test\",\"subdomains\":true,\"until\":281474976710656}]"))
+    ≡ refused (codes "/hsts/0/until"))
+unfolding url_on_literals serde_json_on_literals is_utf8 chars
+computes-places-of-hosts = (refl, refl, refl, refl, refl, refl, refl, refl)
+
+-- waits, and commands that no key or more than one tells
+pub computes-places-of-commands : (scenario_of (with_command (codes "{\"wait\":-1}"))
+    ≡ refused (codes "/documents/0/script/0/wait"))
+    × (scenario_of (with_command (codes "{\"wait\":4294967296}")) ≡ refused (codes "/documents/0/script/0/wait"))
+    × (scenario_of (with_command (codes "{}")) ≡ refused (codes "/documents/0/script/0"))
+    × (scenario_of (with_command (codes "{\"wait\":0,\"fetch\":0}")) ≡ refused (codes "/documents/0/script/0"))
+    × (scenario_of (with_command (codes "{\"wait\":0,\"then\":0}")) ≡ refused (codes "/documents/0/script/0"))
+unfolding url_on_literals serde_json_on_literals is_utf8 chars
+computes-places-of-commands = (refl, refl, refl, refl, refl)
+
+-- equal hosts stay in the list, with a last dot as without one
+pub computes-hosts : scenario_of
+    (codes
+    "{\"now\":1099511627776,\"format\":1,\"hsts\":[{\"host\":\"a.test\",\"subdomains\":true,\"until\":10},"
+    ++ codes "{\"host\":\"a.test.\",\"subdomains\":false,\"until\":0},"
+    ++ codes "{\"host\":\"a.test\",\"subdomains\":false,\"until\":281474976710655}],"
+    ++ codes "\"documents\":[{\"url\":\"http://a.test:8080/\",\"script\":[{\"wait\":10},{\"wait\":4294967295}]}]}")
+    ≡ Ok (record {
+      now = 1099511627776;
+      hosts = record { host = codes "a.test"; subdomains = true; until = 10 }
+          ∷ record { host = codes "a.test."; subdomains = false; until = 0 }
+          ∷ record { host = codes "a.test"; subdomains = false; until = 281474976710655 } ∷ [];
+      cookies = [];
+      servers = [];
+      piece = 4096;
+      documents = record {
+        url = record page { scheme = codes "http"; port = Some 8080 };
+        top = record page { scheme = codes "http"; port = Some 8080 };
+        script = Wait 10 ∷ Wait 4294967295 ∷ [];
+      } ∷ [];
+      body_limit = 262144;
+    })
+unfolding url_on_literals serde_json_on_literals is_utf8 chars
+computes-hosts = refl
 
 -- two headers and a body
 pub computes-answer_bytes : answer_bytes 200 (record { name = codes "A"; value = codes "1" }

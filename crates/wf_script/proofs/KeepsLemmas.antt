@@ -43,6 +43,11 @@ pub keeps-given : {A : Type 0} (P : A → Type 0) (passes : Bool) (x : A) → (I
 keeps-given P true x kept = kept refl
 keeps-given P false x kept = tt
 
+pub keeps-if : {A : Type 0} (P : A → Type 0) (test : Bool) (one other : Read A) → Keeps P one → Keeps P other
+    → Keeps P (if test then one else other)
+keeps-if P true one other first second = first
+keeps-if P false one other first second = second
+
 pub keeps-present : {A : Type 0} (found : Option A) → Keeps (λ x. found ≡ Some x) (present found)
 keeps-present None = tt
 keeps-present (Some x) = refl

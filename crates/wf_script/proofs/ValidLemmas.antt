@@ -1,44 +1,72 @@
 -- Every scenario that is read is valid.
-use Rattle.std.proofs.Common.{◌≡◌, ℕ, ◌≤◌, Bool, true, false, List, [], ◌∷◌, Option, Some, None, Ok, refl, subst}
-use Rattle.std.proofs.Common.{arith}
+use Rattle.std.proofs.Common.{◌≡◌, ℕ, ◌≤◌, Bool, true, false, List, [], ◌∷◌, length, Option, Some, None, Ok, Err, refl}
+use Rattle.std.proofs.Common.{subst, arith}
 use Rattle.std.specs.Prelude.{nat_le, ◌&&◌, codes, IfSome, IsTrue, option_and_then}
 use Rattle.std.specs.List.{All}
 use Rattle.std.proofs.lemmas.Bool.{leb-true}
 use Rattle.std.proofs.lemmas.List.Elements.{All-nil}
 use Rattle.serde_json.specs.Data.{Data}
-use Rattle.serde_json.specs.Find.{get, as_number, as_u64, as_str}
+use Rattle.serde_json.specs.Find.{as_number, as_u64, as_str}
+use Rattle.url.proofs.OnLiterals.{url_on_literals}
 use Rattle.url.specs.Parts.{Parts}
 use Rattle.wf_text.specs.Tokens.{is_token}
 use Rattle.wf_types.specs.Urls.{url_of_text}
-use Rattle.wf_script.specs.declared.types.Command.TheVariants.{Fetch}
 use Rattle.wf_script.specs.declared.types.Scenario.{Scenario}
-use Rattle.wf_script.specs.Reading.{Read, present, any, only_keys, required, optional, number_of, text_that, word_of}
-use Rattle.wf_script.specs.Reading.{some_of, items_of, list_of}
+use Rattle.wf_script.specs.Hosts.{is_host_name}
+use Rattle.wf_script.specs.Reading.{Read, present, any, only_keys, required, optional, number_of, truth_of, text_that}
+use Rattle.wf_script.specs.Reading.{word_of, some_of, items_of, list_of}
 use Rattle.wf_script.specs.Texts.{lacks_template, is_cookie_value}
 use Rattle.wf_script.specs.OriginTexts.{is_origin_text}
-use Rattle.wf_script.specs.Urls.{is_plain_https, is_fetch_url}
-use Rattle.wf_script.specs.Scenarios.{cookie_of, status_of, answer_header_of, rule_keys, rule_of, server_keys}
-use Rattle.wf_script.specs.Scenarios.{server_of, modes, referrers, header_of, fetch_keys, fetch_of, command_of}
-use Rattle.wf_script.specs.Scenarios.{document_url_of, document_keys, document_of, scenario_keys, scenario_in}
-use Rattle.wf_script.specs.Valid.{IsValidCookie, IsValidRule, IsValidServer, is_opened_mode, IsPlainPair, IsValidInit}
-use Rattle.wf_script.specs.Valid.{IsValidCommand, IsValidDocument, IsValid}
-use Rattle.wf_script.proofs.KeepsLemmas.{Keeps, Anything, keeps-anything, keeps-then, keeps-after, keeps-under}
-use Rattle.wf_script.proofs.KeepsLemmas.{keeps-given, keeps-required, keeps-optional, IsListOf, keeps-items}
+use Rattle.wf_script.specs.Urls.{is_document_url}
+use Rattle.wf_script.specs.Scenarios.{host_keys, host_of, cookie_of, status_of, answer_header_of, rule_keys, rule_of}
+use Rattle.wf_script.specs.Scenarios.{server_keys, server_of, modes, referrers, header_of, fetch_keys, fetch_of}
+use Rattle.wf_script.specs.Scenarios.{fetch_command_of, wait_command_of, has_key, command_of, document_url_of}
+use Rattle.wf_script.specs.Scenarios.{document_keys, document_of, scenario_keys, scenario_in}
+use Rattle.wf_script.specs.Valid.{IsValidHost, IsValidCookie, IsValidRule, IsValidServer, is_opened_mode, IsPlainPair}
+use Rattle.wf_script.specs.Valid.{IsValidInit, IsValidCommand, IsValidDocument, IsValid}
+use Rattle.wf_script.proofs.KeepsLemmas.{Keeps, Anything, keeps-anything, keeps-after}
+use Rattle.wf_script.proofs.KeepsLemmas.{keeps-given, keeps-if, keeps-required, keeps-optional, IsListOf, keeps-items}
 use Rattle.wf_script.proofs.KeepsLemmas.{keeps-list, keeps-text_that, keeps-word, keeps-some, keeps-parts}
 
 both : (a b : Bool) → IsTrue (a && b) → IsTrue a × IsTrue b
 both true b holds = (refl, holds)
 both false b holds = let no : ⊥ = cc in absurd no
 
-keeps-number : (least most : ℕ) (tree : Data) → Keeps (λ n. (least ≤ n) × (n ≤ most)) (number_of least most tree)
+-- the number is from least to most
+abbrev Within : ℕ → ℕ → ℕ → Type 0
+Within least most n = (least ≤ n) × (n ≤ most)
+
+keeps-number : (least most : ℕ) (tree : Data) → Keeps (Within least most) (number_of least most tree)
 keeps-number least most tree =
-    keeps-after (λ n. (least ≤ n) × (n ≤ most)) (present (option_and_then as_u64 (as_number tree))) _
-    (λ n. keeps-given (λ m. (least ≤ m) × (m ≤ most)) (nat_le least n && nat_le n most) n
+    keeps-after (Within least most) (present (option_and_then as_u64 (as_number tree))) _
+    (λ n. keeps-given (Within least most) (nat_le least n && nat_le n most) n
     (λ holds. let h = both (nat_le least n) (nat_le n most) holds in (leb-true least n h.0, leb-true n most h.1)))
 
 -- the text passes a test
 abbrev That : (List ℕ → Bool) → List ℕ → Type 0
 That passes text = IsTrue (passes text)
+
+-- ---- known hosts
+
+-- no text is not a host's name
+empty-no_name : is_host_name [] ≡ false
+unfolding url_on_literals
+empty-no_name = refl
+
+some-name : (host : List ℕ) → IsTrue (is_host_name host) → 1 ≤ length host
+some-name [] is = let no : ⊥ = cc (is, empty-no_name) in absurd no
+some-name (byte ∷ host) is = omega arith
+
+keeps-host : (tree : Data) → Keeps IsValidHost (host_of tree)
+keeps-host tree =
+    keeps-after IsValidHost (only_keys host_keys tree) _ (λ _.
+    keeps-required (That is_host_name) IsValidHost (codes "host") (text_that is_host_name) tree _
+    (keeps-text_that is_host_name) (λ host is.
+    keeps-required Anything IsValidHost (codes "subdomains") truth_of tree _
+    (λ inside. keeps-anything (truth_of inside)) (λ subdomains _.
+    keeps-required (Within 0 281474976710655) IsValidHost (codes "until") (number_of 0 281474976710655) tree _
+    (keeps-number 0 281474976710655) (λ until within.
+    record { host = is; some_host = some-name host is; until = within.1 }))))
 
 -- ---- cookies and servers
 
@@ -90,22 +118,21 @@ keeps-header tree =
 abbrev IsPlainBody : Option (List ℕ) → Type 0
 IsPlainBody body = IfSome body (That lacks_template)
 
-keeps-fetch : (document : Parts) (tree : Data) → Keeps (IsValidInit document) (fetch_of document tree)
-keeps-fetch document tree =
-    let Init = IsValidInit document in
-    keeps-after Init (only_keys fetch_keys tree) _ (λ _.
-    keeps-required (That (is_fetch_url document)) Init (codes "url") (text_that (is_fetch_url document)) tree _
-    (keeps-text_that (is_fetch_url document)) (λ url is.
-    keeps-optional Anything Init (codes "method") (codes "GET") (text_that any) tree _ tt
+keeps-fetch : (tree : Data) → Keeps IsValidInit (fetch_of tree)
+keeps-fetch tree =
+    keeps-after IsValidInit (only_keys fetch_keys tree) _ (λ _.
+    keeps-required (That lacks_template) IsValidInit (codes "url") (text_that lacks_template) tree _
+    (keeps-text_that lacks_template) (λ url is.
+    keeps-optional Anything IsValidInit (codes "method") (codes "GET") (text_that any) tree _ tt
     (λ inside. keeps-anything (text_that any inside)) (λ method _.
-    keeps-required (λ mode. IsTrue (is_opened_mode mode)) Init (codes "mode") (word_of modes) tree _ keeps-mode
+    keeps-required (λ mode. IsTrue (is_opened_mode mode)) IsValidInit (codes "mode") (word_of modes) tree _ keeps-mode
     (λ mode opened.
-    keeps-optional (IsListOf IsPlainPair 64) Init (codes "headers") [] (list_of 64 header_of) tree _
+    keeps-optional (IsListOf IsPlainPair 64) IsValidInit (codes "headers") [] (list_of 64 header_of) tree _
     (record { few = omega arith; all = All-nil IsPlainPair }) (keeps-list IsPlainPair 64 header_of keeps-header)
     (λ headers each.
-    keeps-optional IsPlainBody Init (codes "body") None (some_of (text_that lacks_template)) tree _ tt
+    keeps-optional IsPlainBody IsValidInit (codes "body") None (some_of (text_that lacks_template)) tree _ tt
     (keeps-some (That lacks_template) (text_that lacks_template) (keeps-text_that lacks_template)) (λ body plain.
-    keeps-required (λ client. client ≡ false) Init (codes "referrer") (word_of referrers) tree _ keeps-referrer
+    keeps-required (λ client. client ≡ false) IsValidInit (codes "referrer") (word_of referrers) tree _ keeps-referrer
     (λ client none.
     record {
       url = is;
@@ -123,28 +150,36 @@ keeps-fetch document tree =
 
 -- ---- documents
 
-keeps-command : (document : Parts) (tree : Data) → Keeps (IsValidCommand document) (command_of document tree)
-keeps-command document tree =
-    keeps-after (IsValidCommand document) (only_keys (codes "fetch" ∷ []) tree) _ (λ _.
-    keeps-after (IsValidCommand document) (present (get (codes "fetch") tree)) _ (λ fetch.
-    keeps-then (IsValidInit document) (IsValidCommand document) _ (λ init. Ok (Fetch init))
-    (keeps-under (IsValidInit document) (codes "fetch") (fetch_of document fetch) (keeps-fetch document fetch))
-    (λ init valid. valid)))
+keeps-fetch_command : (tree : Data) → Keeps IsValidCommand (fetch_command_of tree)
+keeps-fetch_command tree =
+    keeps-after IsValidCommand (only_keys (codes "fetch" ∷ []) tree) _ (λ _.
+    keeps-required IsValidInit IsValidCommand (codes "fetch") fetch_of tree _ keeps-fetch (λ init valid. valid))
 
-keeps-document_url : (tree : Data) → Keeps (λ url. IsTrue (is_plain_https url)) (document_url_of tree)
+keeps-wait_command : (tree : Data) → Keeps IsValidCommand (wait_command_of tree)
+keeps-wait_command tree =
+    keeps-after IsValidCommand (only_keys (codes "wait" ∷ []) tree) _ (λ _.
+    keeps-required (Within 0 4294967295) IsValidCommand (codes "wait") (number_of 0 4294967295) tree _
+    (keeps-number 0 4294967295) (λ seconds within. omega (arith, within.1)))
+
+keeps-command : (tree : Data) → Keeps IsValidCommand (command_of tree)
+keeps-command tree =
+    keeps-if IsValidCommand (has_key (codes "fetch") tree) (fetch_command_of tree) _ (keeps-fetch_command tree)
+    (keeps-if IsValidCommand (has_key (codes "wait") tree) (wait_command_of tree) (Err []) (keeps-wait_command tree)
+    tt)
+
+keeps-document_url : (tree : Data) → Keeps (λ url. IsTrue (is_document_url url)) (document_url_of tree)
 keeps-document_url tree =
-    keeps-after (λ url. IsTrue (is_plain_https url)) (present (as_str tree)) _ (λ text.
-    keeps-after (λ url. IsTrue (is_plain_https url)) (present (url_of_text None (Some text))) _ (λ url.
-    keeps-given (λ (u : Parts). IsTrue (is_plain_https u)) (is_plain_https url) url (λ holds. holds)))
+    keeps-after (λ url. IsTrue (is_document_url url)) (present (as_str tree)) _ (λ text.
+    keeps-after (λ url. IsTrue (is_document_url url)) (present (url_of_text None (Some text))) _ (λ url.
+    keeps-given (λ (u : Parts). IsTrue (is_document_url u)) (is_document_url url) url (λ holds. holds)))
 
 keeps-document : (tree : Data) → Keeps IsValidDocument (document_of tree)
 keeps-document tree =
     keeps-after IsValidDocument (only_keys document_keys tree) _ (λ _.
-    keeps-required (λ url. IsTrue (is_plain_https url)) IsValidDocument (codes "url") document_url_of tree _
+    keeps-required (λ url. IsTrue (is_document_url url)) IsValidDocument (codes "url") document_url_of tree _
     keeps-document_url (λ url is.
-    keeps-required (λ script. All (IsValidCommand url) script) IsValidDocument (codes "script")
-    (items_of (command_of url)) tree _ (keeps-items (IsValidCommand url) (command_of url) (keeps-command url))
-    (λ script each.
+    keeps-required (λ script. All IsValidCommand script) IsValidDocument (codes "script") (items_of command_of) tree _
+    (keeps-items IsValidCommand command_of keeps-command) (λ script each.
     record { url = is; top = is; script = each })))
 
 -- ---- the whole
@@ -153,17 +188,27 @@ keeps-scenario : (tree : Data) → Keeps IsValid (scenario_in tree)
 keeps-scenario tree =
     keeps-after IsValid (only_keys scenario_keys tree) _ (λ _.
     keeps-after IsValid _ _ (λ _.
+    keeps-optional (Within 0 1099511627776) IsValid (codes "now") 0 (number_of 0 1099511627776) tree _ (
+      omega arith,
+      omega arith,
+    ) (keeps-number 0 1099511627776) (λ now past.
+    keeps-optional (IsListOf IsValidHost 4096) IsValid (codes "hsts") [] (list_of 4096 host_of) tree _
+    (record { few = omega arith; all = All-nil IsValidHost }) (keeps-list IsValidHost 4096 host_of keeps-host)
+    (λ hosts known.
     keeps-optional (λ cookies. All IsValidCookie cookies) IsValid (codes "cookies") [] (items_of cookie_of) tree _
     (All-nil IsValidCookie) (keeps-items IsValidCookie cookie_of keeps-cookie) (λ cookies good.
     keeps-optional (λ servers. All IsValidServer servers) IsValid (codes "servers") [] (items_of server_of) tree _
     (All-nil IsValidServer) (keeps-items IsValidServer server_of keeps-server) (λ servers each.
-    keeps-optional (λ n. (1 ≤ n) × (n ≤ 65536)) IsValid (codes "piece") 4096 (number_of 1 65536) tree _ (
+    keeps-optional (Within 1 65536) IsValid (codes "piece") 4096 (number_of 1 65536) tree _ (
       omega arith,
       omega arith,
     ) (keeps-number 1 65536) (λ piece within.
     keeps-required (IsListOf IsValidDocument 1) IsValid (codes "documents") (list_of 1 document_of) tree _
     (keeps-list IsValidDocument 1 document_of keeps-document) (λ documents all.
     record {
+      now = past.1;
+      few_hosts = known.few;
+      hosts = known.all;
       cookies = good;
       servers = each;
       some_piece = within.0;
@@ -171,7 +216,7 @@ keeps-scenario tree =
       few_documents = all.few;
       documents = all.all;
       body_limit = refl;
-    }))))))
+    }))))))))
 
 -- what is read of a tree is valid
 pub scenario_in-IsValid : (tree : Data) (scenario : Scenario) → scenario_in tree ≡ Ok scenario → IsValid scenario

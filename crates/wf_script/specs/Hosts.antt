@@ -22,4 +22,4 @@ is_domain text (Some domain) = bytes_eq domain text
 -- The host of the text's http URL is a domain with exactly this text, and no localhost name. An address, a
 -- port and a capital letter are no part of such a text; a last dot may be.
 abbrev pub is_host_name : List ℕ → Bool
-is_host_name host = is_domain host (option_and_then domain_in (http_url_of host)) && not (is_local_name host)
+is_host_name host = not (is_local_name host) && is_domain host (option_and_then domain_in (http_url_of host))

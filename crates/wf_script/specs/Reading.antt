@@ -4,7 +4,7 @@ use Rattle.std.specs.Prelude.{ℕ, ◌+◌, ◌&&◌, Bool, true, false, nat_le,
 use Rattle.std.specs.Prelude.{bytes_eq, Option, Some, None, option_and_then, Result, Ok, Err, if◌then◌else◌, ⊤}
 use Rattle.std.specs.List.{list_any}
 use Rattle.serde_json.specs.Data.{Data, Items, no_items, item, Members, no_members, member}
-use Rattle.serde_json.specs.Find.{get, as_number, as_u64, as_str, as_array, as_object}
+use Rattle.serde_json.specs.Find.{get, as_bool, as_number, as_u64, as_str, as_array, as_object}
 
 -- a value, or the place that is refused
 abbrev pub Read : Type 0 → Type 0
@@ -41,6 +41,10 @@ abbrev pub number_of : ℕ → ℕ → Data → Read ℕ
 number_of least most tree = do
   number ← present (option_and_then as_u64 (as_number tree))
   given (nat_le least number && nat_le number most) number
+
+-- true or false
+abbrev pub truth_of : Data → Read Bool
+truth_of tree = present (as_bool tree)
 
 -- a text that passes its test
 abbrev pub text_that : (List ℕ → Bool) → Data → Read (List ℕ)

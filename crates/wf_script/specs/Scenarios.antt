@@ -1,7 +1,7 @@
 -- The scenario of a text: the tables of a scenario's objects over the tree that `serde_json` reads.
 -- The keys of a table are listed and read in one order.
-use Rattle.std.specs.Prelude.{ℕ, Bool, false, ◌==◌, ◌||◌, not, List, [], ◌∷◌, codes, Option, Some, None}
-use Rattle.std.specs.Prelude.{option_and_then, Result, Ok, Err}
+use Rattle.std.specs.Prelude.{ℕ, Bool, false, not, List, [], ◌∷◌, codes, Option, Some, None, is_some}
+use Rattle.std.specs.Prelude.{option_and_then, Result, Ok, Err, if◌then◌else◌}
 use Rattle.serde_json.specs.Data.{Data}
 use Rattle.serde_json.specs.Find.{get, as_str}
 use Rattle.serde_json.specs.Read.{read}
@@ -18,19 +18,35 @@ use Rattle.wf_types.specs.declared.mode.Mode.TheVariants as mode
 use Rattle.wf_types.specs.declared.mode.RedirectMode.TheVariants as redirect
 use Rattle.wf_types.specs.declared.mode.ReferrerPolicy.TheVariants as policy
 use Rattle.wf_types.specs.Urls.{utf8_text, url_of_text}
+use Rattle.wf_script.specs.declared.types.KnownHost.{KnownHost}
 use Rattle.wf_script.specs.declared.types.Rule.{Rule}
 use Rattle.wf_script.specs.declared.types.Server.{Server}
 use Rattle.wf_script.specs.declared.types.Command.{Command}
-use Rattle.wf_script.specs.declared.types.Command.TheVariants.{Fetch}
+use Rattle.wf_script.specs.declared.types.Command.TheVariants.{Fetch, Wait}
 use Rattle.wf_script.specs.declared.types.Document.{Document}
 use Rattle.wf_script.specs.declared.types.Scenario.{Scenario}
 use Rattle.wf_script.specs.declared.types.Place.{Place}
-use Rattle.wf_script.specs.Reading.{Read, ◌>>=◌, present, given, number_of, text_that, any, word_of, some_of}
-use Rattle.wf_script.specs.Reading.{only_keys, required, optional, under, items_of, list_of, pair_of}
-use Rattle.wf_script.specs.Servers.{answer_bytes}
-use Rattle.wf_script.specs.Texts.{lacks_template, is_cookie_value, is_answer_name}
+use Rattle.wf_script.specs.Hosts.{is_host_name}
 use Rattle.wf_script.specs.OriginTexts.{is_origin_text}
-use Rattle.wf_script.specs.Urls.{is_plain_https, is_fetch_url}
+use Rattle.wf_script.specs.Reading.{Read, ◌>>=◌, present, given, number_of, truth_of, text_that, any, word_of, some_of}
+use Rattle.wf_script.specs.Reading.{only_keys, required, optional, items_of, list_of, pair_of}
+use Rattle.wf_script.specs.Servers.{answer_bytes}
+use Rattle.wf_script.specs.Texts.{lacks_template, is_cookie_value}
+use Rattle.wf_script.specs.Urls.{is_document_url}
+
+-- ---- known hosts
+
+abbrev pub host_keys : List (List ℕ)
+host_keys = codes "host" ∷ codes "subdomains" ∷ codes "until" ∷ []
+
+-- a known host: its domain, whether the names under it are known, and the second in which its term ends
+abbrev pub host_of : Data → Read KnownHost
+host_of tree = do
+  known ← only_keys host_keys tree
+  host ← required (codes "host") (text_that is_host_name) tree
+  subdomains ← required (codes "subdomains") truth_of tree
+  until ← required (codes "until") (number_of 0 281474976710655) tree
+  Ok (record { host = host; subdomains = subdomains; until = until })
 
 -- ---- cookies and servers
 
@@ -49,7 +65,7 @@ status_of tree = do
 -- a header of an answer: its name and its value, which are a header's
 abbrev pub answer_header_of : Data → Read Pair
 answer_header_of tree = do
-  pair ← pair_of (text_that is_answer_name) (text_that is_header_value) tree
+  pair ← pair_of (text_that is_token) (text_that is_header_value) tree
   Ok (record { name = pair.0; value = pair.1 })
 
 abbrev pub rule_keys : List (List ℕ)
@@ -96,10 +112,10 @@ abbrev pub fetch_keys : List (List ℕ)
 fetch_keys = codes "url" ∷ codes "method" ∷ codes "mode" ∷ codes "headers" ∷ codes "body" ∷ codes "referrer" ∷ []
 
 -- what a fetch asks for; what no key says is as `fetch` has it by itself
-abbrev pub fetch_of : Parts → Data → Read Init
-fetch_of document tree = do
+abbrev pub fetch_of : Data → Read Init
+fetch_of tree = do
   known ← only_keys fetch_keys tree
-  url ← required (codes "url") (text_that (is_fetch_url document)) tree
+  url ← required (codes "url") (text_that lacks_template) tree
   method ← optional (codes "method") (codes "GET") (text_that any) tree
   mode ← required (codes "mode") (word_of modes) tree
   headers ← optional (codes "headers") [] (list_of 64 header_of) tree
@@ -121,20 +137,37 @@ fetch_of document tree = do
 
 -- ---- documents
 
--- a command, told by its key: without one it is refused at its own place
-abbrev pub command_of : Parts → Data → Read Command
-command_of document tree = do
+-- a call of `fetch`
+abbrev pub fetch_command_of : Data → Read Command
+fetch_command_of tree = do
   known ← only_keys (codes "fetch" ∷ []) tree
-  fetch ← present (get (codes "fetch") tree)
-  init ← under (codes "fetch") (fetch_of document fetch)
+  init ← required (codes "fetch") fetch_of tree
   Ok (Fetch init)
+
+-- so many seconds that pass
+abbrev pub wait_command_of : Data → Read Command
+wait_command_of tree = do
+  known ← only_keys (codes "wait" ∷ []) tree
+  seconds ← required (codes "wait") (number_of 0 4294967295) tree
+  Ok (Wait seconds)
+
+-- the tree has this key
+abbrev pub has_key : List ℕ → Data → Bool
+has_key name tree = is_some (get name tree)
+
+-- A command, told by its key. One without such a key, or with a key beside it, is refused at its own place.
+abbrev pub command_of : Data → Read Command
+command_of tree =
+    if has_key (codes "fetch") tree then fetch_command_of tree
+    else if has_key (codes "wait") tree then wait_command_of tree
+    else Err []
 
 -- the URL of a document
 abbrev pub document_url_of : Data → Read Parts
 document_url_of tree = do
   text ← present (as_str tree)
   url ← present (url_of_text None (Some text))
-  given (is_plain_https url) url
+  given (is_document_url url) url
 
 abbrev pub document_keys : List (List ℕ)
 document_keys = codes "url" ∷ codes "script" ∷ []
@@ -144,24 +177,36 @@ abbrev pub document_of : Data → Read Document
 document_of tree = do
   known ← only_keys document_keys tree
   url ← required (codes "url") document_url_of tree
-  script ← required (codes "script") (items_of (command_of url)) tree
+  script ← required (codes "script") (items_of command_of) tree
   Ok (record { url = url; top = url; script = script })
 
 -- ---- the whole
 
 abbrev pub scenario_keys : List (List ℕ)
-scenario_keys = codes "format" ∷ codes "cookies" ∷ codes "servers" ∷ codes "piece" ∷ codes "documents" ∷ []
+scenario_keys =
+    codes "format" ∷ codes "now" ∷ codes "hsts" ∷ codes "cookies" ∷ codes "servers" ∷ codes "piece"
+    ∷ codes "documents" ∷ []
 
 -- a scenario of format 1: at most one document
 abbrev pub scenario_in : Data → Read Scenario
 scenario_in tree = do
   known ← only_keys scenario_keys tree
   format ← required (codes "format") (number_of 1 1) tree
+  now ← optional (codes "now") 0 (number_of 0 1099511627776) tree
+  hosts ← optional (codes "hsts") [] (list_of 4096 host_of) tree
   cookies ← optional (codes "cookies") [] (items_of cookie_of) tree
   servers ← optional (codes "servers") [] (items_of server_of) tree
   piece ← optional (codes "piece") 4096 (number_of 1 65536) tree
   documents ← required (codes "documents") (list_of 1 document_of) tree
-  Ok (record { cookies = cookies; servers = servers; piece = piece; documents = documents; body_limit = 262144 })
+  Ok (record {
+    now = now;
+    hosts = hosts;
+    cookies = cookies;
+    servers = servers;
+    piece = piece;
+    documents = documents;
+    body_limit = 262144;
+  })
 
 -- a place as it is told: that of the root is `/`
 abbrev pub place_text : List ℕ → List ℕ

@@ -1,8 +1,6 @@
 -- Texts that a scenario may hold.
 use Rattle.std.specs.Prelude.{ℕ, ◌&&◌, ◌||◌, Bool, false, not, nat_le, nat_eq, List, [], ◌∷◌, length, codes}
 use Rattle.std.specs.List.{starts_with}
-use Rattle.std.specs.Str.{str_eq_ignore_ascii_case}
-use Rattle.wf_text.specs.Tokens.{is_token}
 use Rattle.wf_text.specs.Values.{is_header_value}
 
 -- `${`, which begins a template, stands somewhere in the text
@@ -17,7 +15,3 @@ lacks_template text = not (has_template text)
 -- a header value (Fetch, section 2.2.2) of 1 to 4,096 bytes
 abbrev pub is_cookie_value : List ℕ → Bool
 is_cookie_value text = nat_le 1 (length text) && nat_le (length text) 4096 && is_header_value text
-
--- the name of a header that an answer may have: a token other than Strict-Transport-Security
-abbrev pub is_answer_name : List ℕ → Bool
-is_answer_name text = is_token text && not (str_eq_ignore_ascii_case text (codes "Strict-Transport-Security"))

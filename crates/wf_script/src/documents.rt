@@ -1,41 +1,19 @@
-// The tables of documents and their commands.
+// The table of documents.
 ghost use Rattle.wf_script.specs.Scenarios as spec;
 
-use crate::fetches::FetchTable;
+use crate::commands::CommandTable;
 use crate::fields::{only_keys, required};
-use crate::form::{Form, at_segment, refused_here};
+use crate::form::{Form, refused_here};
 use crate::lists::ItemsOf;
 use crate::refused::Refused;
-use crate::types::{Command, Document};
-use crate::urls::is_plain_https;
+use crate::types::Document;
+use crate::urls::is_document_url;
 use serde_json::Value;
 use std::alloc::Global;
 use url::Url;
 use wf_types::url_alone;
 
-// A command, told by its key.
-#[derive(Drop)]
-struct CommandTable<'a> {
-    document: &'a Url,
-}
-
-impl Form for CommandTable<'_> {
-    type Out = Command;
-
-    ghost reads = { λ form. spec.command_of form.document.now };
-
-    fn read(&self, alloc: Global, tree: &Value) -> Result<Command, Refused> {
-        only_keys(alloc, tree, &["fetch"])?;
-        let Some(fetch) = tree.get("fetch") else {
-            return refused_here(alloc);
-        };
-        let table = FetchTable {
-            document: self.document,
-        };
-        let init = at_segment(alloc, "fetch", table.read(alloc, fetch))?;
-        Ok(Command::Fetch(init))
-    }
-}
+const SCRIPT: ItemsOf<CommandTable> = ItemsOf { item: CommandTable };
 
 // The URL of a document.
 struct DocumentUrl;
@@ -50,7 +28,7 @@ impl Form for DocumentUrl {
             return refused_here(alloc);
         };
         match url_alone(alloc, text)? {
-            Some(url) if is_plain_https(&url) => Ok(url),
+            Some(url) if is_document_url(&url) => Ok(url),
             _ => refused_here(alloc),
         }
     }
@@ -68,10 +46,7 @@ impl Form for DocumentTable {
     fn read(&self, alloc: Global, tree: &Value) -> Result<Document, Refused> {
         only_keys(alloc, tree, &["url", "script"])?;
         let url = required(alloc, tree, "url", &DocumentUrl)?;
-        let commands = ItemsOf {
-            item: CommandTable { document: &url },
-        };
-        let script = required(alloc, tree, "script", &commands)?;
+        let script = required(alloc, tree, "script", &SCRIPT)?;
         let top = url.clone()?;
         Ok(Document { url, top, script })
     }

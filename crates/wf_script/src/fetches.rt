@@ -1,21 +1,22 @@
 // The table of what a fetch asks for.
 ghost use Rattle.wf_script.specs.Scenarios as spec;
-ghost use Rattle.wf_script.specs.Urls as urls;
 
 use crate::fields::{Given, only_keys, optional, required};
 use crate::form::Form;
 use crate::lists::{ListOf, PairOf};
 use crate::refused::Refused;
-use crate::texts::{AnyText, TextTest, TextThat, WithoutTemplate};
-use crate::urls::is_fetch_url;
+use crate::texts::{AnyText, TextThat, WithoutTemplate};
 use crate::words::Word;
 use serde_json::Value;
 use std::alloc::Global;
-use url::Url;
-use wf_text::{Bytes, Items, OutOfMemory};
+use wf_text::{Bytes, Items};
 use wf_types::{Credentials, Init, Mode, Pair, RedirectMode, ReferrerPolicy};
 
 const KEYS: &[&str] = &["url", "method", "mode", "headers", "body", "referrer"];
+
+const URL: TextThat<WithoutTemplate> = TextThat {
+    test: WithoutTemplate,
+};
 
 const METHOD: TextThat<AnyText> = TextThat { test: AnyText };
 
@@ -49,20 +50,6 @@ const REFERRER: Word<'static, bool> = Word {
     words: &[("none", false)],
 };
 
-// A text that gives a URL that a fetch may have, or none, against the document's.
-#[derive(Drop)]
-struct FetchUrl<'a> {
-    document: &'a Url,
-}
-
-impl TextTest for FetchUrl<'_> {
-    ghost taken = { λ test. urls.is_fetch_url test.document.now };
-
-    fn takes(&self, alloc: Global, text: &str) -> Result<bool, OutOfMemory> {
-        is_fetch_url(alloc, self.document, text)
-    }
-}
-
 // A name and a value.
 #[derive(Drop)]
 struct HeaderPair;
@@ -80,21 +67,16 @@ impl Form for HeaderPair {
 
 /// What a fetch asks for. What no key says is as `fetch` has it by itself.
 #[derive(Drop)]
-pub(crate) struct FetchTable<'a> {
-    pub(crate) document: &'a Url,
-}
+pub(crate) struct FetchTable;
 
-impl Form for FetchTable<'_> {
+impl Form for FetchTable {
     type Out = Init;
 
-    ghost reads = { λ form. spec.fetch_of form.document.now };
+    ghost reads = { λ _. spec.fetch_of };
 
     fn read(&self, alloc: Global, tree: &Value) -> Result<Init, Refused> {
         only_keys(alloc, tree, KEYS)?;
-        let test = FetchUrl {
-            document: self.document,
-        };
-        let url = required(alloc, tree, "url", &TextThat { test })?;
+        let url = required(alloc, tree, "url", &URL)?;
         let get = Bytes::of(alloc, b"GET")?;
         let method = optional(alloc, tree, "method", get, &METHOD)?;
         let mode = required(alloc, tree, "mode", &MODE)?;

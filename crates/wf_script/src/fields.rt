@@ -31,6 +31,23 @@ impl Form for Number {
     }
 }
 
+/// True or false.
+#[derive(Drop)]
+pub(crate) struct Truth;
+
+impl Form for Truth {
+    type Out = bool;
+
+    ghost reads = { λ _. spec.truth_of };
+
+    fn read(&self, alloc: Global, tree: &Value) -> Result<bool, Refused> {
+        match tree.as_bool() {
+            Some(truth) => Ok(truth),
+            None => refused_here(alloc),
+        }
+    }
+}
+
 /// A value of a key whose default is that there is none.
 #[derive(Drop)]
 pub(crate) struct Given<F> {

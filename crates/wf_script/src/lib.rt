@@ -1,12 +1,15 @@
-// Scenarios: documents with their scripts, the cookies that are sent, and the servers that answer.
+// Scenarios: documents with their scripts, the hosts that are known, the cookies that are sent, and the
+// servers that answer.
 #![tactic(auto)]
 
 mod answers;
+mod commands;
 mod cookies;
 mod documents;
 mod fetches;
 mod fields;
 mod form;
+mod hosts;
 mod lists;
 mod origins;
 mod read;

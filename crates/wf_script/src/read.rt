@@ -8,6 +8,7 @@ use crate::cookies::CookiePair;
 use crate::documents::DocumentTable;
 use crate::fields::{Number, only_keys, optional, required};
 use crate::form::Form;
+use crate::hosts::HostTable;
 use crate::lists::{ItemsOf, ListOf};
 use crate::refused::Refused;
 use crate::servers::ServerTable;
@@ -17,9 +18,27 @@ use std::alloc::Global;
 use wf_text::{Bytes, Items, OutOfMemory};
 use wf_types::utf8_text;
 
-const KEYS: &[&str] = &["format", "cookies", "servers", "piece", "documents"];
+const KEYS: &[&str] = &[
+    "format",
+    "now",
+    "hsts",
+    "cookies",
+    "servers",
+    "piece",
+    "documents",
+];
 
 const FORMAT: Number = Number { least: 1, most: 1 };
+
+const NOW: Number = Number {
+    least: 0,
+    most: 1_099_511_627_776,
+};
+
+const HSTS: ListOf<HostTable> = ListOf {
+    most: 4096,
+    item: HostTable,
+};
 
 const COOKIES: ItemsOf<CookiePair> = ItemsOf { item: CookiePair };
 
@@ -46,11 +65,15 @@ impl Form for ScenarioTable {
     fn read(&self, alloc: Global, tree: &Value) -> Result<Scenario, Refused> {
         only_keys(alloc, tree, KEYS)?;
         required(alloc, tree, "format", &FORMAT)?;
+        let now = optional(alloc, tree, "now", 0, &NOW)?;
+        let hosts = optional(alloc, tree, "hsts", Items::new(alloc), &HSTS)?;
         let cookies = optional(alloc, tree, "cookies", Items::new(alloc), &COOKIES)?;
         let servers = optional(alloc, tree, "servers", Items::new(alloc), &SERVERS)?;
         let piece = optional(alloc, tree, "piece", 4096, &PIECE)?;
         let documents = required(alloc, tree, "documents", &DOCUMENTS)?;
         Ok(Scenario {
+            now,
+            hosts,
             cookies,
             servers: Servers::of(servers),
             piece: piece as u32,

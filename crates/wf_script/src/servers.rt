@@ -8,7 +8,7 @@ use crate::fields::{Given, Number, only_keys, optional, required};
 use crate::form::{Form, refused_here};
 use crate::lists::{ItemsOf, PairOf};
 use crate::refused::Refused;
-use crate::texts::{AnswerName, AnyText, HeaderValue, OriginText, TextThat, Token};
+use crate::texts::{AnyText, HeaderValue, OriginText, TextThat, Token};
 use crate::types::{Rule, Server};
 use serde_json::Value;
 use std::alloc::Global;
@@ -30,8 +30,8 @@ const STATUS: Number = Number {
     most: 999,
 };
 
-const HEADER: PairOf<TextThat<AnswerName>, TextThat<HeaderValue>> = PairOf {
-    first: TextThat { test: AnswerName },
+const HEADER: PairOf<TextThat<Token>, TextThat<HeaderValue>> = PairOf {
+    first: TextThat { test: Token },
     second: TextThat { test: HeaderValue },
 };
 

@@ -11,7 +11,7 @@ use crate::origins::read_origin;
 use crate::refused::Refused;
 use serde_json::Value;
 use std::alloc::Global;
-use wf_text::{Bytes, OutOfMemory, eq_fold, is_token, is_value};
+use wf_text::{Bytes, OutOfMemory, is_token, is_value};
 
 /// What a text has to be.
 pub(crate) trait TextTest {
@@ -57,7 +57,7 @@ impl TextTest for AnyText {
     }
 }
 
-/// A token, as a method is (RFC 9110, section 9.1).
+/// A token, as a method and the name of a header are (RFC 9110, sections 5.1 and 9.1).
 #[derive(Drop)]
 pub(crate) struct Token;
 
@@ -66,19 +66,6 @@ impl TextTest for Token {
 
     fn takes(&self, _alloc: Global, text: &str) -> Result<bool, OutOfMemory> {
         Ok(is_token(text.as_bytes()))
-    }
-}
-
-/// The name of a header that an answer may have.
-#[derive(Drop)]
-pub(crate) struct AnswerName;
-
-impl TextTest for AnswerName {
-    ghost taken = { λ _. spec.is_answer_name };
-
-    fn takes(&self, _alloc: Global, text: &str) -> Result<bool, OutOfMemory> {
-        let name = text.as_bytes();
-        Ok(is_token(name) && !eq_fold(name, b"Strict-Transport-Security"))
     }
 }
 
