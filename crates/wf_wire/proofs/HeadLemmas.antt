@@ -10,11 +10,14 @@ use Rattle.wf_http1.specs.HeadFeeding.{IsFed}
 use Rattle.wf_http1.specs.declared.head.HeadStep.{HeadStep}
 use Rattle.wf_http1.specs.declared.head.HeadStep.TheVariants as heads
 use Rattle.wf_http1.proofs.AnswerLemmas.{bad-more, final-more, long-more}
+use Rattle.wf_act.specs.declared.act.Input.TheVariants.{HeadLong}
+use Rattle.wf_wire.specs.declared.exchange.Found.{Found}
 use Rattle.wf_wire.specs.declared.exchange.Found.TheVariants as found
+use Rattle.wf_wire.specs.Exchanges.{Exchange, IsHeadRead, IsIdle}
 use Rattle.wf_wire.specs.Private.Reads.{Finds}
 use Rattle.wf_wire.specs.Wires.{onto_left}
 use Rattle.wf_wire.proofs.WireLemmas.{Receives, come-behind, come-first, come-all, nothing-left, receives-more}
-use Rattle.wf_wire.proofs.WireLemmas.{receives-read}
+use Rattle.wf_wire.proofs.WireLemmas.{receives-read, uncaused}
 
 -- what a step came to, of the window that was fed
 fed : (read piece now : List ℕ) (step is : HeadStep) → piece ≡ now → step ≡ is → IsFed read piece step
@@ -102,3 +105,13 @@ module _ (window : List ℕ) (left : Option (List ℕ)) (read piece now : List �
       → most - (length next + length more) < most - (length read + length now)
   head-nears next more most came few some =
       omega (arith, ap length (head-open next came).0, length-append read now, few, some)
+
+-- too long a head came, and nothing is to come then
+pub read-long : {State : Type 0} (old new : Exchange State) (it : Found) (window : List ℕ) (left : Option (List ℕ))
+    → it ≡ found.Long → Finds old.coming it window left → IsIdle new → new.state ≡ old.state
+    → old.faults ≤ new.faults → IsHeadRead old HeadLong new
+read-long old new it window left is finds idle state later = record {
+  head_is = (subst (λ (f : Found). Finds old.coming f window left) is finds, idle);
+  state_is = state;
+  caused = uncaused HeadLong old.faults new.faults later refl;
+}

@@ -1,7 +1,6 @@
 -- What comes of an act depends on what answers only by the request that the act sends.
 use Rattle.std.proofs.Common.{◌≡◌, ℕ, List, Option, Some, None, refl, ap, ◌∙◌}
 use Rattle.std.specs.Prelude.{option_map}
-use Rattle.wf_types.specs.declared.hop.Hop.{Hop}
 use Rattle.wf_act.specs.declared.act.Act.{Act}
 use Rattle.wf_act.specs.declared.act.Act.TheVariants.{Ask, Send, ReadHead, ReadBody, Tell}
 use Rattle.wf_act.specs.declared.act.Input.{Input}

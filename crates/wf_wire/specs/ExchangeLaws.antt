@@ -1,7 +1,7 @@
 -- A law of exchanges: what comes of an act depends on what answers only by the request that the act sends.
 use Rattle.std.specs.Prelude.{◌≡◌, ℕ}
 use Rattle.wf_act.specs.declared.act.Act.{Act}
-use Rattle.wf_act.specs.declared.act.Act.TheVariants.{Ask, Send, ReadHead, ReadBody, Tell}
+use Rattle.wf_act.specs.declared.act.Act.TheVariants.{Send}
 use Rattle.wf_act.specs.declared.act.Input.{Input}
 use Rattle.wf_wire.specs.Exchanges.{Answering, Exchange, Exchanges}
 

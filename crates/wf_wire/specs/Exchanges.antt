@@ -138,7 +138,7 @@ pub record LeavesBody (how : Framing) (limit : ℕ) (coming left : Option (List 
   pub waits : IsOpen how limit bytes
   pub count_is : n ≡ count_of (body_end how limit bytes)
 
--- what the body came to; or the link failed while it was open, and has left so many bytes
+-- what the body came to, or the link failed while it was open and has so much left
 abbrev pub EndsBody : Framing → ℕ → Option (List ℕ) → BodyEnd → Option (List ℕ) → Type 0
 EndsBody how limit coming (body.Fault n) left = LeavesBody how limit coming left n
 EndsBody how limit coming end left = HasBody how limit coming end

@@ -53,17 +53,17 @@ loop-end-preserved g c =
     let is = c.loop-end.invariant in
     let came = c.in-Ok-true.ensures in
     record {
-      received = body-goes-on (window_of c.args.self.now) (g.L.Link.left c.args.link.now) c.args.self.now.framing c.args.limit
-    c.loop-end.reader c.window.result.now (window_of c.loop-end.self) (g.L.Link.left c.loop-end.link)
-    c.window.ensures is.framing is.limit is.received c.in-More.next
+      received = body-goes-on (window_of c.args.self.now) (g.L.Link.left c.args.link.now)
+          c.args.self.now.framing c.args.limit c.loop-end.reader c.window.result.now (window_of c.loop-end.self)
+          (g.L.Link.left c.loop-end.link) c.window.ensures is.framing is.limit is.received c.in-More.next
           (window_of c.refill.new.self) (g.L.Link.left c.refill.new.link) c.in-More.ensures came.gave;
-      framing = body-framed (window_of c.args.self.now) (g.L.Link.left c.args.link.now) c.args.self.now.framing c.args.limit
-    c.loop-end.reader c.window.result.now (window_of c.loop-end.self) (g.L.Link.left c.loop-end.link)
-    c.window.ensures is.framing is.limit is.received c.in-More.next
+      framing = body-framed (window_of c.args.self.now) (g.L.Link.left c.args.link.now)
+          c.args.self.now.framing c.args.limit c.loop-end.reader c.window.result.now (window_of c.loop-end.self)
+          (g.L.Link.left c.loop-end.link) c.window.ensures is.framing is.limit is.received c.in-More.next
           c.in-More.ensures;
-      limit = body-limited (window_of c.args.self.now) (g.L.Link.left c.args.link.now) c.args.self.now.framing c.args.limit
-    c.loop-end.reader c.window.result.now (window_of c.loop-end.self) (g.L.Link.left c.loop-end.link)
-    c.window.ensures is.framing is.limit is.received c.in-More.next
+      limit = body-limited (window_of c.args.self.now) (g.L.Link.left c.args.link.now)
+          c.args.self.now.framing c.args.limit c.loop-end.reader c.window.result.now (window_of c.loop-end.self)
+          (g.L.Link.left c.loop-end.link) c.window.ensures is.framing is.limit is.received c.in-More.next
           c.in-More.ensures;
       state = came.state ∙ is.state;
       later = omega (arith, is.later, came.cause.later);
