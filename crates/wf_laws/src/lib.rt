@@ -1,2 +1,6 @@
-// Laws of the whole fetch.
+// Laws of the definition of a fetch.
 #![tactic(auto)]
+
+mod laws;
+
+pub use laws::{law_asks, law_own_ops};
