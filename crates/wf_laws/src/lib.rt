@@ -3,4 +3,4 @@
 
 mod laws;
 
-pub use laws::{law_asks, law_own_ops};
+pub use laws::{law_asks, law_own_ops, law_shown, law_views};
