@@ -4,12 +4,12 @@ use Rattle.wf_text.specs.declared.memory.OutOfMemory.{OutOfMemory}
 use Rattle.wf_act.specs.declared.act.Act.{Act}
 use Rattle.wf_act.specs.declared.act.Input.{Input}
 use Rattle.wf_act.specs.Process.{Process, ended}
-use Rattle.wf_act.specs.Traces.{Trace, with_events}
+use Rattle.wf_act.specs.Traces.{Driven, Trace, with_events}
 use Rattle.wf_print.specs.declared.events.Event.{Event}
 use Rattle.wf_run.specs.Play.{events_of}
 use Rattle.wf_types.specs.declared.response.Outcome.{Outcome}
-use Rattle.wf_wire.specs.Exchanges.{Answering}
-use Rattle.wf_player.specs.Worlds.{Answers, Refuses, World, outside_of}
+use Rattle.wf_wire.specs.Exchanges.{Answering, IsIdle}
+use Rattle.wf_player.specs.Worlds.{Answers, Outside, Refuses, World, outside_of}
 
 -- The world, and the events that were shown.
 pub record Moment (State : Type 0) : Type 0 where
@@ -53,3 +53,30 @@ abbrev pub Fetched : {State : Type 0} → Answering State → ℕ → ℕ → Pr
     → Result Outcome OutOfMemory → Moment State → Type 0
 Fetched by limit document whole old (Ok outcome) new = FetchedTo by limit document whole old outcome new
 Fetched by limit document whole old (Err refused) new = FetchCut by limit document whole old new
+
+-- ---- a fetch by itself
+
+-- From a world in which nothing is to come, for some tape each item is the world's answer, what was shown is what the
+-- fetch shows over that tape, and its outcome is the fetch's. It has made 126 calls at most.
+pub record Drove {State : Type 0} (by : Answering State) (limit document : ℕ) (whole : Process) (old : Outside State)
+    (events : List Event) (outcome : Outcome) (new : Outside State) : Type 0 where
+  pub first : World State
+  pub idle : IsIdle first.exchange
+  pub from : outside_of first ≡ old
+  pub last : World State
+  pub driven : Driven (Answers by limit document) events_of whole first events outcome last
+  pub to : outside_of last ≡ new
+  pub few : old.left ≤ new.left + 126
+
+-- Memory was refused: the fetch came to some place, and the calls that were made are those on the way.
+pub record IsBegun {State : Type 0} (by : Answering State) (limit document : ℕ) (whole : Process) (old new : Outside State)
+    : Type 0 where
+  pub first : World State
+  pub idle : IsIdle first.exchange
+  pub from : outside_of first ≡ old
+  pub tape : List Input
+  pub events : List Event
+  pub place : Process
+  pub last : World State
+  pub trace : LeadsOn by limit document whole first tape events place last
+  pub left : Refuses (outside_of last) new

@@ -1,5 +1,5 @@
 -- What a document's run, and each part of it, comes to in the document's world.
-use Rattle.std.specs.Prelude.{◌≡◌, ℕ, ◌+◌, ◌≤◌, List, [], ◌++◌, Option, Some, Result, Ok, Err}
+use Rattle.std.specs.Prelude.{◌≡◌, ℕ, ◌+◌, ◌*◌, ◌≤◌, List, [], ◌++◌, Option, Some, Result, Ok, Err}
 use Rattle.wf_text.specs.declared.memory.OutOfMemory.{OutOfMemory}
 use Rattle.wf_act.specs.declared.act.Input.{Input}
 use Rattle.wf_print.specs.declared.events.Ending.{Ending}
@@ -66,6 +66,10 @@ abbrev pub Ended : {State : Type 0} → Answering State → ℕ → ℕ → Play
 Ended by limit document whole old result new =
     LedTo by limit document (λ (next : Next). whole) old (λ ending next. over ending new.progress.clock) result new
 
+-- the calls that the pass has left suffice for the fetches that may still start
+abbrev pub HasRoom : ℕ → Progress → Type 0
+HasRoom left progress = 129024 ≤ left + progress.fetches * 126
+
 -- ---- whole runs
 
 -- From a world in which nothing is to come, for some tape each item is the world's answer, and what was shown is the
@@ -101,3 +105,11 @@ abbrev pub Came : {State : Type 0} → Answering State → ℕ → ℕ → Play 
     → Outside State → Type 0
 Came by limit document whole old events Memory clock new = Began by limit document whole old events new
 Came by limit document whole old events ending clock new = Ran by limit document whole old events ending clock new
+
+-- what a run comes to, by its ending and with another value, or cut short
+abbrev pub RunTo : {State A : Type 0} → Answering State → ℕ → ℕ → Play → Outside State
+    → Result (Ending × A) OutOfMemory → Progress → Outside State → Type 0
+RunTo by limit document whole old (Ok made) progress new =
+    Ran by limit document whole old progress.shown made.0 progress.clock new
+RunTo by limit document whole old (Err refused) progress new =
+    Began by limit document whole old progress.shown new

@@ -1,10 +1,10 @@
 -- The world of a document's run: its link and its pass of the shared book, and what comes of each act there (this
 -- project's own; Fetch, section 4, where the algorithm waits for the network or the preflight cache).
-use Rattle.std.specs.Prelude.{◌≡◌, ℕ, ◌+◌, ◌≤◌, List, [], ◌∷◌, ◌++◌, Option}
+use Rattle.std.specs.Prelude.{◌≡◌, ℕ, ◌≤◌, List, Option}
 use Rattle.wf_act.specs.declared.act.Act.{Act}
 use Rattle.wf_act.specs.declared.act.Act.TheVariants.{Ask, Send, Tell}
 use Rattle.wf_act.specs.declared.act.Input.{Input}
-use Rattle.wf_act.specs.declared.act.Input.TheVariants.{Replied, Told}
+use Rattle.wf_act.specs.declared.act.Input.TheVariants.{Told}
 use Rattle.wf_book.specs.declared.entry.Entry.{Entry}
 use Rattle.wf_book.specs.declared.op.Op.{Op}
 use Rattle.wf_print.specs.declared.events.Event.{Event}
@@ -13,6 +13,7 @@ use Rattle.wf_types.specs.Targets.{IsSendable}
 use Rattle.wf_wire.specs.declared.wire.Wire.{Wire}
 use Rattle.wf_wire.specs.Exchanges.{Answering, Exchange, Exchanges, IsIdle}
 use Rattle.wf_wire.specs.Wires.{exchange_of}
+use Rattle.wf_player.specs.Asking.{IsAsked}
 
 -- Where the exchange over the link stands; the entries of the calls that the document has made; and how many more it
 -- may make.
@@ -51,15 +52,10 @@ outside own calls state faults pass link =
 
 -- ---- what comes of an act
 
--- The document has made one call more: its entry is the last of the document's own, and the input is its reply.
-pub record IsCalled {State : Type 0} (document : ℕ) (op : Op) (old : World State) (input : Input)
-    (new : World State) : Type 0 where
-  pub entry : Entry
-  pub document_is : entry.document ≡ document
-  pub op_is : entry.op ≡ op
-  pub input_is : input ≡ Replied entry.reply
-  pub own_is : new.own ≡ old.own ++ entry ∷ []
-  pub left_is : old.left ≡ new.left + 1
+-- The document has made a call of the book. The exchange stands as it stood.
+pub record IsCalled {State : Type 0} (document : ℕ) (old : World State) (op : Op) (input : Input) (new : World State)
+    : Type 0 where
+  pub asked : IsAsked document op input old.own new.own old.left new.left
   pub exchange_is : new.exchange ≡ old.exchange
 
 -- What the link answers to an act. The pass is as it was.
@@ -72,7 +68,7 @@ pub record IsExchanged {State : Type 0} (by : Answering State) (limit : ℕ) (ol
 -- what comes of an act in a document's world, with bodies of so many bytes at most: a call of the book, a request
 -- whose method and target have no space, what is read of its answer, or that the document is told
 abbrev pub Answers : {State : Type 0} → Answering State → ℕ → ℕ → World State → Act → Input → World State → Type 0
-Answers by limit document old (Ask op) input new = IsCalled document op old input new
+Answers by limit document old (Ask op) input new = IsCalled document old op input new
 Answers by limit document old (Send hop) input new = IsSendable hop × IsExchanged by limit old (Send hop) input new
 Answers by limit document old (Tell violation) input new = (input ≡ Told) × (new ≡ old)
 Answers by limit document old first input new = IsExchanged by limit old first input new

@@ -33,9 +33,13 @@ pub record Setting : Type 0 where
   pub policies : List Policy
   pub cookies : List Cookie
 
+-- a setting of these
+abbrev pub setting : Client → List Policy → List Cookie → Setting
+setting client policies cookies = record { client = client; policies = policies; cookies = cookies }
+
 -- what a fetch is lent at a time
 abbrev pub at_time : Setting → ℕ → Context
-at_time setting now = context_of setting.client setting.policies setting.cookies now
+at_time lent now = context_of lent.client lent.policies lent.cookies now
 
 -- Where a run stands: its clock, in seconds, how many commands and how many fetches have started, and the events so
 -- far.
@@ -108,9 +112,9 @@ normalized_init init = record init { headers = map normalized_pair init.headers 
 
 -- the fetch of a request at the run's time, or the fault where none was made
 abbrev pub fetched : Setting → Result Request TypeFault → Next → Next
-fetched setting (Err fault) next = showing (TypeError fault) next
-fetched setting (Ok request) next progress =
-    embed (fetch (at_time setting progress.clock) request) (λ outcome. showing (ResultIs outcome) next) progress
+fetched lent (Err fault) next = showing (TypeError fault) next
+fetched lent (Ok request) next progress =
+    embed (fetch (at_time lent progress.clock) request) (λ outcome. showing (ResultIs outcome) next) progress
 
 -- a command has started
 abbrev pub started : Progress → Progress
@@ -126,10 +130,14 @@ waited seconds progress = record progress { clock = progress.clock + seconds }
 
 -- what a command does
 abbrev pub command_run : Setting → Command → Next → Next
-command_run setting (command.Fetch init) next progress =
-    showing (Fetch progress.fetches) (fetched setting (new_request setting.client (normalized_init init)) next)
+command_run lent (command.Fetch init) next progress =
+    showing (Fetch progress.fetches) (fetched lent (new_request lent.client (normalized_init init)) next)
     (fetch_started progress)
-command_run setting (command.Wait seconds) next progress = next (waited seconds progress)
+command_run lent (command.Wait seconds) next progress = next (waited seconds progress)
+
+-- a command that has started, and what it does
+abbrev pub command_started : Setting → Command → Next → Next
+command_started lent one next progress = command_run lent one next (started progress)
 
 -- a run ends at its clock
 abbrev pub ends : Ending → Next
@@ -138,13 +146,13 @@ ends ending progress = over ending progress.clock
 -- a run that has reached a limit is over; else it goes on
 abbrev pub unless_limit : Option Ending → Next → Next
 unless_limit (Some ending) next progress = ends ending progress
-unless_limit None next progress = next (started progress)
+unless_limit None next progress = next progress
 
 -- the commands, in order, up to a limit
 abbrev pub script_run : Setting → List Command → Next → Next
-script_run setting [] next progress = next progress
-script_run setting (one ∷ more) next progress =
-    unless_limit (limit_before one progress) (command_run setting one (script_run setting more next)) progress
+script_run lent [] next progress = next progress
+script_run lent (one ∷ more) next progress =
+    unless_limit (limit_before one progress) (command_started lent one (script_run lent more next)) progress
 
 -- at this time nothing has started or been shown
 abbrev pub beginning : ℕ → Progress
@@ -160,7 +168,7 @@ document_client document = client_of document.url document.top StrictOriginWhenC
 
 -- a document's setting; it has no policies yet
 abbrev pub setting_of : List Cookie → Document → Setting
-setting_of cookies document = record { client = document_client document; policies = []; cookies = cookies }
+setting_of cookies document = setting (document_client document) [] cookies
 
 -- the whole run, from a time on
 abbrev pub document_run : List Cookie → ℕ → Document → Play

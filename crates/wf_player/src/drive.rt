@@ -1,0 +1,119 @@
+ghost use Rattle.std.specs.Prelude.{◌≡◌, ◌≢◌, ◌≤◌, ◌<◌, ◌^◌, [], length, slice_get, Some, IfOk};
+ghost use Rattle.wf_print.specs.declared.events.Ending.TheVariants.{Memory};
+ghost use Rattle.wf_script.specs.Valid.{IsValid, IsValidDocument};
+ghost use Rattle.wf_script.specs.declared.types.Document.{Document as OneDocument};
+ghost use Rattle.wf_run.specs.Runs.{beginning, document_client, document_run};
+ghost use Rattle.wf_wire.specs.Wires.{over_link};
+ghost use Rattle.wf_player.specs.Playing.{Came, RunTo};
+ghost use Rattle.wf_player.specs.Worlds.{outside};
+
+use crate::lent::Lent;
+use crate::running::Running;
+use crate::script::run_script;
+use std::alloc::Global;
+use std::sync::Wait;
+use std::thread::Threads;
+use wf_book::Share;
+use wf_csp::Compiled;
+use wf_csp_text::Policies;
+use wf_link::Link;
+use wf_print::{Ending, Transcript};
+use wf_script::{Document, Scenario};
+use wf_text::{Bytes, OutOfMemory};
+use wf_types::{Client, Cookies, ReferrerPolicy};
+use wf_wire::Wire;
+
+// A document's run, to its ending, with the document's key.
+fn run_document<R: Threads + Wait + Sync, S: Share, L: Link>(
+    rt: &R,
+    alloc: Global,
+    limit: u32,
+    cookies: &Cookies,
+    document: &Document,
+    share: &S,
+    pass: &mut S::Pass,
+    link: &mut L,
+    running: &mut Running,
+) -> Result<(Ending, Bytes), OutOfMemory>
+    requires valid { IsValidDocument document.now }
+    requires belongs { S.belongs share.now pass.old }
+    requires left { 129024 ≤ S.left pass.old }
+    requires base { running.old ≡ beginning running.old.clock }
+    ensures run { RunTo (over_link L.answer L.next) limit (S.document pass.old)
+        (document_run cookies.now running.old.clock document.now)
+        (outside S.own S.left L.state L.faults pass.old link.old) result running.new
+        (outside S.own S.left L.state L.faults pass.new link.new) }
+    ensures has_text { IfOk result (λ made. made.0 ≢ Memory) }
+    ensures key { IfOk result (λ made. made.1 ≡ (document_client document.now).key) }
+    ensures belongs { S.belongs share.now pass.new }
+    ensures same { (S.document pass.new ≡ S.document pass.old) × (S.opening pass.new ≡ S.opening pass.old) }
+{
+    let policy = ReferrerPolicy::StrictOriginWhenCrossOrigin;
+    let client = Client::of(alloc, &document.url, &document.top, policy)?;
+    let policies = Compiled::of(alloc, &Policies::new(alloc))?;
+    let key = client.key.copy(alloc)?;
+    let lent = Lent {
+        rt,
+        alloc,
+        share,
+        client: &client,
+        policies: &policies,
+        cookies,
+        limit,
+    };
+    let mut wire = Wire::new(alloc, link)?;
+    let ending = run_script(&lent, pass, link, &mut wire, running, &document.script)?;
+    Ok((ending, key))
+}
+
+/// Plays a document's script over a link and a share of the book, from a time in seconds on, which is at
+/// most 2^40. The document is that of the scenario with this number. It makes 129,024 calls of the book at
+/// most, which the pass has left.
+///
+/// What the transcript shows is the document's run over a tape of what the world answers: each reply is that
+/// of the entry by which the pass's own grew; heads and bodies are those of the link's answers, where it
+/// tells them, and a fault comes only where its count of faults rose. The ending is `Memory` only where
+/// memory was refused: then what was shown begins such a run, the calls that were made are those on the way,
+/// the key may be empty and the clock is any number.
+pub fn drive<R: Threads + Wait + Sync, S: Share, L: Link>(
+    rt: &R,
+    alloc: Global,
+    scenario: &Scenario,
+    document: u32,
+    base: u64,
+    share: &S,
+    pass: &mut S::Pass,
+    link: &mut L,
+) -> Transcript
+    requires scenario { IsValid scenario.now }
+    requires document { document < length scenario.now.documents }
+    requires base { base ≤ 2 ^ 40 }
+    requires belongs { S.belongs share.now pass.old }
+    requires left { 129024 ≤ S.left pass.old }
+    ensures came { (one : OneDocument) → slice_get scenario.now.documents document ≡ Some one
+        → Came (over_link L.answer L.next) scenario.now.body_limit (S.document pass.old)
+        (document_run scenario.now.cookies base one) (outside S.own S.left L.state L.faults pass.old link.old)
+        result.events result.ending result.clock (outside S.own S.left L.state L.faults pass.new link.new) }
+    ensures number { result.document ≡ document }
+    ensures key { (one : OneDocument) → slice_get scenario.now.documents document ≡ Some one
+        → result.ending ≢ Memory → result.key ≡ (document_client one).key }
+    ensures belongs { S.belongs share.now pass.new }
+    ensures same { (S.document pass.new ≡ S.document pass.old) × (S.opening pass.new ≡ S.opening pass.old) }
+{
+    let mut running = Running::new(alloc, base);
+    let one = scenario.documents.at(document as usize);
+    let (limit, cookies) = (scenario.body_limit, &scenario.cookies);
+    let made = run_document(rt, alloc, limit, cookies, one, share, pass, link, &mut running);
+    let (ending, key) = match made {
+        Ok(made) => made,
+        Err(OutOfMemory) => (Ending::Memory, Bytes::new(alloc)),
+    };
+    let clock = running.now();
+    Transcript {
+        document,
+        key,
+        events: running.into_events(),
+        ending,
+        clock,
+    }
+}

@@ -1,0 +1,161 @@
+ghost use Rattle.std.specs.Prelude.{◌≡◌, ◌≢◌, ◌≤◌, ◌<◌, ◌+◌, ◌*◌, ◌^◌, None, IfOk, OnOk};
+ghost use Rattle.std.specs.List.{All};
+ghost use Rattle.wf_print.specs.declared.events.Ending.TheVariants.{Memory};
+ghost use Rattle.wf_script.specs.Valid.{IsValidCommand};
+ghost use Rattle.wf_script.specs.declared.types.Command.TheVariants.{Fetch};
+ghost use Rattle.wf_send.specs.Making.{new_request as request_of};
+ghost use Rattle.wf_types.specs.Requests.{IsClient, IsRequest};
+ghost use Rattle.wf_wire.specs.Wires.{over_link};
+ghost use Rattle.wf_run.specs.Runs.{fetched, finished, limit_before, script_run, setting};
+ghost use Rattle.wf_run.specs.Runs.{normalized_init as normal_init, command_started};
+ghost use Rattle.wf_player.specs.Playing.{Ended, HasRoom, Played, standing_of};
+ghost use Rattle.wf_player.specs.Worlds.{world_of};
+
+use crate::fetch::run_fetch;
+use crate::lent::Lent;
+use crate::running::Running;
+use std::sync::Wait;
+use std::thread::Threads;
+use wf_book::Share;
+use wf_link::Link;
+use wf_print::{Ending, Event};
+use wf_run::normalized_init;
+use wf_script::{Command, Script};
+use wf_send::new_request;
+use wf_text::OutOfMemory;
+use wf_types::{Init, Request, TypeFault};
+use wf_wire::Wire;
+
+// The request of what a script asks of `fetch`, or why there is none.
+fn requested<R, S>(
+    lent: &Lent<'_, R, S>,
+    init: &Init,
+) -> Result<Result<Request, TypeFault>, OutOfMemory>
+    requires client { IsClient lent.now.client.now }
+    ensures value { IfOk result (λ made. made ≡ request_of lent.now.client.now (normal_init init.now)) }
+    ensures valid { IfOk result (λ made. IfOk made IsRequest) }
+{
+    let init = normalized_init(lent.alloc, init)?;
+    new_request(lent.alloc, &init, lent.client)
+}
+
+// The request's outcome, or that there is no request. Nothing more of its answer is wanted then.
+fn run_request<R: Threads + Wait + Sync, S: Share, L: Link>(
+    lent: &Lent<'_, R, S>,
+    pass: &mut S::Pass,
+    link: &mut L,
+    wire: &mut Wire,
+    running: &mut Running,
+    made: Result<Request, TypeFault>,
+) -> Result<(), OutOfMemory>
+    requires made { IfOk made IsRequest }
+    requires client { IsClient lent.now.client.now }
+    requires belongs { S.belongs lent.now.share.now pass.old }
+    requires left { 126 ≤ S.left pass.old }
+    ensures played { Played (over_link L.answer L.next) lent.now.limit (S.document pass.old)
+        (fetched (setting lent.now.client.now lent.now.policies.now lent.now.cookies.now) made)
+        (standing_of (world_of S.own S.left L.state L.left L.faults pass.old link.old wire.old) running.old) result
+        (standing_of (world_of S.own S.left L.state L.left L.faults pass.new link.new wire.new) running.new) }
+    ensures few { OnOk result (S.left pass.old ≤ S.left pass.new + 126) }
+    ensures fetches { running.new.fetches ≡ running.old.fetches }
+    ensures belongs { S.belongs lent.now.share.now pass.new }
+    ensures same { (S.document pass.new ≡ S.document pass.old) × (S.opening pass.new ≡ S.opening pass.old) }
+{
+    match made {
+        Err(fault) => running.show(Event::TypeError(fault)),
+        Ok(request) => {
+            let now = running.now();
+            let shown = &mut running.shown;
+            let outcome = run_fetch(lent, pass, link, wire, shown, request, now)?;
+            running.show(Event::Result(outcome))?;
+            wire.close(link);
+            Ok(())
+        }
+    }
+}
+
+// A command `fetch`: its request is made and fetched.
+fn run_fetch_command<R: Threads + Wait + Sync, S: Share, L: Link>(
+    lent: &Lent<'_, R, S>,
+    pass: &mut S::Pass,
+    link: &mut L,
+    wire: &mut Wire,
+    running: &mut Running,
+    init: &Init,
+) -> Result<(), OutOfMemory>
+    requires client { IsClient lent.now.client.now }
+    requires limit { limit_before (Fetch init.now) running.old ≡ None }
+    requires belongs { S.belongs lent.now.share.now pass.old }
+    requires room { HasRoom (S.left pass.old) running.old }
+    ensures played { Played (over_link L.answer L.next) lent.now.limit (S.document pass.old)
+        (command_started (setting lent.now.client.now lent.now.policies.now lent.now.cookies.now) (Fetch init.now))
+        (standing_of (world_of S.own S.left L.state L.left L.faults pass.old link.old wire.old) running.old) result
+        (standing_of (world_of S.own S.left L.state L.left L.faults pass.new link.new wire.new) running.new) }
+    ensures room { OnOk result (HasRoom (S.left pass.new) running.new) }
+    ensures belongs { S.belongs lent.now.share.now pass.new }
+    ensures same { (S.document pass.new ≡ S.document pass.old) × (S.opening pass.new ≡ S.opening pass.old) }
+{
+    running.start_fetch()?;
+    let made = requested(lent, init)?;
+    run_request(lent, pass, link, wire, running, made)
+}
+
+// One command.
+fn run_command<R: Threads + Wait + Sync, S: Share, L: Link>(
+    lent: &Lent<'_, R, S>,
+    pass: &mut S::Pass,
+    link: &mut L,
+    wire: &mut Wire,
+    running: &mut Running,
+    command: &Command,
+) -> Result<(), OutOfMemory>
+    requires client { IsClient lent.now.client.now }
+    requires limit { limit_before command.now running.old ≡ None }
+    requires belongs { S.belongs lent.now.share.now pass.old }
+    requires room { HasRoom (S.left pass.old) running.old }
+    ensures played { Played (over_link L.answer L.next) lent.now.limit (S.document pass.old)
+        (command_started (setting lent.now.client.now lent.now.policies.now lent.now.cookies.now) command.now)
+        (standing_of (world_of S.own S.left L.state L.left L.faults pass.old link.old wire.old) running.old) result
+        (standing_of (world_of S.own S.left L.state L.left L.faults pass.new link.new wire.new) running.new) }
+    ensures room { OnOk result (HasRoom (S.left pass.new) running.new) }
+    ensures belongs { S.belongs lent.now.share.now pass.new }
+    ensures same { (S.document pass.new ≡ S.document pass.old) × (S.opening pass.new ≡ S.opening pass.old) }
+{
+    match command {
+        Command::Fetch(init) => run_fetch_command(lent, pass, link, wire, running, init),
+        Command::Wait(seconds) => {
+            running.wait(*seconds);
+            Ok(())
+        }
+    }
+}
+
+// The commands of a script, in order, up to a limit.
+pub(crate) fn run_script<R: Threads + Wait + Sync, S: Share, L: Link>(
+    lent: &Lent<'_, R, S>,
+    pass: &mut S::Pass,
+    link: &mut L,
+    wire: &mut Wire,
+    running: &mut Running,
+    script: &Script,
+) -> Result<Ending, OutOfMemory>
+    requires client { IsClient lent.now.client.now }
+    requires belongs { S.belongs lent.now.share.now pass.old }
+    requires room { HasRoom (S.left pass.old) running.old }
+    ensures ended { Ended (over_link L.answer L.next) lent.now.limit (S.document pass.old)
+        (script_run (setting lent.now.client.now lent.now.policies.now lent.now.cookies.now) script.now finished
+        running.old)
+        (standing_of (world_of S.own S.left L.state L.left L.faults pass.old link.old wire.old) running.old) result
+        (standing_of (world_of S.own S.left L.state L.left L.faults pass.new link.new wire.new) running.new) }
+    ensures has_text { IfOk result (λ ending. ending ≢ Memory) }
+    ensures belongs { S.belongs lent.now.share.now pass.new }
+    ensures same { (S.document pass.new ≡ S.document pass.old) × (S.opening pass.new ≡ S.opening pass.old) }
+{
+    for command in script.as_slice() {
+        if let Some(ending) = running.limit_before(command) {
+            return Ok(ending);
+        }
+        run_command(lent, pass, link, wire, running, command)?;
+    }
+    Ok(Ending::Finished)
+}
