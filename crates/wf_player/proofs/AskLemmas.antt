@@ -1,0 +1,46 @@
+-- Calls of the book, and worlds in which memory was refused.
+use Rattle.std.proofs.Common.{◌≡◌, ℕ, ◌+◌, ◌-◌, ◌<◌, ◌≤◌, Bool, true, false, List, [], ◌∷◌, ◌++◌, Option, IsTrue}
+use Rattle.std.proofs.Common.{refl, ap, sym, subst, ◌∙◌, arith}
+use Rattle.std.specs.Prelude.{not, if◌then◌else◌}
+use Rattle.wf_act.specs.declared.act.Act.TheVariants.{Ask}
+use Rattle.wf_act.specs.declared.act.Input.TheVariants.{Replied}
+use Rattle.wf_act.specs.Process.{fits}
+use Rattle.wf_book.specs.declared.book.Book.{Book}
+use Rattle.wf_book.specs.declared.entry.Entry.{Entry}
+use Rattle.wf_book.specs.declared.op.Op.{Op}
+use Rattle.wf_book.specs.declared.op.Reply.{Reply}
+use Rattle.wf_book.specs.Entries.{Extends}
+use Rattle.wf_book.specs.Ops.{is_answer, is_question}
+use Rattle.wf_player.specs.Asking.{IsAsked, IsRefusedCall}
+use Rattle.wf_player.specs.Worlds.{Outside, Refuses}
+
+-- a call of a copy of the op
+pub asked_by_call : (opening : Book) (document left left' : ℕ) (op copied : Op) (answer : Reply)
+    (own own' seen seen' : List Entry) → copied ≡ op → 0 < left → left' ≡ left - 1
+    → Extends opening document copied answer own own' seen seen'
+    → IsAsked document op (Replied answer) own own' left left'
+asked_by_call opening document left left' op copied answer own own' seen seen' same some fewer x = record {
+  entry = x.entry;
+  document_is = x.document_is;
+  op_is = x.op_is ∙ same;
+  input_is = ap Replied (sym x.reply_is);
+  own_is = x.own_is;
+  left_is = omega (arith, some, fewer);
+}
+
+-- a reply of the op's kind fits
+fitting : (question : Bool) (answer : Bool) → answer ≡ question
+    → IsTrue (if question then answer else not answer)
+fitting true true e = refl
+fitting true false e = cc
+fitting false true e = cc
+fitting false false e = refl
+
+pub fits_by_kind : (op copied : Op) (answer : Reply) → copied ≡ op → is_answer answer ≡ is_question copied
+    → IsTrue (fits (Ask op) (Replied answer))
+fits_by_kind op copied answer same kind =
+    fitting (is_question op) (is_answer answer) (kind ∙ ap is_question same)
+
+-- nothing happened
+pub refuses-none : {State : Type 0} (a : Outside State) → Refuses a a
+refuses-none a = record { state_is = refl; later = omega arith; own_is = refl; fewer = omega arith }

@@ -1,0 +1,4 @@
+pub mod AskLemmas
+pub mod FetchLemmas
+pub mod PartLemmas
+pub mod ScriptLemmas
