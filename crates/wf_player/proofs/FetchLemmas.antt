@@ -17,7 +17,7 @@ use Rattle.wf_fetch.specs.declared.place.Step.TheVariants.{Going, Over}
 use Rattle.wf_fetch.specs.Fetch.{fetch}
 use Rattle.wf_fetch.specs.Machine.{Does, rest}
 use Rattle.wf_fetch.specs.Then.{Context}
-use Rattle.wf_laws.specs.OwnActs.{IsOwnAct}
+use Rattle.wf_laws.specs.Own.{IsOwnAct}
 use Rattle.wf_print.specs.declared.events.Event.{Event}
 use Rattle.wf_run.specs.Play.{events_of}
 use Rattle.wf_types.specs.declared.request.Request.{Request}
@@ -101,7 +101,7 @@ module _ {State : Type 0} (by : Answering State) (limit document : ℕ) where
 
       can : (one : Act) → IsPlain one → IsOwnAct context fetching.level.request one → (left : ℕ)
           → price_of asks one + left ≤ is.calls → CanAnswer one now.world.left
-      can (Ask op) plain own left enough = (own.range, omega (arith, enough, is.enough))
+      can (Ask op) plain own left enough = (own.0, omega (arith, enough, is.enough))
       can (Send hop) plain own left enough = plain
       can ReadHead plain own left enough = tt
       can ReadBody plain own left enough = tt

@@ -1,4 +1,5 @@
 pub mod AskLemmas
+pub mod CallLemmas
 pub mod FetchLemmas
 pub mod PartLemmas
 pub mod ScriptLemmas

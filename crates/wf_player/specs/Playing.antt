@@ -66,9 +66,14 @@ abbrev pub Ended : {State : Type 0} → Answering State → ℕ → ℕ → Play
 Ended by limit document whole old result new =
     LedTo by limit document (λ (next : Next). whole) old (λ ending next. over ending new.progress.clock) result new
 
--- the calls that the pass has left suffice for the fetches that may still start
+-- at most 1,024 fetches have started, and the calls that are left suffice for those that may still start
 abbrev pub HasRoom : ℕ → Progress → Type 0
-HasRoom left progress = 129024 ≤ left + progress.fetches * 126
+HasRoom left progress = (129024 ≤ left + progress.fetches * 126) × (progress.fetches ≤ 1024)
+
+-- each fetch that has started between two moments has made 126 calls at most
+abbrev pub IsSpent : ℕ → Progress → ℕ → Progress → Type 0
+IsSpent left old left' new =
+    (left + old.fetches * 126 ≤ left' + new.fetches * 126) × (new.fetches ≤ 1024)
 
 -- ---- whole runs
 

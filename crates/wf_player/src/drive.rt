@@ -1,4 +1,4 @@
-ghost use Rattle.std.specs.Prelude.{◌≡◌, ◌≢◌, ◌≤◌, ◌<◌, ◌^◌, [], length, slice_get, Some, IfOk};
+ghost use Rattle.std.specs.Prelude.{◌≡◌, ◌≢◌, ◌≤◌, ◌<◌, ◌^◌, [], length, slice_get, Some, IfOk, OnOk, ◌+◌};
 ghost use Rattle.wf_print.specs.declared.events.Ending.TheVariants.{Memory};
 ghost use Rattle.wf_script.specs.Valid.{IsValid, IsValidDocument};
 ghost use Rattle.wf_script.specs.declared.types.Document.{Document as OneDocument};
@@ -43,6 +43,7 @@ fn run_document<R: Threads + Wait + Sync, S: Share, L: Link>(
         (document_run cookies.now running.old.clock document.now)
         (outside S.own S.left L.state L.faults pass.old link.old) result running.new
         (outside S.own S.left L.state L.faults pass.new link.new) }
+    ensures few { OnOk result (S.left pass.old ≤ S.left pass.new + 129024) }
     ensures has_text { IfOk result (λ made. made.0 ≢ Memory) }
     ensures key { IfOk result (λ made. made.1 ≡ (document_client document.now).key) }
     ensures belongs { S.belongs share.now pass.new }
@@ -94,6 +95,7 @@ pub fn drive<R: Threads + Wait + Sync, S: Share, L: Link>(
         → Came (over_link L.answer L.next) scenario.now.body_limit (S.document pass.old)
         (document_run scenario.now.cookies base one) (outside S.own S.left L.state L.faults pass.old link.old)
         result.events result.ending result.clock (outside S.own S.left L.state L.faults pass.new link.new) }
+    ensures few { result.ending ≢ Memory → S.left pass.old ≤ S.left pass.new + 129024 }
     ensures number { result.document ≡ document }
     ensures key { (one : OneDocument) → slice_get scenario.now.documents document ≡ Some one
         → result.ending ≢ Memory → result.key ≡ (document_client one).key }

@@ -8,7 +8,7 @@ ghost use Rattle.wf_types.specs.Requests.{IsClient, IsRequest};
 ghost use Rattle.wf_wire.specs.Wires.{over_link};
 ghost use Rattle.wf_run.specs.Runs.{fetched, finished, limit_before, script_run, setting};
 ghost use Rattle.wf_run.specs.Runs.{normalized_init as normal_init, command_started};
-ghost use Rattle.wf_player.specs.Playing.{Ended, HasRoom, Played, standing_of};
+ghost use Rattle.wf_player.specs.Playing.{Ended, HasRoom, IsSpent, Played, standing_of};
 ghost use Rattle.wf_player.specs.Worlds.{world_of};
 
 use crate::fetch::run_fetch;
@@ -91,7 +91,7 @@ fn run_fetch_command<R: Threads + Wait + Sync, S: Share, L: Link>(
         (command_started (setting lent.now.client.now lent.now.policies.now lent.now.cookies.now) (Fetch init.now))
         (standing_of (world_of S.own S.left L.state L.left L.faults pass.old link.old wire.old) running.old) result
         (standing_of (world_of S.own S.left L.state L.left L.faults pass.new link.new wire.new) running.new) }
-    ensures room { OnOk result (HasRoom (S.left pass.new) running.new) }
+    ensures spent { OnOk result (IsSpent (S.left pass.old) running.old (S.left pass.new) running.new) }
     ensures belongs { S.belongs lent.now.share.now pass.new }
     ensures same { (S.document pass.new ≡ S.document pass.old) × (S.opening pass.new ≡ S.opening pass.old) }
 {
@@ -117,7 +117,7 @@ fn run_command<R: Threads + Wait + Sync, S: Share, L: Link>(
         (command_started (setting lent.now.client.now lent.now.policies.now lent.now.cookies.now) command.now)
         (standing_of (world_of S.own S.left L.state L.left L.faults pass.old link.old wire.old) running.old) result
         (standing_of (world_of S.own S.left L.state L.left L.faults pass.new link.new wire.new) running.new) }
-    ensures room { OnOk result (HasRoom (S.left pass.new) running.new) }
+    ensures spent { OnOk result (IsSpent (S.left pass.old) running.old (S.left pass.new) running.new) }
     ensures belongs { S.belongs lent.now.share.now pass.new }
     ensures same { (S.document pass.new ≡ S.document pass.old) × (S.opening pass.new ≡ S.opening pass.old) }
 {
@@ -141,12 +141,14 @@ pub(crate) fn run_script<R: Threads + Wait + Sync, S: Share, L: Link>(
 ) -> Result<Ending, OutOfMemory>
     requires client { IsClient lent.now.client.now }
     requires belongs { S.belongs lent.now.share.now pass.old }
-    requires room { HasRoom (S.left pass.old) running.old }
+    requires left { 129024 ≤ S.left pass.old }
+    requires none { running.old.fetches ≡ 0 }
     ensures ended { Ended (over_link L.answer L.next) lent.now.limit (S.document pass.old)
         (script_run (setting lent.now.client.now lent.now.policies.now lent.now.cookies.now) script.now finished
         running.old)
         (standing_of (world_of S.own S.left L.state L.left L.faults pass.old link.old wire.old) running.old) result
         (standing_of (world_of S.own S.left L.state L.left L.faults pass.new link.new wire.new) running.new) }
+    ensures few { OnOk result (S.left pass.old ≤ S.left pass.new + 129024) }
     ensures has_text { IfOk result (λ ending. ending ≢ Memory) }
     ensures belongs { S.belongs lent.now.share.now pass.new }
     ensures same { (S.document pass.new ≡ S.document pass.old) × (S.opening pass.new ≡ S.opening pass.old) }

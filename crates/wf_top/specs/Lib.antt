@@ -2,5 +2,4 @@ pub mod Words
 pub mod Statuses
 pub mod Streams
 pub mod Plays
-pub mod Private
 pub mod Program

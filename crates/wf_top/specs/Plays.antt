@@ -1,45 +1,48 @@
--- A play of a scenario: the run of each document over the tape that the scenario's servers give.
+-- A play of a scenario: one history of the shared book, and the run of each document over what the scenario's servers
+-- answer and over the document's own entries of that history (this project's own; what a run does is wf_run's
+-- definition, and what comes of its acts wf_player's).
 --
--- A run is main fetch and HTTP fetch as far as the definitions of a fetch go (wf_fetch, specs/Fetch.antt).
--- What they do not look at yet, a play does not either: a final head that is a redirect, as one can be that a
--- rule of status 100 has in its body, is handed over as a response; its Strict-Transport-Security is not noted;
--- and of a request neither its integrity text, its destination, nor a bad port is looked at, nor whether it is
--- to be upgraded.
-use Rattle.std.specs.Prelude.{◌≡◌, ℕ, ◌+◌, List, [], ◌∷◌, Some}
+-- A run is the whole fetch as its definition has it (wf_fetch). What a scenario cannot ask for yet (other modes, other
+-- origins, policies, loads) does not come about in a play.
+use Rattle.std.specs.Prelude.{◌≡◌, ℕ, ◌+◌, ◌<◌, List, [], ◌∷◌, length, Some}
+use Rattle.std.specs.List.{AllByRecursion}
+use Rattle.wf_book.specs.declared.book.Book.{Book}
+use Rattle.wf_book.specs.declared.entry.Entry.{Entry}
+use Rattle.wf_book.specs.declared.op.Op.TheVariants.{Note}
+use Rattle.wf_book.specs.Book.{after, empty}
+use Rattle.wf_book.specs.Entries.{Legal, entries_of}
+use Rattle.wf_print.specs.declared.events.Ending.{Ending}
 use Rattle.wf_print.specs.declared.events.Event.{Event}
-use Rattle.wf_print.specs.declared.events.Event.TheVariants as event
 use Rattle.wf_print.specs.declared.events.Transcript.{Transcript}
 use Rattle.wf_script.specs.declared.types.Document.{Document}
-use Rattle.wf_script.specs.Servers.{answer}
+use Rattle.wf_script.specs.declared.types.KnownHost.{KnownHost}
 use Rattle.wf_script.specs.declared.types.Scenario.{Scenario}
 use Rattle.wf_script.specs.declared.types.Server.{Server}
-use Rattle.wf_fetch.specs.declared.act.Act.{Act}
-use Rattle.wf_fetch.specs.declared.act.Input.{Input}
-use Rattle.wf_fetch.specs.Play.{Play, PlayRun, over, emit, step, run_play}
-use Rattle.wf_fetch.specs.Runs.{document_client, document_run}
-use Rattle.wf_http1.specs.declared.framing.Framing.{Framing}
-use Rattle.wf_http1.specs.declared.framing.Framing.TheVariants.{Nothing}
-use Rattle.wf_wire.specs.Exchanges.{Answering, Exchange, Exchanges}
+use Rattle.wf_script.specs.Servers.{answer}
+use Rattle.wf_run.specs.Play.{Play}
+use Rattle.wf_run.specs.Runs.{document_client, document_run}
+use Rattle.wf_wire.specs.Exchanges.{Answering}
+use Rattle.wf_player.specs.Playing.{Ran}
+use Rattle.wf_player.specs.Worlds.{Outside}
 
--- Where an exchange with scripted servers stands: the servers, the bytes of the answer still to come, and how its body
--- is framed, where its head was read.
-pub record Standing : Type 0 where
-  pub servers : List Server
-  pub coming : List ℕ
-  pub framing : Framing
+-- ---- the book
 
--- nothing is to come
-abbrev pub idle : List Server → Standing
-idle servers = record { servers = servers; coming = []; framing = Nothing }
+-- the book with these hosts noted at the time 0, one after another; an equal one replaces the one before
+abbrev pub with_hosts : List KnownHost → Book → Book
+with_hosts [] book = book
+with_hosts (known ∷ more) book =
+    with_hosts more (after book (Note known.host (record { age = known.until; subdomains = known.subdomains }) 0))
 
--- the servers tell all, and never fail
-abbrev pub told : Standing → Exchange (List Server)
-told standing = record {
-  state = Some standing.servers;
-  coming = Some standing.coming;
-  framing = standing.framing;
-  faults = 0;
-}
+-- the book that a play opens with
+abbrev pub opening_book : Scenario → Book
+opening_book scenario = with_hosts scenario.hosts empty
+
+-- entry by entry, the turns are this number and those that follow it
+abbrev pub HasTurnsFrom : ℕ → List Entry → Type 0
+HasTurnsFrom turn [] = Unit {0}
+HasTurnsFrom turn (entry ∷ history) = (entry.turn ≡ turn) × HasTurnsFrom (turn + 1) history
+
+-- ---- the servers
 
 -- they answer a request by its method and its target, and stay as they are
 abbrev pub by_rules : Answering (List Server)
@@ -48,49 +51,45 @@ by_rules = record {
   next = λ servers hop. servers;
 }
 
--- what comes of an act, with bodies of so many bytes at most, and where the exchange stands then
-abbrev pub Serves : ℕ → Standing → Act → Input → Standing → Type 0
-Serves limit old act input new = Exchanges by_rules limit (told old) act input (told new)
+-- what is outside of a document: the servers tell all and never fail, and these are the document's entries so far
+abbrev pub servers_and : List Server → List Entry → ℕ → Outside (List Server)
+servers_and servers own left = record { state = Some servers; faults = 0; own = own; left = left }
 
--- where an exchange stands after an event: with the result of a fetch nothing more of its answer is to come,
--- read or not
-abbrev pub after_event : Event → Standing → Standing
-after_event (event.Result outcome) standing = idle standing.servers
-after_event _ standing = standing
+-- ---- documents
 
--- the tape is what comes of the acts of a run, one after another, up to its end
-abbrev pub IsTape : ℕ → Standing → Play → List Input → Type 0
-IsTape limit standing (over ending clock) tape = tape ≡ []
-IsTape limit standing (emit shown rest) tape = IsTape limit (after_event shown standing) rest tape
-IsTape limit standing (step request act after) [] = ⊥
-IsTape limit standing (step request act after) (input ∷ tape) =
-    (next : Standing) × Serves limit standing act input next × IsTape limit next (after input) tape
+-- Over the servers, whose bodies have so many bytes at most, the document's run shows these events and comes to this
+-- ending. It makes the calls of these entries, in order, and no others. (How many more it might make does not matter.)
+pub record RunsOver (limit document : ℕ) (servers : List Server) (entries : List Entry) (whole : Play)
+    (events : List Event) (ending : Ending) (clock : ℕ) : Type 0 where
+  pub before : ℕ
+  pub behind : ℕ
+  pub ran : Ran by_rules limit document whole (servers_and servers [] before) events ending clock
+      (servers_and servers entries behind)
 
--- From where the exchange stands the run comes to this: over the tape that the servers give, with bodies
--- of so many bytes at most.
-pub record RunsOver (limit : ℕ) (standing : Standing) (play : Play) (run : PlayRun) : Type 0 where
-  pub tape : List Input
-  pub is_tape : IsTape limit standing play tape
-  pub run_is : run_play play tape ≡ run
-
--- the transcript is that of the scenario's document of this number: its key is its client's, and its run
--- comes to this ending with these events
-pub record IsTranscript (scenario : Scenario) (number : ℕ) (document : Document) (transcript : Transcript)
-    : Type 0 where
+-- The transcript is that of the scenario's document of this number: its key is its client's, and its run over the
+-- document's entries of the history comes to this ending with these events.
+pub record IsTranscript (scenario : Scenario) (history : List Entry) (number : ℕ) (document : Document)
+    (transcript : Transcript) : Type 0 where
   pub document_is : transcript.document ≡ number
   pub key_is : transcript.key ≡ (document_client document).key
-  pub run_is : RunsOver scenario.body_limit (idle scenario.servers) (document_run scenario.cookies document)
-      (record { events = transcript.events; ending = Some (transcript.ending, transcript.clock) })
+  pub run_is : RunsOver scenario.body_limit number scenario.servers (entries_of number history)
+      (document_run scenario.cookies scenario.now document) transcript.events transcript.ending transcript.clock
 
 -- each transcript is that of its document, from this number on
-abbrev pub AreTranscripts : Scenario → ℕ → List Document → List Transcript → Type 0
-AreTranscripts scenario number [] [] = Unit {0}
-AreTranscripts scenario number (document ∷ documents) (transcript ∷ transcripts) =
-    IsTranscript scenario number document transcript
-    × AreTranscripts scenario (number + 1) documents transcripts
-AreTranscripts scenario number [] (transcript ∷ transcripts) = ⊥
-AreTranscripts scenario number (document ∷ documents) [] = ⊥
+abbrev pub AreTranscripts : Scenario → List Entry → ℕ → List Document → List Transcript → Type 0
+AreTranscripts scenario history number [] [] = Unit {0}
+AreTranscripts scenario history number (document ∷ documents) (transcript ∷ transcripts) =
+    IsTranscript scenario history number document transcript
+    × AreTranscripts scenario history (number + 1) documents transcripts
+AreTranscripts scenario history number [] (transcript ∷ transcripts) = ⊥
+AreTranscripts scenario history number (document ∷ documents) [] = ⊥
 
--- a play of the scenario, with an empty history
-abbrev pub IsPlay : Scenario → List Transcript → Type 0
-IsPlay scenario transcripts = AreTranscripts scenario 0 scenario.documents transcripts
+-- ---- the whole
+
+-- A play of the scenario with this history: it is legal from the book that the scenario opens with, its entry i has
+-- turn i, each entry names a document, and each document's run makes just the calls of its entries.
+pub record IsPlay (scenario : Scenario) (transcripts : List Transcript) (history : List Entry) : Type 0 where
+  pub legal : Legal (opening_book scenario) history
+  pub turns : HasTurnsFrom 0 history
+  pub named : AllByRecursion (λ (entry : Entry). entry.document < length scenario.documents) history
+  pub runs : AreTranscripts scenario history 0 scenario.documents transcripts

@@ -1,6 +1,7 @@
 -- What the program answers to `play`: its verdict by the words and the bytes of the input, what it has
 -- written then, and what it tells the complaints. A play is one as far as specs/Plays.antt says.
 use Rattle.std.specs.Prelude.{◌≡◌, ◌≢◌, ℕ, ◌+◌, ◌≤◌, ◌<◌, ◌⊎◌, Bool, true, false, List, length, Some, Ok, Err}
+use Rattle.wf_book.specs.declared.entry.Entry.{Entry}
 use Rattle.wf_link.specs.Counts.{Rose}
 use Rattle.wf_link.specs.Sinks.{Took, TookPart}
 use Rattle.wf_link.specs.Sources.{Gave, IsAtEnd}
@@ -25,17 +26,18 @@ pub record PlayOf (bytes : List ℕ) : Type 0 where
   pub scenario : Scenario
   pub read : scenario_of bytes ≡ Ok scenario
   pub transcripts : List Transcript
-  pub play : IsPlay scenario transcripts
+  pub history : List Entry
+  pub play : IsPlay scenario transcripts history
 
 -- the output has taken the text of a play of what the bytes say, and nothing else
 pub record WritesPlay (bytes : List ℕ) (old new : Sink) : Type 0 where
   pub of : PlayOf bytes
-  pub took : Took old.taken new.taken (play_text of.transcripts)
+  pub took : Took old.taken new.taken (play_text of.transcripts of.history)
 
 -- it has taken nothing, or a prefix of such a text
 pub record WritesPart (bytes : List ℕ) (old new : Sink) : Type 0 where
   pub of : PlayOf bytes
-  pub took : TookPart old.taken new.taken (play_text of.transcripts)
+  pub took : TookPart old.taken new.taken (play_text of.transcripts of.history)
 
 -- the input was read to its end, and is not too long
 pub record IsWhole (bytes : List ℕ) (new : Source) : Type 0 where

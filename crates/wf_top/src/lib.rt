@@ -2,10 +2,8 @@
 #![tactic(auto)]
 
 mod complaint;
-mod limits;
 mod play;
 mod program;
-mod running;
 mod status;
 mod words;
 

@@ -31,7 +31,7 @@ const MOST_INPUT: usize = 4194304;
 /// input failed, `WriteFault` only where the output or the complaints failed or took nothing.
 /// `InputTooLong` exactly where byte 4,194,305 was read. `OutOfMemory` where memory was refused.
 pub fn fetchplay<R: Threads + Wait + Sync, S: Source, K: Sink, E: Sink>(
-    _rt: &R,
+    rt: &R,
     alloc: Global,
     words: &[String],
     input: &mut S,
@@ -42,28 +42,14 @@ pub fn fetchplay<R: Threads + Wait + Sync, S: Source, K: Sink, E: Sink>(
         (sink_of K.taken K.faults K.zeros output.old) (sink_of K.taken K.faults K.zeros output.new)
         (sink_of E.taken E.faults E.zeros complaints.old) (sink_of E.taken E.faults E.zeros complaints.new) result }
 {
-    answer(alloc, words, input, output, complaints)
-}
-
-// The same without a runtime, so that it is proved to return.
-fn answer<S: Source, K: Sink, E: Sink>(
-    alloc: Global,
-    words: &[String],
-    input: &mut S,
-    output: &mut K,
-    complaints: &mut E,
-) -> Status
-    ensures { Answers (texts words.now) (source_of S.left S.faults input.old) (source_of S.left S.faults input.new)
-        (sink_of K.taken K.faults K.zeros output.old) (sink_of K.taken K.faults K.zeros output.new)
-        (sink_of E.taken E.faults E.zeros complaints.old) (sink_of E.taken E.faults E.zeros complaints.new) result }
-{
-    let verdict = verdict(alloc, words, input, output);
+    let verdict = verdict(rt, alloc, words, input, output);
     tell(verdict, complaints)
 }
 
 // The verdict on the words and the input, with the play written to the output.
 #[tactic(auto, using(crate::proofs::ProgramLemmas::whole_cause))]
-fn verdict<S: Source, K: Sink>(
+fn verdict<R: Threads + Wait + Sync, S: Source, K: Sink>(
+    rt: &R,
     alloc: Global,
     words: &[String],
     input: &mut S,
@@ -80,34 +66,44 @@ fn verdict<S: Source, K: Sink>(
         Err(ReadStop::Fault) => Status::ReadFault,
         Err(ReadStop::TooLong) => Status::InputTooLong,
         Err(ReadStop::OutOfMemory) => Status::OutOfMemory,
-        Ok(text) => play_bytes(alloc, text.as_slice(), output),
+        Ok(text) => play_bytes(rt, alloc, text.as_slice(), output),
     }
 }
 
 // What the bytes of the whole input come to.
-fn play_bytes<K: Sink>(alloc: Global, bytes: &[u8], output: &mut K) -> Status
+fn play_bytes<R: Threads + Wait + Sync, K: Sink>(
+    rt: &R,
+    alloc: Global,
+    bytes: &[u8],
+    output: &mut K,
+) -> Status
     ensures { IsOutcome bytes.now (sink_of K.taken K.faults K.zeros output.old)
         (sink_of K.taken K.faults K.zeros output.new) result }
 {
     match Scenario::read(alloc, bytes) {
         Err(OutOfMemory) => Status::OutOfMemory,
         Ok(Err(place)) => Status::Scenario(place),
-        Ok(Ok(scenario)) => play(alloc, &scenario, output),
+        Ok(Ok(scenario)) => play(rt, alloc, &scenario, output),
     }
 }
 
 // Plays a scenario and writes the text of the play.
-fn play<K: Sink>(alloc: Global, scenario: &Scenario, output: &mut K) -> Status
+fn play<R: Threads + Wait + Sync, K: Sink>(
+    rt: &R,
+    alloc: Global,
+    scenario: &Scenario,
+    output: &mut K,
+) -> Status
     requires { IsValid scenario.now }
     ensures { (bytes : List ℕ) → scenario_of bytes ≡ Ok scenario.now
         → IsOutcome bytes (sink_of K.taken K.faults K.zeros output.old)
         (sink_of K.taken K.faults K.zeros output.new) result }
 {
-    let transcripts = match play_all(alloc, scenario) {
+    let played = match play_all(rt, alloc, scenario) {
         Err(OutOfMemory) => return Status::OutOfMemory,
-        Ok(transcripts) => transcripts,
+        Ok(played) => played,
     };
-    match write_play(alloc, &transcripts, output) {
+    match write_play(alloc, &played.transcripts, &played.history, output) {
         Ok(()) => Status::Ok,
         Err(Failure::OutOfMemory) => Status::OutOfMemory,
         Err(Failure::Fault) => Status::WriteFault,

@@ -1,0 +1,86 @@
+-- What a run adds to its document's entries.
+use Rattle.std.proofs.Common.{◌≡◌, ℕ, ◌+◌, List, [], ◌∷◌, ◌++◌, length, refl, ap, sym, subst, ◌∙◌, arith, append_assoc}
+use Rattle.std.proofs.lemmas.List.{append-nil, length-append}
+use Rattle.std.specs.List.{AllByRecursion}
+use Rattle.wf_act.specs.declared.act.Act.{Act}
+use Rattle.wf_act.specs.declared.act.Act.TheVariants.{Ask, Send, ReadHead, ReadBody, Tell}
+use Rattle.wf_act.specs.declared.act.Input.{Input}
+use Rattle.wf_book.specs.declared.entry.Entry.{Entry}
+use Rattle.wf_print.specs.declared.events.Event.{Event}
+use Rattle.wf_print.specs.declared.events.Event.TheVariants as event
+use Rattle.wf_run.specs.Play.{Play}
+use Rattle.wf_run.specs.Traces.{PlayTrace, stop, shown, stepped}
+use Rattle.wf_wire.specs.Exchanges.{Answering}
+use Rattle.wf_player.specs.Worlds.{Answers, Outside, Settles, World, outside_of}
+
+-- Between two worlds these entries were added, each of them the document's, and the calls left fell by as many.
+pub record Calls {State : Type 0} (document : ℕ) (a b : World State) : Type 0 where
+  pub more : List Entry
+  pub own : b.own ≡ a.own ++ more
+  pub named : AllByRecursion (λ (e : Entry). e.document ≡ document) more
+  pub fell : a.left ≡ b.left + length more
+
+all-append : (P : Entry → Type 0) (a b : List Entry) → AllByRecursion P a → AllByRecursion P b
+    → AllByRecursion P (a ++ b)
+all-append P [] b x y = y
+all-append P (e ∷ es) b x y = (x.0, all-append P es b x.1 y)
+
+module _ {State : Type 0} (by : Answering State) (limit document : ℕ) where
+  calls-alike : (a b : World State) → b.own ≡ a.own → b.left ≡ a.left → Calls document a b
+  calls-alike a b own left = record {
+    more = [];
+    own = own ∙ sym (append-nil a.own);
+    named = tt;
+    fell = omega (arith, left);
+  }
+
+  calls-act : (a b : World State) (first : Act) (input : Input) → Answers by limit document a first input b
+      → Calls document a b
+  calls-act a b (Ask op) input is = record {
+    more = is.asked.entry ∷ [];
+    own = is.asked.own_is;
+    named = (is.asked.document_is, tt);
+    fell = omega (arith, is.asked.left_is);
+  }
+  calls-act a b (Send hop) input is = calls-alike a b is.1.own_is is.1.left_is
+  calls-act a b ReadHead input is = calls-alike a b is.own_is is.left_is
+  calls-act a b ReadBody input is = calls-alike a b is.own_is is.left_is
+  calls-act a b (Tell violation) input is =
+      calls-alike a b (ap (λ (w : World State). w.own) is.1) (ap (λ (w : World State). w.left) is.1)
+
+  calls-event : (a b : World State) (shown : Event) → Settles shown a b → Calls document a b
+  calls-event a b (event.Result outcome) is = calls-alike a b (ap (λ (o : Outside State). o.own) is.outside_is)
+      (ap (λ (o : Outside State). o.left) is.outside_is)
+  calls-event a b (event.Fetch n) is =
+      calls-alike a b (ap (λ (w : World State). w.own) is) (ap (λ (w : World State). w.left) is)
+  calls-event a b (event.Load n kind) is =
+      calls-alike a b (ap (λ (w : World State). w.own) is) (ap (λ (w : World State). w.left) is)
+  calls-event a b (event.Call op reply) is =
+      calls-alike a b (ap (λ (w : World State). w.own) is) (ap (λ (w : World State). w.left) is)
+  calls-event a b (event.Sent hop) is =
+      calls-alike a b (ap (λ (w : World State). w.own) is) (ap (λ (w : World State). w.left) is)
+  calls-event a b (event.Told violation) is =
+      calls-alike a b (ap (λ (w : World State). w.own) is) (ap (λ (w : World State). w.left) is)
+  calls-event a b (event.LoadFailed error) is =
+      calls-alike a b (ap (λ (w : World State). w.own) is) (ap (λ (w : World State). w.left) is)
+  calls-event a b (event.TypeError fault) is =
+      calls-alike a b (ap (λ (w : World State). w.own) is) (ap (λ (w : World State). w.left) is)
+  calls-event a b (event.LoadError fault) is =
+      calls-alike a b (ap (λ (w : World State). w.own) is) (ap (λ (w : World State). w.left) is)
+
+  calls-then : (a b c : World State) → Calls document a b → Calls document b c → Calls document a c
+  calls-then a b c x y = record {
+    more = x.more ++ y.more;
+    own = y.own ∙ ap (λ (l : List Entry). l ++ y.more) x.own ∙ append_assoc a.own x.more y.more;
+    named = all-append (λ (e : Entry). e.document ≡ document) x.more y.more x.named y.named;
+    fell = omega (arith, x.fell, y.fell, length-append x.more y.more);
+  }
+
+  -- over a trace
+  pub trace-calls : {p q : Play} {a b : World State} {t : List Input} {e : List Event}
+      → PlayTrace (Answers by limit document) Settles p a t e q b → Calls document a b
+  trace-calls {a = a} stop = calls-alike a a refl refl
+  trace-calls {a = a} {b = b} (shown {mid = mid} one is x) =
+      calls-then a mid b (calls-event a mid one is) (trace-calls x)
+  trace-calls {a = a} {b = b} (stepped {mid = mid} request first after input is fit x) =
+      calls-then a mid b (calls-act a mid first input is) (trace-calls x)
