@@ -1,51 +1,65 @@
--- Where a wire to the scripted servers stands behind a call.
+-- Scripted servers as what answers a document's requests: by the bytes of a request, as the link has them, and by its
+-- method and its target.
 use Rattle.std.proofs.Common.{◌≡◌, ℕ, List, refl, ap, ◌∙◌, Option, Some}
-use Rattle.wf_types.specs.declared.hop.Hop.{Hop}
-use Rattle.wf_types.specs.Targets.{IsSendable}
+use Rattle.wf_act.specs.declared.act.Act.{Act}
+use Rattle.wf_act.specs.declared.act.Act.TheVariants.{Ask, Send, ReadHead, ReadBody, Tell}
+use Rattle.wf_act.specs.declared.act.Input.{Input}
+use Rattle.wf_print.specs.declared.events.Ending.{Ending}
+use Rattle.wf_print.specs.declared.events.Event.{Event}
+use Rattle.wf_run.specs.Play.{Play}
+use Rattle.wf_run.proofs.PlayLemmas.{play-map}
 use Rattle.wf_script.specs.declared.types.Server.{Server}
-use Rattle.wf_sim.specs.Sim.{SimState, answer_to}
+use Rattle.wf_sim.specs.Sim.{answer_to}
 use Rattle.wf_sim.proofs.SimLemmas.{answers-by_parts}
-use Rattle.wf_http1.specs.Requests.{request_bytes}
-use Rattle.wf_fetch.specs.Process.{IsPlain}
-use Rattle.wf_fetch.specs.declared.act.Act.{Act}
-use Rattle.wf_fetch.specs.declared.act.Act.TheVariants.{Send, ReadHead, ReadBody}
-use Rattle.wf_fetch.specs.declared.act.Input.{Input}
-use Rattle.wf_fetch.specs.declared.act.Input.TheVariants.{Sent, HeadIs, HeadBad, HeadLong, BodyIs, Fault}
-use Rattle.wf_wire.specs.Exchanges.{Exchanges, IsAnswered, IsIdle}
+use Rattle.wf_wire.specs.Exchanges.{Answering}
 use Rattle.wf_wire.specs.Wires.{over_link}
-use Rattle.wf_wire.specs.declared.wire.Wire.{Wire}
-use Rattle.wf_top.specs.Plays.{Serves, Standing, by_rules, idle, told}
-use Rattle.wf_top.specs.Private.Standings.{standing_of}
+use Rattle.wf_wire.proofs.LawLemmas.{exchange-alike}
+use Rattle.wf_player.specs.Playing.{Ran}
+use Rattle.wf_player.specs.Worlds.{Answers, IsExchanged, Outside, Settles, World}
+use Rattle.wf_top.specs.Plays.{by_rules}
 
--- a wire to which nothing is to come
-pub standing_idle : (link : SimState) (wire : Wire) (servers : List Server) → IsIdle (told (standing_of link wire))
-    → Some link.servers ≡ Some servers → standing_of link wire ≡ idle servers
-standing_idle link wire servers is same =
-    let here : link.servers ≡ servers = cc in
-    rw (here, is.end, is.framing_is) refl
+-- the servers as a link has them
+abbrev pub by_bytes : Answering (List Server)
+by_bytes = over_link answer_to (λ servers _ _. servers)
 
--- the request's bytes are answered by its method and its target
-answered : (old new : Standing) (hop : Hop) (input : Input) → IsSendable hop
-    → IsAnswered (λ servers. answer_to servers hop.origin (request_bytes hop)) (told old) input (told new)
-    → IsAnswered (λ servers. by_rules.answer servers hop) (told old) input (told new)
-answered old new hop Sent plain is =
-    is ∙ ap (λ (bytes : List ℕ). let some : Option (List ℕ) = Some bytes in some)
-    (answers-by_parts old.servers hop plain)
-answered old new hop Fault plain is = is
-answered old new hop (HeadIs head) plain is = is
-answered old new hop HeadBad plain is = is
-answered old new hop HeadLong plain is = is
-answered old new hop (BodyIs end) plain is = is
-
--- what comes of an act over the link to the servers is what the servers give
-pub served : (limit : ℕ) (old new : Standing) (act : Act) (input : Input) → IsPlain act
-    → Exchanges (over_link answer_to (λ servers _ _. servers)) limit (told old) act input (told new)
-    → Serves limit old act input new
-served limit old new (Send hop) input plain came = record {
-  answered = answered old new hop input plain came.answered;
-  framing_is = came.framing_is;
-  state_is = came.state_is;
-  caused = came.caused;
+-- what the link answers to a request that has no space in its method and its target the rules answer
+answered : (limit document : ℕ) (a : World (List Server)) (first : Act) (input : Input) (b : World (List Server))
+    → Answers by_bytes limit document a first input b → Answers by_rules limit document a first input b
+answered limit document a (Ask op) input b is = is
+answered limit document a (Send hop) input b is = (
+  is.0,
+  record {
+    exchanged = exchange-alike by_bytes by_rules limit a.exchange b.exchange (Send hop) input
+        (λ servers. (answers-by_parts servers hop is.0, refl)) is.1.exchanged;
+    own_is = is.1.own_is;
+    left_is = is.1.left_is;
+  },
+)
+answered limit document a ReadHead input b is = record {
+  exchanged = exchange-alike by_bytes by_rules limit a.exchange b.exchange ReadHead input tt is.exchanged;
+  own_is = is.own_is;
+  left_is = is.left_is;
 }
-served limit old new ReadHead input plain came = came
-served limit old new ReadBody input plain came = came
+answered limit document a ReadBody input b is = record {
+  exchanged = exchange-alike by_bytes by_rules limit a.exchange b.exchange ReadBody input tt is.exchanged;
+  own_is = is.own_is;
+  left_is = is.left_is;
+}
+answered limit document a (Tell violation) input b is = is
+
+-- a run over the link is one over the rules
+pub ran-by-rules : (limit document : ℕ) (whole : Play) (old : Outside (List Server)) (events : List Event)
+    (ending : Ending) (clock : ℕ) (new : Outside (List Server))
+    → Ran by_bytes limit document whole old events ending clock new
+    → Ran by_rules limit document whole old events ending clock new
+ran-by-rules limit document whole old events ending clock new x = record {
+  first = x.first;
+  idle = x.idle;
+  from = x.from;
+  tape = x.tape;
+  last = x.last;
+  trace = play-map (Answers by_bytes limit document) Settles (Answers by_rules limit document) Settles
+      (λ (w : World (List Server)). w) (answered limit document) (λ event a b is. is) x.trace;
+  to = x.to;
+  runs = x.runs;
+}

@@ -6,9 +6,9 @@ returns-in-Ok-write_play g c = λ bytes read. record {
   of = record {
     scenario = c.args.scenario.now;
     read = read;
-    transcripts = c.in-Ok.transcripts;
-    play =
-        c.in-Ok.ensures.played;
+    transcripts = c.in-Ok.played.transcripts;
+    history = c.in-Ok.played.history;
+    play = c.in-Ok.ensures.played;
   };
   took = c.in-Ok-write_play.ensures.ok;
 }
@@ -18,9 +18,9 @@ returns-in-Err-OutOfMemory g c = λ bytes read. inr (record {
   of = record {
     scenario = c.args.scenario.now;
     read = read;
-    transcripts = c.in-Ok.transcripts;
-    play =
-        c.in-Ok.ensures.played;
+    transcripts = c.in-Ok.played.transcripts;
+    history = c.in-Ok.played.history;
+    play = c.in-Ok.ensures.played;
   };
   took = c.in-Err-OutOfMemory.ensures.err;
 })
@@ -31,9 +31,9 @@ returns-in-Err-Fault g c = λ bytes read. (
     of = record {
       scenario = c.args.scenario.now;
       read = read;
-      transcripts = c.in-Ok.transcripts;
-      play =
-          c.in-Ok.ensures.played;
+      transcripts = c.in-Ok.played.transcripts;
+      history = c.in-Ok.played.history;
+      play = c.in-Ok.ensures.played;
     };
     took = c.in-Err-Fault.ensures.err;
   },
@@ -46,9 +46,9 @@ returns g c = λ bytes read. (
     of = record {
       scenario = c.args.scenario.now;
       read = read;
-      transcripts = c.in-Ok.transcripts;
-      play =
-          c.in-Ok.ensures.played;
+      transcripts = c.in-Ok.played.transcripts;
+      history = c.in-Ok.played.history;
+      play = c.in-Ok.ensures.played;
     };
     took = c.in-Err-TookNothing.ensures.err;
   },

@@ -1,7 +1,7 @@
 use Rattle.wf_top.specs.Streams.{source_of, sink_of}
 use Rattle.wf_top.specs.Words.{texts}
 use Rattle.wf_top.proofs.ProgramLemmas.{answers}
-use Rattle.wf_top.proofs.program.answer.Goals as goal
+use Rattle.wf_top.proofs.program.fetchplay.Goals as goal
 
 pub returns : goal.returns
 returns g c = answers (texts c.args.words.now)
