@@ -36,7 +36,7 @@ impl<'a> SimLink<'a> {
     /// of the scenario's size.
     pub fn new(scenario: &'a Scenario) -> SimLink<'a>
         requires { IsValid scenario.now }
-        ensures { result ≡ record { servers = scenario.now.servers; piece = scenario.now.piece; left = [] } }
+        ensures { result ≡ record { servers = scenario.entry.now.servers; piece = scenario.entry.now.piece; left = [] } }
     {
         SimLink {
             servers: &scenario.servers,
