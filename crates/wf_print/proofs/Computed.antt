@@ -1,7 +1,13 @@
 -- The definition of the printed text, computed on plays that were written down by hand.
-use Rattle.std.proofs.Common.{◌≡◌, ℕ, List, [], ◌∷◌, ◌++◌, codes, Some, None, false, true, refl}
+use Rattle.std.proofs.Common.{◌≡◌, ℕ, Bool, List, [], ◌∷◌, ◌++◌, codes, Some, None, false, true, refl}
 use Rattle.std.specs.Fmt.{digits}
+use Rattle.wf_book.specs.declared.entry.Entry.{Entry}
+use Rattle.wf_book.specs.declared.op.Op.TheVariants.{Match, Note, Covers, Learn, Clear}
+use Rattle.wf_book.specs.declared.op.Reply.TheVariants.{Yes, No, Done}
 use Rattle.wf_headers.specs.declared.headers.Header.{Header}
+use Rattle.wf_hsts.specs.declared.sts.Sts.{Sts}
+use Rattle.wf_precache.specs.declared.question.Lesson.{Lesson}
+use Rattle.wf_precache.specs.declared.question.Question.{Question}
 use Rattle.wf_types.specs.declared.error.NetError.TheVariants.{CorsCheck, Mime, PreflightHeader}
 use Rattle.wf_types.specs.declared.fault.TypeFault.TheVariants.{BadHeader, BadUrl, ForbiddenMethod}
 use Rattle.wf_types.specs.declared.hop.Hop.{Hop}
@@ -53,7 +59,7 @@ transcript = record {
 }
 
 -- a play of one document that fetches once
-own_fetch : play_text (transcript ∷ [])
+own_fetch : play_text (transcript ∷ []) []
     ≡ codes "fetchplay 1\ndocument 0 https://a.test\nfetch 0\nsend https://a.test\n  GET / HTTP/1.1\n"
     ++ codes "  Host: a.test\n  Accept: */*\n  User-Agent: fetchplay/1\n  Accept-Encoding: identity\n"
     ++ codes "  Connection: close\nresult basic 200 https://a.test/\n  body whole 2: hi\nend finished\n"
@@ -149,8 +155,100 @@ other_ends_printed : transcript_text other_ends
 unfolding digits
 other_ends_printed = refl
 
+-- a request that asks for a method: whether the cache covers it
+abbrev method_question : Question
+method_question = record {
+  key = codes "http://a.test";
+  origin = codes "http://a.test";
+  url = codes "http://b.test/x";
+  include = false;
+  method = Some (codes "PUT");
+  names = [];
+}
+
+-- and one that asks for a header name alone
+abbrev name_question : Question
+name_question = record method_question {
+  url = codes "http://b.test/";
+  method = None;
+  names = codes "authorization" ∷ [];
+}
+
+-- what a preflight taught of a method
+abbrev method_lesson : Lesson
+method_lesson = record {
+  key = codes "http://a.test";
+  origin = codes "http://a.test";
+  url = codes "http://b.test/x";
+  include = false;
+  age = 5;
+  methods = codes "PUT" ∷ [];
+  names = [];
+}
+
+-- and of header names
+abbrev name_lesson : Lesson
+name_lesson = record method_lesson {
+  url = codes "http://b.test/?\\";
+  include = true;
+  age = 600;
+  methods = [];
+  names = codes "*" ∷ codes "Authorization" ∷ [];
+}
+
+abbrev sts : ℕ → Bool → Sts
+sts age subdomains = record { age = age; subdomains = subdomains }
+
+-- operations on the book
+abbrev calls : Transcript
+calls = record {
+  document = 3;
+  key = codes "http://a.test";
+  events =
+      event.Call (Match (codes "b.test") 0) No
+      ∷ event.Call (Covers method_question 0) No
+      ∷ event.Call (Learn method_lesson 0) Done
+      ∷ event.Call (Covers method_question 4) Yes
+      ∷ event.Call (Covers name_question 0) No
+      ∷ event.Call (Clear (codes "http://a.test") (codes "http://a.test") (codes "http://b.test/") 0) Done
+      ∷ event.Call (Clear (codes "http://a.test") (codes "null") (codes "http://c.test/y") 0) Done
+      ∷ event.Call (Learn name_lesson 0) Done
+      ∷ event.Call (Note (codes "b.test") (sts 10 false) 0) Done
+      ∷ event.Call (Note (codes "api.test") (sts 31536000 true) 0) Done
+      ∷ event.Call (Match (codes "b.test") 0) Yes
+      ∷ [];
+  ending = Finished;
+  clock = 4;
+}
+
+calls_printed : transcript_text calls
+    ≡ codes "document 3 http://a.test\ncall match b.test at 0: no\n"
+    ++ codes "call covers http://a.test http://a.test other PUT () http://b.test/x at 0: no\n"
+    ++ codes "call learn http://a.test http://a.test other 5 PUT () http://b.test/x at 0: done\n"
+    ++ codes "call covers http://a.test http://a.test other PUT () http://b.test/x at 4: yes\n"
+    ++ codes "call covers http://a.test http://a.test other () authorization http://b.test/ at 0: no\n"
+    ++ codes "call clear http://a.test http://a.test http://b.test/ at 0: done\n"
+    ++ codes "call clear http://a.test null http://c.test/y at 0: done\n"
+    ++ codes "call learn http://a.test http://a.test include 600 () *,Authorization http://b.test/?\\ at 0: done\n"
+    ++ codes "call note b.test 10 exact at 0: done\ncall note api.test 31536000 sub at 0: done\n"
+    ++ codes "call match b.test at 0: yes\nend finished\n"
+unfolding digits
+calls_printed = refl
+
+-- a history of two entries
+abbrev history : List Entry
+history =
+    record { turn = 0; document = 0; op = Match (codes "a.test") 0; reply = Yes }
+    ∷ record { turn = 12; document = 3; op = Learn method_lesson 0; reply = Done } ∷ []
+
+history_printed : play_text [] history
+    ≡ codes "fetchplay 1\nhistory\n0 0 match a.test at 0: yes\n"
+    ++ codes "12 3 learn http://a.test http://a.test other 5 PUT () http://b.test/x at 0: done\ndone\n"
+unfolding digits
+history_printed = refl
+
 -- a play without documents
-no_documents : play_text [] ≡ codes "fetchplay 1\nhistory\ndone\n"
+no_documents : play_text [] [] ≡ codes "fetchplay 1\nhistory\ndone\n"
 no_documents = refl
 
 -- bytes at the edges of what stands for itself

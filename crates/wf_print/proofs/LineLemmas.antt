@@ -1,6 +1,6 @@
--- What loops over headers, events and transcripts come to.
+-- What loops over headers, events, transcripts and entries come to.
 use Rattle.std.proofs.Common.{◌<◌, ◌+◌, add-one, get_or, length, take, ◌≡◌, ℕ, List, [], ◌∷◌, ◌++◌, drop, zero, suc}
-use Rattle.std.proofs.Common.{ap, sym, ◌∙◌, codes, option_map, Some}
+use Rattle.std.proofs.Common.{◌==◌, true, ap, arith, refl, sym, ◌∙◌, codes, option_map, Some}
 use Rattle.std.specs.List.{flat_map, slice_get}
 use Rattle.std.proofs.Math.Seq.{take-suc}
 use Rattle.std.proofs.lemmas.List.{append-nil, take-append-drop}
@@ -36,3 +36,14 @@ flat_map-take f xs i x h is =
       flat_map-append f (take i xs) (get_or xs i x ∷ []),
       append-nil (f (get_or xs i x)),
     ) (ap (λ y. flat_map f (take i xs) ++ f y) (sym is))
+
+-- the text of the items at the front, and those of the others
+pub flat_map-cut : {X : Type 0} (f : X → List ℕ) (xs first others : List X) (text : List ℕ) → xs ≡ first ++ others
+    → text ≡ flat_map f first → flat_map f xs ≡ text ++ flat_map f others
+flat_map-cut f xs first others text cut is =
+    ap (λ l. flat_map f l) cut ∙ flat_map-append f first others ∙ ap (λ l. l ++ flat_map f others) (sym is)
+
+-- no items have no text
+pub flat_map-none : {X : Type 0} (f : X → List ℕ) (xs : List X) → true ≡ (length xs == 0) → flat_map f xs ≡ []
+flat_map-none f [] e = refl
+flat_map-none f (x ∷ xs) e = absurd (grind (arith, e))

@@ -1,12 +1,31 @@
 -- What several texts that are written one after the other come to.
-use Rattle.std.proofs.Common.{◌≡◌, ℕ, List, ◌++◌, Option, Result, Ok, Err, arith, length}
+use Rattle.std.proofs.Common.{◌≡◌, ℕ, List, [], ◌++◌, Option, Some, None, Result, Ok, Err, arith, length, ap, sym}
 use Rattle.std.proofs.Math.Seq.{take-length}
+use Rattle.std.proofs.lemmas.List.{append-nil}
 use Rattle.std.specs.Result.{IsErrAnd}
 use Rattle.wf_link.specs.Counts.{Rose}
+use Rattle.wf_link.specs.Sinks.{Took}
 use Rattle.wf_link.proofs.SinkLemmas.{part-before, ok-after, err-after}
 use Rattle.wf_print.specs.declared.failure.Failure.{Failure}
 use Rattle.wf_print.specs.declared.failure.Failure.TheVariants.{OutOfMemory}
 use Rattle.wf_print.specs.Private.Writes.{Writes}
+
+-- the empty text was taken
+pub took-nothing : (taken : Option (List ℕ)) → Took taken taken []
+took-nothing None = tt
+took-nothing (Some text) = ap (λ (l : List ℕ). let r : Option (List ℕ) = Some l in r) (sym (append-nil text))
+
+-- it is written without a call
+pub writes-nothing : {K A : Type 0} {taken : K → Option (List ℕ)} {faults zeros : K
+    → ℕ} {sink : K} {a : A} → Writes taken faults zeros sink sink [] (Ok a)
+writes-nothing {taken = taken} {sink = sink} = record {
+  ok = took-nothing (taken sink);
+  err = tt;
+  faults_stay = omega arith;
+  zeros_stay = omega arith;
+  fault = λ is. absurd cc;
+  nothing = λ is. absurd cc;
+}
 
 -- a text behind one that was written whole
 pub writes-append : {K A B : Type 0} {taken : K → Option (List ℕ)} {faults zeros : K
@@ -67,3 +86,9 @@ writes-refused {taken = taken} {old = old} {new = new} {x = x} y (Err failure) e
   fault = λ is. absurd cc;
   nothing = λ is. absurd cc;
 }
+
+-- whatever comes of writing the rest from here comes of writing the whole text
+abbrev pub Onward : {K : Type 0} → (K → Option (List ℕ)) → (K → ℕ) → (K → ℕ) → K → K → List ℕ → List ℕ → Type 0
+Onward {K = K} taken faults zeros old now rest whole =
+    (new : K) (result : Result (Unit {0}) Failure) → Writes taken faults zeros now new rest result
+    → Writes taken faults zeros old new whole result

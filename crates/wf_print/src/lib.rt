@@ -1,4 +1,4 @@
-// What a play shows: the events of each document, and their printed text.
+// What a play shows: the events of each document and the history of the shared book, and their printed text.
 #![tactic(auto)]
 
 mod calls;
