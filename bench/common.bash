@@ -24,12 +24,16 @@ build_bench() {
     (cd "$root/crates/$name" && rt run -- "$@" >/dev/null 2>&1)
 }
 
+# The origin of a scenario, and its known hosts between commas.
+origin=https://a.test
+hosts=
+
 # A scenario whose one server answers by this rule, in pieces of so many bytes, and whose script has so many
 # fetches.
 scenario() {
     local rule=$1 piece=$2 count=$3
-    printf '{"format":1,"servers":[{"origin":"https://a.test","rules":[%s]}],"piece":%d,' "$rule" "$piece"
-    printf '"documents":[{"url":"https://a.test/","script":['
+    printf '{"format":1,"hsts":[%s],"servers":[{"origin":"%s","rules":[%s]}],' "$hosts" "$origin" "$rule"
+    printf '"piece":%d,"documents":[{"url":"%s/","script":[' "$piece" "$origin"
     for ((i = 0; i < count; i++)); do
         ((i == 0)) || printf ','
         printf '{"fetch":{"url":"/","mode":"same-origin","referrer":"none"}}'

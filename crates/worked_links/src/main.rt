@@ -1,0 +1,43 @@
+// Plays documents over links in memory that fail at some calls. Rows that stand together, up to an empty line,
+// are played one after another over one book; of each it prints how often its link was asked and failed, and
+// then the text of all of them, with the book's history. A line that begins with `#` is a title, which is
+// printed as it stands. A row is, with a tab between: a scenario of one document, what fails of its link, and
+// the link's answers; `link.rt` says how they are written.
+#![tactic(auto)]
+
+mod link;
+mod play;
+
+use crate::play::play;
+use std::io;
+use std::process::ExitCode;
+use std::sync::Wait;
+use std::thread::Threads;
+use wf_rows::Failed;
+
+// The titles, and the rows that stand together.
+fn run<R: Threads + Wait + Sync + Print + AllocGlobal>(rt: &R, text: &str) -> Result<(), Failed> {
+    let mut rows = Vec::new(rt.alloc());
+    for line in text.lines() {
+        if line.starts_with('#') {
+            println!(rt; "{line}")?;
+        } else if line.is_empty() {
+            play(rt, rows.as_slice())?;
+            println!(rt; "")?;
+            rows.clear();
+        } else {
+            rows.push(line)?;
+        }
+    }
+    play(rt, rows.as_slice())
+}
+
+fn main(rt: HostRuntime) -> ExitCode {
+    let Ok(text) = io::read_to_string(rt.alloc(), rt.stdin()) else {
+        return ExitCode::FAILURE;
+    };
+    match run(&rt, text.as_str()) {
+        Ok(()) => ExitCode::SUCCESS,
+        Err(_) => ExitCode::FAILURE,
+    }
+}
