@@ -1,7 +1,8 @@
-// The link of a row. What fails of it is written in words with a space between:
+// The link of a row, and how it is told. What fails is written in words with a space between:
 //
 //     asks=N,N          the Nth ask fails
 //     receives=N,N      the Nth receive fails
+//     limit=N           the fetch of a request reads so many bytes of a body at most, and not 262,144
 //
 // An answer is written as its pieces with a bar between, of which each comes by a receive of its own.
 // `wf_rows`'s `row.rt` says how a text is written.
@@ -45,4 +46,15 @@ pub(crate) fn link_of(alloc: Global, row: &Row) -> Result<MemoryLink, Failed> {
     let asks = failing(alloc, row.text(0), b"asks")?;
     let receives = failing(alloc, row.text(0), b"receives")?;
     Ok(MemoryLink::new(alloc, answers, ROOM, asks, receives)?)
+}
+
+// How many bytes of a body are read at most.
+pub(crate) fn limit_of(row: &Row) -> Result<u32, Failed> {
+    match value_of(row.text(0), b"limit") {
+        [] => Ok(262_144),
+        digits => match parse_digits(digits, 262_144) {
+            Some(limit) => Ok(limit as u32),
+            None => Err(Failed),
+        },
+    }
 }

@@ -6,7 +6,7 @@ use std::alloc::Global;
 use std::sync::Wait;
 use std::thread::Threads;
 use wf_book::{Book, History, Share, SoloBook};
-use wf_link::MemorySink;
+use wf_link::{MemoryLink, MemorySink};
 use wf_player::drive;
 use wf_print::{Ending, Transcript, Transcripts, has_text, write_play};
 use wf_rows::{Failed, Row};
@@ -29,7 +29,13 @@ fn scenario_of(alloc: Global, line: &str) -> Result<Scenario, Failed>
     }
 }
 
-// Plays a row's document over its link, and prints what the link was asked and how often it failed.
+// Prints how often a link was asked, and how often it failed.
+pub(crate) fn tell<R: Print>(rt: &R, alloc: Global, link: &MemoryLink) -> Result<(), Failed> {
+    println!(rt; "asked {}, failed {}", link.asks(alloc)?.len(), link.faults())?;
+    Ok(())
+}
+
+// Plays a row's document over its link.
 fn play_row<R: Threads + Wait + Sync + Print, S: Share>(
     rt: &R,
     alloc: Global,
@@ -52,7 +58,7 @@ fn play_row<R: Threads + Wait + Sync + Print, S: Share>(
     if transcript.ending == Ending::Memory {
         return Err(Failed);
     }
-    println!(rt; "asked {}, failed {}", link.asks(alloc)?.len(), link.faults())?;
+    tell(rt, alloc, &link)?;
     Ok(transcript)
 }
 
@@ -75,7 +81,7 @@ fn play_each<R: Threads + Wait + Sync + Print, S: Share>(
 }
 
 // Prints the text of the plays, with the history.
-fn show<R: Print>(
+pub(crate) fn show<R: Print>(
     rt: &R,
     alloc: Global,
     transcripts: &Transcripts,
@@ -95,11 +101,14 @@ fn show<R: Print>(
     Ok(())
 }
 
-// Plays rows that stand together over one book, which nobody has written into yet.
+// Plays rows that stand together, if there are any, over one book that nobody has written into yet.
 pub(crate) fn play<R: Threads + Wait + Sync + Print + AllocGlobal>(
     rt: &R,
     rows: &[&str],
 ) -> Result<(), Failed> {
+    if rows.is_empty() {
+        return Ok(());
+    }
     if rows.len() > MOST_ROWS {
         return Err(Failed);
     }
