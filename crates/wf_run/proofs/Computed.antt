@@ -1,11 +1,10 @@
--- The definitions computed on worked examples: a document that fetches its own root and is answered,
--- requests that are refused, and the limits of a run.
-use Rattle.std.proofs.Common.{◌≡◌, refl, true, false, List, [], ◌∷◌, codes, Some, None, Ok, Err}
+-- The definitions computed on worked examples: a document that fetches its own root and is answered, a known host, a
+-- wait, and the limits of a run.
+use Rattle.std.proofs.Common.{◌≡◌, refl, true, false, List, [], ◌∷◌, codes, Some, None, Err}
 use Rattle.url.proofs.OnLiterals.{url_on_literals}
 use Rattle.url.specs.declared.host.Host.TheVariants.{Domain}
 use Rattle.url.specs.Parts.{Parts}
-use Rattle.wf_origin.specs.Origins.{tuple_origin}
-use Rattle.wf_types.specs.declared.error.NetError.TheVariants.{Scheme, SameOriginMode, LinkFault, BadHead, HeadTooBig}
+use Rattle.wf_types.specs.declared.error.NetError.TheVariants.{SameOriginMode}
 use Rattle.wf_types.specs.declared.fault.TypeFault.TheVariants.{ForbiddenMethod, NavigateMode}
 use Rattle.wf_types.specs.declared.hop.Hop.{Hop}
 use Rattle.wf_types.specs.declared.init.Init.{Init}
@@ -13,11 +12,7 @@ use Rattle.wf_types.specs.declared.mode.Credentials.TheVariants as credentials
 use Rattle.wf_types.specs.declared.mode.Mode.TheVariants as mode
 use Rattle.wf_types.specs.declared.mode.RedirectMode.TheVariants as redirect
 use Rattle.wf_types.specs.declared.mode.ReferrerPolicy.TheVariants as policy
-use Rattle.wf_types.specs.declared.mode.Tainting.TheVariants as tainting
-use Rattle.wf_types.specs.declared.policy.Destination.TheVariants as destination
-use Rattle.wf_types.specs.declared.request.Referrer.TheVariants.{NoReferrer}
-use Rattle.wf_types.specs.declared.request.Request.{Request}
-use Rattle.wf_types.specs.declared.response.BodyEnd.TheVariants.{Whole, Null}
+use Rattle.wf_types.specs.declared.response.BodyEnd.TheVariants.{Whole}
 use Rattle.wf_types.specs.declared.response.Outcome.{Outcome}
 use Rattle.wf_types.specs.declared.response.Outcome.TheVariants.{Answer, Error}
 use Rattle.wf_types.specs.declared.response.ResponseKind.TheVariants.{Basic}
@@ -27,12 +22,12 @@ use Rattle.wf_script.specs.declared.types.Command.TheVariants as command
 use Rattle.wf_script.specs.declared.types.Document.{Document}
 use Rattle.wf_print.specs.declared.events.Ending.TheVariants.{Finished, Fetches, Commands}
 use Rattle.wf_print.specs.declared.events.Event.TheVariants as event
-use Rattle.wf_fetch.specs.declared.act.Input.{Input}
-use Rattle.wf_fetch.specs.declared.act.Input.TheVariants.{Sent, HeadIs, HeadBad, HeadLong, BodyIs, Fault}
-use Rattle.wf_fetch.specs.Fetch.{Context, lent, main_fetch}
-use Rattle.wf_fetch.specs.Play.{run_play}
-use Rattle.wf_fetch.specs.Process.{ended, run}
-use Rattle.wf_fetch.specs.Runs.{document_client, document_run, limit_before}
+use Rattle.wf_act.specs.declared.act.Input.{Input}
+use Rattle.wf_act.specs.declared.act.Input.TheVariants.{Replied, Sent, HeadIs, BodyIs}
+use Rattle.wf_book.specs.declared.op.Op.TheVariants.{Match}
+use Rattle.wf_book.specs.declared.op.Reply.TheVariants.{Yes, No}
+use Rattle.wf_run.specs.Play.{run_play}
+use Rattle.wf_run.specs.Runs.{document_client, document_run, limit_before}
 
 -- https://a.test/
 abbrev pub root : Parts
@@ -99,37 +94,10 @@ answer = Answer (record {
 })
 
 -- the whole run
-pub run_of_example : run_play (document_run [] document) tape
+pub run_of_example : run_play (document_run [] 0 document) tape
     ≡ record { events = event.Fetch 0 ∷ event.Sent hop ∷ event.Result answer ∷ []; ending = Some (Finished, 0) }
 unfolding url_on_literals
 run_of_example = refl
-
--- the request of that fetch
-abbrev pub request : Request
-request = record {
-  method = codes "GET";
-  urls = root ∷ [];
-  headers = header (codes "Accept") (codes "*/*") ∷ [];
-  body = None;
-  origin = tuple_origin root;
-  mode = mode.SameOrigin;
-  credentials = credentials.SameOrigin;
-  redirect = redirect.Follow;
-  referrer = NoReferrer;
-  policy = policy.Empty;
-  integrity = [];
-  nonce = [];
-  parser = false;
-  unsafe_request = true;
-  use_preflight = false;
-  destination = destination.Fetch;
-  tainting = tainting.Basic;
-  redirects = 0;
-}
-
-pub request_of_example : new_request (document_client document) init ≡ Ok request
-unfolding url_on_literals
-request_of_example = refl
 
 -- a script that asks for a forbidden method, and one that navigates
 pub faults_of_examples : (new_request (document_client document) (record init { method = codes "TRACE" })
@@ -138,46 +106,43 @@ pub faults_of_examples : (new_request (document_client document) (record init { 
 unfolding url_on_literals
 faults_of_examples = (refl, refl)
 
--- the context of the document
-abbrev pub context : Context
-context = lent (document_client document) []
+-- the same document over http, which waits ten seconds between two fetches
+abbrev pub plain : Document
+plain = record {
+  url = record root { scheme = codes "http" };
+  top = record root { scheme = codes "http" };
+  script = command.Fetch init ∷ command.Wait 10 ∷ command.Fetch init ∷ [];
+}
 
--- a request at another URL
-abbrev pub at_url : Parts → Request
-at_url url = record request { urls = url ∷ [] }
-
--- another scheme, host or port is another origin, and then nothing is sent; ftp is no scheme to fetch
-pub refused : (main_fetch context (at_url (record root { scheme = codes "http" })) ≡ ended (Error SameOriginMode))
-    × (main_fetch context (at_url (record root { host = Some (Domain (codes "b.test")) }))
-    ≡ ended (Error SameOriginMode))
-    × (main_fetch context (at_url (record root { port = Some 444 })) ≡ ended (Error SameOriginMode))
-    × (main_fetch context (at_url (record root { scheme = codes "ftp" })) ≡ ended (Error Scheme))
+-- its host is known and then not: first the request is one to another origin, and then it is sent
+pub known_and_then_not : run_play (document_run [] 0 plain) (Replied Yes ∷ Replied No ∷ tape)
+    ≡ record {
+      events =
+          event.Fetch 0
+          ∷ event.Call (Match (codes "a.test") 0) Yes
+          ∷ event.Result (Error SameOriginMode)
+          ∷ event.Fetch 1
+          ∷ event.Call (Match (codes "a.test") 10) No
+          ∷ event.Sent (record hop { origin = codes "http://a.test" })
+          ∷ event.Result (Answer (record {
+            kind = Basic;
+            status = 200;
+            url = Some (codes "http://a.test/");
+            headers = [];
+            body = Whole (codes "hi");
+          }))
+          ∷ [];
+      ending = Some (Finished, 10);
+    }
 unfolding url_on_literals
-refused = (refl, refl, refl, refl)
+known_and_then_not = refl
 
--- where the link failed there is no response; a head of no kind and too long a one are told apart
-pub failed : ((run (main_fetch context request) (Sent ∷ Fault ∷ [])).outcome ≡ Some (Error LinkFault))
-    × ((run (main_fetch context request) (Sent ∷ HeadBad ∷ [])).outcome ≡ Some (Error BadHead))
-    × ((run (main_fetch context request) (Sent ∷ HeadLong ∷ [])).outcome ≡ Some (Error HeadTooBig))
-unfolding url_on_literals
-failed = (refl, refl, refl)
-
--- the response to HEAD has no body, and none is read
-pub head_is_read_alone : (run (main_fetch context (record request { method = codes "HEAD" })) tape).outcome
-    ≡ Some (Answer (record {
-      kind = Basic;
-      status = 200;
-      url = Some (codes "https://a.test/");
-      headers = [];
-      body =
-          Null;
-    }))
-unfolding url_on_literals
-head_is_read_alone = refl
-
--- the limits before a fetch, that of commands first
-pub limits : (limit_before (command.Fetch init) (record { commands = 16384; fetches = 1024; shown = [] })
+-- the limits before a fetch, that of commands first; a wait has that of commands alone
+pub limits : (limit_before (command.Fetch init) (record { clock = 0; commands = 16384; fetches = 1024; shown = [] })
     ≡ Some Commands)
-    × (limit_before (command.Fetch init) (record { commands = 1024; fetches = 1024; shown = [] }) ≡ Some Fetches)
-    × (limit_before (command.Fetch init) (record { commands = 1023; fetches = 1023; shown = [] }) ≡ None)
-limits = (refl, refl, refl)
+    × (limit_before (command.Fetch init) (record { clock = 0; commands = 1024; fetches = 1024; shown = [] })
+    ≡ Some Fetches)
+    × (limit_before (command.Fetch init) (record { clock = 0; commands = 1023; fetches = 1023; shown = [] }) ≡ None)
+    × (limit_before (command.Wait 1) (record { clock = 0; commands = 1024; fetches = 1024; shown = [] }) ≡ None)
+    × (limit_before (command.Wait 1) (record { clock = 0; commands = 16384; fetches = 0; shown = [] }) ≡ Some Commands)
+limits = (refl, refl, refl, refl, refl)
