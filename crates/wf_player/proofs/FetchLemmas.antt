@@ -128,6 +128,7 @@ module _ {State : Type 0} (by : Answering State) (limit document : ℕ) where
         pub fetching-next : (at : Step) → Does context at (rest context fetching input)
             → IsFetching (count + 1) (moment_of mid (now.events ++ events_of first input)) at
         unfolding acts-here
+
         unfolding asks-here
         fetching-next at does = record {
           process = rest context fetching input;

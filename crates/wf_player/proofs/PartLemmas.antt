@@ -45,7 +45,7 @@ module _ {State : Type 0} (by : Answering State) (limit document : ℕ) where
   -- an event, and what the world comes to with it
   pub played-event : (event : Event) (progress : Progress) (a b : World State) → Settles event a b
       → PlayedTo by limit document (λ (next : Next). showing event next progress) (standing_of a progress)
-          (λ next. next (after_events (event ∷ []) progress)) (standing_of b (after_events (event ∷ []) progress))
+      (λ next. next (after_events (event ∷ []) progress)) (standing_of b (after_events (event ∷ []) progress))
   played-event event progress a b settled =
       record { tape = []; made = event ∷ []; added = refl; trace = λ next. shown event settled stop }
 
@@ -54,8 +54,8 @@ module _ {State : Type 0} (by : Answering State) (limit document : ℕ) where
       (events : List Event)
       → FetchedTo by limit document whole (moment_of a progress.shown) outcome (moment_of b events)
       → PlayedTo by limit document (λ (next : Outcome → Next). embed whole next progress) (standing_of a progress)
-          (λ next. next outcome (record progress { shown = events }))
-          (standing_of b (record progress { shown = events }))
+      (λ next. next outcome (record progress { shown = events }))
+      (standing_of b (record progress { shown = events }))
   played-fetch whole progress a b outcome events x = record {
     tape = x.tape;
     made = x.made;
@@ -112,7 +112,7 @@ module _ {State : Type 0} (by : Answering State) (limit document : ℕ) where
   pub cut-fetch : (whole : Process) (progress : Progress) (a b : World State) (events : List Event)
       → FetchCut by limit document whole (moment_of a progress.shown) (moment_of b events)
       → CutShort by limit document (λ (next : Outcome → Next). embed whole next progress) (standing_of a progress)
-          (standing_of b (record progress { shown = events }))
+      (standing_of b (record progress { shown = events }))
   cut-fetch whole progress a b events x = record {
     tape = x.tape;
     made = x.made;

@@ -50,9 +50,9 @@ module _ {State : Type 0} (by : Answering State) (limit document : ℕ) (lent : 
   -- its outcome
   request-came : (request : Request) (a b : World State) (old : Progress) (events : List Event) (outcome : Outcome)
       → FetchedTo by limit document (fetch (at_time lent old.clock) request) (moment_of a old.shown) outcome
-          (moment_of b events)
+      (moment_of b events)
       → PlayedTo by limit document (λ (next : Next). fetched lent (Ok request) next old) (standing_of a old)
-          (λ next. onward next outcome (record old { shown = events })) (standing_of b (record old { shown = events }))
+      (λ next. onward next outcome (record old { shown = events })) (standing_of b (record old { shown = events }))
   unfolding onward
   request-came request a b old events outcome x = played-inside by limit document
       (λ (next : Outcome → Next). embed (fetch (at_time lent old.clock) request) next old)
@@ -63,7 +63,7 @@ module _ {State : Type 0} (by : Answering State) (limit document : ℕ) (lent : 
   pub request-whole : (request : Request) (a b c : World State) (old new : Progress) (events : List Event)
       (outcome : Outcome)
       → FetchedTo by limit document (fetch (at_time lent old.clock) request) (moment_of a old.shown) outcome
-          (moment_of b events)
+      (moment_of b events)
       → IsHungUp b c → new ≡ after_events (event.Result outcome ∷ []) (record old { shown = events })
       → Played by limit document (fetched lent (Ok request)) (standing_of a old) (Ok tt) (standing_of c new)
   unfolding onward
@@ -79,9 +79,9 @@ module _ {State : Type 0} (by : Answering State) (limit document : ℕ) (lent : 
   -- memory was refused in the fetch
   pub request-cut : (request : Request) (a b : World State) (old : Progress) (events : List Event)
       → FetchCut by limit document (fetch (at_time lent old.clock) request) (moment_of a old.shown)
-          (moment_of b events)
+      (moment_of b events)
       → CutShort by limit document (λ (next : Next). fetched lent (Ok request) next old) (standing_of a old)
-          (standing_of b (record old { shown = events }))
+      (standing_of b (record old { shown = events }))
   unfolding onward
   request-cut request a b old events x = cut-inside by limit document
       (λ (next : Outcome → Next). embed (fetch (at_time lent old.clock) request) next old) onward (standing_of a old)
@@ -92,10 +92,10 @@ module _ {State : Type 0} (by : Answering State) (limit document : ℕ) (lent : 
   pub request-unshown : (request : Request) (a b : World State) (old new : Progress) (events : List Event)
       (outcome : Outcome)
       → FetchedTo by limit document (fetch (at_time lent old.clock) request) (moment_of a old.shown) outcome
-          (moment_of b events)
+      (moment_of b events)
       → new ≡ record old { shown = events }
       → CutShort by limit document (λ (next : Next). fetched lent (Ok request) next old) (standing_of a old)
-          (standing_of b new)
+      (standing_of b new)
   request-unshown request a b old new events outcome x kept =
       rw kept (played-cut by limit document (λ (next : Next). fetched lent (Ok request) next old)
       (λ next. onward next outcome (record old { shown = events })) (standing_of a old)
@@ -112,9 +112,9 @@ module _ {State : Type 0} (by : Answering State) (limit document : ℕ) (lent : 
 
   command-begun : (init : Init) (a : World State) (old : Progress)
       → PlayedTo by limit document (λ (next : Next). command_started lent (command.Fetch init) next old)
-          (standing_of a old)
-          (λ next. fetched lent (new_request lent.client (normalized_init init)) next (begun old))
-          (standing_of a (begun old))
+      (standing_of a old)
+      (λ next. fetched lent (new_request lent.client (normalized_init init)) next (begun old))
+      (standing_of a (begun old))
   unfolding begun
   command-begun init a old = record {
     tape = [];
@@ -126,7 +126,7 @@ module _ {State : Type 0} (by : Answering State) (limit document : ℕ) (lent : 
 
   pub command-unbegun : (one : Command) (a : World State) (old new : Progress) → new ≡ old
       → CutShort by limit document (λ (next : Next). command_started lent one next old) (standing_of a old)
-          (standing_of a new)
+      (standing_of a new)
   command-unbegun one a old new kept =
       rw kept (cut-here by limit document (λ (next : Next). command_started lent one next old) (standing_of a old))
 
@@ -134,7 +134,7 @@ module _ {State : Type 0} (by : Answering State) (limit document : ℕ) (lent : 
   pub command-unmade : (init : Init) (a : World State) (old new : Progress)
       → new ≡ after_events (event.Fetch old.fetches ∷ []) (fetch_started (started old))
       → CutShort by limit document (λ (next : Next). command_started lent (command.Fetch init) next old)
-          (standing_of a old) (standing_of a new)
+      (standing_of a old) (standing_of a new)
   unfolding begun
   command-unmade init a old new shown =
       rw shown (played-cut by limit document (λ (next : Next). command_started lent (command.Fetch init) next old)
@@ -150,7 +150,7 @@ module _ {State : Type 0} (by : Answering State) (limit document : ℕ) (lent : 
       → made ≡ new_request lent.client (normalized_init init)
       → Played by limit document (fetched lent made) (standing_of a mid) result (standing_of b new)
       → Played by limit document (command_started lent (command.Fetch init)) (standing_of a old) result
-          (standing_of b new)
+      (standing_of b new)
   unfolding begun
   command-whole init made a b old mid new result shown is x =
       led-then by limit document (λ (next : Next). command_started lent (command.Fetch init) next old)
@@ -166,7 +166,7 @@ module _ {State : Type 0} (by : Answering State) (limit document : ℕ) (lent : 
   -- a wait
   pub command-waited : (seconds : ℕ) (a : World State) (old new : Progress) → new ≡ waited seconds (started old)
       → Played by limit document (command_started lent (command.Wait seconds)) (standing_of a old) (Ok tt)
-          (standing_of a new)
+      (standing_of a new)
   command-waited seconds a old new is =
       rw is (record {
         tape = [];
@@ -192,8 +192,8 @@ module _ {State : Type 0} (by : Answering State) (limit document : ℕ) (lent : 
   at-command : (script : List Command) (index : ℕ) (one : Command) (old now : Standing State)
       → index < length script → get_or script index one ≡ one → IsAt script index old now
       → PlayedTo by limit document (λ (next : Next). script_run lent script next old.progress) old
-          (λ next. unless_limit (limit_before one now.progress)
-          (command_started lent one (script_run lent (drop (index + 1) script) next)) now.progress) now
+      (λ next. unless_limit (limit_before one now.progress)
+      (command_started lent one (script_run lent (drop (index + 1) script) next)) now.progress) now
   at-command script index one old now within is at =
       subst (λ (l : List Command). PlayedTo by limit document
       (λ (next : Next). script_run lent script next old.progress) old

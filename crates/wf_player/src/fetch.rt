@@ -68,7 +68,13 @@ pub(crate) fn run_fetch<R: Threads + Wait + Sync, S: Share, L: Link>(
                 let input = answer(lent, pass, link, wire, &act)?;
                 acts += 1;
                 shown.add_act(act, &input)?;
-                step = fetching.resume(lent.alloc, lent.client, lent.policies, lent.cookies, input)?;
+                step = fetching.resume(
+                    lent.alloc,
+                    lent.client,
+                    lent.policies,
+                    lent.cookies,
+                    input,
+                )?;
             }
         }
     }

@@ -2,12 +2,12 @@
 #![tactic(auto)]
 
 mod act;
-mod drive;
+mod document;
 mod fetch;
 mod lent;
 mod running;
 mod script;
 mod shown;
 
-pub use drive::drive;
+pub use document::drive;
 pub use fetch::{FetchRun, drive_fetch};

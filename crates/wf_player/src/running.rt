@@ -31,8 +31,12 @@ impl Model for Running {
 
     ghost Value = { Progress };
 
-    ghost view = { λ running. record { clock = running.clock; commands = running.commands; fetches = running.fetches;
-        shown = running.shown } };
+    ghost view = { λ running. record {
+      clock = running.clock;
+      commands = running.commands;
+      fetches = running.fetches;
+      shown = running.shown;
+    } };
 
     ghost invariant = { λ running. (running.commands ≤ 16384) × (running.fetches ≤ 1024)
         × (running.clock ≤ 2 ^ 40 + running.commands * (2 ^ 32 - 1)) };

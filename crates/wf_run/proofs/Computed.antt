@@ -1,6 +1,6 @@
 -- The definitions computed on worked examples: a document that fetches its own root and is answered, a known host, a
 -- wait, and the limits of a run.
-use Rattle.std.proofs.Common.{◌≡◌, refl, true, false, List, [], ◌∷◌, codes, Some, None, Err}
+use Rattle.std.proofs.Common.{◌≡◌, refl, false, List, [], ◌∷◌, codes, Some, None, Err}
 use Rattle.url.proofs.OnLiterals.{url_on_literals}
 use Rattle.url.specs.declared.host.Host.TheVariants.{Domain}
 use Rattle.url.specs.Parts.{Parts}

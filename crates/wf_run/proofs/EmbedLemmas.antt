@@ -1,14 +1,14 @@
 -- A fetch inside a run.
-use Rattle.std.proofs.Common.{◌≡◌, List, [], ◌∷◌, ◌++◌, IsTrue, refl, ap, sym, subst, ◌∙◌, append_assoc}
+use Rattle.std.proofs.Common.{◌≡◌, List, [], ◌∷◌, ◌++◌, ap, sym, subst, append_assoc}
 use Rattle.std.proofs.lemmas.List.{append-nil}
 use Rattle.wf_act.specs.declared.act.Act.{Act}
 use Rattle.wf_act.specs.declared.act.Input.{Input}
-use Rattle.wf_act.specs.Process.{Process, act, ended}
+use Rattle.wf_act.specs.Process.{Process, act}
 use Rattle.wf_act.specs.Traces as fetches
 use Rattle.wf_act.specs.Traces.{Trace, with_events}
 use Rattle.wf_types.specs.declared.response.Outcome.{Outcome}
 use Rattle.wf_print.specs.declared.events.Event.{Event}
-use Rattle.wf_run.specs.Play.{Play, events_of}
+use Rattle.wf_run.specs.Play.{events_of}
 use Rattle.wf_run.specs.Runs.{Next, Progress, after_events, embed}
 use Rattle.wf_run.specs.Traces.{PlayTrace, stop, stepped}
 
@@ -35,9 +35,9 @@ module _ {World : Type 0} (answers : World → Act → Input → World → Type 
   embedded {q = q} {a = a} {b = b} (fetches.stepped {mid = mid} {tape = tape} {made = made} {events = events} request
       first after input is fit x) next progress =
       subst (λ (l : List Event). PlayTrace answers settles (embed (act request first after) next progress) a
-          (input ∷ tape) (l ++ events) (embed q next (after_events (l ++ events) progress)) b) (sym is.1)
+      (input ∷ tape) (l ++ events) (embed q next (after_events (l ++ events) progress)) b) (sym is.1)
       (subst (λ (m : Progress). PlayTrace answers settles (embed (act request first after) next progress) a
-          (input ∷ tape) (events_of first input ++ events) (embed q next m) b)
-          (after-after (events_of first input) events progress)
+      (input ∷ tape) (events_of first input ++ events) (embed q next m) b)
+      (after-after (events_of first input) events progress)
       (stepped request first (λ i. embed (after i) next (after_events (events_of first i) progress)) input is.0 fit
-          (embedded x next (after_events (events_of first input) progress))))
+      (embedded x next (after_events (events_of first input) progress))))

@@ -1,12 +1,9 @@
 -- Traces of runs, one after another, and what they come to.
-use Rattle.std.proofs.Common.{◌≡◌, List, [], ◌∷◌, ◌++◌, IsTrue, refl, ap, sym, subst, ◌∙◌, append_assoc}
-use Rattle.std.proofs.lemmas.List.{append-nil}
+use Rattle.std.proofs.Common.{◌≡◌, List, [], ◌∷◌, ◌++◌, refl, ap, append_assoc}
 use Rattle.wf_act.specs.declared.act.Act.{Act}
 use Rattle.wf_act.specs.declared.act.Input.{Input}
-use Rattle.wf_act.specs.Process.{fits}
-use Rattle.wf_types.specs.declared.request.Request.{Request}
 use Rattle.wf_print.specs.declared.events.Event.{Event}
-use Rattle.wf_run.specs.Play.{Play, PlayRun, emit, step, events_of, run_play, shows}
+use Rattle.wf_run.specs.Play.{Play, PlayRun, emit, events_of, run_play, shows}
 use Rattle.wf_run.specs.Traces.{PlayTrace, stop, shown, stepped}
 
 -- the events of two parts, and then the rest

@@ -112,7 +112,7 @@ normalized_init init = record init { headers = map normalized_pair init.headers 
 
 -- the fetch of a request at the run's time, or the fault where none was made
 abbrev pub fetched : Setting → Result Request TypeFault → Next → Next
-fetched lent (Err fault) next = showing (TypeError fault) next
+fetched lent (Err fault) next progress = showing (TypeError fault) next progress
 fetched lent (Ok request) next progress =
     embed (fetch (at_time lent progress.clock) request) (λ outcome. showing (ResultIs outcome) next) progress
 

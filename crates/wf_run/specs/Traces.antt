@@ -5,7 +5,7 @@ use Rattle.wf_act.specs.declared.act.Input.{Input}
 use Rattle.wf_act.specs.Process.{fits}
 use Rattle.wf_types.specs.declared.request.Request.{Request}
 use Rattle.wf_print.specs.declared.events.Event.{Event}
-use Rattle.wf_run.specs.Play.{Play, over, emit, step, events_of}
+use Rattle.wf_run.specs.Play.{Play, emit, step, events_of}
 
 -- By the answers of a world, and by what the world comes to with each event that the run itself shows: with exactly
 -- these items of a tape the first play shows these events, and goes on as the second in the world that is left.
@@ -19,4 +19,4 @@ pub data PlayTrace {World : Type 0} (answers : World → Act → Input → World
       → (request : Request) (first : Act) (after : Input → Play) (input : Input) → answers world first input mid
       → IsTrue (fits first input) → PlayTrace answers settles (after input) mid tape events q last
       → PlayTrace answers settles (step request first after) world (input ∷ tape) (events_of first input ++ events)
-          q last
+      q last

@@ -105,7 +105,17 @@ pub fn drive<R: Threads + Wait + Sync, S: Share, L: Link>(
     let mut running = Running::new(alloc, base);
     let one = scenario.documents.at(document as usize);
     let (limit, cookies) = (scenario.body_limit, &scenario.cookies);
-    let made = run_document(rt, alloc, limit, cookies, one, share, pass, link, &mut running);
+    let made = run_document(
+        rt,
+        alloc,
+        limit,
+        cookies,
+        one,
+        share,
+        pass,
+        link,
+        &mut running,
+    );
     let (ending, key) = match made {
         Ok(made) => made,
         Err(OutOfMemory) => (Ending::Memory, Bytes::new(alloc)),
