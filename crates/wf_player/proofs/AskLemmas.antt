@@ -1,7 +1,8 @@
 -- Calls of the book, and worlds in which memory was refused.
-use Rattle.std.proofs.Common.{◌≡◌, ℕ, ◌+◌, ◌-◌, ◌<◌, ◌≤◌, Bool, true, false, List, [], ◌∷◌, ◌++◌, Option, IsTrue}
-use Rattle.std.proofs.Common.{refl, ap, sym, subst, ◌∙◌, arith}
-use Rattle.std.specs.Prelude.{not, if◌then◌else◌}
+use Rattle.std.proofs.Common.{◌≡◌, ℕ, ◌-◌, ◌<◌, Bool, true, false, List, IsTrue}
+use Rattle.std.proofs.Common.{refl, ap, sym, ◌∙◌, arith}
+use Rattle.std.specs.Prelude.{not, if◌then◌else◌, Result, Ok, Err, OnErr, OnOk}
+use Rattle.wf_text.specs.declared.memory.OutOfMemory.{OutOfMemory}
 use Rattle.wf_act.specs.declared.act.Act.TheVariants.{Ask}
 use Rattle.wf_act.specs.declared.act.Input.TheVariants.{Replied}
 use Rattle.wf_act.specs.Process.{fits}
@@ -11,7 +12,7 @@ use Rattle.wf_book.specs.declared.op.Op.{Op}
 use Rattle.wf_book.specs.declared.op.Reply.{Reply}
 use Rattle.wf_book.specs.Entries.{Extends}
 use Rattle.wf_book.specs.Ops.{is_answer, is_question}
-use Rattle.wf_player.specs.Asking.{IsAsked, IsRefusedCall}
+use Rattle.wf_player.specs.Asking.{IsAsked}
 use Rattle.wf_player.specs.Worlds.{Outside, Refuses}
 
 -- a call of a copy of the op
@@ -44,3 +45,24 @@ fits_by_kind op copied answer same kind =
 -- nothing happened
 pub refuses-none : {State : Type 0} (a : Outside State) → Refuses a a
 refuses-none a = record { state_is = refl; later = omega arith; own_is = refl; fewer = omega arith }
+
+-- what holds holds where memory was refused
+pub on-err : {T : Type 0} {P : Type 0} (result : Result T OutOfMemory) → P → OnErr result P
+on-err (Ok value) p = tt
+on-err (Err refused) p = p
+
+-- and what follows from what holds otherwise
+pub on-ok : {T : Type 0} {P Q : Type 0} (result : Result T OutOfMemory) → (P → Q) → OnOk result P → OnOk result Q
+on-ok (Ok value) f p = f p
+on-ok (Err refused) f p = tt
+
+-- the same where memory was refused
+pub on-err-map : {T : Type 0} {P Q : Type 0} (result : Result T OutOfMemory) → (P → Q) → OnErr result P
+    → OnErr result Q
+on-err-map (Ok value) f p = tt
+on-err-map (Err refused) f p = f p
+
+-- what outlives a run, part by part
+pub outside-is : {State : Type 0} (a b : Outside State) → a.state ≡ b.state → a.faults ≡ b.faults → a.own ≡ b.own
+    → a.left ≡ b.left → a ≡ b
+outside-is a b state faults own left = rw (state, faults, own, left) refl

@@ -1,5 +1,5 @@
 -- What a run adds to its document's entries.
-use Rattle.std.proofs.Common.{◌≡◌, ℕ, ◌+◌, List, [], ◌∷◌, ◌++◌, length, refl, ap, sym, subst, ◌∙◌, arith, append_assoc}
+use Rattle.std.proofs.Common.{◌≡◌, ℕ, ◌+◌, List, [], ◌∷◌, ◌++◌, length, refl, ap, sym, ◌∙◌, arith, append_assoc}
 use Rattle.std.proofs.lemmas.List.{append-nil, length-append}
 use Rattle.std.specs.List.{AllByRecursion}
 use Rattle.wf_act.specs.declared.act.Act.{Act}
@@ -11,7 +11,7 @@ use Rattle.wf_print.specs.declared.events.Event.TheVariants as event
 use Rattle.wf_run.specs.Play.{Play}
 use Rattle.wf_run.specs.Traces.{PlayTrace, stop, shown, stepped}
 use Rattle.wf_wire.specs.Exchanges.{Answering}
-use Rattle.wf_player.specs.Worlds.{Answers, Outside, Settles, World, outside_of}
+use Rattle.wf_player.specs.Worlds.{Answers, Outside, Settles, World}
 
 -- Between two worlds these entries were added, each of them the document's, and the calls left fell by as many.
 pub record Calls {State : Type 0} (document : ℕ) (a b : World State) : Type 0 where

@@ -1,12 +1,13 @@
 -- The loop of a fetch.
-use Rattle.std.proofs.Common.{◌≡◌, ℕ, ◌+◌, ◌-◌, ◌<◌, ◌≤◌, ◌^◌, List, [], ◌∷◌, ◌++◌, Some, IsTrue, refl, ap, sym, subst}
+use Rattle.std.proofs.Common.{◌≡◌, ℕ, zero, suc, length, ◌+◌, ◌*◌, ◌-◌, ◌<◌, ◌≤◌, ◌^◌, List, [], ◌∷◌, ◌++◌, Some, IsTrue, refl, ap, sym, subst}
 use Rattle.std.proofs.Common.{◌∙◌, arith, append_assoc}
 use Rattle.std.proofs.lemmas.List.{append-nil}
+use Rattle.std.specs.Prelude.{Result, OnErr}
+use Rattle.wf_text.specs.declared.memory.OutOfMemory.{OutOfMemory}
 use Rattle.wf_act.specs.declared.act.Act.{Act}
 use Rattle.wf_act.specs.declared.act.Act.TheVariants.{Ask, Send, ReadHead, ReadBody, Tell}
 use Rattle.wf_act.specs.declared.act.Input.{Input}
 use Rattle.wf_act.specs.Process.{Process, act, ended, fits, IsPlain}
-use Rattle.wf_act.specs.Readings.{Shown, shown}
 use Rattle.wf_act.specs.Traces.{Driven, stop, with_events}
 use Rattle.wf_act.specs.Within.{Anything, Within, acts, asks, price_of}
 use Rattle.wf_act.proofs.TraceLemmas.{trace-append, trace-one, trace-tells}
@@ -14,19 +15,20 @@ use Rattle.wf_act.proofs.WithinLemmas.{within-more}
 use Rattle.wf_fetch.specs.declared.place.Fetching.{Fetching}
 use Rattle.wf_fetch.specs.declared.place.Step.{Step}
 use Rattle.wf_fetch.specs.declared.place.Step.TheVariants.{Going, Over}
-use Rattle.wf_fetch.specs.Fetch.{fetch}
 use Rattle.wf_fetch.specs.Machine.{Does, rest}
 use Rattle.wf_fetch.specs.Then.{Context}
+use Rattle.wf_http1.specs.declared.framing.Framing.TheVariants as framing
 use Rattle.wf_laws.specs.Own.{IsOwnAct}
+use Rattle.wf_laws.specs.Prices.{fetch_price, level_price, levels}
 use Rattle.wf_print.specs.declared.events.Event.{Event}
 use Rattle.wf_run.specs.Play.{events_of}
 use Rattle.wf_types.specs.declared.request.Request.{Request}
 use Rattle.wf_types.specs.declared.response.Outcome.{Outcome}
-use Rattle.wf_wire.specs.Exchanges.{Answering, Exchange}
+use Rattle.wf_wire.specs.Exchanges.{Answering, IsIdle}
 use Rattle.wf_player.specs.Asking.{CanAnswer}
-use Rattle.wf_player.specs.Driving.{FetchCut, FetchedTo, LeadsOn, Moment, moment_of}
+use Rattle.wf_player.specs.Driving.{Drove, FetchCut, FetchedTo, IsBegun, LeadsOn, Moment, moment_of}
 use Rattle.wf_player.specs.Worlds.{Answers, Outside, Refuses, World, outside_of}
-use Rattle.wf_player.proofs.AskLemmas.{refuses-none}
+use Rattle.wf_player.proofs.AskLemmas.{on-err, refuses-none}
 
 -- every act costs one
 pub each-one : (first : Act) → price_of acts first ≡ 1
@@ -125,11 +127,9 @@ module _ {State : Type 0} (by : Answering State) (limit document : ℕ) where
         added-next = ap (λ (l : List Event). l ++ events_of first input) is.added
             ∙ append_assoc old.events is.made (events_of first input)
 
-        pub fetching-next : (at : Step) → Does context at (rest context fetching input)
+        fetching-next : (at : Step) → Does context at (rest context fetching input)
             → IsFetching (count + 1) (moment_of mid (now.events ++ events_of first input)) at
-        unfolding acts-here
-
-        unfolding asks-here
+        unfolding acts-here asks-here
         fetching-next at does = record {
           process = rest context fetching input;
           does = does;
@@ -146,8 +146,8 @@ module _ {State : Type 0} (by : Answering State) (limit document : ℕ) where
         }
 
         -- memory was refused for the events of the act
-        pub fetching-unnoted : FetchCut by limit document whole old (moment_of mid now.events)
-        fetching-unnoted = record {
+        unnoted : FetchCut by limit document whole old (moment_of mid now.events)
+        unnoted = record {
           tape = is.tape ++ input ∷ [];
           made = is.made;
           missed = events_of first input;
@@ -159,8 +159,8 @@ module _ {State : Type 0} (by : Answering State) (limit document : ℕ) where
         }
 
         -- or behind them
-        pub fetching-stuck : FetchCut by limit document whole old (moment_of mid (now.events ++ events_of first input))
-        fetching-stuck = record {
+        stuck : FetchCut by limit document whole old (moment_of mid (now.events ++ events_of first input))
+        stuck = record {
           tape = is.tape ++ input ∷ [];
           made = is.made ++ events_of first input;
           missed = [];
@@ -172,11 +172,30 @@ module _ {State : Type 0} (by : Answering State) (limit document : ℕ) where
           left = refuses-none (outside_of mid);
         }
 
+        -- the same as the call answers it, by the events that it has
+        pub fetching-unnoted : (result : Result Outcome OutOfMemory) (events : List Event) → events ≡ now.events
+            → OnErr result (FetchCut by limit document whole old (moment_of mid events))
+        fetching-unnoted result events kept = rw kept (on-err result unnoted)
+
+        pub fetching-stuck : (result : Result Outcome OutOfMemory) (events : List Event)
+            → events ≡ now.events ++ events_of first input
+            → OnErr result (FetchCut by limit document whole old (moment_of mid events))
+        fetching-stuck result events noted = rw noted (on-err result stuck)
+
+        -- and it goes on, at the time of its level
+        pub fetching-on : (events : List Event) (at : Step) → events ≡ now.events ++ events_of first input
+            → Does (record context { now = fetching.level.now }) at
+            (rest (record context { now = fetching.level.now }) fetching input)
+            → IsFetching (count + 1) (moment_of mid events) at
+        fetching-on events at noted does = rw noted (fetching-next at
+            (subst (λ (n : ℕ). Does (record context { now = n }) at (rest (record context { now = n }) fetching input))
+            is.does.now does))
+
     -- memory was refused by the world
-    pub fetching-refused : (count : ℕ) (now : Moment State) (at : Step) (mid : World State)
+    refused-at : (count : ℕ) (now : Moment State) (at : Step) (mid : World State)
         → IsFetching count now at → Refuses (outside_of now.world) (outside_of mid)
         → FetchCut by limit document whole old (moment_of mid now.events)
-    fetching-refused count now at mid is refused = record {
+    refused-at count now at mid is refused = record {
       tape = is.tape;
       made = is.made;
       missed = [];
@@ -188,9 +207,14 @@ module _ {State : Type 0} (by : Answering State) (limit document : ℕ) where
       left = refused;
     }
 
+    pub fetching-refused : (result : Result Outcome OutOfMemory) (count : ℕ) (now : Moment State) (at : Step)
+        (mid : World State) → IsFetching count now at → Refuses (outside_of now.world) (outside_of mid)
+        → OnErr result (FetchCut by limit document whole old (moment_of mid now.events))
+    fetching-refused result count now at mid is refused = on-err result (refused-at count now at mid is refused)
+
     -- or before the first act
-    pub fetching-unbegun : FetchCut by limit document whole old old
-    fetching-unbegun = record {
+    unbegun : FetchCut by limit document whole old old
+    unbegun = record {
       tape = [];
       made = [];
       missed = [];
@@ -200,6 +224,10 @@ module _ {State : Type 0} (by : Answering State) (limit document : ℕ) where
       trace = stop;
       left = refuses-none (outside_of old.world);
     }
+
+    pub fetching-unbegun : (result : Result Outcome OutOfMemory)
+        → OnErr result (FetchCut by limit document whole old old)
+    fetching-unbegun result = on-err result unbegun
 
     -- the outcome
     pub fetching-over : (count : ℕ) (now : Moment State) (outcome : Outcome) → IsFetching count now (Over outcome)
@@ -226,4 +254,88 @@ fetch-driven by limit document whole first last events outcome x =
       trace = trace;
       shows = trace-tells (with_events (Answers by limit document) events_of) events_of (λ a f i s b is. is.1) outcome
           trace;
+    }
+
+-- a level less costs no more
+times-more : (k m p : ℕ) → k ≤ m → k * p ≤ m * p
+times-more zero m p le = omega arith
+times-more (suc k) zero p le = absurd (omega (arith, le))
+times-more (suc k) (suc m) p le = omega (arith, times-more k m p (omega (arith, le)))
+
+-- the acts of a fetch are few for policies that are not too many
+pub few-acts : (context : Context) (request : Request) → length context.policies < 2 ^ 64
+    → fetch_price acts context request < 2 ^ 100
+few-acts context request few =
+    omega (arith, few, times-more (levels request) 21 (level_price acts context) (omega arith))
+
+-- a fetch by itself that was cut short
+pub fetch-begun : {State : Type 0} (by : Answering State) (limit document : ℕ) (whole : Process)
+    (first last : World State) (events : List Event) (old new : Outside State) → IsIdle first.exchange
+    → outside_of first ≡ old → outside_of last ≡ new
+    → FetchCut by limit document whole (moment_of first []) (moment_of last events)
+    → IsBegun by limit document whole old new
+fetch-begun {State = State} by limit document whole first last events old new idle from to x = record {
+  first = first;
+  idle = idle;
+  from = from;
+  tape = x.tape;
+  events = x.made ++ x.missed;
+  place = x.place;
+  last = x.last;
+  trace = x.trace;
+  left = subst (λ (o : Outside State). Refuses (outside_of x.last) o) to x.left;
+}
+
+-- a world in which nothing is to come
+abbrev pub still : {State : Type 0} → Outside State → World State
+still old = record {
+  exchange = record {
+    state = old.state;
+    coming = Some [];
+    left = Some [];
+    framing = framing.Nothing;
+    faults = old.faults;
+  };
+  own = old.own;
+  left = old.left;
+}
+
+-- memory was refused before it began
+pub fetch-unbegun : {State T : Type 0} (by : Answering State) (limit document : ℕ) (whole : Process)
+    (result : Result T OutOfMemory) (old new : Outside State) → new ≡ old
+    → OnErr result (IsBegun by limit document whole old new)
+fetch-unbegun by limit document whole result old new kept = on-err result (rw kept (record {
+  first = still old;
+  idle = record { end = refl; framing_is = refl };
+  from = refl;
+  tape = [];
+  events = [];
+  place = whole;
+  last = still old;
+  trace = stop;
+  left = refuses-none old;
+}))
+
+-- a fetch by itself that came to its outcome, from no events on
+pub fetch-drove : {State : Type 0} (by : Answering State) (limit document : ℕ) (whole : Process)
+    (first last : World State) (start made events : List Event) (outcome : Outcome) (old new : Outside State)
+    → IsIdle first.exchange → outside_of first ≡ old → outside_of last ≡ new → start ≡ [] → events ≡ made
+    → FetchedTo by limit document whole (moment_of first start) outcome (moment_of last made)
+    → Drove by limit document whole old events outcome new
+fetch-drove {State = State} by limit document whole first last start made events outcome old new idle from to none same
+    x =
+    let here = subst (λ (l : List Event). FetchedTo by limit document whole (moment_of first []) outcome
+    (moment_of last l)) (sym same)
+    (subst (λ (l : List Event). FetchedTo by limit document whole (moment_of first l) outcome (moment_of last made)) none
+    x) in
+    let before : first.left ≡ old.left = ap (λ (o : Outside State). o.left) from in
+    let behind : last.left ≡ new.left = ap (λ (o : Outside State). o.left) to in
+    record {
+      first = first;
+      idle = idle;
+      from = from;
+      last = last;
+      driven = fetch-driven by limit document whole first last events outcome here;
+      to = to;
+      few = omega (arith, x.few, before, behind);
     }

@@ -1,10 +1,9 @@
 -- Parts of a run, one after another.
-use Rattle.std.proofs.Common.{◌≡◌, ℕ, List, [], ◌∷◌, ◌++◌, Ok, Err, Result, refl, ap, sym, subst, ◌∙◌, append_assoc}
+use Rattle.std.proofs.Common.{ℕ, List, [], ◌∷◌, ◌++◌, refl, ap, sym, subst, ◌∙◌, append_assoc}
 use Rattle.std.proofs.lemmas.List.{append-nil}
-use Rattle.wf_text.specs.declared.memory.OutOfMemory.{OutOfMemory}
-use Rattle.wf_act.specs.Process.{Process, ended}
+use Rattle.wf_act.specs.Process.{Process}
 use Rattle.wf_print.specs.declared.events.Event.{Event}
-use Rattle.wf_run.specs.Play.{Play, emit}
+use Rattle.wf_run.specs.Play.{Play}
 use Rattle.wf_run.specs.Runs.{Next, Progress, after_events, embed, showing}
 use Rattle.wf_run.specs.Traces.{stop, shown}
 use Rattle.wf_run.proofs.EmbedLemmas.{embedded}
@@ -12,7 +11,7 @@ use Rattle.wf_run.proofs.PlayLemmas.{play-append}
 use Rattle.wf_types.specs.declared.response.Outcome.{Outcome}
 use Rattle.wf_wire.specs.Exchanges.{Answering}
 use Rattle.wf_player.specs.Driving.{FetchCut, FetchedTo, moment_of}
-use Rattle.wf_player.specs.Playing.{CutShort, LedTo, PlayedTo, PlaysOn, Standing, standing_of}
+use Rattle.wf_player.specs.Playing.{CutShort, PlayedTo, PlaysOn, Standing, standing_of}
 use Rattle.wf_player.specs.Worlds.{Answers, Settles, World, outside_of}
 use Rattle.wf_player.proofs.AskLemmas.{refuses-none}
 
@@ -123,17 +122,3 @@ module _ {State : Type 0} (by : Answering State) (limit document : ℕ) where
     trace = λ next. embedded (Answers by limit document) Settles x.trace next progress;
     left = x.left;
   }
-
-  -- ---- either
-
-  pub led-then : {N A : Type 0} (part middle : N → Play) (rest : A → N → Play) (a b c : Standing State)
-      (result : Result A OutOfMemory) → PlayedTo by limit document part a middle b
-      → LedTo by limit document middle b rest result c → LedTo by limit document part a rest result c
-  led-then part middle rest a b c (Ok answer) x y = played-then part middle (rest answer) a b c x y
-  led-then part middle rest a b c (Err refused) x y = played-cut part middle a b c x y
-
-  pub led-inside : {N M A : Type 0} (part : N → Play) (rest : A → N → Play) (f : M → N) (a b : Standing State)
-      (result : Result A OutOfMemory) → LedTo by limit document part a rest result b
-      → LedTo by limit document (λ m. part (f m)) a (λ answer m. rest answer (f m)) result b
-  led-inside part rest f a b (Ok answer) x = played-inside part (rest answer) f a b x
-  led-inside part rest f a b (Err refused) x = cut-inside part f a b x

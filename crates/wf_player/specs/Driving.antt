@@ -1,7 +1,5 @@
 -- What a fetch comes to in a document's world.
-use Rattle.std.specs.Prelude.{◌≡◌, ℕ, ◌+◌, ◌≤◌, List, ◌++◌, Result, Ok, Err}
-use Rattle.wf_text.specs.declared.memory.OutOfMemory.{OutOfMemory}
-use Rattle.wf_act.specs.declared.act.Act.{Act}
+use Rattle.std.specs.Prelude.{◌≡◌, ℕ, ◌+◌, ◌≤◌, List, ◌++◌}
 use Rattle.wf_act.specs.declared.act.Input.{Input}
 use Rattle.wf_act.specs.Process.{Process, ended}
 use Rattle.wf_act.specs.Traces.{Driven, Trace, with_events}
@@ -47,12 +45,6 @@ pub record FetchCut {State : Type 0} (by : Answering State) (limit document : �
   pub added : new.events ≡ old.events ++ made
   pub trace : LeadsOn by limit document whole old.world tape (made ++ missed) place last
   pub left : Refuses (outside_of last) (outside_of new.world)
-
--- what a fetch comes to
-abbrev pub Fetched : {State : Type 0} → Answering State → ℕ → ℕ → Process → Moment State
-    → Result Outcome OutOfMemory → Moment State → Type 0
-Fetched by limit document whole old (Ok outcome) new = FetchedTo by limit document whole old outcome new
-Fetched by limit document whole old (Err refused) new = FetchCut by limit document whole old new
 
 -- ---- a fetch by itself
 

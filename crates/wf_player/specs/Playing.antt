@@ -1,6 +1,5 @@
 -- What a document's run, and each part of it, comes to in the document's world.
-use Rattle.std.specs.Prelude.{◌≡◌, ℕ, ◌+◌, ◌*◌, ◌≤◌, List, [], ◌++◌, Option, Some, Result, Ok, Err}
-use Rattle.wf_text.specs.declared.memory.OutOfMemory.{OutOfMemory}
+use Rattle.std.specs.Prelude.{◌≡◌, ℕ, ◌+◌, ◌*◌, ◌≤◌, List, [], ◌++◌, Some}
 use Rattle.wf_act.specs.declared.act.Input.{Input}
 use Rattle.wf_print.specs.declared.events.Ending.{Ending}
 use Rattle.wf_print.specs.declared.events.Ending.TheVariants.{Memory}
@@ -48,23 +47,23 @@ pub record CutShort {State N : Type 0} (by : Answering State) (limit document : 
       → PlaysOn by limit document (part next) old.world tape (made ++ missed) (place next) last
   pub left : Refuses (outside_of last) (outside_of new.world)
 
--- what a part comes to that goes on as the rest
-abbrev pub LedTo : {State N A : Type 0} → Answering State → ℕ → ℕ → (N → Play) → Standing State → (A → N → Play)
-    → Result A OutOfMemory → Standing State → Type 0
-LedTo by limit document part old rest (Ok answer) new = PlayedTo by limit document part old (rest answer) new
-LedTo by limit document part old rest (Err refused) new = CutShort by limit document part old new
+-- a rule of the script was played, and leads on to what follows
+abbrev pub Played : {State : Type 0} → Answering State → ℕ → ℕ → (Next → Next) → Standing State → Standing State → Type 0
+Played by limit document part old new =
+    PlayedTo by limit document (λ next. part next old.progress) old (λ next. next new.progress) new
 
--- the same of a rule of the script, which leads on to what follows
-abbrev pub Played : {State : Type 0} → Answering State → ℕ → ℕ → (Next → Next) → Standing State → Result ⊤ OutOfMemory
-    → Standing State → Type 0
-Played by limit document part old result new =
-    LedTo by limit document (λ next. part next old.progress) old (λ _ next. next new.progress) result new
+-- memory was refused in a rule of the script
+abbrev pub Cut : {State : Type 0} → Answering State → ℕ → ℕ → (Next → Next) → Standing State → Standing State → Type 0
+Cut by limit document part old new = CutShort by limit document (λ next. part next old.progress) old new
 
--- the same of a whole run, which comes to an ending
-abbrev pub Ended : {State : Type 0} → Answering State → ℕ → ℕ → Play → Standing State → Result Ending OutOfMemory
-    → Standing State → Type 0
-Ended by limit document whole old result new =
-    LedTo by limit document (λ (next : Next). whole) old (λ ending next. over ending new.progress.clock) result new
+-- a whole run came to an ending
+abbrev pub Ended : {State : Type 0} → Answering State → ℕ → ℕ → Play → Standing State → Ending → Standing State → Type 0
+Ended by limit document whole old ending new =
+    PlayedTo by limit document (λ (next : Next). whole) old (λ next. over ending new.progress.clock) new
+
+-- memory was refused in it
+abbrev pub Stopped : {State : Type 0} → Answering State → ℕ → ℕ → Play → Standing State → Standing State → Type 0
+Stopped by limit document whole old new = CutShort by limit document (λ (next : Next). whole) old new
 
 -- at most 1,024 fetches have started, and the calls that are left suffice for those that may still start
 abbrev pub HasRoom : ℕ → Progress → Type 0
@@ -110,11 +109,3 @@ abbrev pub Came : {State : Type 0} → Answering State → ℕ → ℕ → Play 
     → Outside State → Type 0
 Came by limit document whole old events Memory clock new = Began by limit document whole old events new
 Came by limit document whole old events ending clock new = Ran by limit document whole old events ending clock new
-
--- what a run comes to, by its ending and with another value, or cut short
-abbrev pub RunTo : {State A : Type 0} → Answering State → ℕ → ℕ → Play → Outside State
-    → Result (Ending × A) OutOfMemory → Progress → Outside State → Type 0
-RunTo by limit document whole old (Ok made) progress new =
-    Ran by limit document whole old progress.shown made.0 progress.clock new
-RunTo by limit document whole old (Err refused) progress new =
-    Began by limit document whole old progress.shown new

@@ -1,10 +1,10 @@
-ghost use Rattle.std.specs.Prelude.{◌≡◌, ◌≢◌, ◌≤◌, ◌<◌, ◌^◌, [], length, slice_get, Some, IfOk, OnOk, ◌+◌};
+ghost use Rattle.std.specs.Prelude.{◌≡◌, ◌≢◌, ◌≤◌, ◌<◌, ◌^◌, [], length, slice_get, Some, IfOk, OnOk, OnErr, ◌+◌};
 ghost use Rattle.wf_print.specs.declared.events.Ending.TheVariants.{Memory};
 ghost use Rattle.wf_script.specs.Valid.{IsValid, IsValidDocument};
 ghost use Rattle.wf_script.specs.declared.types.Document.{Document as OneDocument};
 ghost use Rattle.wf_run.specs.Runs.{beginning, document_client, document_run};
 ghost use Rattle.wf_wire.specs.Wires.{over_link};
-ghost use Rattle.wf_player.specs.Playing.{Came, RunTo};
+ghost use Rattle.wf_player.specs.Playing.{Began, Came, Ran};
 ghost use Rattle.wf_player.specs.Worlds.{outside};
 
 use crate::lent::Lent;
@@ -39,10 +39,14 @@ fn run_document<R: Threads + Wait + Sync, S: Share, L: Link>(
     requires belongs { S.belongs share.now pass.old }
     requires left { 129024 ≤ S.left pass.old }
     requires base { running.old ≡ beginning running.old.clock }
-    ensures run { RunTo (over_link L.answer L.next) limit (S.document pass.old)
+    ensures ran { IfOk result (λ made. Ran (over_link L.answer L.next) limit (S.document pass.old)
         (document_run cookies.now running.old.clock document.now)
-        (outside S.own S.left L.state L.faults pass.old link.old) result running.new
-        (outside S.own S.left L.state L.faults pass.new link.new) }
+        (outside S.own S.left L.state L.faults pass.old link.old) running.new.shown made.0 running.new.clock
+        (outside S.own S.left L.state L.faults pass.new link.new)) }
+    ensures began { OnErr result (Began (over_link L.answer L.next) limit (S.document pass.old)
+        (document_run cookies.now running.old.clock document.now)
+        (outside S.own S.left L.state L.faults pass.old link.old) running.new.shown
+        (outside S.own S.left L.state L.faults pass.new link.new)) }
     ensures few { OnOk result (S.left pass.old ≤ S.left pass.new + 129024) }
     ensures has_text { IfOk result (λ made. made.0 ≢ Memory) }
     ensures key { IfOk result (λ made. made.1 ≡ (document_client document.now).key) }
@@ -91,13 +95,13 @@ pub fn drive<R: Threads + Wait + Sync, S: Share, L: Link>(
     requires base { base ≤ 2 ^ 40 }
     requires belongs { S.belongs share.now pass.old }
     requires left { 129024 ≤ S.left pass.old }
-    ensures came { (one : OneDocument) → slice_get scenario.now.documents document ≡ Some one
-        → Came (over_link L.answer L.next) scenario.now.body_limit (S.document pass.old)
-        (document_run scenario.now.cookies base one) (outside S.own S.left L.state L.faults pass.old link.old)
+    ensures came { (one : OneDocument) → slice_get scenario.entry.now.documents document ≡ Some one
+        → Came (over_link L.answer L.next) scenario.entry.now.body_limit (S.document pass.old)
+        (document_run scenario.entry.now.cookies base one) (outside S.own S.left L.state L.faults pass.old link.old)
         result.events result.ending result.clock (outside S.own S.left L.state L.faults pass.new link.new) }
     ensures few { result.ending ≢ Memory → S.left pass.old ≤ S.left pass.new + 129024 }
     ensures number { result.document ≡ document }
-    ensures key { (one : OneDocument) → slice_get scenario.now.documents document ≡ Some one
+    ensures key { (one : OneDocument) → slice_get scenario.entry.now.documents document ≡ Some one
         → result.ending ≢ Memory → result.key ≡ (document_client one).key }
     ensures belongs { S.belongs share.now pass.new }
     ensures same { (S.document pass.new ≡ S.document pass.old) × (S.opening pass.new ≡ S.opening pass.old) }

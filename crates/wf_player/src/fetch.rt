@@ -3,7 +3,7 @@ ghost use Rattle.wf_fetch.specs.Fetch.{fetch};
 ghost use Rattle.wf_fetch.specs.Then.{context_of};
 ghost use Rattle.wf_types.specs.Requests.{IsClient, IsRequest};
 ghost use Rattle.wf_wire.specs.Wires.{over_link};
-ghost use Rattle.wf_player.specs.Driving.{Drove, Fetched, IsBegun, moment_of};
+ghost use Rattle.wf_player.specs.Driving.{Drove, FetchCut, FetchedTo, IsBegun, moment_of};
 ghost use Rattle.wf_player.specs.Worlds.{outside, world_of};
 
 use crate::act::answer;
@@ -43,10 +43,14 @@ pub(crate) fn run_fetch<R: Threads + Wait + Sync, S: Share, L: Link>(
     requires timely { now < 2 ^ 48 }
     requires belongs { S.belongs lent.now.share.now pass.old }
     requires left { 126 ≤ S.left pass.old }
-    ensures fetched { Fetched (over_link L.answer L.next) lent.now.limit (S.document pass.old)
+    ensures fetched { IfOk result (λ outcome. FetchedTo (over_link L.answer L.next) lent.now.limit (S.document pass.old)
         (fetch (context_of lent.now.client.now lent.now.policies.now lent.now.cookies.now now) request)
-        (moment_of (world_of S.own S.left L.state L.left L.faults pass.old link.old wire.old) shown.old) result
-        (moment_of (world_of S.own S.left L.state L.left L.faults pass.new link.new wire.new) shown.new) }
+        (moment_of (world_of S.own S.left L.state L.left L.faults pass.old link.old wire.old) shown.old) outcome
+        (moment_of (world_of S.own S.left L.state L.left L.faults pass.new link.new wire.new) shown.new)) }
+    ensures cut { OnErr result (FetchCut (over_link L.answer L.next) lent.now.limit (S.document pass.old)
+        (fetch (context_of lent.now.client.now lent.now.policies.now lent.now.cookies.now now) request)
+        (moment_of (world_of S.own S.left L.state L.left L.faults pass.old link.old wire.old) shown.old)
+        (moment_of (world_of S.own S.left L.state L.left L.faults pass.new link.new wire.new) shown.new)) }
     ensures belongs { S.belongs lent.now.share.now pass.new }
     ensures same { (S.document pass.new ≡ S.document pass.old) × (S.opening pass.new ≡ S.opening pass.old) }
 {

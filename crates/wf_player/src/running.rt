@@ -26,7 +26,7 @@ pub(crate) struct Running {
 }
 
 impl Model for Running {
-    ghost use Rattle.std.specs.Prelude.{◌*◌, ◌-◌};
+    ghost use Rattle.std.specs.Prelude.{◌≤◌, ◌+◌, ◌*◌, ◌-◌, ◌^◌};
     ghost use Rattle.wf_run.specs.Runs.{Progress};
 
     ghost Value = { Progress };

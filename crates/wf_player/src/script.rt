@@ -1,14 +1,14 @@
-ghost use Rattle.std.specs.Prelude.{◌≡◌, ◌≢◌, ◌≤◌, ◌<◌, ◌+◌, ◌*◌, ◌^◌, None, IfOk, OnOk};
+ghost use Rattle.std.specs.Prelude.{◌≡◌, ◌≢◌, ◌≤◌, ◌<◌, ◌+◌, ◌*◌, ◌^◌, None, IfOk, OnOk, OnErr};
 ghost use Rattle.std.specs.List.{All};
 ghost use Rattle.wf_print.specs.declared.events.Ending.TheVariants.{Memory};
-ghost use Rattle.wf_script.specs.Valid.{IsValidCommand};
+ghost use Rattle.wf_script.specs.Valid.{IsValidCommand, IsValidInit};
 ghost use Rattle.wf_script.specs.declared.types.Command.TheVariants.{Fetch};
 ghost use Rattle.wf_send.specs.Making.{new_request as request_of};
 ghost use Rattle.wf_types.specs.Requests.{IsClient, IsRequest};
 ghost use Rattle.wf_wire.specs.Wires.{over_link};
 ghost use Rattle.wf_run.specs.Runs.{fetched, finished, limit_before, script_run, setting};
 ghost use Rattle.wf_run.specs.Runs.{normalized_init as normal_init, command_started};
-ghost use Rattle.wf_player.specs.Playing.{Ended, HasRoom, IsSpent, Played, standing_of};
+ghost use Rattle.wf_player.specs.Playing.{Cut, Ended, HasRoom, IsSpent, Played, Stopped, standing_of};
 ghost use Rattle.wf_player.specs.Worlds.{world_of};
 
 use crate::fetch::run_fetch;
@@ -32,6 +32,7 @@ fn requested<R, S>(
     init: &Init,
 ) -> Result<Result<Request, TypeFault>, OutOfMemory>
     requires client { IsClient lent.now.client.now }
+    requires valid { IsValidInit init.now }
     ensures value { IfOk result (λ made. made ≡ request_of lent.now.client.now (normal_init init.now)) }
     ensures valid { IfOk result (λ made. IfOk made IsRequest) }
 {
@@ -52,10 +53,14 @@ fn run_request<R: Threads + Wait + Sync, S: Share, L: Link>(
     requires client { IsClient lent.now.client.now }
     requires belongs { S.belongs lent.now.share.now pass.old }
     requires left { 126 ≤ S.left pass.old }
-    ensures played { Played (over_link L.answer L.next) lent.now.limit (S.document pass.old)
+    ensures played { OnOk result (Played (over_link L.answer L.next) lent.now.limit (S.document pass.old)
         (fetched (setting lent.now.client.now lent.now.policies.now lent.now.cookies.now) made)
-        (standing_of (world_of S.own S.left L.state L.left L.faults pass.old link.old wire.old) running.old) result
-        (standing_of (world_of S.own S.left L.state L.left L.faults pass.new link.new wire.new) running.new) }
+        (standing_of (world_of S.own S.left L.state L.left L.faults pass.old link.old wire.old) running.old)
+        (standing_of (world_of S.own S.left L.state L.left L.faults pass.new link.new wire.new) running.new)) }
+    ensures cut { OnErr result (Cut (over_link L.answer L.next) lent.now.limit (S.document pass.old)
+        (fetched (setting lent.now.client.now lent.now.policies.now lent.now.cookies.now) made)
+        (standing_of (world_of S.own S.left L.state L.left L.faults pass.old link.old wire.old) running.old)
+        (standing_of (world_of S.own S.left L.state L.left L.faults pass.new link.new wire.new) running.new)) }
     ensures few { OnOk result (S.left pass.old ≤ S.left pass.new + 126) }
     ensures fetches { running.new.fetches ≡ running.old.fetches }
     ensures belongs { S.belongs lent.now.share.now pass.new }
@@ -84,13 +89,18 @@ fn run_fetch_command<R: Threads + Wait + Sync, S: Share, L: Link>(
     init: &Init,
 ) -> Result<(), OutOfMemory>
     requires client { IsClient lent.now.client.now }
+    requires valid { IsValidInit init.now }
     requires limit { limit_before (Fetch init.now) running.old ≡ None }
     requires belongs { S.belongs lent.now.share.now pass.old }
     requires room { HasRoom (S.left pass.old) running.old }
-    ensures played { Played (over_link L.answer L.next) lent.now.limit (S.document pass.old)
+    ensures played { OnOk result (Played (over_link L.answer L.next) lent.now.limit (S.document pass.old)
         (command_started (setting lent.now.client.now lent.now.policies.now lent.now.cookies.now) (Fetch init.now))
-        (standing_of (world_of S.own S.left L.state L.left L.faults pass.old link.old wire.old) running.old) result
-        (standing_of (world_of S.own S.left L.state L.left L.faults pass.new link.new wire.new) running.new) }
+        (standing_of (world_of S.own S.left L.state L.left L.faults pass.old link.old wire.old) running.old)
+        (standing_of (world_of S.own S.left L.state L.left L.faults pass.new link.new wire.new) running.new)) }
+    ensures cut { OnErr result (Cut (over_link L.answer L.next) lent.now.limit (S.document pass.old)
+        (command_started (setting lent.now.client.now lent.now.policies.now lent.now.cookies.now) (Fetch init.now))
+        (standing_of (world_of S.own S.left L.state L.left L.faults pass.old link.old wire.old) running.old)
+        (standing_of (world_of S.own S.left L.state L.left L.faults pass.new link.new wire.new) running.new)) }
     ensures spent { OnOk result (IsSpent (S.left pass.old) running.old (S.left pass.new) running.new) }
     ensures belongs { S.belongs lent.now.share.now pass.new }
     ensures same { (S.document pass.new ≡ S.document pass.old) × (S.opening pass.new ≡ S.opening pass.old) }
@@ -110,13 +120,18 @@ fn run_command<R: Threads + Wait + Sync, S: Share, L: Link>(
     command: &Command,
 ) -> Result<(), OutOfMemory>
     requires client { IsClient lent.now.client.now }
+    requires valid { IsValidCommand command.now }
     requires limit { limit_before command.now running.old ≡ None }
     requires belongs { S.belongs lent.now.share.now pass.old }
     requires room { HasRoom (S.left pass.old) running.old }
-    ensures played { Played (over_link L.answer L.next) lent.now.limit (S.document pass.old)
+    ensures played { OnOk result (Played (over_link L.answer L.next) lent.now.limit (S.document pass.old)
         (command_started (setting lent.now.client.now lent.now.policies.now lent.now.cookies.now) command.now)
-        (standing_of (world_of S.own S.left L.state L.left L.faults pass.old link.old wire.old) running.old) result
-        (standing_of (world_of S.own S.left L.state L.left L.faults pass.new link.new wire.new) running.new) }
+        (standing_of (world_of S.own S.left L.state L.left L.faults pass.old link.old wire.old) running.old)
+        (standing_of (world_of S.own S.left L.state L.left L.faults pass.new link.new wire.new) running.new)) }
+    ensures cut { OnErr result (Cut (over_link L.answer L.next) lent.now.limit (S.document pass.old)
+        (command_started (setting lent.now.client.now lent.now.policies.now lent.now.cookies.now) command.now)
+        (standing_of (world_of S.own S.left L.state L.left L.faults pass.old link.old wire.old) running.old)
+        (standing_of (world_of S.own S.left L.state L.left L.faults pass.new link.new wire.new) running.new)) }
     ensures spent { OnOk result (IsSpent (S.left pass.old) running.old (S.left pass.new) running.new) }
     ensures belongs { S.belongs lent.now.share.now pass.new }
     ensures same { (S.document pass.new ≡ S.document pass.old) × (S.opening pass.new ≡ S.opening pass.old) }
@@ -140,14 +155,20 @@ pub(crate) fn run_script<R: Threads + Wait + Sync, S: Share, L: Link>(
     script: &Script,
 ) -> Result<Ending, OutOfMemory>
     requires client { IsClient lent.now.client.now }
+    requires valid { All IsValidCommand script.now }
     requires belongs { S.belongs lent.now.share.now pass.old }
     requires left { 129024 ≤ S.left pass.old }
     requires none { running.old.fetches ≡ 0 }
-    ensures ended { Ended (over_link L.answer L.next) lent.now.limit (S.document pass.old)
+    ensures ended { IfOk result (λ ending. Ended (over_link L.answer L.next) lent.now.limit (S.document pass.old)
         (script_run (setting lent.now.client.now lent.now.policies.now lent.now.cookies.now) script.now finished
         running.old)
-        (standing_of (world_of S.own S.left L.state L.left L.faults pass.old link.old wire.old) running.old) result
-        (standing_of (world_of S.own S.left L.state L.left L.faults pass.new link.new wire.new) running.new) }
+        (standing_of (world_of S.own S.left L.state L.left L.faults pass.old link.old wire.old) running.old) ending
+        (standing_of (world_of S.own S.left L.state L.left L.faults pass.new link.new wire.new) running.new)) }
+    ensures stopped { OnErr result (Stopped (over_link L.answer L.next) lent.now.limit (S.document pass.old)
+        (script_run (setting lent.now.client.now lent.now.policies.now lent.now.cookies.now) script.now finished
+        running.old)
+        (standing_of (world_of S.own S.left L.state L.left L.faults pass.old link.old wire.old) running.old)
+        (standing_of (world_of S.own S.left L.state L.left L.faults pass.new link.new wire.new) running.new)) }
     ensures few { OnOk result (S.left pass.old ≤ S.left pass.new + 129024) }
     ensures has_text { IfOk result (λ ending. ending ≢ Memory) }
     ensures belongs { S.belongs lent.now.share.now pass.new }

@@ -22,8 +22,9 @@ pub(crate) struct Shown {
 }
 
 impl Model for Shown {
-    ghost use Rattle.std.specs.Prelude.{List};
+    ghost use Rattle.std.specs.Prelude.{◌≡◌, List};
     ghost use Rattle.wf_print.specs.Lengths.{capped};
+    ghost use Rattle.wf_run.specs.Runs.{text_length};
     ghost use Rattle.wf_print.specs.declared.events.Event.{Event};
 
     ghost Value = { List Event };

@@ -1,0 +1,181 @@
+use Rattle.std.proofs.Common.{ℕ, ◌-◌, arith, refl, subst, ◌∙◌}
+use Rattle.wf_act.specs.Within.{Anything, acts, asks, price_of}
+use Rattle.wf_act.proofs.WithinLemmas.{within-more}
+use Rattle.wf_fetch.specs.Fetch.{fetch}
+use Rattle.wf_fetch.specs.Then.{context_of}
+use Rattle.wf_fetch.specs.declared.place.Step.{Step}
+use Rattle.wf_laws.specs.Own.{IsOwnAct}
+use Rattle.wf_laws.specs.Prices.{fetch_price}
+use Rattle.wf_laws.proofs.OwnLemmas.{asks-at-most, fetch-within}
+use Rattle.wf_wire.specs.Wires.{over_link}
+use Rattle.wf_player.specs.Driving.{moment_of}
+use Rattle.wf_player.specs.Worlds.{Answers, world_of}
+use Rattle.wf_player.proofs.FetchLemmas.{IsFetching, few-acts, fetching-on, fetching-over, fetching-refused}
+use Rattle.wf_player.proofs.FetchLemmas.{fetching-room, fetching-start, fetching-stuck, fetching-unbegun, fetching-unnoted}
+use Rattle.wf_player.proofs.fetch.run_fetch.Goals as goal
+
+pub returns-in_err-step-clause-cut : goal.returns-in_err-step-clause-cut
+returns-in_err-step-clause-cut g c =
+    let context = context_of c.args.lent.now.client.now c.args.lent.now.policies.now c.args.lent.now.cookies.now
+    c.args.now in
+    fetching-unbegun (over_link g.L.Link.answer g.L.Link.next) c.args.lent.now.limit
+    (g.S.Share.document c.args.pass.now) context (fetch context c.args.request)
+    (moment_of (world_of g.S.Share.own g.S.Share.left g.L.Link.state g.L.Link.left g.L.Link.faults c.args.pass.now
+    c.args.link.now c.args.wire.now) c.args.shown.now)
+    (fetch_price acts context c.args.request) (g.S.Share.left c.args.pass.now - 126) c.from_residual.result
+
+pub loop-step-init : goal.loop-step-init
+loop-step-init g c =
+    let context = context_of c.args.lent.now.client.now c.args.lent.now.policies.now c.args.lent.now.cookies.now
+    c.args.now in
+    record {
+      fetching = fetching-start (over_link g.L.Link.answer g.L.Link.next) c.args.lent.now.limit
+          (g.S.Share.document c.args.pass.now) context (fetch context c.args.request)
+          (moment_of (world_of g.S.Share.own g.S.Share.left g.L.Link.state g.L.Link.left g.L.Link.faults
+          c.args.pass.now c.args.link.now c.args.wire.now) c.args.shown.now)
+          (fetch_price acts context c.args.request) (g.S.Share.left c.args.pass.now - 126) 126 c.in_ok-step.step
+          c.in_ok-step.ensures.process (fetch-within acts context c.args.request c.requires.timely)
+          (within-more (price_of asks) Anything (IsOwnAct context) (fetch_price asks context c.args.request) 126
+          (fetch context c.args.request) (fetch-within asks context c.args.request c.requires.timely)
+          (asks-at-most context c.args.request))
+          (omega (arith, c.requires.left));
+      belongs = c.requires.belongs;
+      document = refl;
+      opening = refl;
+    }
+
+pub returns-in_err-input-in-Going-clause-cut : goal.returns-in_err-input-in-Going-clause-cut
+returns-in_err-input-in-Going-clause-cut g c =
+    let context = context_of c.args.lent.now.client.now c.args.lent.now.policies.now c.args.lent.now.cookies.now
+    c.args.now in
+    let by = over_link g.L.Link.answer g.L.Link.next in
+    let limit = c.args.lent.now.limit in
+    let document = g.S.Share.document c.args.pass.now in
+    let whole = fetch context c.args.request in
+    let old = moment_of (world_of g.S.Share.own g.S.Share.left g.L.Link.state g.L.Link.left g.L.Link.faults
+    c.args.pass.now c.args.link.now c.args.wire.now) c.args.shown.now in
+    let now = moment_of (world_of g.S.Share.own g.S.Share.left g.L.Link.state g.L.Link.left g.L.Link.faults
+    c.loop-step.pass c.loop-step.link c.loop-step.wire) c.loop-step.shown in
+    let most = fetch_price acts context c.args.request in
+    let slack = g.S.Share.left c.args.pass.now - 126 in
+    let mid = world_of g.S.Share.own g.S.Share.left g.L.Link.state g.L.Link.left g.L.Link.faults c.answer.new.pass
+    c.answer.new.link c.answer.new.wire in
+    fetching-refused by limit document context whole old most slack
+    c.from_residual-in_err-input-in-Going.result
+    c.loop-step.acts now c.loop-step.step mid c.loop-step.invariant.fetching c.in_err-input-in-Going.ensures.refused
+
+pub overflow_add-acts : goal.overflow_add-acts
+overflow_add-acts g c =
+    let context = context_of c.args.lent.now.client.now c.args.lent.now.policies.now c.args.lent.now.cookies.now
+    c.args.now in
+    let by = over_link g.L.Link.answer g.L.Link.next in
+    let limit = c.args.lent.now.limit in
+    let document = g.S.Share.document c.args.pass.now in
+    let whole = fetch context c.args.request in
+    let old = moment_of (world_of g.S.Share.own g.S.Share.left g.L.Link.state g.L.Link.left g.L.Link.faults
+    c.args.pass.now c.args.link.now c.args.wire.now) c.args.shown.now in
+    let now = moment_of (world_of g.S.Share.own g.S.Share.left g.L.Link.state g.L.Link.left g.L.Link.faults
+    c.loop-step.pass c.loop-step.link c.loop-step.wire) c.loop-step.shown in
+    let most = fetch_price acts context c.args.request in
+    let slack = g.S.Share.left c.args.pass.now - 126 in
+    let here = subst (λ (s : Step). IsFetching by limit document context whole old most slack c.loop-step.acts now s)
+    c.in-Going.is c.loop-step.invariant.fetching in
+    let room = fetching-room by limit document context whole old most slack c.loop-step.acts now c.in-Going.fetching
+    c.in-Going.act here in
+    omega (arith, room, few-acts context c.args.request (omega (arith, c.len-policies.ensures, c.len-policies.type_inv)))
+
+pub returns-in_err-add_act-in-Going-clause-cut : goal.returns-in_err-add_act-in-Going-clause-cut
+returns-in_err-add_act-in-Going-clause-cut g c =
+    let context = context_of c.args.lent.now.client.now c.args.lent.now.policies.now c.args.lent.now.cookies.now
+    c.args.now in
+    let by = over_link g.L.Link.answer g.L.Link.next in
+    let limit = c.args.lent.now.limit in
+    let document = g.S.Share.document c.args.pass.now in
+    let whole = fetch context c.args.request in
+    let old = moment_of (world_of g.S.Share.own g.S.Share.left g.L.Link.state g.L.Link.left g.L.Link.faults
+    c.args.pass.now c.args.link.now c.args.wire.now) c.args.shown.now in
+    let now = moment_of (world_of g.S.Share.own g.S.Share.left g.L.Link.state g.L.Link.left g.L.Link.faults
+    c.loop-step.pass c.loop-step.link c.loop-step.wire) c.loop-step.shown in
+    let most = fetch_price acts context c.args.request in
+    let slack = g.S.Share.left c.args.pass.now - 126 in
+    let mid = world_of g.S.Share.own g.S.Share.left g.L.Link.state g.L.Link.left g.L.Link.faults c.answer.new.pass
+    c.answer.new.link c.answer.new.wire in
+    let came = subst (λ (d : ℕ). Answers by limit d now.world c.in-Going.act c.in_ok-input-in-Going.input mid)
+    c.loop-step.invariant.document c.in_ok-input-in-Going.ensures.came in
+    let here = subst (λ (s : Step). IsFetching by limit document context whole old most slack c.loop-step.acts now s)
+    c.in-Going.is c.loop-step.invariant.fetching in
+    fetching-unnoted by limit document context whole old most slack c.loop-step.acts now c.in-Going.fetching
+    c.in-Going.act here c.in_ok-input-in-Going.input mid c.in_ok-input-in-Going.ensures.fits
+    came c.from_residual-in_err-add_act-in-Going.result c.add_act.new.self c.in_err-add_act-in-Going.ensures.err
+
+pub returns-in_err-step-in-Going-clause-cut : goal.returns-in_err-step-in-Going-clause-cut
+returns-in_err-step-in-Going-clause-cut g c =
+    let context = context_of c.args.lent.now.client.now c.args.lent.now.policies.now c.args.lent.now.cookies.now
+    c.args.now in
+    let by = over_link g.L.Link.answer g.L.Link.next in
+    let limit = c.args.lent.now.limit in
+    let document = g.S.Share.document c.args.pass.now in
+    let whole = fetch context c.args.request in
+    let old = moment_of (world_of g.S.Share.own g.S.Share.left g.L.Link.state g.L.Link.left g.L.Link.faults
+    c.args.pass.now c.args.link.now c.args.wire.now) c.args.shown.now in
+    let now = moment_of (world_of g.S.Share.own g.S.Share.left g.L.Link.state g.L.Link.left g.L.Link.faults
+    c.loop-step.pass c.loop-step.link c.loop-step.wire) c.loop-step.shown in
+    let most = fetch_price acts context c.args.request in
+    let slack = g.S.Share.left c.args.pass.now - 126 in
+    let mid = world_of g.S.Share.own g.S.Share.left g.L.Link.state g.L.Link.left g.L.Link.faults c.answer.new.pass
+    c.answer.new.link c.answer.new.wire in
+    let came = subst (λ (d : ℕ). Answers by limit d now.world c.in-Going.act c.in_ok-input-in-Going.input mid)
+    c.loop-step.invariant.document c.in_ok-input-in-Going.ensures.came in
+    let here = subst (λ (s : Step). IsFetching by limit document context whole old most slack c.loop-step.acts now s)
+    c.in-Going.is c.loop-step.invariant.fetching in
+    fetching-stuck by limit document context whole old most slack c.loop-step.acts now c.in-Going.fetching
+    c.in-Going.act here c.in_ok-input-in-Going.input mid c.in_ok-input-in-Going.ensures.fits
+    came c.from_residual-in_err-step-in-Going.result c.add_act.new.self c.in_ok-add_act-in-Going.ensures.ok
+
+pub loop-step-preserved : goal.loop-step-preserved
+loop-step-preserved g c =
+    let context = context_of c.args.lent.now.client.now c.args.lent.now.policies.now c.args.lent.now.cookies.now
+    c.args.now in
+    let by = over_link g.L.Link.answer g.L.Link.next in
+    let limit = c.args.lent.now.limit in
+    let document = g.S.Share.document c.args.pass.now in
+    let whole = fetch context c.args.request in
+    let old = moment_of (world_of g.S.Share.own g.S.Share.left g.L.Link.state g.L.Link.left g.L.Link.faults
+    c.args.pass.now c.args.link.now c.args.wire.now) c.args.shown.now in
+    let now = moment_of (world_of g.S.Share.own g.S.Share.left g.L.Link.state g.L.Link.left g.L.Link.faults
+    c.loop-step.pass c.loop-step.link c.loop-step.wire) c.loop-step.shown in
+    let most = fetch_price acts context c.args.request in
+    let slack = g.S.Share.left c.args.pass.now - 126 in
+    let mid = world_of g.S.Share.own g.S.Share.left g.L.Link.state g.L.Link.left g.L.Link.faults c.answer.new.pass
+    c.answer.new.link c.answer.new.wire in
+    let came = subst (λ (d : ℕ). Answers by limit d now.world c.in-Going.act c.in_ok-input-in-Going.input mid)
+    c.loop-step.invariant.document c.in_ok-input-in-Going.ensures.came in
+    let here = subst (λ (s : Step). IsFetching by limit document context whole old most slack c.loop-step.acts now s)
+    c.in-Going.is c.loop-step.invariant.fetching in
+    record {
+      fetching = fetching-on by limit document context whole old most slack
+          c.loop-step.acts now c.in-Going.fetching c.in-Going.act here c.in_ok-input-in-Going.input mid
+          c.in_ok-input-in-Going.ensures.fits came c.add_act.new.self c.in_ok-step-in-Going.step
+          c.in_ok-add_act-in-Going.ensures.ok c.in_ok-step-in-Going.ensures.process;
+      belongs = c.in_ok-input-in-Going.ensures.belongs;
+      document = c.in_ok-input-in-Going.ensures.same.0 ∙ c.loop-step.invariant.document;
+      opening = c.in_ok-input-in-Going.ensures.same.1 ∙ c.loop-step.invariant.opening;
+    }
+
+pub returns-in-Over-clause-fetched : goal.returns-in-Over-clause-fetched
+returns-in-Over-clause-fetched g c =
+    let context = context_of c.args.lent.now.client.now c.args.lent.now.policies.now c.args.lent.now.cookies.now
+    c.args.now in
+    let by = over_link g.L.Link.answer g.L.Link.next in
+    let limit = c.args.lent.now.limit in
+    let document = g.S.Share.document c.args.pass.now in
+    let whole = fetch context c.args.request in
+    let old = moment_of (world_of g.S.Share.own g.S.Share.left g.L.Link.state g.L.Link.left g.L.Link.faults
+    c.args.pass.now c.args.link.now c.args.wire.now) c.args.shown.now in
+    let now = moment_of (world_of g.S.Share.own g.S.Share.left g.L.Link.state g.L.Link.left g.L.Link.faults
+    c.loop-step.pass c.loop-step.link c.loop-step.wire) c.loop-step.shown in
+    let most = fetch_price acts context c.args.request in
+    let slack = g.S.Share.left c.args.pass.now - 126 in
+    fetching-over by limit document context whole old most slack c.loop-step.acts now c.in-Over.outcome
+    (subst (λ (s : Step). IsFetching by limit document context whole old most slack c.loop-step.acts now s)
+    c.in-Over.is c.loop-step.invariant.fetching) (omega (arith, c.requires.left))
