@@ -1,20 +1,13 @@
--- The definitions computed on worked examples: what scripted servers answer to a document that fetches its
--- own root, and the run where there is no server.
-use Rattle.std.proofs.Common.{◌≡◌, arith, refl, true, false, inr, List, [], ◌∷◌, codes, Some, None}
-use Rattle.url.proofs.OnLiterals.{url_on_literals}
-use Rattle.wf_types.specs.declared.response.Outcome.TheVariants.{Error}
-use Rattle.wf_types.specs.declared.error.NetError.TheVariants.{BadHead}
+-- The definitions computed on worked examples: what scripted servers answer to a document that fetches its own root, and
+-- the book that a play opens with.
+use Rattle.std.proofs.Common.{◌≡◌, ℕ, Bool, refl, true, false, List, [], ◌∷◌, codes, Some, None}
+use Rattle.wf_book.specs.Book.{empty}
 use Rattle.wf_script.specs.Servers.{answer, answer_bytes}
+use Rattle.wf_script.specs.declared.types.KnownHost.{KnownHost}
 use Rattle.wf_script.specs.declared.types.Server.{Server}
-use Rattle.wf_http1.proofs.AnswerLemmas.{nothing-unfinished}
-use Rattle.wf_print.specs.declared.events.Ending.TheVariants.{Finished}
-use Rattle.wf_print.specs.declared.events.Event.TheVariants as event
-use Rattle.wf_fetch.specs.declared.act.Input.TheVariants.{Sent, HeadBad}
-use Rattle.wf_fetch.specs.Runs.{document_run}
-use Rattle.wf_fetch.proofs.Computed.{document, hop}
-use Rattle.wf_top.specs.Plays.{RunsOver, idle}
+use Rattle.wf_run.proofs.Computed.{hop}
+use Rattle.wf_top.specs.Plays.{with_hosts}
 use Rattle.wf_top.specs.Words.{is_play}
-use Rattle.wf_wire.proofs.WireLemmas.{uncaused}
 
 -- a server that answers PUT by 201 and all else by 200 with the body `hi`
 abbrev servers : List Server
@@ -27,6 +20,10 @@ servers =
           ∷ [];
     } ∷ []
 
+-- a host of a scenario
+abbrev known : List ℕ → Bool → ℕ → KnownHost
+known host subdomains until = record { host = host; subdomains = subdomains; until = until }
+
 -- the second rule answers the document's request
 pub second_rule : answer servers hop.origin hop.method hop.url ≡ answer_bytes 200 [] (codes "hi")
 second_rule = refl
@@ -36,33 +33,20 @@ pub without_a_rule : answer (record { origin = codes "https://a.test"; rules = [
     ≡ codes "HTTP/1.1 404 Scripted\r\n\r\n"
 without_a_rule = refl
 
-pub without_a_server : RunsOver 262144 (idle []) (document_run [] document)
-    (record {
-      events = event.Fetch 0 ∷ event.Sent hop ∷ event.Result (Error BadHead) ∷ [];
-      ending =
-          Some (Finished, 0);
-    })
-unfolding url_on_literals
-without_a_server = record {
-  tape = Sent ∷ HeadBad ∷ [];
-  is_tape = (
-    idle [],
-    record { answered = refl; framing_is = refl; state_is = refl; caused = uncaused Sent 0 0 (omega arith) refl },
-    (
-      idle [],
-      record {
-        head_is = (
-          record { bytes = []; told = refl; ends = inr nothing-unfinished },
-          record { end = refl; framing_is = refl },
-        );
-        state_is = refl;
-        caused = uncaused HeadBad 0 0 (omega arith) refl;
-      },
-      refl,
-    ),
-  );
-  run_is = refl;
-}
+pub without_a_server : answer [] hop.origin hop.method hop.url ≡ []
+without_a_server = refl
+
+-- of two equal hosts the one noted last counts, and one whose time is 0 is not held
+pub opened : with_hosts
+    (known (codes "a.test") true 5 ∷ known (codes "b.test") false 7 ∷ known (codes "a.test") false 9
+    ∷ known (codes "c.test") false 0 ∷ []) empty
+    ≡ record empty {
+      hosts =
+          record { host = codes "a.test"; subdomains = false; until = 9 }
+          ∷ record { host = codes "b.test"; subdomains = false; until = 7 }
+          ∷ [];
+    }
+opened = refl
 
 -- the words
 pub words : (is_play (codes "play" ∷ []) ≡ true) × (is_play [] ≡ false)

@@ -1,3 +1,4 @@
+pub mod Computed
 pub mod PlayLemmas
 pub mod ProgramLemmas
 pub mod StandingLemmas

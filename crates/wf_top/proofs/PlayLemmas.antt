@@ -59,8 +59,7 @@ pub turns-are : (book : Book) (turn most : ℕ) (history : List Entry) → most 
 turns-are book turn most [] is legal below = tt
 turns-are book turn most (e ∷ es) is legal below =
     let later = turns-fit (after book e.op) (e.turn + 1) most es legal.2 below.1 (omega (arith, below.0)) in
-    let here : e.turn ≡ turn = omega (arith, later, legal.0, is) in
-    (
+    let here : e.turn ≡ turn = omega (arith, later, legal.0, is) in (
       here,
       subst (λ (n : ℕ). HasTurnsFrom (n + 1) es) here
           (turns-are (after book e.op) (e.turn + 1) most es (omega (arith, is, here)) legal.2 below.1),
@@ -116,8 +115,8 @@ pub play-one : (scenario : Scenario) (one : Document) (transcript : Transcript) 
     (left left' calls : ℕ) → length scenario.documents ≤ 1 → slice_get scenario.documents 0 ≡ Some one
     → transcript.document ≡ 0 → transcript.key ≡ (document_client one).key → transcript.ending ≢ ending.Memory
     → Came by_bytes scenario.body_limit 0 (document_run scenario.cookies scenario.now one)
-        (servers_and scenario.servers [] left) transcript.events transcript.ending transcript.clock
-        (servers_and scenario.servers history left')
+    (servers_and scenario.servers [] left) transcript.events transcript.ending transcript.clock
+    (servers_and scenario.servers history left')
     → left ≡ 4294967295 → left' ≡ 4294967295 - calls → left ≤ left' + 129024
     → Legal (opening_book scenario) history → AllTurnsBelow calls history
     → IsPlay scenario (transcript ∷ []) history
