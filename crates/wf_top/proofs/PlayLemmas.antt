@@ -1,7 +1,8 @@
 -- A play of a scenario of one document, or of none.
-use Rattle.std.proofs.Common.{◌≡◌, ◌≢◌, ℕ, suc, ◌+◌, ◌-◌, ◌<◌, ◌≤◌, List, [], ◌∷◌, ◌++◌, length, Some, None, Option}
-use Rattle.std.proofs.Common.{refl, ap, sym, subst, ◌∙◌, arith, drop, drop-cons, get_or, add-one, Bool, true, false}
-use Rattle.std.specs.Prelude.{◌==◌, if◌then◌else◌, slice_get}
+use Rattle.std.proofs.Common.{◌≡◌, ◌≢◌, ℕ, suc, ◌+◌, ◌-◌, ◌<◌, ◌≤◌, List, [], ◌∷◌, ◌++◌, length, Some}
+use Rattle.std.proofs.Common.{refl, ap, sym, subst, ◌∙◌, arith, drop, drop-cons, get_or, add-one, Bool, true, inl, inr, cond}
+use Rattle.std.specs.Prelude.{◌==◌, slice_get}
+use Rattle.std.proofs.lemmas.Bool.Decides.{eqb_tells}
 use Rattle.std.specs.List.{AllByRecursion}
 use Rattle.wf_book.specs.declared.book.Book.{Book}
 use Rattle.wf_book.specs.declared.entry.Entry.{Entry}
@@ -18,12 +19,12 @@ use Rattle.wf_script.specs.declared.types.Document.{Document}
 use Rattle.wf_script.specs.declared.types.KnownHost.{KnownHost}
 use Rattle.wf_script.specs.declared.types.Scenario.{Scenario}
 use Rattle.wf_script.specs.declared.types.Server.{Server}
-use Rattle.wf_wire.specs.Exchanges.{Answering}
 use Rattle.wf_player.specs.Playing.{Came, Ran}
-use Rattle.wf_player.specs.Worlds.{Answers, Outside, Settles, World, outside_of}
+use Rattle.wf_player.specs.Worlds.{Outside}
+use Rattle.wf_player.proofs.AskLemmas.{outside-is}
 use Rattle.wf_player.proofs.CallLemmas.{trace-calls}
-use Rattle.wf_top.specs.Plays.{HasTurnsFrom, IsPlay, IsTranscript, by_rules, opening_book, servers_and, with_hosts}
-use Rattle.wf_top.proofs.StandingLemmas.{by_bytes, ran-by-rules}
+use Rattle.wf_top.specs.Plays.{HasTurnsFrom, IsPlay, by_rules, opening_book, servers_and, with_hosts}
+use Rattle.wf_top.proofs.StandingLemmas.{by_bytes, ran-by-rules, trace-state}
 
 -- ---- the book
 
@@ -70,10 +71,13 @@ turns-are book turn most (e ∷ es) is legal below =
 own-all : (number : ℕ) (history : List Entry) → AllByRecursion (λ (e : Entry). e.document ≡ number) history
     → entries_of number history ≡ history
 own-all number [] all = refl
-own-all number (e ∷ es) all = rw all.0 (rw (same number) (ap (λ (l : List Entry). e ∷ l) (own-all number es all.1)))
+own-all number (e ∷ es) all =
+    ap (λ (b : Bool). cond b (e ∷ entries_of number es) (entries_of number es))
+    (ap (λ (n : ℕ). n == number) all.0 ∙ same number)
+    ∙ ap (λ (l : List Entry). e ∷ l) (own-all number es all.1)
   where
     same : (n : ℕ) → (n == n) ≡ true
-    same n = omega arith
+    same n = elim (eqb_tells n n) [ inl y ↦ y.0 | inr apart ↦ absurd (apart.1 refl) ]
 
 named-below : (count : ℕ) (history : List Entry) → 0 < count
     → AllByRecursion (λ (e : Entry). e.document ≡ 0) history
@@ -107,23 +111,25 @@ play-none scenario book history none empty_is = rw (empty_is, none) (record {
 one-document : (documents : List Document) (one : Document) → length documents ≤ 1 → slice_get documents 0 ≡ Some one
     → documents ≡ one ∷ []
 one-document [] one few at = cc
-one-document (first ∷ []) one few at = grind (at)
+one-document (first ∷ []) one few at = let same : first ≡ one = cc in ap (λ (d : Document). d ∷ []) same
 one-document (first ∷ other ∷ more) one few at = absurd (omega (arith, few))
 
+some-document : (documents : List Document) → 0 < length documents
+    → (one : Document) × (slice_get documents 0 ≡ Some one)
+some-document [] some = absurd (omega (arith, some))
+some-document (one ∷ more) some = (one, refl)
+
 -- a scenario of one document
-pub play-one : (scenario : Scenario) (one : Document) (transcript : Transcript) (history : List Entry)
+play-one : (scenario : Scenario) (one : Document) (transcript : Transcript) (history : List Entry)
     (left left' calls : ℕ) → length scenario.documents ≤ 1 → slice_get scenario.documents 0 ≡ Some one
-    → transcript.document ≡ 0 → transcript.key ≡ (document_client one).key → transcript.ending ≢ ending.Memory
-    → Came by_bytes scenario.body_limit 0 (document_run scenario.cookies scenario.now one)
+    → transcript.document ≡ 0 → transcript.key ≡ (document_client one).key
+    → Ran by_bytes scenario.body_limit 0 (document_run scenario.cookies scenario.now one)
     (servers_and scenario.servers [] left) transcript.events transcript.ending transcript.clock
     (servers_and scenario.servers history left')
     → left ≡ 4294967295 → left' ≡ 4294967295 - calls → left ≤ left' + 129024
     → Legal (opening_book scenario) history → AllTurnsBelow calls history
     → IsPlay scenario (transcript ∷ []) history
-play-one scenario one transcript history left left' calls few at number key told came opened counted spent legal below =
-    let ran = ran-of scenario.body_limit 0 (document_run scenario.cookies scenario.now one)
-    (servers_and scenario.servers [] left) transcript.events transcript.ending transcript.clock
-    (servers_and scenario.servers history left') told came in
+play-one scenario one transcript history left left' calls few at number key ran opened counted spent legal below =
     let made = trace-calls by_bytes scenario.body_limit 0 ran.trace in
     let none : ran.first.own ≡ [] = ap (λ (o : Outside (List Server)). o.own) ran.from in
     let all : ran.last.own ≡ history = ap (λ (o : Outside (List Server)). o.own) ran.to in
@@ -158,3 +164,38 @@ play-one scenario one transcript history left left' calls few at number key told
         tt,
       );
     }
+
+-- the same of a link and a pass, whatever the link has come to
+pub play-solo : (scenario : Scenario) (transcript : Transcript) (transcripts : List Transcript) (history : List Entry)
+    (old new : Outside (List Server)) (opening : Book) (calls : ℕ) → length scenario.documents ≤ 1
+    → 0 < length scenario.documents → transcripts ≡ transcript ∷ [] → transcript.document ≡ 0
+    → ((one : Document) → slice_get scenario.documents 0 ≡ Some one → transcript.ending ≢ ending.Memory
+    → transcript.key ≡ (document_client one).key)
+    → transcript.ending ≢ ending.Memory
+    → ((one : Document) → slice_get scenario.documents 0 ≡ Some one
+    → Came by_bytes scenario.body_limit 0 (document_run scenario.cookies scenario.now one) old transcript.events
+    transcript.ending transcript.clock new)
+    → old ≡ servers_and scenario.servers [] 4294967295 → new.faults ≡ 0 → history ≡ new.own
+    → new.left ≡ 4294967295 - calls → old.left ≤ new.left + 129024 → opening ≡ opening_book scenario
+    → Legal opening history → AllTurnsBelow calls history → IsPlay scenario transcripts history
+play-solo scenario transcript transcripts history old new opening calls few some pushed number key told came opened
+    none own counted spent opens legal below =
+    let one = some-document scenario.documents some in
+    let ran = ran-of scenario.body_limit 0 (document_run scenario.cookies scenario.now one.0) old transcript.events
+    transcript.ending transcript.clock new told (came one.0 one.1) in
+    let state : new.state ≡ Some scenario.servers =
+    sym (ap (λ (o : Outside (List Server)). o.state) ran.to) ∙ trace-state scenario.body_limit 0 ran.trace
+    ∙ ap (λ (o : Outside (List Server)). o.state) (ran.from ∙ opened) in
+    let here : new ≡ servers_and scenario.servers history new.left =
+    outside-is new (servers_and scenario.servers history new.left) state none (sym own) refl in
+    let first : old.left ≡ 4294967295 = ap (λ (o : Outside (List Server)). o.left) opened in
+    rw pushed (play-one scenario one.0 transcript history 4294967295 new.left calls few one.1 number
+    (key one.0 one.1 told)
+    (subst (λ (o : Outside (List Server)). Ran by_bytes scenario.body_limit 0
+    (document_run scenario.cookies scenario.now one.0) (servers_and scenario.servers [] 4294967295) transcript.events
+    transcript.ending transcript.clock o) here
+    (subst (λ (o : Outside (List Server)). Ran by_bytes scenario.body_limit 0
+    (document_run scenario.cookies scenario.now one.0) o transcript.events transcript.ending transcript.clock new)
+    opened ran))
+    refl counted (omega (arith, spent, first))
+    (subst (λ (b : Book). Legal b history) opens legal) below)

@@ -1,21 +1,24 @@
 -- Scripted servers as what answers a document's requests: by the bytes of a request, as the link has them, and by its
 -- method and its target.
-use Rattle.std.proofs.Common.{◌≡◌, ℕ, List, refl, ap, ◌∙◌, Option, Some}
+use Rattle.std.proofs.Common.{◌≡◌, ℕ, List, refl, ap, ◌∙◌, Option, Some, None}
+use Rattle.std.specs.Prelude.{option_map}
 use Rattle.wf_act.specs.declared.act.Act.{Act}
 use Rattle.wf_act.specs.declared.act.Act.TheVariants.{Ask, Send, ReadHead, ReadBody, Tell}
 use Rattle.wf_act.specs.declared.act.Input.{Input}
 use Rattle.wf_print.specs.declared.events.Ending.{Ending}
 use Rattle.wf_print.specs.declared.events.Event.{Event}
+use Rattle.wf_print.specs.declared.events.Event.TheVariants as event
 use Rattle.wf_run.specs.Play.{Play}
+use Rattle.wf_run.specs.Traces.{PlayTrace, stop, shown, stepped}
 use Rattle.wf_run.proofs.PlayLemmas.{play-map}
 use Rattle.wf_script.specs.declared.types.Server.{Server}
 use Rattle.wf_sim.specs.Sim.{answer_to}
 use Rattle.wf_sim.proofs.SimLemmas.{answers-by_parts}
-use Rattle.wf_wire.specs.Exchanges.{Answering}
+use Rattle.wf_wire.specs.Exchanges.{Answering, Exchange}
 use Rattle.wf_wire.specs.Wires.{over_link}
 use Rattle.wf_wire.proofs.LawLemmas.{exchange-alike}
 use Rattle.wf_player.specs.Playing.{Ran}
-use Rattle.wf_player.specs.Worlds.{Answers, IsExchanged, Outside, Settles, World}
+use Rattle.wf_player.specs.Worlds.{Answers, Outside, Settles, World}
 use Rattle.wf_top.specs.Plays.{by_rules}
 
 -- the servers as a link has them
@@ -63,3 +66,39 @@ ran-by-rules limit document whole old events ending clock new x = record {
   to = x.to;
   runs = x.runs;
 }
+
+-- ---- the state
+
+-- the servers are the same behind an ask
+asked-state : (state : Option (List Server)) → option_map (λ (servers : List Server). servers) state ≡ state
+asked-state (Some servers) = refl
+asked-state None = refl
+
+act-state : (limit document : ℕ) (a : World (List Server)) (first : Act) (input : Input) (b : World (List Server))
+    → Answers by_bytes limit document a first input b → b.exchange.state ≡ a.exchange.state
+act-state limit document a (Ask op) input b is = ap (λ (e : Exchange (List Server)). e.state) is.exchange_is
+act-state limit document a (Send hop) input b is = is.1.exchanged.state_is ∙ asked-state a.exchange.state
+act-state limit document a ReadHead input b is = is.exchanged.state_is
+act-state limit document a ReadBody input b is = is.exchanged.state_is
+act-state limit document a (Tell violation) input b is = ap (λ (w : World (List Server)). w.exchange.state) is.1
+
+event-state : (a : World (List Server)) (shown : Event) (b : World (List Server)) → Settles shown a b
+    → b.exchange.state ≡ a.exchange.state
+event-state a (event.Result outcome) b is = ap (λ (o : Outside (List Server)). o.state) is.outside_is
+event-state a (event.Fetch n) b is = ap (λ (w : World (List Server)). w.exchange.state) is
+event-state a (event.Load n kind) b is = ap (λ (w : World (List Server)). w.exchange.state) is
+event-state a (event.Call op reply) b is = ap (λ (w : World (List Server)). w.exchange.state) is
+event-state a (event.Sent hop) b is = ap (λ (w : World (List Server)). w.exchange.state) is
+event-state a (event.Told violation) b is = ap (λ (w : World (List Server)). w.exchange.state) is
+event-state a (event.LoadFailed error) b is = ap (λ (w : World (List Server)). w.exchange.state) is
+event-state a (event.TypeError fault) b is = ap (λ (w : World (List Server)). w.exchange.state) is
+event-state a (event.LoadError fault) b is = ap (λ (w : World (List Server)). w.exchange.state) is
+
+-- the servers stay as they are over a run
+pub trace-state : (limit document : ℕ) {p q : Play} {a b : World (List Server)} {t : List Input} {e : List Event}
+    → PlayTrace (Answers by_bytes limit document) Settles p a t e q b → b.exchange.state ≡ a.exchange.state
+trace-state limit document stop = refl
+trace-state limit document {a = a} (shown {mid = mid} one is x) =
+    trace-state limit document x ∙ event-state a one mid is
+trace-state limit document {a = a} (stepped {mid = mid} request first after input is fit x) =
+    trace-state limit document x ∙ act-state limit document a first input mid is

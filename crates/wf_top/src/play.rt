@@ -1,4 +1,4 @@
-ghost use Rattle.std.specs.Prelude.{◌≡◌, ◌<◌, [], length, IfOk, OnOk};
+ghost use Rattle.std.specs.Prelude.{◌≡◌, ◌≢◌, ◌<◌, [], length, false, IfOk, OnOk};
 ghost use Rattle.std.specs.List.{All};
 ghost use Rattle.wf_book.specs.Book.{after, empty};
 ghost use Rattle.wf_book.specs.declared.op.Op.TheVariants.{Note};
@@ -52,6 +52,42 @@ fn opening_book(alloc: Global, hosts: &[KnownHost]) -> Result<Book, OutOfMemory>
     Ok(book)
 }
 
+// Whether a document ended for memory.
+fn ended_for_memory(ending: Ending) -> bool
+    ensures { result ≡ false → ending ≢ Ending.Memory }
+{
+    matches!(ending, Ending::Memory)
+}
+
+// Plays a scenario of one document, whose book has its hosts already.
+fn play_one<R: Threads + Wait + Sync>(
+    rt: &R,
+    alloc: Global,
+    scenario: &Scenario,
+    book: Book,
+) -> Result<Played, OutOfMemory>
+    requires valid { IsValid scenario.now }
+    requires some { 0 < length scenario.now.documents }
+    requires opened { book ≡ spec.opening_book scenario.now }
+    ensures played { IfOk result (λ played. IsPlay scenario.entry.now played.transcripts played.history) }
+    ensures has_text { IfOk result (λ played. HasText played.transcripts) }
+{
+    let (share, mut pass) = SoloBook::new(alloc, book);
+    let mut link = SimLink::new(scenario);
+    let base = scenario.now;
+    let transcript = drive(rt, alloc, scenario, 0, base, &share, &mut pass, &mut link);
+    if ended_for_memory(transcript.ending) {
+        return Err(OutOfMemory);
+    }
+    let mut transcripts = Transcripts::new(alloc);
+    transcripts.push(transcript)?;
+    let (_, history) = share.close(pass);
+    Ok(Played {
+        transcripts,
+        history,
+    })
+}
+
 // Plays a scenario: the run of its one document, if it has one, over a book that opens with its hosts.
 pub(crate) fn play_all<R: Threads + Wait + Sync>(
     rt: &R,
@@ -59,24 +95,15 @@ pub(crate) fn play_all<R: Threads + Wait + Sync>(
     scenario: &Scenario,
 ) -> Result<Played, OutOfMemory>
     requires { IsValid scenario.now }
-    ensures played { IfOk result (λ played. IsPlay scenario.now played.transcripts played.history) }
+    ensures played { IfOk result (λ played. IsPlay scenario.entry.now played.transcripts played.history) }
     ensures has_text { IfOk result (λ played. HasText played.transcripts) }
 {
-    let book = opening_book(alloc, scenario.hosts.as_slice())?;
-    let (share, mut pass) = SoloBook::new(alloc, book);
-    let mut transcripts = Transcripts::new(alloc);
-    if !scenario.documents.is_empty() {
-        let mut link = SimLink::new(scenario);
-        let base = scenario.now;
-        let transcript = drive(rt, alloc, scenario, 0, base, &share, &mut pass, &mut link);
-        if transcript.ending == Ending::Memory {
-            return Err(OutOfMemory);
-        }
-        transcripts.push(transcript)?;
+    if scenario.documents.is_empty() {
+        return Ok(Played {
+            transcripts: Transcripts::new(alloc),
+            history: History::new(alloc),
+        });
     }
-    let (_, history) = share.close(pass);
-    Ok(Played {
-        transcripts,
-        history,
-    })
+    let book = opening_book(alloc, scenario.hosts.as_slice())?;
+    play_one(rt, alloc, scenario, book)
 }

@@ -95,7 +95,7 @@ fn play<R: Threads + Wait + Sync, K: Sink>(
     output: &mut K,
 ) -> Status
     requires { IsValid scenario.now }
-    ensures { (bytes : List ℕ) → scenario_of bytes ≡ Ok scenario.now
+    ensures { (bytes : List ℕ) → scenario_of bytes ≡ Ok scenario.entry.now
         → IsOutcome bytes (sink_of K.taken K.faults K.zeros output.old)
         (sink_of K.taken K.faults K.zeros output.new) result }
 {
