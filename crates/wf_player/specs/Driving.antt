@@ -34,7 +34,7 @@ pub record FetchedTo {State : Type 0} (by : Answering State) (limit document : �
   pub few : old.world.left ≤ new.world.left + 126
 
 -- Memory was refused: the fetch came to some place, and what was added to the events begins what it showed on the way;
--- what it missed is the one event of an act that was answered and could not be noted.
+-- what is missed there came about and was not noted.
 pub record FetchCut {State : Type 0} (by : Answering State) (limit document : ℕ) (whole : Process)
     (old new : Moment State) : Type 0 where
   pub tape : List Input

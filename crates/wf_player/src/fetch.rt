@@ -90,8 +90,8 @@ pub(crate) fn run_fetch<R: Threads + Wait + Sync, S: Share, L: Link>(
 ///
 /// What it has shown and what it came to are those of the fetch over a tape of what the world answers: each
 /// reply is that of the entry by which the pass's own grew; heads and bodies are those of the link's answers,
-/// where it tells them, and a fault comes only where its count of faults rose. Nothing more of the last
-/// answer is to come then. Where memory was refused the calls that were made stand.
+/// where it tells them, and a fault comes only where its count of faults rose. At the end the link is hung
+/// up. Where memory was refused the calls that were made stand.
 pub fn drive_fetch<R: Threads + Wait + Sync, S: Share, L: Link>(
     rt: &R,
     alloc: Global,

@@ -2,8 +2,8 @@
 -- answer and over the document's own entries of that history (this project's own; what a run does is wf_run's
 -- definition, and what comes of its acts wf_player's).
 --
--- A run is the whole fetch as its definition has it (wf_fetch). What a scenario cannot ask for yet (other modes, other
--- origins, policies, loads) does not come about in a play.
+-- A run is the whole fetch as its definition has it (wf_fetch); what a scenario cannot ask for yet (other modes, policies,
+-- loads) does not come about in a play.
 use Rattle.std.specs.Prelude.{◌≡◌, ℕ, ◌+◌, ◌<◌, List, [], ◌∷◌, length, Some}
 use Rattle.std.specs.List.{AllByRecursion}
 use Rattle.wf_book.specs.declared.book.Book.{Book}
