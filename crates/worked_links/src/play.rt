@@ -31,7 +31,11 @@ fn scenario_of(alloc: Global, line: &str) -> Result<Scenario, Failed>
 
 // Prints how often a link was asked, and how often it failed.
 pub(crate) fn tell<R: Print>(rt: &R, alloc: Global, link: &MemoryLink) -> Result<(), Failed> {
-    println!(rt; "asked {}, failed {}", link.asks(alloc)?.len(), link.faults())?;
+    println!(rt;
+        "asked {}, failed {}",
+        link.asks(alloc)?.len(),
+        link.faults()
+    )?;
     Ok(())
 }
 
