@@ -101,7 +101,7 @@ leads-same context result p q same leads = subst (λ (r : Process). Leads contex
 -- what is done with a level that was changed is done with what it was changed to
 pub leads-changed : (lent : Lent) (result : Result Step OutOfMemory) (level changed : Level) (request : Request)
     (rule : Onward → Context → Then → Request → Process)
-    → changed.request ≡ request → changed.owed ≡ level.owed → changed.owes ≡ level.owes → changed.now ≡ level.now
+    → changed.request.value ≡ request → changed.owed ≡ level.owed → changed.owes ≡ level.owes → changed.now ≡ level.now
     → Leads (lent_at lent changed.now) result (at_level (lent_at lent changed.now) changed rule)
     → Leads (lent_at lent level.now) result
     (rule (onward_of (lent_at lent level.now) request) (lent_at lent level.now)

@@ -39,7 +39,7 @@ next_of context owed owes = owing context owes (clears context owed)
 -- a rule at a level: what it does with the level's request, and what follows
 abbrev pub at_level : Context → Level → (Onward → Context → Then → Request → Process) → Process
 at_level context level rule =
-    rule (onward_of context level.request) context (next_of context level.owed level.owes) level.request
+    rule (onward_of context level.request.value) context (next_of context level.owed level.owes) level.request.value
 
 -- how it goes on from an input at a place
 abbrev pub from_place : Onward → Context → Then → Request → Place → Input → Process
@@ -80,7 +80,7 @@ pub record IsGoing (context : Context) (fetching : Fetching) (first : Act) (whol
   pub last : fetching.last.value ≡ first
   pub now : fetching.level.now ≡ context.now
   pub plain : IsPlain first
-  pub process : whole ≡ act fetching.level.request first (rest context fetching)
+  pub process : whole ≡ act fetching.level.request.value first (rest context fetching)
 
 -- the step is what the process does first
 abbrev pub Does : Context → Step → Process → Type 0
@@ -105,4 +105,4 @@ RunsAs context (Over outcome) runs = (tape : List Input) → runs tape ≡ recor
 -- the level with another request
 abbrev pub IsLevelWith : Request → Level → Level → Type 0
 IsLevelWith request level made =
-    (made.request ≡ request) × (made.owed ≡ level.owed) × (made.owes ≡ level.owes) × (made.now ≡ level.now)
+    (made.request.value ≡ request) × (made.owed ≡ level.owed) × (made.owes ≡ level.owes) × (made.now ≡ level.now)

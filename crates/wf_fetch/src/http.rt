@@ -12,7 +12,7 @@ ghost use Rattle.wf_fetch.specs.Then.{Context};
 
 use crate::lent::Lent;
 use crate::main_fetch::begin;
-use crate::place::{Level, Place, Step};
+use crate::place::{Level, Place, Step, boxed};
 use crate::steps::{finish, going, refused};
 use std::alloc::Global;
 use url::Url;
@@ -25,7 +25,7 @@ use wf_types::{Head, NetError, Request};
 
 // HTTP fetch: the request is sent.
 pub(crate) fn send(alloc: Global, lent: &Lent<'_>, level: Level) -> Result<Step, OutOfMemory>
-    requires { IsReady level.request }
+    requires { IsReady level.request.value }
     ensures { Leads (lent_at lent.now level.now) result
         (at_level (lent_at lent.now level.now) level spec.http_fetch) }
 {
@@ -40,7 +40,7 @@ pub(crate) fn read_head(
     level: Level,
     sent: bool,
 ) -> Result<Step, OutOfMemory>
-    requires { IsReady level.request }
+    requires { IsReady level.request.value }
     ensures { Leads (lent_at lent.now level.now) result
         (at_level (lent_at lent.now level.now) level (λ onward context next request.
         spec.read_head onward context next request sent)) }
@@ -60,7 +60,7 @@ pub(crate) fn answered(
     came: Result<Head, NetError>,
 ) -> Result<Step, OutOfMemory>
     requires client { IsClient lent.now.client.now }
-    requires ready { IsReady level.request }
+    requires ready { IsReady level.request.value }
     ensures { Leads (lent_at lent.now level.now) result
         (at_level (lent_at lent.now level.now) level (λ onward context next request.
         spec.answered onward context next request came)) }
@@ -83,7 +83,7 @@ pub(crate) fn judge(
     head: Head,
 ) -> Result<Step, OutOfMemory>
     requires client { IsClient lent.now.client.now }
-    requires ready { IsReady level.request }
+    requires ready { IsReady level.request.value }
     ensures { Leads (lent_at lent.now level.now) result
         (at_level (lent_at lent.now level.now) level (λ onward context next request.
         spec.judged onward next request head (refusal_of request head))) }
@@ -102,7 +102,7 @@ pub(crate) fn redirect(
     head: Head,
 ) -> Result<Step, OutOfMemory>
     requires client { IsClient lent.now.client.now }
-    requires ready { IsReady level.request }
+    requires ready { IsReady level.request.value }
     ensures { Leads (lent_at lent.now level.now) result
         (at_level (lent_at lent.now level.now) level (λ onward context next request.
         spec.redirected onward next request head (redirection_of request head))) }
@@ -132,12 +132,12 @@ pub(crate) fn follow(
     url: Url,
 ) -> Result<Step, OutOfMemory>
     requires client { IsClient lent.now.client.now }
-    requires few { level.request.redirects < 20 }
+    requires few { level.request.value.redirects < 20 }
     requires http { IsTrue (is_http_url url) }
-    requires ready { IsReady level.request }
+    requires ready { IsReady level.request.value }
     ensures { Leads (lent_at lent.now level.now) result
-        (onward_of (lent_at lent.now level.now) level.request
-        (next_of (lent_at lent.now level.now) level.owed level.owes) (after_redirect level.request head url)) }
+        (onward_of (lent_at lent.now level.now) level.request.value
+        (next_of (lent_at lent.now level.now) level.owed level.owes) (after_redirect level.request.value head url)) }
 {
     let Level {
         request,
@@ -145,8 +145,9 @@ pub(crate) fn follow(
         owes,
         now,
     } = level;
+    let request = redirected(alloc, Box::into_inner(request), &head, url)?;
     let level = Level {
-        request: redirected(alloc, request, &head, url)?,
+        request: boxed(alloc, request)?,
         owed: total_owed(owed, owes),
         owes: false,
         now,

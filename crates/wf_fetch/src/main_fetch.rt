@@ -21,17 +21,17 @@ use std::alloc::Global;
 use wf_act::Act;
 use wf_csp::Violations;
 use wf_rules::{
-    Switch, is_at_http, match_of, refusal_before, secured, switch_of, upgraded, with_referrer,
-    with_tainting,
+    Switch, is_at_http, match_of, refusal_before, secure, set_referrer, set_tainting, switch_of,
+    upgrade_request,
 };
 use wf_text::OutOfMemory;
 use wf_types::{NetError, Tainting};
 
 // The level with this response tainting of its request.
 fn tainted(level: Level, tainting: Tainting) -> Level
-    requires { IsReady level.request }
-    ensures value { IsLevelWith (tainted_with tainting level.request) level result }
-    ensures ready { IsReady result.request }
+    requires { IsReady level.request.value }
+    ensures value { IsLevelWith (tainted_with tainting level.request.value) level result }
+    ensures ready { IsReady result.request.value }
 {
     let Level {
         request,
@@ -39,8 +39,10 @@ fn tainted(level: Level, tainting: Tainting) -> Level
         owes,
         now,
     } = level;
+    let mut request = request;
+    set_tainting(&mut request, tainting);
     Level {
-        request: with_tainting(request, tainting),
+        request,
         owed,
         owes,
         now,
@@ -49,9 +51,9 @@ fn tainted(level: Level, tainting: Tainting) -> Level
 
 // The level with its request over https.
 fn secured_level(level: Level) -> Result<Level, OutOfMemory>
-    requires { IsReady level.request }
-    ensures value { IfOk result (IsLevelWith (secured_as level.request) level) }
-    ensures ready { IfOk result (λ secured. IsReady secured.request) }
+    requires { IsReady level.request.value }
+    ensures value { IfOk result (IsLevelWith (secured_as level.request.value) level) }
+    ensures ready { IfOk result (λ secured. IsReady secured.request.value) }
 {
     let Level {
         request,
@@ -59,8 +61,10 @@ fn secured_level(level: Level) -> Result<Level, OutOfMemory>
         owes,
         now,
     } = level;
+    let mut request = request;
+    secure(&mut request)?;
     Ok(Level {
-        request: secured(request)?,
+        request,
         owed,
         owes,
         now,
@@ -69,10 +73,10 @@ fn secured_level(level: Level) -> Result<Level, OutOfMemory>
 
 // The level with its request upgraded where it is to be.
 fn upgraded_level(lent: &Lent<'_>, level: Level) -> Result<Level, OutOfMemory>
-    requires { IsAtHttp level.request }
+    requires { IsAtHttp level.request.value }
     ensures value { IfOk result (IsLevelWith
-        (upgraded_for lent.now.client.now lent.now.policies.now level.request) level) }
-    ensures http { IfOk result (λ upgraded. IsAtHttp upgraded.request) }
+        (upgraded_for lent.now.client.now lent.now.policies.now level.request.value) level) }
+    ensures http { IfOk result (λ upgraded. IsAtHttp upgraded.request.value) }
 {
     let Level {
         request,
@@ -80,8 +84,10 @@ fn upgraded_level(lent: &Lent<'_>, level: Level) -> Result<Level, OutOfMemory>
         owes,
         now,
     } = level;
+    let mut request = request;
+    upgrade_request(&mut request, lent.client, lent.policies)?;
     Ok(Level {
-        request: upgraded(request, lent.client, lent.policies)?,
+        request,
         owed,
         owes,
         now,
@@ -90,10 +96,10 @@ fn upgraded_level(lent: &Lent<'_>, level: Level) -> Result<Level, OutOfMemory>
 
 // The level with the referrer policy of its request, and its referrer by that policy.
 fn referred(alloc: Global, lent: &Lent<'_>, level: Level) -> Result<Level, OutOfMemory>
-    requires http { IsAtHttp level.request }
+    requires http { IsAtHttp level.request.value }
     requires client { IsClient lent.now.client.now }
-    ensures value { IfOk result (IsLevelWith (referred_for lent.now.client.now level.request) level) }
-    ensures ready { IfOk result (λ referred. IsReady referred.request) }
+    ensures value { IfOk result (IsLevelWith (referred_for lent.now.client.now level.request.value) level) }
+    ensures ready { IfOk result (λ referred. IsReady referred.request.value) }
 {
     let Level {
         request,
@@ -101,8 +107,10 @@ fn referred(alloc: Global, lent: &Lent<'_>, level: Level) -> Result<Level, OutOf
         owes,
         now,
     } = level;
+    let mut request = request;
+    set_referrer(alloc, &mut request, lent.client)?;
     Ok(Level {
-        request: with_referrer(alloc, request, lent.client)?,
+        request,
         owed,
         owes,
         now,
@@ -111,7 +119,7 @@ fn referred(alloc: Global, lent: &Lent<'_>, level: Level) -> Result<Level, OutOf
 
 // The switch of main fetch.
 pub(crate) fn switch(alloc: Global, lent: &Lent<'_>, level: Level) -> Result<Step, OutOfMemory>
-    requires ready { IsReady level.request }
+    requires ready { IsReady level.request.value }
     requires owes { level.owes ≡ false }
     ensures { Leads (lent_at lent.now level.now) result
         (at_level (lent_at lent.now level.now) level spec.switched) }
@@ -130,7 +138,7 @@ pub(crate) fn matched(
     level: Level,
     yes: bool,
 ) -> Result<Step, OutOfMemory>
-    requires ready { IsReady level.request }
+    requires ready { IsReady level.request.value }
     requires owes { level.owes ≡ false }
     ensures { Leads (lent_at lent.now level.now) result
         (at_level (lent_at lent.now level.now) level (λ onward context next request.
@@ -144,7 +152,7 @@ pub(crate) fn matched(
 
 // The book is asked for the host, where there is a question.
 pub(crate) fn ask_host(alloc: Global, lent: &Lent<'_>, level: Level) -> Result<Step, OutOfMemory>
-    requires ready { IsReady level.request }
+    requires ready { IsReady level.request.value }
     requires owes { level.owes ≡ false }
     ensures { Leads (lent_at lent.now level.now) result
         (at_level (lent_at lent.now level.now) level spec.matched) }
@@ -163,7 +171,7 @@ pub(crate) fn tell_blocks(
     violations: Violations,
     at: usize,
 ) -> Result<Step, OutOfMemory>
-    requires http { IsAtHttp level.request }
+    requires http { IsAtHttp level.request.value }
     requires owes { level.owes ≡ false }
     ensures { Leads (lent_at lent.now level.now) result
         (at_level (lent_at lent.now level.now) level
@@ -181,7 +189,7 @@ pub(crate) fn tell_blocks(
 // Enforced policies that are violated block the request.
 fn check_policies(alloc: Global, lent: &Lent<'_>, level: Level) -> Result<Step, OutOfMemory>
     requires client { IsClient lent.now.client.now }
-    requires http { IsAtHttp level.request }
+    requires http { IsAtHttp level.request.value }
     requires owes { level.owes ≡ false }
     ensures { Leads (lent_at lent.now level.now) result (at_level (lent_at lent.now level.now) level
         (λ onward context next request. spec.unless_violated onward context next request
@@ -201,7 +209,7 @@ fn check_policies(alloc: Global, lent: &Lent<'_>, level: Level) -> Result<Step, 
 // A bad port, mixed content and enforced policies block the request, in this order.
 fn check(alloc: Global, lent: &Lent<'_>, level: Level) -> Result<Step, OutOfMemory>
     requires client { IsClient lent.now.client.now }
-    requires http { IsAtHttp level.request }
+    requires http { IsAtHttp level.request.value }
     requires owes { level.owes ≡ false }
     ensures { Leads (lent_at lent.now level.now) result
         (at_level (lent_at lent.now level.now) level spec.checked) }
@@ -221,7 +229,7 @@ pub(crate) fn tell_reports(
     at: usize,
 ) -> Result<Step, OutOfMemory>
     requires client { IsClient lent.now.client.now }
-    requires http { IsAtHttp level.request }
+    requires http { IsAtHttp level.request.value }
     requires owes { level.owes ≡ false }
     ensures { Leads (lent_at lent.now level.now) result
         (at_level (lent_at lent.now level.now) level

@@ -1,24 +1,36 @@
-ghost use Rattle.std.specs.Prelude.{◌≡◌, ◌≤◌, ◌<◌, ◌^◌, false, IsTrue};
+ghost use Rattle.std.specs.Prelude.{◌≡◌, ◌≤◌, ◌<◌, ◌^◌, false, IfOk, IsTrue};
 ghost use Rattle.wf_types.specs.Requests.{IsRequest};
 ghost use Rattle.wf_fetch.specs.Ready.{is_ready_at, owes_early};
 
+use std::alloc::Global;
 use std::snapshot::Snapshot;
 use wf_act::Act;
 use wf_answers::Ended;
 use wf_cors::Checked;
 use wf_csp::Violations;
+use wf_text::OutOfMemory;
 use wf_types::{Head, NetError, Outcome, Request, Response};
 
 /// The request as it stands, how many outer levels owe a clear, whether this one does, and the time.
 #[derive(Drop)]
 pub struct Level {
-    pub(crate) request: Request,
+    pub(crate) request: Box<Request>,
     pub(crate) owed: u32,
     pub(crate) owes: bool,
     pub(crate) now: u64,
-    pub ghost valid: { IsRequest request },
-    pub ghost few: { owed ≤ request.redirects },
+    pub ghost valid: { IsRequest request.value },
+    pub ghost few: { owed ≤ request.value.redirects },
     pub ghost timely: { now < 2 ^ 48 },
+}
+
+// A request in a place of its own, so that a level is moved at little cost.
+pub(crate) fn boxed(alloc: Global, request: Request) -> Result<Box<Request>, OutOfMemory>
+    ensures { IfOk result (λ boxed. boxed.value ≡ request) }
+{
+    match Box::new(alloc, request) {
+        Ok(boxed) => Ok(boxed),
+        Err(_) => Err(OutOfMemory),
+    }
 }
 
 /// What a fetch waits for.
@@ -60,7 +72,7 @@ pub struct Fetching {
     pub(crate) level: Level,
     pub(crate) place: Place,
     pub(crate) last: Snapshot<Act>,
-    pub ghost ready: { IsTrue (is_ready_at place level.request) },
+    pub ghost ready: { IsTrue (is_ready_at place level.request.value) },
     pub ghost fresh: { owes_early place level.owes ≡ false },
 }
 

@@ -20,7 +20,7 @@ use wf_types::{Head, NetError, Request, serialized_origin};
 
 // HTTP fetch with a CORS-preflight: the preflight cache is asked. From here on the level owes a clear.
 pub(crate) fn ask_cache(alloc: Global, lent: &Lent<'_>, level: Level) -> Result<Step, OutOfMemory>
-    requires ready { IsReady level.request }
+    requires ready { IsReady level.request.value }
     requires owes { level.owes ≡ false }
     ensures { Leads (lent_at lent.now level.now) result
         (at_level (lent_at lent.now level.now) level spec.with_preflight) }
@@ -38,7 +38,7 @@ pub(crate) fn covered(
     level: Level,
     yes: bool,
 ) -> Result<Step, OutOfMemory>
-    requires { IsReady level.request }
+    requires { IsReady level.request.value }
     ensures { Leads (lent_at lent.now level.now) result
         (at_level (lent_at lent.now level.now) level (λ onward context next request.
         spec.covered_or_not onward context next request yes)) }
@@ -56,7 +56,7 @@ pub(crate) fn send_preflight(
     lent: &Lent<'_>,
     level: Level,
 ) -> Result<Step, OutOfMemory>
-    requires { IsReady level.request }
+    requires { IsReady level.request.value }
     ensures { Leads (lent_at lent.now level.now) result
         (at_level (lent_at lent.now level.now) level spec.preflight_fetch) }
 {
@@ -72,7 +72,7 @@ pub(crate) fn read_preflight_head(
     level: Level,
     sent: bool,
 ) -> Result<Step, OutOfMemory>
-    requires { IsReady level.request }
+    requires { IsReady level.request.value }
     ensures { Leads (lent_at lent.now level.now) result
         (at_level (lent_at lent.now level.now) level (λ onward context next request.
         spec.read_preflight_head onward context next request sent)) }
@@ -102,7 +102,7 @@ pub(crate) fn preflight_answered(
     level: Level,
     came: Result<Head, NetError>,
 ) -> Result<Step, OutOfMemory>
-    requires { IsReady level.request }
+    requires { IsReady level.request.value }
     ensures { Leads (lent_at lent.now level.now) result
         (at_level (lent_at lent.now level.now) level (λ onward context next request.
         spec.preflight_answered onward context next request came)) }
@@ -125,7 +125,7 @@ pub(crate) fn judge_preflight(
     level: Level,
     checked: Checked,
 ) -> Result<Step, OutOfMemory>
-    requires { IsReady level.request }
+    requires { IsReady level.request.value }
     ensures { Leads (lent_at lent.now level.now) result
         (at_level (lent_at lent.now level.now) level (λ onward context next request.
         spec.preflight_judged onward context next request checked)) }

@@ -10,7 +10,7 @@ ghost use Rattle.wf_types.specs.Requests.{IsClient, IsRequest};
 use crate::http::{answered, judge, read_head, send};
 use crate::lent::Lent;
 use crate::main_fetch::{begin, matched, tell_blocks, tell_reports};
-use crate::place::{Fetching, Level, Place, Step};
+use crate::place::{Fetching, Level, Place, Step, boxed};
 use crate::preflight::{covered, judge_preflight, preflight_answered, read_preflight_head};
 use crate::steps::{body_read, refused, tell_at_end};
 use std::alloc::Global;
@@ -82,7 +82,7 @@ impl Fetching {
             cookies,
         };
         let level = Level {
-            request,
+            request: boxed(alloc, request)?,
             owed: 0,
             owes: false,
             now,

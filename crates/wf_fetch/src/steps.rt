@@ -36,11 +36,11 @@ pub(crate) fn copied(alloc: Global, violation: &Violation) -> Result<Violation, 
 
 // It asks for an act at a place of the level, and waits.
 pub(crate) fn going(lent: &Lent<'_>, level: Level, place: Place, act: Act) -> Step
-    requires ready { IsTrue (is_ready_at place level.request) }
+    requires ready { IsTrue (is_ready_at place level.request.value) }
     requires fresh { owes_early place level.owes ≡ false }
     requires plain { IsPlain act }
     ensures { Does (lent_at lent.now level.now) result
-        (acting level.request act (rest_at (lent_at lent.now level.now) level place)) }
+        (acting level.request.value act (rest_at (lent_at lent.now level.now) level place)) }
 {
     let last = Snapshot::of(&act);
     Step::Going(Fetching { level, place, last }, act)
@@ -68,7 +68,7 @@ pub(crate) fn refused(
     error: NetError,
 ) -> Result<Step, OutOfMemory>
     ensures { Leads (lent_at lent.now level.now) result
-        (next_of (lent_at lent.now level.now) level.owed level.owes level.request (Err error)) }
+        (next_of (lent_at lent.now level.now) level.owed level.owes level.request.value (Err error)) }
 {
     let Level {
         request,
@@ -91,7 +91,7 @@ pub(crate) fn refused(
 
 // The fetch is over, or the body is read.
 fn end(lent: &Lent<'_>, level: Level, ended: Ended) -> Step
-    ensures { Does (lent_at lent.now level.now) result (ends level.request ended) }
+    ensures { Does (lent_at lent.now level.now) result (ends level.request.value ended) }
 {
     match ended {
         Ended::Over(outcome) => Step::Over(outcome),
@@ -109,7 +109,7 @@ pub(crate) fn tell_at_end(
     ended: Ended,
 ) -> Result<Step, OutOfMemory>
     ensures { Leads (lent_at lent.now level.now) result
-        (tell_all level.request (drop at violations) (ends level.request ended)) }
+        (tell_all level.request.value (drop at violations) (ends level.request.value ended)) }
 {
     if at >= violations.len() {
         return Ok(end(lent, level, ended));
@@ -128,7 +128,7 @@ pub(crate) fn finish(
     head: Head,
 ) -> Result<Step, OutOfMemory>
     ensures { Leads (lent_at lent.now level.now) result
-        (next_of (lent_at lent.now level.now) level.owed level.owes level.request (Ok head)) }
+        (next_of (lent_at lent.now level.now) level.owed level.owes level.request.value (Ok head)) }
 {
     let (violations, blocked) = lent
         .policies
@@ -145,7 +145,7 @@ pub(crate) fn body_read(
     end: BodyEnd,
 ) -> Result<Step, OutOfMemory>
     ensures { (context : Context) → Leads context result
-        (ended_with (outcome_of level.request response end)) }
+        (ended_with (outcome_of level.request.value response end)) }
 {
     let outcome = after_body(alloc, &level.request, response, end)?;
     Ok(Step::Over(outcome))

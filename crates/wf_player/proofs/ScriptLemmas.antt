@@ -30,14 +30,18 @@ use Rattle.wf_types.specs.declared.init.Init.{Init}
 use Rattle.wf_types.specs.declared.request.Request.{Request}
 use Rattle.wf_types.specs.declared.response.Outcome.{Outcome}
 use Rattle.wf_wire.specs.Exchanges.{Answering, IsIdle}
-use Rattle.wf_player.specs.Driving.{FetchCut, FetchedTo, moment_of}
+use Rattle.wf_drive.specs.Driving.{FetchCut, FetchedTo, moment_of}
 use Rattle.wf_player.specs.Playing.{Began, Came, Cut, CutShort, Ended, Played, PlayedTo, PlaysOn, Ran, Stopped}
 use Rattle.wf_player.specs.Playing.{Standing, standing_of}
-use Rattle.wf_player.specs.Worlds.{Answers, IsHungUp, Outside, Refuses, Settles, World, outside_of}
-use Rattle.wf_player.proofs.AskLemmas.{on-err, on-err-map, on-ok, refuses-none}
-use Rattle.wf_player.proofs.FetchLemmas.{still}
+use Rattle.wf_drive.specs.Worlds.{Answers, IsHungUp, Outside, Refuses, Settles, World, outside_of}
+use Rattle.wf_drive.proofs.AskLemmas.{on-err, on-err-map, on-ok, refuses-none}
+use Rattle.wf_drive.proofs.FetchLemmas.{still}
 use Rattle.wf_player.proofs.PartLemmas.{cut-fetch, cut-here, cut-inside, played-cut, played-event}
 use Rattle.wf_player.proofs.PartLemmas.{played-fetch, played-inside, played-none, played-then}
+
+-- a world, part by part
+world-is : {State : Type 0} (a b : World State) → a.exchange ≡ b.exchange → a.own ≡ b.own → a.left ≡ b.left → a ≡ b
+world-is a b exchange own left = rw (exchange, own, left) refl
 
 module _ {State : Type 0} (by : Answering State) (limit document : ℕ) (lent : Setting) where
   -- ---- a request
@@ -82,7 +86,7 @@ module _ {State : Type 0} (by : Answering State) (limit document : ℕ) (lent : 
       (subst (λ (l : List Event). FetchedTo by limit document (fetch (at_time lent time) request) (moment_of a l) outcome
       (moment_of b events)) began x))))
 
-  pub request-whole : (made : Result Request TypeFault) (request : Request) (a b c : World State)
+  request-whole : (made : Result Request TypeFault) (request : Request) (a b c : World State)
       (old mid new : Progress) (time : ℕ) (start events : List Event) (outcome : Outcome) → made ≡ Ok request
       → time ≡ old.clock → start ≡ old.shown → mid ≡ record old { shown = events }
       → FetchedTo by limit document (fetch (at_time lent time) request) (moment_of a start) outcome
@@ -96,6 +100,20 @@ module _ {State : Type 0} (by : Answering State) (limit document : ℕ) (lent : 
       (standing_of a old) (standing_of b mid) (standing_of c (after_events (event.Result outcome ∷ []) mid))
       (request-came made request a b old mid time start events outcome is then began after x)
       (played-event by limit document (event.Result outcome) mid b c hung))
+
+  -- the same, as the end of the fetch tells it
+  pub request-ended : (made : Result Request TypeFault) (request : Request) (a b c : World State)
+      (old mid new : Progress) (time : ℕ) (start events : List Event) (outcome : Outcome)
+      (result : Result ⊤ OutOfMemory) → made ≡ Ok request → time ≡ old.clock → start ≡ old.shown
+      → mid ≡ record old { shown = events }
+      → FetchedTo by limit document (fetch (at_time lent time) request) (moment_of a start) outcome
+      (moment_of b events)
+      → outside_of c ≡ outside_of b
+      → OnOk result ((new ≡ after_events (event.Result outcome ∷ []) mid) × IsIdle c.exchange)
+      → OnOk result (Played by limit document (fetched lent made) (standing_of a old) (standing_of c new))
+  request-ended made request a b c old mid new time start events outcome result is then began after x out ended =
+      on-ok result (λ it. request-whole made request a b c old mid new time start events outcome is then began after x
+      (record { idle = it.1; outside_is = out }) it.0) ended
 
   -- memory was refused in the fetch
   pub request-cut : (made : Result Request TypeFault) (request : Request) (a b : World State) (old new : Progress)
@@ -115,19 +133,20 @@ module _ {State : Type 0} (by : Answering State) (limit document : ℕ) (lent : 
       (moment_of b events)) began x)))))
 
   -- or for its outcome
-  pub request-unshown : (made : Result Request TypeFault) (request : Request) (a b : World State)
+  pub request-unshown : (made : Result Request TypeFault) (request : Request) (a b c : World State)
       (old mid new : Progress) (time : ℕ) (start events : List Event) (outcome : Outcome)
       (result : Result ⊤ OutOfMemory) → made ≡ Ok request → time ≡ old.clock → start ≡ old.shown
       → mid ≡ record old { shown = events }
       → FetchedTo by limit document (fetch (at_time lent time) request) (moment_of a start) outcome
       (moment_of b events)
-      → new ≡ mid
-      → OnErr result (Cut by limit document (fetched lent made) (standing_of a old) (standing_of b new))
-  request-unshown made request a b old mid new time start events outcome result is then began after x kept =
-      on-err result (rw kept (played-cut by limit document (λ (next : Next). fetched lent made next old)
-      (λ next. onward next outcome mid) (standing_of a old) (standing_of b mid) (standing_of b mid)
+      → c.own ≡ b.own → c.left ≡ b.left → OnErr result ((new ≡ mid) × (c.exchange ≡ b.exchange))
+      → OnErr result (Cut by limit document (fetched lent made) (standing_of a old) (standing_of c new))
+  request-unshown made request a b c old mid new time start events outcome result is then began after x own left kept =
+      on-err-map result (λ it. rw (it.0, world-is c b it.1 own left) (played-cut by limit document
+      (λ (next : Next). fetched lent made next old) (λ next. onward next outcome mid) (standing_of a old)
+      (standing_of b mid) (standing_of b mid)
       (request-came made request a b old mid time start events outcome is then began after x)
-      (cut-here by limit document (λ (next : Next). onward next outcome mid) (standing_of b mid))))
+      (cut-here by limit document (λ (next : Next). onward next outcome mid) (standing_of b mid)))) kept
 
   -- ---- commands
 
@@ -425,11 +444,6 @@ run-unbegun by limit document whole base result old new kept none = on-err resul
 }))
 
 -- the link was hung up
-pub hung-up : {State : Type 0} (a b : World State) → IsIdle b.exchange → b.exchange.state ≡ a.exchange.state
-    → b.exchange.faults ≡ a.exchange.faults → b.own ≡ a.own → b.left ≡ a.left → IsHungUp a b
-hung-up a b idle state faults own left =
-    record { idle = idle; outside_is = rw (state, faults, own, left) refl }
-
 -- a script in the setting of its document, from the beginning, is the document's run
 pub run-of : (document : Document) (client : Client) (policies : List Policy) (cookies : List Cookie)
     (progress : Progress) → client ≡ document_client document → policies ≡ []

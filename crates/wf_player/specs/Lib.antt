@@ -1,4 +1,1 @@
-pub mod Asking
-pub mod Driving
 pub mod Playing
-pub mod Worlds

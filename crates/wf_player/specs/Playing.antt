@@ -8,7 +8,7 @@ use Rattle.wf_run.specs.Play.{Play, over, run_play}
 use Rattle.wf_run.specs.Runs.{Next, Progress}
 use Rattle.wf_run.specs.Traces.{PlayTrace}
 use Rattle.wf_wire.specs.Exchanges.{Answering, IsIdle}
-use Rattle.wf_player.specs.Worlds.{Answers, Outside, Refuses, Settles, World, outside_of}
+use Rattle.wf_drive.specs.Worlds.{Answers, Outside, Refuses, Settles, World, outside_of}
 
 -- The world, and where the run stands.
 pub record Standing (State : Type 0) : Type 0 where

@@ -3,11 +3,11 @@ ghost use Rattle.wf_print.specs.declared.events.Ending.TheVariants.{Memory};
 ghost use Rattle.wf_script.specs.Valid.{IsValid, IsValidDocument};
 ghost use Rattle.wf_script.specs.declared.types.Document.{Document as OneDocument};
 ghost use Rattle.wf_run.specs.Runs.{beginning, document_client, document_run};
+ghost use Rattle.wf_link.specs.Sources.{IsAtEnd};
 ghost use Rattle.wf_wire.specs.Wires.{over_link};
 ghost use Rattle.wf_player.specs.Playing.{Began, Came, Ran};
-ghost use Rattle.wf_player.specs.Worlds.{outside};
+ghost use Rattle.wf_drive.specs.Worlds.{outside};
 
-use crate::lent::Lent;
 use crate::running::Running;
 use crate::script::run_script;
 use std::alloc::Global;
@@ -16,6 +16,7 @@ use std::thread::Threads;
 use wf_book::Share;
 use wf_csp::Compiled;
 use wf_csp_text::Policies;
+use wf_drive::Lent;
 use wf_link::Link;
 use wf_print::{Ending, Transcript};
 use wf_script::{Document, Scenario};
@@ -47,7 +48,8 @@ fn run_document<R: Threads + Wait + Sync, S: Share, L: Link>(
         (document_run cookies.now running.old.clock document.now)
         (outside S.own S.left L.state L.faults pass.old link.old) running.new.shown
         (outside S.own S.left L.state L.faults pass.new link.new)) }
-    ensures few { OnOk result (S.left pass.old ≤ S.left pass.new + 129024) }
+    ensures few { S.left pass.old ≤ S.left pass.new + 129024 }
+    ensures hung_up { OnOk result (IsAtEnd (L.left link.new)) }
     ensures has_text { IfOk result (λ made. made.0 ≢ Memory) }
     ensures key { IfOk result (λ made. made.1 ≡ (document_client document.now).key) }
     ensures belongs { S.belongs share.now pass.new }
@@ -77,9 +79,9 @@ fn run_document<R: Threads + Wait + Sync, S: Share, L: Link>(
 ///
 /// What the transcript shows is the document's run over a tape of what the world answers: each reply is that
 /// of the entry by which the pass's own grew; heads and bodies are those of the link's answers, where it
-/// tells them, and a fault comes only where its count of faults rose. The ending is `Memory` only where
-/// memory was refused: then what was shown begins such a run, the calls that were made are those on the way,
-/// the key may be empty and the clock is any number.
+/// tells them, and a fault comes only where its count of faults rose. At the end the link is hung up. The
+/// ending `Memory` is for want of memory: what was shown then begins such a run, the calls that were made are
+/// those on the way, the key may be empty and the clock is any number.
 pub fn drive<R: Threads + Wait + Sync, S: Share, L: Link>(
     rt: &R,
     alloc: Global,
@@ -99,7 +101,8 @@ pub fn drive<R: Threads + Wait + Sync, S: Share, L: Link>(
         → Came (over_link L.answer L.next) scenario.entry.now.body_limit (S.document pass.old)
         (document_run scenario.entry.now.cookies base one) (outside S.own S.left L.state L.faults pass.old link.old)
         result.events result.ending result.clock (outside S.own S.left L.state L.faults pass.new link.new) }
-    ensures few { result.ending ≢ Memory → S.left pass.old ≤ S.left pass.new + 129024 }
+    ensures few { S.left pass.old ≤ S.left pass.new + 129024 }
+    ensures hung_up { result.ending ≢ Memory → IsAtEnd (L.left link.new) }
     ensures number { result.document ≡ document }
     ensures key { (one : OneDocument) → slice_get scenario.entry.now.documents document ≡ Some one
         → result.ending ≢ Memory → result.key ≡ (document_client one).key }

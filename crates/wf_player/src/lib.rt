@@ -1,13 +1,9 @@
-// Documents, played: each fetch over a link and a share of the book, and each script.
+// Documents, played: each script, fetch by fetch, over a link and a share of the book.
 #![tactic(auto)]
 
-mod act;
 mod document;
-mod fetch;
-mod lent;
 mod running;
 mod script;
-mod shown;
 
 pub use document::drive;
-pub use fetch::{FetchRun, drive_fetch};
+pub use wf_drive::{FetchRun, drive_fetch};

@@ -2,9 +2,9 @@ ghost use Rattle.std.specs.Prelude.{◌≡◌, ◌<◌, ◌≤◌, ◌+◌, ◌^
 ghost use Rattle.wf_run.specs.Runs as spec;
 ghost use Rattle.wf_run.specs.Runs.{after_events, beginning, fetch_started, started, waited};
 
-use crate::shown::Shown;
 use std::alloc::Global;
 use std::marker::Model;
+use wf_drive::Shown;
 use wf_print::{Ending, Event, Events};
 use wf_script::Command;
 use wf_text::OutOfMemory;

@@ -1,29 +1,31 @@
-ghost use Rattle.std.specs.Prelude.{◌≡◌, ◌≢◌, ◌≤◌, ◌<◌, ◌+◌, ◌*◌, ◌^◌, None, IfOk, OnOk, OnErr};
+ghost use Rattle.std.specs.Prelude.{◌≡◌, ◌≢◌, ◌≤◌, ◌<◌, ◌+◌, ◌*◌, ◌^◌, [], ◌∷◌, None, IfOk, OnOk, OnErr};
 ghost use Rattle.std.specs.List.{All};
 ghost use Rattle.wf_print.specs.declared.events.Ending.TheVariants.{Memory};
 ghost use Rattle.wf_script.specs.Valid.{IsValidCommand, IsValidInit};
 ghost use Rattle.wf_script.specs.declared.types.Command.TheVariants.{Fetch};
 ghost use Rattle.wf_send.specs.Making.{new_request as request_of};
 ghost use Rattle.wf_types.specs.Requests.{IsClient, IsRequest};
-ghost use Rattle.wf_wire.specs.Wires.{over_link};
-ghost use Rattle.wf_run.specs.Runs.{fetched, finished, limit_before, script_run, setting};
+ghost use Rattle.wf_link.specs.Sources.{IsAtEnd};
+ghost use Rattle.wf_print.specs.declared.events.Event.TheVariants.{Result};
+ghost use Rattle.wf_wire.specs.Exchanges.{IsIdle};
+ghost use Rattle.wf_wire.specs.Wires.{exchange_of, over_link};
+ghost use Rattle.wf_run.specs.Runs.{after_events, fetched, finished, limit_before, script_run, setting};
 ghost use Rattle.wf_run.specs.Runs.{normalized_init as normal_init, command_started};
 ghost use Rattle.wf_player.specs.Playing.{Cut, Ended, HasRoom, IsSpent, Played, Stopped, standing_of};
-ghost use Rattle.wf_player.specs.Worlds.{world_of};
+ghost use Rattle.wf_drive.specs.Worlds.{world_of};
 
-use crate::fetch::run_fetch;
-use crate::lent::Lent;
 use crate::running::Running;
 use std::sync::Wait;
 use std::thread::Threads;
 use wf_book::Share;
+use wf_drive::{Lent, run_fetch};
 use wf_link::Link;
 use wf_print::{Ending, Event};
 use wf_run::normalized_init;
 use wf_script::{Command, Script};
 use wf_send::new_request;
 use wf_text::OutOfMemory;
-use wf_types::{Init, Request, TypeFault};
+use wf_types::{Init, Outcome, Request, TypeFault};
 use wf_wire::Wire;
 
 // The request of what a script asks of `fetch`, or why there is none.
@@ -40,7 +42,27 @@ fn requested<R, S>(
     new_request(lent.alloc, &init, lent.client)
 }
 
-// The request's outcome, or that there is no request. Nothing more of its answer is wanted then.
+// Shows a fetch's outcome. Nothing more of its answer is wanted then.
+fn end_fetch<L: Link>(
+    link: &mut L,
+    wire: &mut Wire,
+    running: &mut Running,
+    outcome: Outcome,
+) -> Result<(), OutOfMemory>
+    ensures ended { OnOk result ((running.new ≡ after_events (Result outcome ∷ []) running.old)
+        × IsIdle (exchange_of L.state L.left L.faults link.new wire.new)) }
+    ensures unshown { OnErr result ((running.new ≡ running.old)
+        × (exchange_of L.state L.left L.faults link.new wire.new
+        ≡ exchange_of L.state L.left L.faults link.old wire.old)) }
+    ensures state { L.state link.new ≡ L.state link.old }
+    ensures faults { L.faults link.new ≡ L.faults link.old }
+{
+    running.show(Event::Result(outcome))?;
+    wire.close(link);
+    Ok(())
+}
+
+// The request's outcome, or that there is no request.
 fn run_request<R: Threads + Wait + Sync, S: Share, L: Link>(
     lent: &Lent<'_, R, S>,
     pass: &mut S::Pass,
@@ -53,6 +75,7 @@ fn run_request<R: Threads + Wait + Sync, S: Share, L: Link>(
     requires client { IsClient lent.now.client.now }
     requires belongs { S.belongs lent.now.share.now pass.old }
     requires left { 126 ≤ S.left pass.old }
+    requires end { IsAtEnd (L.left link.old) }
     ensures played { OnOk result (Played (over_link L.answer L.next) lent.now.limit (S.document pass.old)
         (fetched (setting lent.now.client.now lent.now.policies.now lent.now.cookies.now) made)
         (standing_of (world_of S.own S.left L.state L.left L.faults pass.old link.old wire.old) running.old)
@@ -61,7 +84,8 @@ fn run_request<R: Threads + Wait + Sync, S: Share, L: Link>(
         (fetched (setting lent.now.client.now lent.now.policies.now lent.now.cookies.now) made)
         (standing_of (world_of S.own S.left L.state L.left L.faults pass.old link.old wire.old) running.old)
         (standing_of (world_of S.own S.left L.state L.left L.faults pass.new link.new wire.new) running.new)) }
-    ensures few { OnOk result (S.left pass.old ≤ S.left pass.new + 126) }
+    ensures few { S.left pass.old ≤ S.left pass.new + 126 }
+    ensures hung_up { OnOk result (IsAtEnd (L.left link.new)) }
     ensures fetches { running.new.fetches ≡ running.old.fetches }
     ensures belongs { S.belongs lent.now.share.now pass.new }
     ensures same { (S.document pass.new ≡ S.document pass.old) × (S.opening pass.new ≡ S.opening pass.old) }
@@ -72,9 +96,7 @@ fn run_request<R: Threads + Wait + Sync, S: Share, L: Link>(
             let now = running.now();
             let shown = &mut running.shown;
             let outcome = run_fetch(lent, pass, link, wire, shown, request, now)?;
-            running.show(Event::Result(outcome))?;
-            wire.close(link);
-            Ok(())
+            end_fetch(link, wire, running, outcome)
         }
     }
 }
@@ -93,6 +115,7 @@ fn run_fetch_command<R: Threads + Wait + Sync, S: Share, L: Link>(
     requires limit { limit_before (Fetch init.now) running.old ≡ None }
     requires belongs { S.belongs lent.now.share.now pass.old }
     requires room { HasRoom (S.left pass.old) running.old }
+    requires end { IsAtEnd (L.left link.old) }
     ensures played { OnOk result (Played (over_link L.answer L.next) lent.now.limit (S.document pass.old)
         (command_started (setting lent.now.client.now lent.now.policies.now lent.now.cookies.now) (Fetch init.now))
         (standing_of (world_of S.own S.left L.state L.left L.faults pass.old link.old wire.old) running.old)
@@ -101,7 +124,8 @@ fn run_fetch_command<R: Threads + Wait + Sync, S: Share, L: Link>(
         (command_started (setting lent.now.client.now lent.now.policies.now lent.now.cookies.now) (Fetch init.now))
         (standing_of (world_of S.own S.left L.state L.left L.faults pass.old link.old wire.old) running.old)
         (standing_of (world_of S.own S.left L.state L.left L.faults pass.new link.new wire.new) running.new)) }
-    ensures spent { OnOk result (IsSpent (S.left pass.old) running.old (S.left pass.new) running.new) }
+    ensures spent { IsSpent (S.left pass.old) running.old (S.left pass.new) running.new }
+    ensures hung_up { OnOk result (IsAtEnd (L.left link.new)) }
     ensures belongs { S.belongs lent.now.share.now pass.new }
     ensures same { (S.document pass.new ≡ S.document pass.old) × (S.opening pass.new ≡ S.opening pass.old) }
 {
@@ -124,6 +148,7 @@ fn run_command<R: Threads + Wait + Sync, S: Share, L: Link>(
     requires limit { limit_before command.now running.old ≡ None }
     requires belongs { S.belongs lent.now.share.now pass.old }
     requires room { HasRoom (S.left pass.old) running.old }
+    requires end { IsAtEnd (L.left link.old) }
     ensures played { OnOk result (Played (over_link L.answer L.next) lent.now.limit (S.document pass.old)
         (command_started (setting lent.now.client.now lent.now.policies.now lent.now.cookies.now) command.now)
         (standing_of (world_of S.own S.left L.state L.left L.faults pass.old link.old wire.old) running.old)
@@ -132,7 +157,8 @@ fn run_command<R: Threads + Wait + Sync, S: Share, L: Link>(
         (command_started (setting lent.now.client.now lent.now.policies.now lent.now.cookies.now) command.now)
         (standing_of (world_of S.own S.left L.state L.left L.faults pass.old link.old wire.old) running.old)
         (standing_of (world_of S.own S.left L.state L.left L.faults pass.new link.new wire.new) running.new)) }
-    ensures spent { OnOk result (IsSpent (S.left pass.old) running.old (S.left pass.new) running.new) }
+    ensures spent { IsSpent (S.left pass.old) running.old (S.left pass.new) running.new }
+    ensures hung_up { OnOk result (IsAtEnd (L.left link.new)) }
     ensures belongs { S.belongs lent.now.share.now pass.new }
     ensures same { (S.document pass.new ≡ S.document pass.old) × (S.opening pass.new ≡ S.opening pass.old) }
 {
@@ -159,6 +185,7 @@ pub(crate) fn run_script<R: Threads + Wait + Sync, S: Share, L: Link>(
     requires belongs { S.belongs lent.now.share.now pass.old }
     requires left { 129024 ≤ S.left pass.old }
     requires none { running.old.fetches ≡ 0 }
+    requires end { IsAtEnd (L.left link.old) }
     ensures ended { IfOk result (λ ending. Ended (over_link L.answer L.next) lent.now.limit (S.document pass.old)
         (script_run (setting lent.now.client.now lent.now.policies.now lent.now.cookies.now) script.now finished
         running.old)
@@ -169,7 +196,8 @@ pub(crate) fn run_script<R: Threads + Wait + Sync, S: Share, L: Link>(
         running.old)
         (standing_of (world_of S.own S.left L.state L.left L.faults pass.old link.old wire.old) running.old)
         (standing_of (world_of S.own S.left L.state L.left L.faults pass.new link.new wire.new) running.new)) }
-    ensures few { OnOk result (S.left pass.old ≤ S.left pass.new + 129024) }
+    ensures few { S.left pass.old ≤ S.left pass.new + 129024 }
+    ensures hung_up { OnOk result (IsAtEnd (L.left link.new)) }
     ensures has_text { IfOk result (λ ending. ending ≢ Memory) }
     ensures belongs { S.belongs lent.now.share.now pass.new }
     ensures same { (S.document pass.new ≡ S.document pass.old) × (S.opening pass.new ≡ S.opening pass.old) }

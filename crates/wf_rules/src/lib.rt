@@ -12,8 +12,8 @@ mod upgrading;
 
 pub use blocking::{is_at_http, refusal_before};
 pub use known_hosts::{match_of, note_of};
-pub use policies::with_policy;
+pub use policies::set_policy;
 pub use questions::{clear_of, covers_of, learn_of};
-pub use referrers::with_referrer;
-pub use switch::{Switch, switch_of, with_tainting};
-pub use upgrading::{secured, upgraded};
+pub use referrers::set_referrer;
+pub use switch::{Switch, set_tainting, switch_of};
+pub use upgrading::{secure, upgrade_request};

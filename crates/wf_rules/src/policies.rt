@@ -13,12 +13,10 @@ fn policy_or(own: ReferrerPolicy, client: ReferrerPolicy) -> ReferrerPolicy
     }
 }
 
-/// The request of a client with a referrer policy: its own, or the client's where its own is empty (Fetch,
+/// Gives the request of a client a referrer policy: its own, or the client's where its own is empty (Fetch,
 /// section 4.1, "main fetch"). It takes no memory.
-pub fn with_policy(request: Request, client: &Client) -> Request
-    ensures { result ≡ spec.with_policy client.now request }
+pub fn set_policy(request: &mut Request, client: &Client)
+    ensures { request.new ≡ spec.with_policy client.now request.old }
 {
-    let mut request = request;
     request.policy = policy_or(request.policy, client.policy);
-    request
 }

@@ -3,7 +3,7 @@ ghost use Rattle.wf_rules.specs.Policies.{with_policy as policied};
 ghost use Rattle.wf_rules.specs.Referrers as spec;
 ghost use Rattle.wf_types.specs.Requests.{IsAtHttp, IsClient, IsRequest, is_determined, is_http_referrer, is_http_url, is_policy};
 
-use crate::policies::with_policy;
+use crate::policies::set_policy;
 use std::alloc::Global;
 use url::Url;
 use wf_referrer::determine;
@@ -43,23 +43,24 @@ fn determined(
     }
 }
 
-/// The request of a client with its referrer policy, the client's where its own is empty, and with its referrer
+/// Gives the request of a client its referrer policy, the client's where its own is empty, and its referrer
 /// as that policy tells it to the current URL, which is http or https (Fetch, section 4.1, "main fetch"; Referrer
-/// Policy, section 8.3). The referrer is then none or a URL.
-pub fn with_referrer(
+/// Policy, section 8.3). The referrer is then none or a URL. After want of memory it has the policy and the
+/// referrer that it had.
+pub fn set_referrer(
     alloc: Global,
-    request: Request,
+    request: &mut Request,
     client: &Client,
-) -> Result<Request, OutOfMemory>
-    requires valid { IsRequest request }
-    requires http { IsAtHttp request }
+) -> Result<(), OutOfMemory>
+    requires valid { IsRequest request.old }
+    requires http { IsAtHttp request.old }
     requires client { IsClient client.now }
-    ensures value { IfOk result (λ referred. referred ≡ spec.with_referrer client.now request) }
-    ensures valid { IfOk result IsRequest }
-    ensures http { IfOk result IsAtHttp }
-    ensures determined { IfOk result (λ referred. IsTrue (is_determined referred.referrer)) }
+    ensures value { IfOk result (λ _. request.new ≡ spec.with_referrer client.now request.old) }
+    ensures valid { IsRequest request.new }
+    ensures http { IsAtHttp request.new }
+    ensures determined { IfOk result (λ _. IsTrue (is_determined request.new.referrer)) }
 {
-    let mut request = with_policy(request, client);
+    set_policy(request, client);
     let policy = request.policy;
     request.referrer = determined(
         alloc,
@@ -68,5 +69,5 @@ pub fn with_referrer(
         request.current_url(),
         &request.referrer,
     )?;
-    Ok(request)
+    Ok(())
 }

@@ -101,11 +101,9 @@ pub fn switch_of(alloc: Global, request: &Request) -> Result<Switch, OutOfMemory
     }
 }
 
-/// The request with this response tainting. It takes no memory.
-pub fn with_tainting(request: Request, tainting: Tainting) -> Request
-    ensures { result ≡ spec.with_tainting tainting request }
+/// Gives the request this response tainting. It takes no memory.
+pub fn set_tainting(request: &mut Request, tainting: Tainting)
+    ensures { request.new ≡ spec.with_tainting tainting request.old }
 {
-    let mut request = request;
     request.tainting = tainting;
-    request
 }

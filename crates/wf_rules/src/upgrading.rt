@@ -45,28 +45,27 @@ fn with_https(url: &Url) -> Result<Url, OutOfMemory>
 /// default one and is left out (URL Standard, the scheme's setter). It is what becomes of a request to a
 /// known HSTS host (Fetch, section 4.1, "main fetch") and of one that is upgraded. The only error is want of
 /// memory, which a URL of 4 GB counts as.
-pub fn secured(request: Request) -> Result<Request, OutOfMemory>
-    requires valid { IsRequest request }
-    requires http { IsAtHttp request }
-    ensures value { IfOk result (λ secured. secured ≡ spec.secured request) }
-    ensures valid { IfOk result IsRequest }
-    ensures http { IfOk result IsAtHttp }
+pub fn secure(request: &mut Request) -> Result<(), OutOfMemory>
+    requires valid { IsRequest request.old }
+    requires http { IsAtHttp request.old }
+    ensures value { IfOk result (λ _. request.new ≡ spec.secured request.old) }
+    ensures valid { IsRequest request.new }
+    ensures http { IsAtHttp request.new }
 {
-    let mut request = request;
     let url = with_https(request.current_url())?;
     request.urls.set_last(url);
-    Ok(request)
+    Ok(())
 }
 
 // The same, where so.
-fn secured_where(yes: bool, request: Request) -> Result<Request, OutOfMemory>
-    requires valid { IsRequest request }
-    requires http { IsAtHttp request }
-    ensures value { IfOk result (λ secured. secured ≡ spec.secured_where yes request) }
-    ensures valid { IfOk result IsRequest }
-    ensures http { IfOk result IsAtHttp }
+fn secure_where(yes: bool, request: &mut Request) -> Result<(), OutOfMemory>
+    requires valid { IsRequest request.old }
+    requires http { IsAtHttp request.old }
+    ensures value { IfOk result (λ _. request.new ≡ spec.secured_where yes request.old) }
+    ensures valid { IsRequest request.new }
+    ensures http { IsAtHttp request.new }
 {
-    if yes { secured(request) } else { Ok(request) }
+    if yes { secure(request) } else { Ok(()) }
 }
 
 /// The request of a client with these policies as it goes on: with the scheme https in its current URL, which is
@@ -74,18 +73,18 @@ fn secured_where(yes: bool, request: Request) -> Result<Request, OutOfMemory>
 /// request to a potentially trustworthy URL, if appropriate"), or where it is for upgradeable content that would
 /// be mixed (Mixed Content, section 4, "upgrade a mixed content request to a potentially trustworthy URL, if
 /// appropriate"); and else as it is. The only error is want of memory, as that of `secured`.
-pub fn upgraded(
-    request: Request,
+pub fn upgrade_request(
+    request: &mut Request,
     client: &Client,
     policies: &Compiled,
-) -> Result<Request, OutOfMemory>
-    requires valid { IsRequest request }
-    requires http { IsAtHttp request }
-    ensures value { IfOk result (λ upgraded. upgraded ≡ spec.upgraded client.now policies.now request) }
-    ensures valid { IfOk result IsRequest }
-    ensures http { IfOk result IsAtHttp }
+) -> Result<(), OutOfMemory>
+    requires valid { IsRequest request.old }
+    requires http { IsAtHttp request.old }
+    ensures value { IfOk result (λ _. request.new ≡ spec.upgraded client.now policies.now request.old) }
+    ensures valid { IsRequest request.new }
+    ensures http { IsAtHttp request.new }
 {
-    let request = secured_where(policies.upgrades(), request)?;
-    let mixed = upgrade(&request, &client.origin, &client.top);
-    secured_where(mixed, request)
+    secure_where(policies.upgrades(), request)?;
+    let mixed = upgrade(request, &client.origin, &client.top);
+    secure_where(mixed, request)
 }

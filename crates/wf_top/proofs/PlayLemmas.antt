@@ -20,8 +20,8 @@ use Rattle.wf_script.specs.declared.types.KnownHost.{KnownHost}
 use Rattle.wf_script.specs.declared.types.Scenario.{Scenario}
 use Rattle.wf_script.specs.declared.types.Server.{Server}
 use Rattle.wf_player.specs.Playing.{Came, Ran}
-use Rattle.wf_player.specs.Worlds.{Outside}
-use Rattle.wf_player.proofs.AskLemmas.{outside-is}
+use Rattle.wf_drive.specs.Worlds.{Outside}
+use Rattle.wf_drive.proofs.AskLemmas.{outside-is}
 use Rattle.wf_player.proofs.CallLemmas.{trace-calls}
 use Rattle.wf_top.specs.Plays.{HasTurnsFrom, IsPlay, by_rules, opening_book, servers_and, with_hosts}
 use Rattle.wf_top.proofs.StandingLemmas.{by_bytes, ran-by-rules, trace-state}

@@ -23,7 +23,7 @@ use Rattle.wf_run.specs.Play.{Play}
 use Rattle.wf_run.specs.Runs.{document_client, document_run}
 use Rattle.wf_wire.specs.Exchanges.{Answering}
 use Rattle.wf_player.specs.Playing.{Ran}
-use Rattle.wf_player.specs.Worlds.{Outside}
+use Rattle.wf_drive.specs.Worlds.{Outside}
 
 -- ---- the book
 

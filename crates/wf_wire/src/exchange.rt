@@ -109,8 +109,7 @@ impl Wire {
     }
 
     /// Reads the head of the answer to the last request (RFC 9112, section 4): the final head, or what came
-    /// is none, or it is longer than 65,536 bytes; then the link is hung up. Of the answer 65,537 bytes are
-    /// received at most. `Fault` only where the link's count of faults rose while the head was open; then
+    /// is none, or it is longer than 65,536 bytes; then the link is hung up. `Fault` only where the link's count of faults rose while the head was open; then
     /// what was received is dropped. Where memory was refused nothing is said of what is to come.
     #[tactic(auto, using(crate::proofs::WireLemmas::onto_nothing))]
     pub fn read_head<L: Link>(&mut self, link: &mut L, alloc: Global) -> Result<Input, OutOfMemory>

@@ -7,9 +7,10 @@ use Rattle.wf_fetch.proofs.http.send.Goals as goal
 pub going-requires-clause-plain : goal.going-requires-clause-plain
 going-requires-clause-plain c = (
   subst (λ (h : Hop). IsTrue (lacks_space h.method)) (sym c.in_ok-hop.ensures.hop)
-      (token-lacks_space c.args.level.request.method c.args.level.valid.method),
+      (rw c.deref.ensures
+      (token-lacks_space c.args.level.request.value.method c.args.level.valid.method)),
   c.in_ok-hop.ensures.target,
 )
 
 pub returns : goal.returns
-returns c = rw c.in_ok-hop.ensures.hop at c.going.ensures
+returns c = rw (c.in_ok-hop.ensures.hop, c.deref.ensures) at c.going.ensures

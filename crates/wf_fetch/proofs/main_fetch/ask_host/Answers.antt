@@ -10,7 +10,7 @@ pub returns-in-Some : goal.returns-in-Some
 returns-in-Some c =
     let context = lent_at c.args.lent.now c.args.level.now in
     does-same context c.going.result _ _
-    (ap (matched_by (onward_of context c.args.level.request) context
-    (next_of context c.args.level.owed c.args.level.owes) c.args.level.request)
-    (sym c.in_ok-match_of.ensures.value ∙ c.in-Some.is))
+    (ap (matched_by (onward_of context c.args.level.request.value) context
+    (next_of context c.args.level.owed c.args.level.owes) c.args.level.request.value)
+    (sym (rw c.deref.ensures at c.in_ok-match_of.ensures.value) ∙ c.in-Some.is))
     c.going.ensures

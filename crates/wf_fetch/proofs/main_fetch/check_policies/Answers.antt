@@ -10,9 +10,9 @@ pub returns-else-is_empty : goal.returns-else-is_empty
 returns-else-is_empty c =
     let context = lent_at c.args.lent.now c.args.level.now in
     let next = next_of context c.args.level.owed c.args.level.owes in
-    let onward = onward_of context c.args.level.request in
+    let onward = onward_of context c.args.level.request.value in
     leads-same context c.tell_blocks.result _ _
-    (ap (unless_violated onward context next c.args.level.request) (sym c.in_ok-violations.ensures)
-    ∙ violated-blocks onward context next c.args.level.request c.in_ok-violations.violations
+    (ap (unless_violated onward context next c.args.level.request.value) (sym (rw c.deref.ensures at c.in_ok-violations.ensures))
+    ∙ violated-blocks onward context next c.args.level.request.value c.in_ok-violations.violations
     (sym c.is_empty.ensures ∙ c.if-is_empty.false))
     c.tell_blocks.ensures

@@ -11,6 +11,6 @@ returns c =
     let context = lent_at c.args.lent.now c.args.level.now in
     let next = next_of context c.args.level.owed c.args.level.owes in
     does-same context c.going.result _ _
-    (ap (λ left. tell_all c.args.level.request left (next c.args.level.request (Err CspRequest)))
+    (ap (λ left. tell_all c.args.level.request.value left (next c.args.level.request.value (Err CspRequest)))
     (drop-found c.args.violations c.args.at c.at.result.now c.at.ensures))
     (rw c.in_ok-violation.ensures at c.going.ensures)

@@ -7,6 +7,6 @@ pub returns : goal.returns
 returns c =
     let context = lent_at c.args.lent.now c.args.level.now in
     does-same context c.going.result _ _
-    (with_preflight-owing (onward_of context c.args.level.request) context c.args.level.owed c.args.level.owes
-    c.args.level.request c.requires.owes)
-    (rw c.in_ok-op.ensures at c.going.ensures)
+    (with_preflight-owing (onward_of context c.args.level.request.value) context c.args.level.owed c.args.level.owes
+    c.args.level.request.value c.requires.owes)
+    (rw (c.in_ok-op.ensures, c.deref.ensures) at c.going.ensures)

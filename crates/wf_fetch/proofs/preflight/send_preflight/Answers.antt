@@ -4,5 +4,6 @@ use Rattle.wf_fetch.proofs.preflight.send_preflight.Goals as goal
 
 pub returns : goal.returns
 returns c =
-    let hop = c.in_ok-hop.ensures.hop ∙ ap (preflight_of c.args.level.request) c.in_ok-names.ensures.names in
+    let hop = rw (c.deref.ensures, c.deref-2.ensures) at
+    (c.in_ok-hop.ensures.hop ∙ ap (preflight_of c.deref-2.result.now) c.in_ok-names.ensures.names) in
     rw hop at c.going.ensures

@@ -9,6 +9,6 @@ pub returns : goal.returns
 returns c =
     let context = lent_at c.args.lent.now c.args.level.now in
     does-same context c.going.result _ _
-    (ap (λ left. tell_all c.args.level.request left (ends c.args.level.request c.args.ended))
+    (ap (λ left. tell_all c.args.level.request.value left (ends c.args.level.request.value c.args.ended))
     (drop-found c.args.violations c.args.at c.at.result.now c.at.ensures))
     (rw c.in_ok-violation.ensures at c.going.ensures)

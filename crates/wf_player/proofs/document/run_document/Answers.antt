@@ -1,11 +1,11 @@
 use Rattle.std.proofs.Common.{ap, refl, subst, ◌∙◌}
 use Rattle.wf_run.specs.Runs.{Progress}
-use Rattle.wf_wire.specs.Wires.{over_link}
+use Rattle.wf_wire.specs.Wires.{over_link, window_of}
 use Rattle.wf_run.specs.Play.{Play}
 use Rattle.wf_run.specs.Runs.{document_run}
 use Rattle.wf_player.specs.Playing.{Ended, Stopped, standing_of}
-use Rattle.wf_player.specs.Worlds.{outside, outside_of, world_of}
-use Rattle.wf_player.proofs.AskLemmas.{outside-is}
+use Rattle.wf_drive.specs.Worlds.{outside, outside_of, world_of}
+use Rattle.wf_drive.proofs.AskLemmas.{end-left, outside-is}
 use Rattle.wf_player.proofs.ScriptLemmas.{run-cut, run-of, run-unbegun, run-whole}
 use Rattle.wf_player.proofs.document.run_document.Goals as goal
 
@@ -50,3 +50,7 @@ returns-clause-ran g c =
     (subst (λ (p : Play). Ended (over_link g.L.Link.answer g.L.Link.next) c.args.limit (g.S.Share.document c.args.pass.now) p (standing_of first c.args.running.now)
     c.in_ok-ending.ending now) (run-of c.args.document.now c.in_ok-client.client c.in_ok-policies.policies c.args.cookies.now
     c.args.running.now c.in_ok-client.ensures (c.in_ok-policies.ensures ∙ c.new.ensures) c.requires.base) c.in_ok-ending.ensures.ended)
+
+pub run_script-requires-clause-end : goal.run_script-requires-clause-end
+run_script-requires-clause-end g c κs outlives =
+    end-left (window_of c.in_ok-wire.wire) (g.L.Link.left c.new-2.new.link) c.in_ok-wire.ensures.idle.end

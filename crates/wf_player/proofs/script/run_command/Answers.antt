@@ -1,6 +1,6 @@
 use Rattle.wf_run.specs.Runs.{setting}
 use Rattle.wf_wire.specs.Wires.{over_link}
-use Rattle.wf_player.specs.Worlds.{world_of}
+use Rattle.wf_drive.specs.Worlds.{world_of}
 use Rattle.wf_player.proofs.ScriptLemmas.{command-waited}
 use Rattle.wf_player.proofs.script.run_command.Goals as goal
 

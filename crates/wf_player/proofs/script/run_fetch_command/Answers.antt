@@ -1,7 +1,7 @@
 use Rattle.wf_run.specs.Runs.{setting}
 use Rattle.wf_wire.specs.Wires.{over_link}
 use Rattle.wf_script.specs.declared.types.Command.TheVariants.{Fetch}
-use Rattle.wf_player.specs.Worlds.{world_of}
+use Rattle.wf_drive.specs.Worlds.{world_of}
 use Rattle.wf_player.proofs.ScriptLemmas.{command-cut, command-unbegun, command-unmade, command-whole}
 use Rattle.wf_player.proofs.script.run_fetch_command.Goals as goal
 

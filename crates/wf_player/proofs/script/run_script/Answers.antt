@@ -3,7 +3,7 @@ use Rattle.wf_run.specs.Runs.{setting}
 use Rattle.wf_wire.specs.Wires.{over_link}
 use Rattle.wf_run.specs.Runs.{command_started}
 use Rattle.wf_player.specs.Playing.{Cut, Played, standing_of}
-use Rattle.wf_player.specs.Worlds.{world_of}
+use Rattle.wf_drive.specs.Worlds.{world_of}
 use Rattle.wf_player.proofs.ScriptLemmas.{script-cut, script-limited, script-next, script-over, script-start}
 use Rattle.wf_player.proofs.script.run_script.Goals as goal
 
@@ -14,6 +14,7 @@ loop-command-init g c = record {
   belongs = c.requires.belongs;
   document = refl;
   opening = refl;
+  end = c.requires.end;
 }
 
 pub returns-in-Some-clause-ended : goal.returns-in-Some-clause-ended
@@ -55,6 +56,7 @@ loop-command-preserved g c = record {
   belongs = c.in_ok-run_command.ensures.belongs;
   document = c.in_ok-run_command.ensures.same.0 ∙ c.loop-command.invariant.document;
   opening = c.in_ok-run_command.ensures.same.1 ∙ c.loop-command.invariant.opening;
+  end = c.in_ok-run_command.ensures.hung_up;
 }
 
 pub returns-clause-ended : goal.returns-clause-ended

@@ -1,7 +1,7 @@
 use Rattle.std.proofs.Common.{◌-◌, List, [], ◌∷◌, ◌++◌, Some, ap, refl, ◌∙◌}
 use Rattle.wf_print.specs.declared.events.Transcript.{Transcript}
-use Rattle.wf_player.specs.Worlds.{Outside}
-use Rattle.wf_player.proofs.AskLemmas.{outside-is}
+use Rattle.wf_drive.specs.Worlds.{Outside}
+use Rattle.wf_drive.proofs.AskLemmas.{outside-is}
 use Rattle.wf_script.specs.declared.types.Server.{Server}
 use Rattle.wf_sim.specs.Sim.{SimState}
 use Rattle.wf_top.specs.Plays.{servers_and}
@@ -26,6 +26,6 @@ returns-clause-played g c =
     (ap (λ (s : SimState). Some s.servers) c.new-link.ensures) refl c.new-pass.ensures.1
     (ap (λ n. 4294967295 - n) c.new-pass.ensures.2))
     refl c.close-history.ensures.entries refl
-    (c.drive-transcript.ensures.few (c.ended_for_memory.ensures c.if-ended_for_memory.false))
+    c.drive-transcript.ensures.few
     (c.drive-transcript.ensures.same.1 ∙ c.new-pass.ensures.0 ∙ c.requires.opened)
     c.close-history.ensures.legal c.close-history.ensures.turns

@@ -1,10 +1,11 @@
-ghost use Rattle.std.specs.Prelude.{◌≡◌, ◌<◌, ◌≤◌, ◌^◌, [], IfOk, OnErr};
+ghost use Rattle.std.specs.Prelude.{◌≡◌, ◌<◌, ◌≤◌, ◌+◌, ◌^◌, [], IfOk, OnErr};
 ghost use Rattle.wf_fetch.specs.Fetch.{fetch};
 ghost use Rattle.wf_fetch.specs.Then.{context_of};
+ghost use Rattle.wf_link.specs.Sources.{IsAtEnd};
 ghost use Rattle.wf_types.specs.Requests.{IsClient, IsRequest};
 ghost use Rattle.wf_wire.specs.Wires.{over_link};
-ghost use Rattle.wf_player.specs.Driving.{Drove, FetchCut, FetchedTo, IsBegun, moment_of};
-ghost use Rattle.wf_player.specs.Worlds.{outside, world_of};
+ghost use Rattle.wf_drive.specs.Driving.{Drove, FetchCut, FetchedTo, IsBegun, moment_of};
+ghost use Rattle.wf_drive.specs.Worlds.{outside, world_of};
 
 use crate::act::answer;
 use crate::lent::Lent;
@@ -28,8 +29,14 @@ pub struct FetchRun {
     pub outcome: Outcome,
 }
 
-// One fetch, to its outcome, with what it shows.
-pub(crate) fn run_fetch<R: Threads + Wait + Sync, S: Share, L: Link>(
+/// Plays one fetch of a request, to its outcome, at a time in seconds, which is below 2^48 (Fetch, section 4.1),
+/// over a wire that the caller has set up and hangs up. It makes 126 calls of the book at most, which the pass
+/// has left; and what it shows is added to what was shown.
+///
+/// What was added and the outcome are those of the fetch over a tape of what the world answers. After
+/// `OutOfMemory` what was added begins what such a fetch shows, and the calls that were made are those on the
+/// way.
+pub fn run_fetch<R: Threads + Wait + Sync, S: Share, L: Link>(
     lent: &Lent<'_, R, S>,
     pass: &mut S::Pass,
     link: &mut L,
@@ -51,6 +58,7 @@ pub(crate) fn run_fetch<R: Threads + Wait + Sync, S: Share, L: Link>(
         (fetch (context_of lent.now.client.now lent.now.policies.now lent.now.cookies.now now) request)
         (moment_of (world_of S.own S.left L.state L.left L.faults pass.old link.old wire.old) shown.old)
         (moment_of (world_of S.own S.left L.state L.left L.faults pass.new link.new wire.new) shown.new)) }
+    ensures few { S.left pass.old ≤ S.left pass.new + 126 }
     ensures belongs { S.belongs lent.now.share.now pass.new }
     ensures same { (S.document pass.new ≡ S.document pass.old) × (S.opening pass.new ≡ S.opening pass.old) }
 {
@@ -118,6 +126,8 @@ pub fn drive_fetch<R: Threads + Wait + Sync, S: Share, L: Link>(
         (fetch (context_of client.now policies.now cookies.now now) request)
         (outside S.own S.left L.state L.faults pass.old link.old)
         (outside S.own S.left L.state L.faults pass.new link.new)) }
+    ensures few { S.left pass.old ≤ S.left pass.new + 126 }
+    ensures hung_up { IfOk result (λ _. IsAtEnd (L.left link.new)) }
     ensures belongs { S.belongs share.now pass.new }
     ensures same { (S.document pass.new ≡ S.document pass.old) × (S.opening pass.new ≡ S.opening pass.old) }
 {

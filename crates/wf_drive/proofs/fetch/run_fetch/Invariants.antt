@@ -4,10 +4,10 @@ use Rattle.wf_fetch.specs.Fetch.{fetch}
 use Rattle.wf_fetch.specs.Then.{context_of}
 use Rattle.wf_laws.specs.Prices.{fetch_price}
 use Rattle.wf_wire.specs.Wires.{over_link}
-use Rattle.wf_player.specs.Driving.{moment_of}
-use Rattle.wf_player.specs.Worlds.{world_of}
-use Rattle.wf_player.proofs.FetchLemmas.{IsFetching}
-use Rattle.wf_player.proofs.fetch.run_fetch.Given as goal
+use Rattle.wf_drive.specs.Driving.{moment_of}
+use Rattle.wf_drive.specs.Worlds.{world_of}
+use Rattle.wf_drive.proofs.FetchLemmas.{IsFetching}
+use Rattle.wf_drive.proofs.fetch.run_fetch.Given as goal
 
 -- the fetch stands at this step, and has shown what was added to the events; the pass is the document's still
 abbrev pub invariant-loop-step : goal.invariant-loop-step

@@ -1,11 +1,11 @@
-use Rattle.std.proofs.Common.{refl, sym}
+use Rattle.std.proofs.Common.{refl}
 use Rattle.wf_fetch.specs.Fetch.{fetch}
 use Rattle.wf_fetch.specs.Then.{context_of}
-use Rattle.wf_wire.specs.Wires.{over_link}
-use Rattle.wf_player.specs.Worlds.{outside, outside_of, world_of}
-use Rattle.wf_player.proofs.AskLemmas.{outside-is}
-use Rattle.wf_player.proofs.FetchLemmas.{fetch-drove, fetch-unbegun}
-use Rattle.wf_player.proofs.fetch.drive_fetch.Goals as goal
+use Rattle.wf_wire.specs.Wires.{over_link, window_of}
+use Rattle.wf_drive.specs.Worlds.{outside, outside_of, world_of}
+use Rattle.wf_drive.proofs.AskLemmas.{end-left, outside-is}
+use Rattle.wf_drive.proofs.FetchLemmas.{fetch-drove, fetch-unbegun}
+use Rattle.wf_drive.proofs.fetch.drive_fetch.Goals as goal
 
 pub returns-in_err-wire-clause-refused : goal.returns-in_err-wire-clause-refused
 returns-in_err-wire-clause-refused g c =
@@ -25,5 +25,9 @@ returns-clause-drove g c =
     c.new-shown.result c.run_fetch.new.shown c.into_events.result c.in_ok-outcome.outcome old new
     c.in_ok-wire.ensures.idle
     (outside-is (outside_of first) old c.new.ensures.state c.new.ensures.faults refl refl)
-    (outside-is (outside_of last) new (sym c.close.ensures.state) (sym c.close.ensures.faults) refl refl)
+    (outside-is new (outside_of last) c.close.ensures.state c.close.ensures.faults refl refl)
     c.new-shown.ensures c.into_events.ensures c.in_ok-outcome.ensures.fetched
+
+pub returns-clause-hung_up : goal.returns-clause-hung_up
+returns-clause-hung_up g c =
+    end-left (window_of c.close.new.self) (g.L.Link.left c.close.new.link) c.close.ensures.idle.end

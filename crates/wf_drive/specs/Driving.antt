@@ -1,5 +1,5 @@
 -- What a fetch comes to in a document's world.
-use Rattle.std.specs.Prelude.{◌≡◌, ℕ, ◌+◌, ◌≤◌, List, ◌++◌}
+use Rattle.std.specs.Prelude.{◌≡◌, ℕ, List, ◌++◌}
 use Rattle.wf_act.specs.declared.act.Input.{Input}
 use Rattle.wf_act.specs.Process.{Process, ended}
 use Rattle.wf_act.specs.Traces.{Driven, Trace, with_events}
@@ -7,7 +7,7 @@ use Rattle.wf_print.specs.declared.events.Event.{Event}
 use Rattle.wf_run.specs.Play.{events_of}
 use Rattle.wf_types.specs.declared.response.Outcome.{Outcome}
 use Rattle.wf_wire.specs.Exchanges.{Answering, IsIdle}
-use Rattle.wf_player.specs.Worlds.{Answers, Outside, Refuses, World, outside_of}
+use Rattle.wf_drive.specs.Worlds.{Answers, Outside, Refuses, World, outside_of}
 
 -- The world, and the events that were shown.
 pub record Moment (State : Type 0) : Type 0 where
@@ -23,15 +23,13 @@ abbrev pub LeadsOn : {State : Type 0} → Answering State → ℕ → ℕ → Pr
     → Process → World State → Type 0
 LeadsOn by limit document = Trace (with_events (Answers by limit document) events_of)
 
--- The fetch came to its outcome: for some tape of the world's answers it has shown what was added to the events. It
--- has made 126 calls at most.
+-- The fetch came to its outcome: for some tape of the world's answers it has shown what was added to the events.
 pub record FetchedTo {State : Type 0} (by : Answering State) (limit document : ℕ) (whole : Process)
     (old : Moment State) (outcome : Outcome) (new : Moment State) : Type 0 where
   pub tape : List Input
   pub made : List Event
   pub added : new.events ≡ old.events ++ made
   pub trace : LeadsOn by limit document whole old.world tape made (ended outcome) new.world
-  pub few : old.world.left ≤ new.world.left + 126
 
 -- Memory was refused: the fetch came to some place, and what was added to the events begins what it showed on the way;
 -- what is missed there came about and was not noted.
@@ -49,7 +47,7 @@ pub record FetchCut {State : Type 0} (by : Answering State) (limit document : �
 -- ---- a fetch by itself
 
 -- From a world in which nothing is to come, for some tape each item is the world's answer, what was shown is what the
--- fetch shows over that tape, and its outcome is the fetch's. It has made 126 calls at most.
+-- fetch shows over that tape, and its outcome is the fetch's.
 pub record Drove {State : Type 0} (by : Answering State) (limit document : ℕ) (whole : Process) (old : Outside State)
     (events : List Event) (outcome : Outcome) (new : Outside State) : Type 0 where
   pub first : World State
@@ -58,7 +56,6 @@ pub record Drove {State : Type 0} (by : Answering State) (limit document : ℕ) 
   pub last : World State
   pub driven : Driven (Answers by limit document) events_of whole first events outcome last
   pub to : outside_of last ≡ new
-  pub few : old.left ≤ new.left + 126
 
 -- Memory was refused: the fetch came to some place, and the calls that were made are those on the way.
 pub record IsBegun {State : Type 0} (by : Answering State) (limit document : ℕ) (whole : Process) (old new : Outside State)

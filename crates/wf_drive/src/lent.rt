@@ -6,12 +6,12 @@ use wf_types::{Client, Cookies};
 /// document's client and policies, the table of cookies, and the greatest number of bytes that a body may
 /// have.
 #[derive(Drop)]
-pub(crate) struct Lent<'a, R, S> {
-    pub(crate) rt: &'a R,
-    pub(crate) alloc: Global,
-    pub(crate) share: &'a S,
-    pub(crate) client: &'a Client,
-    pub(crate) policies: &'a Compiled,
-    pub(crate) cookies: &'a Cookies,
-    pub(crate) limit: u32,
+pub struct Lent<'a, R, S> {
+    pub rt: &'a R,
+    pub alloc: Global,
+    pub share: &'a S,
+    pub client: &'a Client,
+    pub policies: &'a Compiled,
+    pub cookies: &'a Cookies,
+    pub limit: u32,
 }

@@ -13,7 +13,7 @@ use Rattle.wf_types.specs.Targets.{IsSendable}
 use Rattle.wf_wire.specs.declared.wire.Wire.{Wire}
 use Rattle.wf_wire.specs.Exchanges.{Answering, Exchange, Exchanges, IsIdle}
 use Rattle.wf_wire.specs.Wires.{exchange_of}
-use Rattle.wf_player.specs.Asking.{IsAsked}
+use Rattle.wf_drive.specs.Asking.{IsAsked}
 
 -- Where the exchange over the link stands; the entries of the calls that the document has made; and how many more it
 -- may make.

@@ -16,7 +16,7 @@ const MOST_PRINTED: u64 = 8_388_608;
 /// The events that a document has shown, seen as their list, with how many bytes their lines have, as far
 /// as 64 bits tell it.
 #[derive(Drop)]
-pub(crate) struct Shown {
+pub struct Shown {
     events: Events,
     printed: u64,
 }
@@ -45,8 +45,8 @@ fn reply_of(input: &Input) -> Reply
 }
 
 impl Shown {
-    // Nothing was shown. It takes no memory.
-    pub(crate) fn new(alloc: Global) -> Shown
+    /// Nothing was shown. It takes no memory.
+    pub fn new(alloc: Global) -> Shown
         ensures { result ≡ [] }
     {
         Shown {
@@ -55,8 +55,8 @@ impl Shown {
         }
     }
 
-    // Adds an event.
-    pub(crate) fn add(&mut self, event: Event) -> Result<(), OutOfMemory>
+    /// Adds an event.
+    pub fn add(&mut self, event: Event) -> Result<(), OutOfMemory>
         ensures ok { OnOk result (self.new ≡ self.old ++ event ∷ []) }
         ensures err { OnErr result (self.new ≡ self.old) }
     {
@@ -66,8 +66,9 @@ impl Shown {
         Ok(())
     }
 
-    // Adds what an act shows whose input has come.
-    pub(crate) fn add_act(&mut self, act: Act, input: &Input) -> Result<(), OutOfMemory>
+    /// Adds what an act shows whose input has come: a call with its reply, a request that was sent, or a
+    /// violation that was told.
+    pub fn add_act(&mut self, act: Act, input: &Input) -> Result<(), OutOfMemory>
         ensures ok { OnOk result (self.new ≡ self.old ++ events_of act input.now) }
         ensures err { OnErr result (self.new ≡ self.old) }
     {
@@ -80,15 +81,16 @@ impl Shown {
         }
     }
 
-    // Whether the lines are more than a document may have before a fetch.
-    pub(crate) fn is_full(&self) -> bool
+    /// Whether the lines are more than 8,388,608 bytes, which a document may have before a fetch. It takes no
+    /// memory.
+    pub fn is_full(&self) -> bool
         ensures { result ≡ nat_lt most_printed (text_length self.now) }
     {
         self.printed > MOST_PRINTED
     }
 
-    // The events.
-    pub(crate) fn into_events(self) -> Events
+    /// The events.
+    pub fn into_events(self) -> Events
         ensures { result ≡ self }
     {
         self.events

@@ -1,10 +1,11 @@
-ghost use Rattle.std.specs.Prelude.{◌≡◌, ◌<◌, IfOk, OnErr, IsTrue};
+ghost use Rattle.std.specs.Prelude.{◌≡◌, ◌<◌, ◌≤◌, ◌+◌, IfOk, OnErr, IsTrue};
 ghost use Rattle.wf_act.specs.Process.{fits};
+ghost use Rattle.wf_act.specs.Within.{asks, price_of};
 ghost use Rattle.wf_act.specs.declared.act.Act.TheVariants.{Ask};
 ghost use Rattle.wf_book.specs.Ops.{InRange};
 ghost use Rattle.wf_wire.specs.Wires.{over_link};
-ghost use Rattle.wf_player.specs.Asking.{CanAnswer, IsAsked, IsRefusedCall};
-ghost use Rattle.wf_player.specs.Worlds.{Answers, Refuses, outside, world_of};
+ghost use Rattle.wf_drive.specs.Asking.{CanAnswer, IsAsked, IsRefusedCall};
+ghost use Rattle.wf_drive.specs.Worlds.{Answers, Refuses, outside, world_of};
 
 use crate::lent::Lent;
 use std::sync::Wait;
@@ -29,6 +30,7 @@ fn ask<R: Threads + Wait + Sync, S: Share>(
     ensures fits { IfOk result (λ input. IsTrue (fits (Ask op.now) input)) }
     ensures refused { OnErr result (IsRefusedCall (S.own pass.old) (S.own pass.new) (S.left pass.old)
         (S.left pass.new)) }
+    ensures few { S.left pass.old ≤ S.left pass.new + 1 }
     ensures belongs { S.belongs lent.now.share.now pass.new }
     ensures same { (S.document pass.new ≡ S.document pass.old) × (S.opening pass.new ≡ S.opening pass.old) }
 {
@@ -53,6 +55,7 @@ pub(crate) fn answer<R: Threads + Wait + Sync, S: Share, L: Link>(
     ensures fits { IfOk result (λ input. IsTrue (fits act.now input)) }
     ensures refused { OnErr result (Refuses (outside S.own S.left L.state L.faults pass.old link.old)
         (outside S.own S.left L.state L.faults pass.new link.new)) }
+    ensures few { S.left pass.old ≤ S.left pass.new + price_of asks act.now }
     ensures belongs { S.belongs lent.now.share.now pass.new }
     ensures same { (S.document pass.new ≡ S.document pass.old) × (S.opening pass.new ≡ S.opening pass.old) }
 {

@@ -8,11 +8,11 @@ use Rattle.wf_laws.specs.Own.{IsOwnAct}
 use Rattle.wf_laws.specs.Prices.{fetch_price}
 use Rattle.wf_laws.proofs.OwnLemmas.{asks-at-most, fetch-within}
 use Rattle.wf_wire.specs.Wires.{over_link}
-use Rattle.wf_player.specs.Driving.{moment_of}
-use Rattle.wf_player.specs.Worlds.{Answers, world_of}
-use Rattle.wf_player.proofs.FetchLemmas.{IsFetching, few-acts, fetching-on, fetching-over, fetching-refused}
-use Rattle.wf_player.proofs.FetchLemmas.{fetching-room, fetching-start, fetching-stuck, fetching-unbegun, fetching-unnoted}
-use Rattle.wf_player.proofs.fetch.run_fetch.Goals as goal
+use Rattle.wf_drive.specs.Driving.{moment_of}
+use Rattle.wf_drive.specs.Worlds.{Answers, world_of}
+use Rattle.wf_drive.proofs.FetchLemmas.{IsFetching, few-acts, fetching-on, fetching-kept, fetching-over, fetching-refused}
+use Rattle.wf_drive.proofs.FetchLemmas.{fetching-room, fetching-spent, fetching-start, fetching-stuck, fetching-unbegun, fetching-unnoted}
+use Rattle.wf_drive.proofs.fetch.run_fetch.Goals as goal
 
 pub returns-in_err-step-clause-cut : goal.returns-in_err-step-clause-cut
 returns-in_err-step-clause-cut g c =
@@ -178,4 +178,78 @@ returns-in-Over-clause-fetched g c =
     let slack = g.S.Share.left c.args.pass.now - 126 in
     fetching-over by limit document context whole old most slack c.loop-step.acts now c.in-Over.outcome
     (subst (λ (s : Step). IsFetching by limit document context whole old most slack c.loop-step.acts now s)
-    c.in-Over.is c.loop-step.invariant.fetching) (omega (arith, c.requires.left))
+    c.in-Over.is c.loop-step.invariant.fetching)
+
+pub returns-in_err-input-in-Going-clause-few : goal.returns-in_err-input-in-Going-clause-few
+returns-in_err-input-in-Going-clause-few g c =
+    let context = context_of c.args.lent.now.client.now c.args.lent.now.policies.now c.args.lent.now.cookies.now
+    c.args.now in
+    let by = over_link g.L.Link.answer g.L.Link.next in
+    let limit = c.args.lent.now.limit in
+    let document = g.S.Share.document c.args.pass.now in
+    let whole = fetch context c.args.request in
+    let old = moment_of (world_of g.S.Share.own g.S.Share.left g.L.Link.state g.L.Link.left g.L.Link.faults
+    c.args.pass.now c.args.link.now c.args.wire.now) c.args.shown.now in
+    let now = moment_of (world_of g.S.Share.own g.S.Share.left g.L.Link.state g.L.Link.left g.L.Link.faults
+    c.loop-step.pass c.loop-step.link c.loop-step.wire) c.loop-step.shown in
+    let most = fetch_price acts context c.args.request in
+    let slack = g.S.Share.left c.args.pass.now - 126 in
+    let here = subst (λ (s : Step). IsFetching by limit document context whole old most slack c.loop-step.acts now s)
+    c.in-Going.is c.loop-step.invariant.fetching in
+    fetching-spent by limit document context whole old most slack c.loop-step.acts now c.in-Going.fetching
+    c.in-Going.act here (g.S.Share.left c.answer.new.pass) (omega arith) c.answer.ensures.few
+
+pub returns-in_err-add_act-in-Going-clause-few : goal.returns-in_err-add_act-in-Going-clause-few
+returns-in_err-add_act-in-Going-clause-few g c =
+    let context = context_of c.args.lent.now.client.now c.args.lent.now.policies.now c.args.lent.now.cookies.now
+    c.args.now in
+    let by = over_link g.L.Link.answer g.L.Link.next in
+    let limit = c.args.lent.now.limit in
+    let document = g.S.Share.document c.args.pass.now in
+    let whole = fetch context c.args.request in
+    let old = moment_of (world_of g.S.Share.own g.S.Share.left g.L.Link.state g.L.Link.left g.L.Link.faults
+    c.args.pass.now c.args.link.now c.args.wire.now) c.args.shown.now in
+    let now = moment_of (world_of g.S.Share.own g.S.Share.left g.L.Link.state g.L.Link.left g.L.Link.faults
+    c.loop-step.pass c.loop-step.link c.loop-step.wire) c.loop-step.shown in
+    let most = fetch_price acts context c.args.request in
+    let slack = g.S.Share.left c.args.pass.now - 126 in
+    let here = subst (λ (s : Step). IsFetching by limit document context whole old most slack c.loop-step.acts now s)
+    c.in-Going.is c.loop-step.invariant.fetching in
+    fetching-spent by limit document context whole old most slack c.loop-step.acts now c.in-Going.fetching
+    c.in-Going.act here (g.S.Share.left c.answer.new.pass) (omega arith) c.answer.ensures.few
+
+pub returns-in_err-step-in-Going-clause-few : goal.returns-in_err-step-in-Going-clause-few
+returns-in_err-step-in-Going-clause-few g c =
+    let context = context_of c.args.lent.now.client.now c.args.lent.now.policies.now c.args.lent.now.cookies.now
+    c.args.now in
+    let by = over_link g.L.Link.answer g.L.Link.next in
+    let limit = c.args.lent.now.limit in
+    let document = g.S.Share.document c.args.pass.now in
+    let whole = fetch context c.args.request in
+    let old = moment_of (world_of g.S.Share.own g.S.Share.left g.L.Link.state g.L.Link.left g.L.Link.faults
+    c.args.pass.now c.args.link.now c.args.wire.now) c.args.shown.now in
+    let now = moment_of (world_of g.S.Share.own g.S.Share.left g.L.Link.state g.L.Link.left g.L.Link.faults
+    c.loop-step.pass c.loop-step.link c.loop-step.wire) c.loop-step.shown in
+    let most = fetch_price acts context c.args.request in
+    let slack = g.S.Share.left c.args.pass.now - 126 in
+    let here = subst (λ (s : Step). IsFetching by limit document context whole old most slack c.loop-step.acts now s)
+    c.in-Going.is c.loop-step.invariant.fetching in
+    fetching-spent by limit document context whole old most slack c.loop-step.acts now c.in-Going.fetching
+    c.in-Going.act here (g.S.Share.left c.answer.new.pass) (omega arith) c.answer.ensures.few
+
+pub returns-in-Over-clause-few : goal.returns-in-Over-clause-few
+returns-in-Over-clause-few g c =
+    let context = context_of c.args.lent.now.client.now c.args.lent.now.policies.now c.args.lent.now.cookies.now
+    c.args.now in
+    let by = over_link g.L.Link.answer g.L.Link.next in
+    let limit = c.args.lent.now.limit in
+    let document = g.S.Share.document c.args.pass.now in
+    let whole = fetch context c.args.request in
+    let old = moment_of (world_of g.S.Share.own g.S.Share.left g.L.Link.state g.L.Link.left g.L.Link.faults
+    c.args.pass.now c.args.link.now c.args.wire.now) c.args.shown.now in
+    let now = moment_of (world_of g.S.Share.own g.S.Share.left g.L.Link.state g.L.Link.left g.L.Link.faults
+    c.loop-step.pass c.loop-step.link c.loop-step.wire) c.loop-step.shown in
+    let most = fetch_price acts context c.args.request in
+    let slack = g.S.Share.left c.args.pass.now - 126 in
+    fetching-kept by limit document context whole old most slack c.loop-step.acts now c.loop-step.step
+    c.loop-step.invariant.fetching (omega arith)

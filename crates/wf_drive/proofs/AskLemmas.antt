@@ -1,5 +1,5 @@
 -- Calls of the book, and worlds in which memory was refused.
-use Rattle.std.proofs.Common.{◌≡◌, ℕ, ◌-◌, ◌<◌, Bool, true, false, List, IsTrue}
+use Rattle.std.proofs.Common.{◌≡◌, ℕ, ◌-◌, ◌<◌, Bool, true, false, List, [], ◌∷◌, Option, Some, None, IsTrue}
 use Rattle.std.proofs.Common.{refl, ap, sym, ◌∙◌, arith}
 use Rattle.std.specs.Prelude.{not, if◌then◌else◌, Result, Ok, Err, OnErr, OnOk}
 use Rattle.wf_text.specs.declared.memory.OutOfMemory.{OutOfMemory}
@@ -12,8 +12,10 @@ use Rattle.wf_book.specs.declared.op.Op.{Op}
 use Rattle.wf_book.specs.declared.op.Reply.{Reply}
 use Rattle.wf_book.specs.Entries.{Extends}
 use Rattle.wf_book.specs.Ops.{is_answer, is_question}
-use Rattle.wf_player.specs.Asking.{IsAsked}
-use Rattle.wf_player.specs.Worlds.{Outside, Refuses}
+use Rattle.wf_link.specs.Sources.{IsAtEnd}
+use Rattle.wf_wire.specs.Wires.{onto_left}
+use Rattle.wf_drive.specs.Asking.{IsAsked}
+use Rattle.wf_drive.specs.Worlds.{Outside, Refuses}
 
 -- a call of a copy of the op
 pub asked_by_call : (opening : Book) (document left left' : ℕ) (op copied : Op) (answer : Reply)
@@ -66,3 +68,9 @@ on-err-map (Err refused) f p = f p
 pub outside-is : {State : Type 0} (a b : Outside State) → a.state ≡ b.state → a.faults ≡ b.faults → a.own ≡ b.own
     → a.left ≡ b.left → a ≡ b
 outside-is a b state faults own left = rw (state, faults, own, left) refl
+
+-- where nothing is to come over a wire, the link has nothing left
+pub end-left : (window : List ℕ) (left : Option (List ℕ)) → IsAtEnd (onto_left window left) → IsAtEnd left
+end-left window None end = tt
+end-left [] (Some rest) end = end
+end-left (byte ∷ window) (Some rest) end = absurd (cc)

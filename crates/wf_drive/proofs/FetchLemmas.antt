@@ -25,10 +25,10 @@ use Rattle.wf_run.specs.Play.{events_of}
 use Rattle.wf_types.specs.declared.request.Request.{Request}
 use Rattle.wf_types.specs.declared.response.Outcome.{Outcome}
 use Rattle.wf_wire.specs.Exchanges.{Answering, IsIdle}
-use Rattle.wf_player.specs.Asking.{CanAnswer}
-use Rattle.wf_player.specs.Driving.{Drove, FetchCut, FetchedTo, IsBegun, LeadsOn, Moment, moment_of}
-use Rattle.wf_player.specs.Worlds.{Answers, Outside, Refuses, World, outside_of}
-use Rattle.wf_player.proofs.AskLemmas.{on-err, refuses-none}
+use Rattle.wf_drive.specs.Asking.{CanAnswer}
+use Rattle.wf_drive.specs.Driving.{Drove, FetchCut, FetchedTo, IsBegun, LeadsOn, Moment, moment_of}
+use Rattle.wf_drive.specs.Worlds.{Answers, Outside, Refuses, World, outside_of}
+use Rattle.wf_drive.proofs.AskLemmas.{on-err, refuses-none}
 
 -- every act costs one
 pub each-one : (first : Act) → price_of acts first ≡ 1
@@ -82,17 +82,17 @@ module _ {State : Type 0} (by : Answering State) (limit document : ℕ) where
     module _ (count : ℕ) (now : Moment State) (fetching : Fetching) (first : Act)
         (is : IsFetching count now (Going fetching first)) where
       acts-here : Within (price_of acts) Anything (IsOwnAct context) (most - count)
-          (act fetching.level.request first (rest context fetching))
+          (act fetching.level.request.value first (rest context fetching))
       acts-here = subst (λ (p : Process). Within (price_of acts) Anything (IsOwnAct context) (most - count) p)
           is.does.process is.acts_left
 
       asks-here : Within (price_of asks) Anything (IsOwnAct context) is.calls
-          (act fetching.level.request first (rest context fetching))
+          (act fetching.level.request.value first (rest context fetching))
       asks-here = subst (λ (p : Process). Within (price_of asks) Anything (IsOwnAct context) is.calls p)
           is.does.process is.asks_left
 
       trace-here : LeadsOn by limit document whole old.world is.tape is.made
-          (act fetching.level.request first (rest context fetching)) now.world
+          (act fetching.level.request.value first (rest context fetching)) now.world
       trace-here = subst (λ (p : Process). LeadsOn by limit document whole old.world is.tape is.made p now.world)
           is.does.process is.trace
 
@@ -101,7 +101,7 @@ module _ {State : Type 0} (by : Answering State) (limit document : ℕ) where
       unfolding acts-here
       fetching-room = omega (arith, each-one first, acts-here.1.enough)
 
-      can : (one : Act) → IsPlain one → IsOwnAct context fetching.level.request one → (left : ℕ)
+      can : (one : Act) → IsPlain one → IsOwnAct context fetching.level.request.value one → (left : ℕ)
           → price_of asks one + left ≤ is.calls → CanAnswer one now.world.left
       can (Ask op) plain own left enough = (own.0, omega (arith, enough, is.enough))
       can (Send hop) plain own left enough = plain
@@ -114,13 +114,19 @@ module _ {State : Type 0} (by : Answering State) (limit document : ℕ) where
       unfolding asks-here
       fetching-can = can first is.does.plain asks-here.0 asks-here.1.left asks-here.1.enough
 
+      -- where it takes no more calls than it asks for, those are left that are none of the fetch's
+      pub fetching-spent : (left : ℕ) → old.world.left ≤ slack + 126 → now.world.left ≤ left + price_of asks first
+          → old.world.left ≤ left + 126
+      unfolding asks-here
+      fetching-spent left few spent = omega (arith, few, spent, is.enough, asks-here.1.enough)
+
       module _ (input : Input) (mid : World State) (fit : IsTrue (fits first input))
           (answered : Answers by limit document now.world first input mid) where
         trace-next : LeadsOn by limit document whole old.world (is.tape ++ input ∷ [])
             (is.made ++ events_of first input) (rest context fetching input) mid
         unfolding trace-here
         trace-next = trace-append (with_events (Answers by limit document) events_of) trace-here
-            (trace-one (with_events (Answers by limit document) events_of) fetching.level.request first
+            (trace-one (with_events (Answers by limit document) events_of) fetching.level.request.value first
             (rest context fetching) input now.world mid (events_of first input) (answered, refl) fit)
 
         added-next : now.events ++ events_of first input ≡ old.events ++ (is.made ++ events_of first input)
@@ -231,15 +237,19 @@ module _ {State : Type 0} (by : Answering State) (limit document : ℕ) where
 
     -- the outcome
     pub fetching-over : (count : ℕ) (now : Moment State) (outcome : Outcome) → IsFetching count now (Over outcome)
-        → old.world.left ≤ slack + 126 → FetchedTo by limit document whole old outcome now
-    fetching-over count now outcome is few = record {
+        → FetchedTo by limit document whole old outcome now
+    fetching-over count now outcome is = record {
       tape = is.tape;
       made = is.made;
       added = is.added;
       trace = subst (λ (p : Process). LeadsOn by limit document whole old.world is.tape is.made p now.world) is.does
           is.trace;
-      few = omega (arith, few, is.enough);
     }
+
+    -- with calls left that are none of the fetch's
+    pub fetching-kept : (count : ℕ) (now : Moment State) (at : Step) → IsFetching count now at
+        → old.world.left ≤ slack + 126 → old.world.left ≤ now.world.left + 126
+    fetching-kept count now at is few = omega (arith, few, is.enough)
 
 -- a fetch by itself that came to its outcome
 pub fetch-driven : {State : Type 0} (by : Answering State) (limit document : ℕ) (whole : Process)
@@ -319,7 +329,7 @@ fetch-unbegun by limit document whole result old new kept = on-err result (rw ke
 -- a fetch by itself that came to its outcome, from no events on
 pub fetch-drove : {State : Type 0} (by : Answering State) (limit document : ℕ) (whole : Process)
     (first last : World State) (start made events : List Event) (outcome : Outcome) (old new : Outside State)
-    → IsIdle first.exchange → outside_of first ≡ old → outside_of last ≡ new → start ≡ [] → events ≡ made
+    → IsIdle first.exchange → outside_of first ≡ old → new ≡ outside_of last → start ≡ [] → events ≡ made
     → FetchedTo by limit document whole (moment_of first start) outcome (moment_of last made)
     → Drove by limit document whole old events outcome new
 fetch-drove {State = State} by limit document whole first last start made events outcome old new idle from to none same
@@ -328,14 +338,11 @@ fetch-drove {State = State} by limit document whole first last start made events
     (moment_of last l)) (sym same)
     (subst (λ (l : List Event). FetchedTo by limit document whole (moment_of first l) outcome (moment_of last made)) none
     x) in
-    let before : first.left ≡ old.left = ap (λ (o : Outside State). o.left) from in
-    let behind : last.left ≡ new.left = ap (λ (o : Outside State). o.left) to in
     record {
       first = first;
       idle = idle;
       from = from;
       last = last;
       driven = fetch-driven by limit document whole first last events outcome here;
-      to = to;
-      few = omega (arith, x.few, before, behind);
+      to = sym to;
     }
