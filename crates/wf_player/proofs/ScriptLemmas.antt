@@ -446,15 +446,15 @@ run-unbegun by limit document whole base result old new kept none = on-err resul
 -- the link was hung up
 -- a script in the setting of its document, from the beginning, is the document's run
 pub run-of : (document : Document) (client : Client) (policies : List Policy) (cookies : List Cookie)
-    (progress : Progress) → client ≡ document_client document → policies ≡ []
+    (progress : Progress) → client ≡ document_client document → policies ≡ document.policies
     → progress ≡ beginning progress.clock
     → script_run (setting client policies cookies) document.script finished progress
     ≡ document_run cookies progress.clock document
-run-of document client policies cookies progress is none began =
+run-of document client policies cookies progress is all began =
     ap (λ (c : Client). script_run (setting c policies cookies) document.script finished progress) is
     ∙ ap (λ (l : List Policy). script_run (setting (document_client document) l cookies) document.script finished
-    progress) none
-    ∙ ap (λ (p : Progress). script_run (setting (document_client document) [] cookies) document.script finished p) began
+    progress) all
+    ∙ ap (λ (p : Progress). script_run (setting (document_client document) document.policies cookies) document.script finished p) began
 
 -- a run that did not end for memory
 pub came-ran : {State : Type 0} (by : Answering State) (limit document : ℕ) (whole : Play) (old : Outside State)

@@ -15,13 +15,12 @@ use std::sync::Wait;
 use std::thread::Threads;
 use wf_book::Share;
 use wf_csp::Compiled;
-use wf_csp_text::Policies;
 use wf_drive::Lent;
 use wf_link::Link;
 use wf_print::{Ending, Transcript};
 use wf_script::{Document, Scenario};
 use wf_text::{Bytes, OutOfMemory};
-use wf_types::{Client, Cookies, ReferrerPolicy};
+use wf_types::{Client, Cookies};
 use wf_wire::Wire;
 
 // A document's run, to its ending, with the document's key.
@@ -55,9 +54,8 @@ fn run_document<R: Threads + Wait + Sync, S: Share, L: Link>(
     ensures belongs { S.belongs share.now pass.new }
     ensures same { (S.document pass.new ≡ S.document pass.old) × (S.opening pass.new ≡ S.opening pass.old) }
 {
-    let policy = ReferrerPolicy::StrictOriginWhenCrossOrigin;
-    let client = Client::of(alloc, &document.url, &document.top, policy)?;
-    let policies = Compiled::of(alloc, &Policies::new(alloc))?;
+    let client = Client::of(alloc, &document.url, &document.top, document.policy)?;
+    let policies = Compiled::of(alloc, &document.policies)?;
     let key = client.key.copy(alloc)?;
     let lent = Lent {
         rt,

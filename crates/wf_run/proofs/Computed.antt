@@ -60,7 +60,13 @@ init = record {
 
 -- the root's document, with a script that fetches `/`
 abbrev pub document : Document
-document = record { url = root; top = root; script = command.Fetch init ∷ [] }
+document = record {
+  url = root;
+  top = root;
+  policy = policy.StrictOriginWhenCrossOrigin;
+  policies = [];
+  script = command.Fetch init ∷ [];
+}
 
 -- the answer: status 200 without headers, and the body `hi`
 abbrev pub tape : List Input
@@ -111,6 +117,8 @@ abbrev pub plain : Document
 plain = record {
   url = record root { scheme = codes "http" };
   top = record root { scheme = codes "http" };
+  policy = policy.StrictOriginWhenCrossOrigin;
+  policies = [];
   script = command.Fetch init ∷ command.Wait 10 ∷ command.Fetch init ∷ [];
 }
 

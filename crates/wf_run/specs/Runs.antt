@@ -8,7 +8,6 @@ use Rattle.wf_types.specs.declared.client.Cookie.{Cookie}
 use Rattle.wf_types.specs.declared.fault.TypeFault.{TypeFault}
 use Rattle.wf_types.specs.declared.init.Init.{Init}
 use Rattle.wf_types.specs.declared.init.Pair.{Pair}
-use Rattle.wf_types.specs.declared.mode.ReferrerPolicy.TheVariants.{StrictOriginWhenCrossOrigin}
 use Rattle.wf_types.specs.declared.request.Request.{Request}
 use Rattle.wf_types.specs.declared.response.Outcome.{Outcome}
 use Rattle.wf_types.specs.Clients.{client_of}
@@ -162,13 +161,13 @@ beginning base = record { clock = base; commands = 0; fetches = 0; shown = [] }
 abbrev pub finished : Next
 finished progress = ends Finished progress
 
--- the client of a document that names no policy of its own
+-- the client of a document
 abbrev pub document_client : Document → Client
-document_client document = client_of document.url document.top StrictOriginWhenCrossOrigin
+document_client document = client_of document.url document.top document.policy
 
--- a document's setting; it has no policies yet
+-- a document's setting: its client, and its policies
 abbrev pub setting_of : List Cookie → Document → Setting
-setting_of cookies document = setting (document_client document) [] cookies
+setting_of cookies document = setting (document_client document) document.policies cookies
 
 -- the whole run, from a time on
 abbrev pub document_run : List Cookie → ℕ → Document → Play

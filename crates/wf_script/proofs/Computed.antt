@@ -1,10 +1,11 @@
 -- The scenario of a text, computed on examples by the definitions alone.
-use Rattle.std.proofs.Common.{◌≡◌, ℕ, true, false, List, [], ◌∷◌, ◌++◌, codes, refl, Ok, Err, Some, None, Result}
+use Rattle.std.proofs.Common.{◌≡◌, ℕ, Bool, true, false, List, [], ◌∷◌, ◌++◌, codes, refl, Ok, Err, Some, None, Result}
 use Rattle.std.specs.Str.{is_utf8, chars}
 use Rattle.url.proofs.OnLiterals.{url_on_literals}
 use Rattle.serde_json.proofs.OnLiterals.{serde_json_on_literals}
 use Rattle.url.specs.declared.host.Host.TheVariants.{Domain}
 use Rattle.url.specs.Parts.{Parts}
+use Rattle.wf_csp_text.specs.declared.policy.Policy.{Policy}
 use Rattle.wf_types.specs.declared.init.Init.{Init}
 use Rattle.wf_types.specs.declared.mode.Credentials.TheVariants as credentials
 use Rattle.wf_types.specs.declared.mode.Mode.TheVariants as mode
@@ -40,7 +41,7 @@ with_command command = codes "{\"format\":1,\"documents\":[{\"url\":\"https://a.
 -- the parts of a fetch
 pub computes-places-of-fetches : (scenario_of (with_command (codes "{\"fetch\":{\"url\":\"/${body}\"}}"))
     ≡ refused (codes "/documents/0/script/0/fetch/url"))
-    × (scenario_of (with_command (codes "{\"fetch\":{\"url\":\"/\",\"referrer\":\"none\"}}"))
+    × (scenario_of (with_command (codes "{\"fetch\":{\"url\":\"/\",\"mode\":\"websocket\"}}"))
     ≡ refused (codes "/documents/0/script/0/fetch/mode"))
     ×
     (scenario_of
@@ -94,11 +95,35 @@ pub computes-whole : scenario_of
             record { method = None; path = None; answer = codes "HTTP/1.1 200 Scripted\r\n\r\nhi" } ∷ [];
       } ∷ [];
       piece = 4096;
-      documents = record { url = page; top = page; script = Fetch (plain (codes "/")) ∷ [] } ∷ [];
+      documents = record {
+        url = page;
+        top = page;
+        policy = policy.StrictOriginWhenCrossOrigin;
+        policies = [];
+        script = Fetch (plain (codes "/")) ∷ [];
+      } ∷ [];
       body_limit = 262144;
     })
 unfolding url_on_literals serde_json_on_literals is_utf8 chars
 computes-whole = refl
+
+-- a scenario of a document with this one fetch
+abbrev one_command : Init → Scenario
+one_command init = record {
+  now = 0;
+  hosts = [];
+  cookies = [];
+  servers = [];
+  piece = 4096;
+  documents = record {
+    url = page;
+    top = page;
+    policy = policy.StrictOriginWhenCrossOrigin;
+    policies = [];
+    script = Fetch init ∷ [];
+  } ∷ [];
+  body_limit = 262144;
+}
 
 pub computes-fetch : scenario_of
     (with_command
@@ -114,6 +139,8 @@ pub computes-fetch : scenario_of
       documents = record {
         url = page;
         top = page;
+        policy = policy.StrictOriginWhenCrossOrigin;
+        policies = [];
         script = Fetch (record (plain (codes "/x")) {
           method = codes "PUT";
           mode = mode.Navigate;
@@ -178,6 +205,8 @@ pub computes-hosts : scenario_of
       documents = record {
         url = record page { scheme = codes "http"; port = Some 8080 };
         top = record page { scheme = codes "http"; port = Some 8080 };
+        policy = policy.StrictOriginWhenCrossOrigin;
+        policies = [];
         script = Wait 10 ∷ Wait 4294967295 ∷ [];
       } ∷ [];
       body_limit = 262144;
@@ -211,3 +240,100 @@ pub computes-answer : (answer servers (codes "https://a.test") (codes "PUT") (co
     × (answer servers (codes "https://a.test") (codes "put") (codes "/") ≡ codes "HTTP/1.1 404 Scripted\r\n\r\n")
     × (answer servers (codes "https://b.test") (codes "PUT") (codes "/x") ≡ [])
 computes-answer = (refl, refl, refl, refl)
+
+-- what a fetch asks for where no key says more than has to be said, and where each says something
+pub computes-fetch-defaults : scenario_of (with_command (codes "{\"fetch\":{\"url\":\"/\"}}"))
+    ≡ Ok (one_command (record (plain (codes "/")) { mode = mode.Cors; client_referrer = true }))
+unfolding url_on_literals serde_json_on_literals is_utf8 chars
+computes-fetch-defaults = refl
+
+pub computes-fetch-keys : scenario_of
+    (with_command
+    (codes "{\"fetch\":{\"url\":\"/\",\"mode\":\"no-cors\",\"credentials\":\"omit\",\"redirect\":\"manual\","
+    ++ codes "\"referrer\":\"client\",\"referrer_policy\":\"unsafe-url\",\"upload\":true}}"))
+    ≡ Ok (one_command (record (plain (codes "/")) {
+      mode = mode.NoCors;
+      credentials = credentials.Omit;
+      redirect = redirect.Manual;
+      client_referrer = true;
+      referrer_policy = policy.UnsafeUrl;
+      upload = true;
+    }))
+unfolding url_on_literals serde_json_on_literals is_utf8 chars
+computes-fetch-keys = refl
+
+-- a scenario with no document and one server of one rule
+abbrev with_rule : List ℕ → List ℕ
+with_rule rule = codes "{\"format\":1,\"servers\":[{\"origin\":\"https://a.test\",\"rules\":[" ++ rule
+    ++ codes "]}],\"documents\":[]}"
+
+-- an answer by its bytes has nothing beside it; one by its status needs it
+pub computes-places-of-rules : (scenario_of (with_rule (codes "{\"raw\":\"x\",\"status\":200}"))
+    ≡ refused (codes "/servers/0/rules/0"))
+    × (scenario_of (with_rule (codes "{\"raw\":\"x\",\"headers\":[]}")) ≡ refused (codes "/servers/0/rules/0"))
+    × (scenario_of (with_rule (codes "{\"raw\":\"x\",\"body\":\"\"}")) ≡ refused (codes "/servers/0/rules/0"))
+    × (scenario_of (with_rule (codes "{\"raw\":1}")) ≡ refused (codes "/servers/0/rules/0/raw"))
+    × (scenario_of (with_rule (codes "{\"body\":\"\"}")) ≡ refused (codes "/servers/0/rules/0/status"))
+unfolding url_on_literals serde_json_on_literals is_utf8 chars
+computes-places-of-rules = (refl, refl, refl, refl, refl)
+
+pub computes-raw : scenario_of (with_rule (codes "{\"path\":\"/\",\"raw\":\"HTTP/1.1 302 \\r\\n\\r\\n\"}"))
+    ≡ Ok (record {
+      now = 0;
+      hosts = [];
+      cookies = [];
+      servers = record {
+        origin = codes "https://a.test";
+        rules = record {
+          method = None;
+          path = Some (codes "/");
+          answer = codes "HTTP/1.1 302 \r\n\r\n";
+        } ∷ [];
+      } ∷ [];
+      piece = 4096;
+      documents = [];
+      body_limit = 262144;
+    })
+unfolding url_on_literals serde_json_on_literals is_utf8 chars
+computes-raw = refl
+
+-- a document with these headers
+abbrev with_headers : List ℕ → List ℕ
+with_headers headers = codes "{\"format\":1,\"documents\":[{\"url\":\"https://a.test/\",\"headers\":" ++ headers
+    ++ codes ",\"script\":[]}]}"
+
+-- a policy of a directive without words
+abbrev of_one : Bool → List ℕ → Policy
+of_one enforced name = record { enforced = enforced; directives = record { name = name; words = [] } ∷ [] }
+
+-- its policies are numbered in the order of the headers and of their commas, and the last known token tells its
+-- referrer policy
+pub computes-headers : scenario_of
+    (with_headers
+    (codes "[[\"Content-Security-Policy-Report-Only\",\"img-src\"],[\"Referrer-Policy\",\"origin, no-such\"],"
+    ++ codes "[\"content-security-policy\",\"script-src,style-src\"],[\"X\",\"img-src\"]]"))
+    ≡ Ok (record {
+      now = 0;
+      hosts = [];
+      cookies = [];
+      servers = [];
+      piece = 4096;
+      documents = record {
+        url = page;
+        top = page;
+        policy = policy.Origin;
+        policies = of_one false (codes "img-src") ∷ of_one true (codes "script-src") ∷ of_one true (codes "style-src") ∷ [];
+        script = [];
+      } ∷ [];
+      body_limit = 262144;
+    })
+unfolding url_on_literals serde_json_on_literals is_utf8 chars
+computes-headers = refl
+
+-- 17 policies are too many
+pub computes-places-of-headers : (scenario_of
+    (with_headers (codes "[[\"Content-Security-Policy\",\"a,a,a,a,a,a,a,a,a,a,a,a,a,a,a,a,a\"]]"))
+    ≡ refused (codes "/documents/0/headers"))
+    × (scenario_of (with_headers (codes "[[\"A\",\"1\"],[\"A B\",\"1\"]]")) ≡ refused (codes "/documents/0/headers/1/0"))
+unfolding url_on_literals serde_json_on_literals is_utf8 chars
+computes-places-of-headers = (refl, refl)

@@ -7,7 +7,7 @@ use Rattle.std.proofs.lemmas.Bool.{leb-true}
 use Rattle.std.proofs.lemmas.List.Elements.{All-nil, All-cons}
 use Rattle.serde_json.specs.Data.{Data, Items, no_items, item}
 use Rattle.serde_json.specs.Find.{get, as_str, as_array}
-use Rattle.wf_script.specs.Reading.{Read, ◌>>=◌, under, present, given, text_that, meaning, word_of, some_of}
+use Rattle.wf_script.specs.Reading.{Read, ◌>>=◌, under, present, given, text_that, some_of}
 use Rattle.wf_script.specs.Reading.{found_or, required, optional, count, each_from, items_of, list_of, two_of}
 use Rattle.wf_script.specs.Reading.{pair_of}
 
@@ -124,25 +124,6 @@ pub keeps-text_that : (passes : List ℕ → Bool) (tree : Data)
 keeps-text_that passes tree =
     keeps-after (λ text. IsTrue (passes text)) (present (as_str tree)) (λ text. given (passes text) text)
     (λ text. keeps-given (λ (t : List ℕ). IsTrue (passes t)) (passes text) text (λ holds. holds))
-
--- what each word stands for has the property
-abbrev pub Means : {A : Type 0} → (A → Type 0) → List (List ℕ × A) → Type 0
-Means P [] = Unit {0}
-Means P (entry ∷ words) = P entry.1 × Means P words
-
-keeps-meaning : {A : Type 0} (P : A → Type 0) (words : List (List ℕ × A)) (text : List ℕ) → Means P words
-    → Keeps P (present (meaning words text))
-keeps-meaning P [] text each = tt
-keeps-meaning {A} P (entry ∷ words) text each =
-    elim (bytes_eq entry.0 text) as (λ b. let found : Option A = if b then Some entry.1 else meaning words text in
-    Keeps P (present found))
-    [ true ↦ each.0 | false ↦ keeps-meaning P words text each.1 ]
-
-pub keeps-word : {A : Type 0} (P : A → Type 0) (words : List (List ℕ × A)) → Means P words → (tree : Data)
-    → Keeps P (word_of words tree)
-keeps-word P words each tree =
-    keeps-after P (present (as_str tree)) (λ text. present (meaning words text))
-    (λ text. keeps-meaning P words text each)
 
 pub keeps-some : {A : Type 0} (P : A → Type 0) (read : Data → Read A)
     → ((inside : Data) → Keeps P (read inside)) → (tree : Data) → Keeps (λ x. IfSome x P) (some_of read tree)

@@ -10,6 +10,12 @@ use Rattle.serde_json.specs.Find.{as_number, as_u64, as_str}
 use Rattle.url.proofs.OnLiterals.{url_on_literals}
 use Rattle.url.specs.Parts.{Parts}
 use Rattle.wf_text.specs.Tokens.{is_token}
+use Rattle.wf_types.specs.declared.init.Pair.{Pair}
+use Rattle.wf_csp_text.specs.declared.policy.Policy.{Policy}
+use Rattle.wf_types.specs.declared.mode.ReferrerPolicy.{ReferrerPolicy}
+use Rattle.wf_types.specs.declared.mode.ReferrerPolicy.TheVariants as policy
+use Rattle.wf_types.specs.ReferrerPolicies.{policy_of_header}
+use Rattle.wf_types.specs.Requests.{is_policy}
 use Rattle.wf_types.specs.Urls.{url_of_text}
 use Rattle.wf_script.specs.declared.types.Scenario.{Scenario}
 use Rattle.wf_script.specs.Hosts.{is_host_name}
@@ -18,15 +24,17 @@ use Rattle.wf_script.specs.Reading.{word_of, some_of, items_of, list_of}
 use Rattle.wf_script.specs.Texts.{lacks_template, is_cookie_value}
 use Rattle.wf_script.specs.OriginTexts.{is_origin_text}
 use Rattle.wf_script.specs.Urls.{is_document_url}
-use Rattle.wf_script.specs.Scenarios.{host_keys, host_of, cookie_of, status_of, answer_header_of, rule_keys, rule_of}
-use Rattle.wf_script.specs.Scenarios.{server_keys, server_of, modes, referrers, header_of, fetch_keys, fetch_of}
+use Rattle.wf_script.specs.Headers.{listed, policies_of_headers, policy_or_default}
+use Rattle.wf_script.specs.Scenarios.{host_keys, host_of, cookie_of, plain_header_of, answer_of, rule_keys, rule_of}
+use Rattle.wf_script.specs.Scenarios.{server_keys, server_of, header_of, fetch_keys, fetch_of, content_of, manner_of, referring_of}
+use Rattle.wf_script.specs.Scenarios.{said_of}
 use Rattle.wf_script.specs.Scenarios.{fetch_command_of, wait_command_of, has_key, command_of, document_url_of}
 use Rattle.wf_script.specs.Scenarios.{document_keys, document_of, scenario_keys, scenario_in}
-use Rattle.wf_script.specs.Valid.{IsValidHost, IsValidCookie, IsValidRule, IsValidServer, is_opened_mode, IsPlainPair}
+use Rattle.wf_script.specs.Valid.{IsValidHost, IsValidCookie, IsValidRule, IsValidServer, IsPlainPair}
 use Rattle.wf_script.specs.Valid.{IsValidInit, IsValidCommand, IsValidDocument, IsValid}
 use Rattle.wf_script.proofs.KeepsLemmas.{Keeps, Anything, keeps-anything, keeps-after}
 use Rattle.wf_script.proofs.KeepsLemmas.{keeps-given, keeps-if, keeps-required, keeps-optional, IsListOf, keeps-items}
-use Rattle.wf_script.proofs.KeepsLemmas.{keeps-list, keeps-text_that, keeps-word, keeps-some, keeps-parts}
+use Rattle.wf_script.proofs.KeepsLemmas.{keeps-list, keeps-text_that, keeps-then, keeps-some, keeps-parts}
 
 both : (a b : Bool) → IsTrue (a && b) → IsTrue a × IsTrue b
 both true b holds = (refl, holds)
@@ -83,14 +91,12 @@ IsToken method = IfSome method (That is_token)
 
 keeps-rule : (tree : Data) → Keeps IsValidRule (rule_of tree)
 keeps-rule tree =
-    keeps-after IsValidRule (only_keys rule_keys tree) _ (λ _.
+    keeps-after IsValidRule (only_keys (rule_keys (has_key (codes "raw") tree)) tree) _ (λ _.
     keeps-optional IsToken IsValidRule (codes "method") None (some_of (text_that is_token)) tree _ tt
     (keeps-some (That is_token) (text_that is_token) (keeps-text_that is_token)) (λ method is.
     keeps-after IsValidRule (optional (codes "path") None (some_of (text_that any)) tree) _ (λ path.
-    keeps-after IsValidRule (required (codes "status") status_of tree) _ (λ status.
-    keeps-after IsValidRule (optional (codes "headers") [] (items_of answer_header_of) tree) _ (λ headers.
-    keeps-after IsValidRule (optional (codes "body") [] (text_that any) tree) _ (λ body.
-    record { method = is }))))))
+    keeps-after IsValidRule (answer_of (has_key (codes "raw") tree) tree) _ (λ answer.
+    record { method = is }))))
 
 keeps-server : (tree : Data) → Keeps IsValidServer (server_of tree)
 keeps-server tree =
@@ -103,12 +109,6 @@ keeps-server tree =
 
 -- ---- fetches
 
-keeps-mode : (tree : Data) → Keeps (λ mode. IsTrue (is_opened_mode mode)) (word_of modes tree)
-keeps-mode = keeps-word (λ mode. IsTrue (is_opened_mode mode)) modes (refl, (refl, tt))
-
-keeps-referrer : (tree : Data) → Keeps (λ client. client ≡ false) (word_of referrers tree)
-keeps-referrer = keeps-word (λ client. client ≡ false) referrers (refl, tt)
-
 keeps-header : (tree : Data) → Keeps IsPlainPair (header_of tree)
 keeps-header tree =
     keeps-parts (That any) (That lacks_template) IsPlainPair (text_that any) (text_that lacks_template) tree _
@@ -118,6 +118,19 @@ keeps-header tree =
 abbrev IsPlainBody : Option (List ℕ) → Type 0
 IsPlainBody body = IfSome body (That lacks_template)
 
+-- at most 64 headers without templates, and such a body
+abbrev IsPlainContent : List Pair × Option (List ℕ) → Type 0
+IsPlainContent content = IsListOf IsPlainPair 64 content.0 × IsPlainBody content.1
+
+keeps-content : (tree : Data) → Keeps IsPlainContent (content_of tree)
+keeps-content tree =
+    keeps-optional (IsListOf IsPlainPair 64) IsPlainContent (codes "headers") [] (list_of 64 header_of) tree _
+    (record { few = omega arith; all = All-nil IsPlainPair }) (keeps-list IsPlainPair 64 header_of keeps-header)
+    (λ headers each.
+    keeps-optional IsPlainBody IsPlainContent (codes "body") None (some_of (text_that lacks_template)) tree _ tt
+    (keeps-some (That lacks_template) (text_that lacks_template) (keeps-text_that lacks_template)) (λ body plain.
+    (each, plain)))
+
 keeps-fetch : (tree : Data) → Keeps IsValidInit (fetch_of tree)
 keeps-fetch tree =
     keeps-after IsValidInit (only_keys fetch_keys tree) _ (λ _.
@@ -125,28 +138,11 @@ keeps-fetch tree =
     (keeps-text_that lacks_template) (λ url is.
     keeps-optional Anything IsValidInit (codes "method") (codes "GET") (text_that any) tree _ tt
     (λ inside. keeps-anything (text_that any inside)) (λ method _.
-    keeps-required (λ mode. IsTrue (is_opened_mode mode)) IsValidInit (codes "mode") (word_of modes) tree _ keeps-mode
-    (λ mode opened.
-    keeps-optional (IsListOf IsPlainPair 64) IsValidInit (codes "headers") [] (list_of 64 header_of) tree _
-    (record { few = omega arith; all = All-nil IsPlainPair }) (keeps-list IsPlainPair 64 header_of keeps-header)
-    (λ headers each.
-    keeps-optional IsPlainBody IsValidInit (codes "body") None (some_of (text_that lacks_template)) tree _ tt
-    (keeps-some (That lacks_template) (text_that lacks_template) (keeps-text_that lacks_template)) (λ body plain.
-    keeps-required (λ client. client ≡ false) IsValidInit (codes "referrer") (word_of referrers) tree _ keeps-referrer
-    (λ client none.
-    record {
-      url = is;
-      mode = opened;
-      few = each.few;
-      headers = each.all;
-      body = plain;
-      client_referrer = none;
-      credentials = refl;
-      redirect = refl;
-      referrer_policy = refl;
-      integrity = refl;
-      upload = refl;
-    })))))))
+    keeps-after IsValidInit (manner_of tree) _ (λ manner.
+    keeps-then IsPlainContent IsValidInit (content_of tree) _ (keeps-content tree) (λ content plain.
+    keeps-after IsValidInit (referring_of tree) _ (λ referring.
+    keeps-after IsValidInit (optional (codes "upload") false truth_of tree) _ (λ upload.
+    record { url = is; few = plain.0.few; headers = plain.0.all; body = plain.1; integrity = refl })))))))
 
 -- ---- documents
 
@@ -173,14 +169,38 @@ keeps-document_url tree =
     keeps-after (λ url. IsTrue (is_document_url url)) (present (url_of_text None (Some text))) _ (λ url.
     keeps-given (λ (u : Parts). IsTrue (is_document_url u)) (is_document_url url) url (λ holds. holds)))
 
+-- a referrer policy that is not empty, and at most 16 policies
+abbrev IsSaid : ReferrerPolicy × List Policy → Type 0
+IsSaid said = IsTrue (is_policy said.0) × (length said.1 ≤ 16)
+
+-- a default in the place of the empty policy
+never-empty : (named : ReferrerPolicy) → IsTrue (is_policy (policy_or_default named))
+never-empty policy.Empty = refl
+never-empty policy.NoReferrer = refl
+never-empty policy.NoReferrerWhenDowngrade = refl
+never-empty policy.SameOrigin = refl
+never-empty policy.Origin = refl
+never-empty policy.StrictOrigin = refl
+never-empty policy.OriginWhenCrossOrigin = refl
+never-empty policy.StrictOriginWhenCrossOrigin = refl
+never-empty policy.UnsafeUrl = refl
+
+keeps-said : (tree : Data) → Keeps IsSaid (said_of tree)
+keeps-said tree =
+    keeps-after IsSaid (items_of plain_header_of tree) _ (λ headers.
+    keeps-given IsSaid (nat_le (length (policies_of_headers headers)) 16) _
+    (λ few. (never-empty (policy_of_header (listed headers)), leb-true (length (policies_of_headers headers)) 16 few)))
+
 keeps-document : (tree : Data) → Keeps IsValidDocument (document_of tree)
 keeps-document tree =
     keeps-after IsValidDocument (only_keys document_keys tree) _ (λ _.
     keeps-required (λ url. IsTrue (is_document_url url)) IsValidDocument (codes "url") document_url_of tree _
     keeps-document_url (λ url is.
+    keeps-optional IsSaid IsValidDocument (codes "headers") (policy.StrictOriginWhenCrossOrigin, []) said_of tree _
+    (refl, omega arith) keeps-said (λ said holds.
     keeps-required (λ script. All IsValidCommand script) IsValidDocument (codes "script") (items_of command_of) tree _
     (keeps-items IsValidCommand command_of keeps-command) (λ script each.
-    record { url = is; top = is; script = each })))
+    record { url = is; top = is; policy = holds.0; few_policies = holds.1; script = each }))))
 
 -- ---- the whole
 

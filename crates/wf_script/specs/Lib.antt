@@ -1,3 +1,4 @@
+pub mod Headers
 pub mod Hosts
 pub mod OriginTexts
 pub mod Private

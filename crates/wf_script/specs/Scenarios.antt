@@ -1,6 +1,6 @@
 -- The scenario of a text: the tables of a scenario's objects over the tree that `serde_json` reads.
 -- The keys of a table are listed and read in one order.
-use Rattle.std.specs.Prelude.{ℕ, Bool, false, not, List, [], ◌∷◌, codes, Option, Some, None, is_some}
+use Rattle.std.specs.Prelude.{ℕ, Bool, true, false, nat_le, List, [], ◌∷◌, length, codes, Option, Some, None, is_some}
 use Rattle.std.specs.Prelude.{option_and_then, Result, Ok, Err, if◌then◌else◌}
 use Rattle.serde_json.specs.Data.{Data}
 use Rattle.serde_json.specs.Find.{get, as_str}
@@ -8,14 +8,17 @@ use Rattle.serde_json.specs.Read.{read}
 use Rattle.url.specs.Parts.{Parts}
 use Rattle.wf_text.specs.Tokens.{is_token}
 use Rattle.wf_text.specs.Values.{is_header_value}
-use Rattle.wf_types.specs.Statuses.{is_redirect_status}
+use Rattle.wf_csp_text.specs.declared.policy.Policy.{Policy}
 use Rattle.wf_types.specs.declared.client.Cookie.{Cookie}
 use Rattle.wf_types.specs.declared.init.Init.{Init}
 use Rattle.wf_types.specs.declared.init.Pair.{Pair}
+use Rattle.wf_types.specs.declared.mode.Credentials.{Credentials}
 use Rattle.wf_types.specs.declared.mode.Credentials.TheVariants as credentials
 use Rattle.wf_types.specs.declared.mode.Mode.{Mode}
 use Rattle.wf_types.specs.declared.mode.Mode.TheVariants as mode
+use Rattle.wf_types.specs.declared.mode.RedirectMode.{RedirectMode}
 use Rattle.wf_types.specs.declared.mode.RedirectMode.TheVariants as redirect
+use Rattle.wf_types.specs.declared.mode.ReferrerPolicy.{ReferrerPolicy}
 use Rattle.wf_types.specs.declared.mode.ReferrerPolicy.TheVariants as policy
 use Rattle.wf_types.specs.Urls.{utf8_text, url_of_text}
 use Rattle.wf_script.specs.declared.types.KnownHost.{KnownHost}
@@ -26,6 +29,7 @@ use Rattle.wf_script.specs.declared.types.Command.TheVariants.{Fetch, Wait}
 use Rattle.wf_script.specs.declared.types.Document.{Document}
 use Rattle.wf_script.specs.declared.types.Scenario.{Scenario}
 use Rattle.wf_script.specs.declared.types.Place.{Place}
+use Rattle.wf_script.specs.Headers.{policies_of_headers, policy_of_headers}
 use Rattle.wf_script.specs.Hosts.{is_host_name}
 use Rattle.wf_script.specs.OriginTexts.{is_origin_text}
 use Rattle.wf_script.specs.Reading.{Read, ◌>>=◌, present, given, number_of, truth_of, text_that, any, word_of, some_of}
@@ -56,31 +60,49 @@ cookie_of tree = do
   pair ← pair_of (text_that is_origin_text) (text_that is_cookie_value) tree
   Ok (record { origin = pair.0; value = pair.1 })
 
--- a status from 100 to 999 that is no redirect status
-abbrev pub status_of : Data → Read ℕ
-status_of tree = do
-  status ← number_of 100 999 tree
-  given (not (is_redirect_status status)) status
-
--- a header of an answer: its name and its value, which are a header's
-abbrev pub answer_header_of : Data → Read Pair
-answer_header_of tree = do
+-- a header: its name and its value
+abbrev pub plain_header_of : Data → Read Pair
+plain_header_of tree = do
   pair ← pair_of (text_that is_token) (text_that is_header_value) tree
   Ok (record { name = pair.0; value = pair.1 })
 
-abbrev pub rule_keys : List (List ℕ)
-rule_keys = codes "method" ∷ codes "path" ∷ codes "status" ∷ codes "headers" ∷ codes "body" ∷ []
+-- the tree has this key
+abbrev pub has_key : List ℕ → Data → Bool
+has_key name tree = is_some (get name tree)
+
+-- an answer by its bytes, or by its status, headers and body
+abbrev pub raw_keys : List (List ℕ)
+raw_keys = codes "method" ∷ codes "path" ∷ codes "raw" ∷ []
+
+abbrev pub status_keys : List (List ℕ)
+status_keys = codes "method" ∷ codes "path" ∷ codes "status" ∷ codes "headers" ∷ codes "body" ∷ []
+
+-- the keys of a rule: one with `raw` has no key of an answer beside it
+abbrev pub rule_keys : Bool → List (List ℕ)
+rule_keys true = raw_keys
+rule_keys false = status_keys
+
+-- the bytes of an answer with a status from 100 to 999
+abbrev pub status_answer_of : Data → Read (List ℕ)
+status_answer_of tree = do
+  status ← required (codes "status") (number_of 100 999) tree
+  headers ← optional (codes "headers") [] (items_of plain_header_of) tree
+  body ← optional (codes "body") [] (text_that any) tree
+  Ok (answer_bytes status headers body)
+
+-- the bytes of an answer: as they stand, or by its status
+abbrev pub answer_of : Bool → Data → Read (List ℕ)
+answer_of true tree = required (codes "raw") (text_that any) tree
+answer_of false tree = status_answer_of tree
 
 -- which requests a rule is for, and the bytes of its answer
 abbrev pub rule_of : Data → Read Rule
 rule_of tree = do
-  known ← only_keys rule_keys tree
+  known ← only_keys (rule_keys (has_key (codes "raw") tree)) tree
   method ← optional (codes "method") None (some_of (text_that is_token)) tree
   path ← optional (codes "path") None (some_of (text_that any)) tree
-  status ← required (codes "status") status_of tree
-  headers ← optional (codes "headers") [] (items_of answer_header_of) tree
-  body ← optional (codes "body") [] (text_that any) tree
-  Ok (record { method = method; path = path; answer = answer_bytes status headers body })
+  answer ← answer_of (has_key (codes "raw") tree) tree
+  Ok (record { method = method; path = path; answer = answer })
 
 abbrev pub server_keys : List (List ℕ)
 server_keys = codes "origin" ∷ codes "rules" ∷ []
@@ -96,11 +118,32 @@ server_of tree = do
 -- ---- fetches
 
 abbrev pub modes : List (List ℕ × Mode)
-modes = (codes "same-origin", mode.SameOrigin) ∷ (codes "navigate", mode.Navigate) ∷ []
+modes =
+    (codes "cors", mode.Cors) ∷ (codes "no-cors", mode.NoCors) ∷ (codes "same-origin", mode.SameOrigin)
+    ∷ (codes "navigate", mode.Navigate) ∷ []
+
+abbrev pub credentials_modes : List (List ℕ × Credentials)
+credentials_modes =
+    (codes "omit", credentials.Omit) ∷ (codes "same-origin", credentials.SameOrigin)
+    ∷ (codes "include", credentials.Include) ∷ []
+
+abbrev pub redirect_modes : List (List ℕ × RedirectMode)
+redirect_modes =
+    (codes "follow", redirect.Follow) ∷ (codes "error", redirect.Error) ∷ (codes "manual", redirect.Manual) ∷ []
 
 -- whether the referrer is the client
 abbrev pub referrers : List (List ℕ × Bool)
-referrers = (codes "none", false) ∷ []
+referrers = (codes "client", true) ∷ (codes "none", false) ∷ []
+
+-- the referrer policies by their names, and the empty one
+abbrev pub policies : List (List ℕ × ReferrerPolicy)
+policies =
+    ([], policy.Empty) ∷ (codes "no-referrer", policy.NoReferrer)
+    ∷ (codes "no-referrer-when-downgrade", policy.NoReferrerWhenDowngrade) ∷ (codes "same-origin", policy.SameOrigin)
+    ∷ (codes "origin", policy.Origin) ∷ (codes "strict-origin", policy.StrictOrigin)
+    ∷ (codes "origin-when-cross-origin", policy.OriginWhenCrossOrigin)
+    ∷ (codes "strict-origin-when-cross-origin", policy.StrictOriginWhenCrossOrigin)
+    ∷ (codes "unsafe-url", policy.UnsafeUrl) ∷ []
 
 -- a name and a value, which need not be a header; templates stand in values alone
 abbrev pub header_of : Data → Read Pair
@@ -108,8 +151,32 @@ header_of tree = do
   pair ← pair_of (text_that any) (text_that lacks_template) tree
   Ok (record { name = pair.0; value = pair.1 })
 
+-- how the request is made: its mode, its credentials mode and its redirect mode
+abbrev pub manner_of : Data → Read (Mode × Credentials × RedirectMode)
+manner_of tree = do
+  mode ← optional (codes "mode") mode.Cors (word_of modes) tree
+  sent ← optional (codes "credentials") credentials.SameOrigin (word_of credentials_modes) tree
+  redirects ← optional (codes "redirect") redirect.Follow (word_of redirect_modes) tree
+  Ok (mode, sent, redirects)
+
+-- whether its referrer is the client, and its referrer policy
+abbrev pub referring_of : Data → Read (Bool × ReferrerPolicy)
+referring_of tree = do
+  client ← optional (codes "referrer") true (word_of referrers) tree
+  named ← optional (codes "referrer_policy") policy.Empty (word_of policies) tree
+  Ok (client, named)
+
+-- what is sent: headers, and a body
+abbrev pub content_of : Data → Read (List Pair × Option (List ℕ))
+content_of tree = do
+  headers ← optional (codes "headers") [] (list_of 64 header_of) tree
+  body ← optional (codes "body") None (some_of (text_that lacks_template)) tree
+  Ok (headers, body)
+
 abbrev pub fetch_keys : List (List ℕ)
-fetch_keys = codes "url" ∷ codes "method" ∷ codes "mode" ∷ codes "headers" ∷ codes "body" ∷ codes "referrer" ∷ []
+fetch_keys =
+    codes "url" ∷ codes "method" ∷ codes "mode" ∷ codes "credentials" ∷ codes "redirect" ∷ codes "headers"
+    ∷ codes "body" ∷ codes "referrer" ∷ codes "referrer_policy" ∷ codes "upload" ∷ []
 
 -- what a fetch asks for; what no key says is as `fetch` has it by itself
 abbrev pub fetch_of : Data → Read Init
@@ -117,22 +184,22 @@ fetch_of tree = do
   known ← only_keys fetch_keys tree
   url ← required (codes "url") (text_that lacks_template) tree
   method ← optional (codes "method") (codes "GET") (text_that any) tree
-  mode ← required (codes "mode") (word_of modes) tree
-  headers ← optional (codes "headers") [] (list_of 64 header_of) tree
-  body ← optional (codes "body") None (some_of (text_that lacks_template)) tree
-  client_referrer ← required (codes "referrer") (word_of referrers) tree
+  manner ← manner_of tree
+  content ← content_of tree
+  referring ← referring_of tree
+  upload ← optional (codes "upload") false truth_of tree
   Ok (record {
     url = url;
     method = method;
-    mode = mode;
-    credentials = credentials.SameOrigin;
-    redirect = redirect.Follow;
-    headers = headers;
-    body = body;
-    client_referrer = client_referrer;
-    referrer_policy = policy.Empty;
+    mode = manner.0;
+    credentials = manner.1;
+    redirect = manner.2;
+    headers = content.0;
+    body = content.1;
+    client_referrer = referring.0;
+    referrer_policy = referring.1;
     integrity = [];
-    upload = false;
+    upload = upload;
   })
 
 -- ---- documents
@@ -151,10 +218,6 @@ wait_command_of tree = do
   seconds ← required (codes "wait") (number_of 0 4294967295) tree
   Ok (Wait seconds)
 
--- the tree has this key
-abbrev pub has_key : List ℕ → Data → Bool
-has_key name tree = is_some (get name tree)
-
 -- A command, told by its key. One without such a key, or with a key beside it, is refused at its own place.
 abbrev pub command_of : Data → Read Command
 command_of tree =
@@ -170,15 +233,28 @@ document_url_of tree = do
   given (is_document_url url) url
 
 abbrev pub document_keys : List (List ℕ)
-document_keys = codes "url" ∷ codes "script" ∷ []
+document_keys = codes "url" ∷ codes "headers" ∷ codes "script" ∷ []
 
--- a document, the page at the top itself: its URL and its commands
+-- what the headers of a document say: its referrer policy, and its policies, which are at most 16
+abbrev pub said_of : Data → Read (ReferrerPolicy × List Policy)
+said_of tree = do
+  headers ← items_of plain_header_of tree
+  given (nat_le (length (policies_of_headers headers)) 16) (policy_of_headers headers, policies_of_headers headers)
+
+-- a document, the page at the top itself: its URL, its policies and its commands
 abbrev pub document_of : Data → Read Document
 document_of tree = do
   known ← only_keys document_keys tree
   url ← required (codes "url") document_url_of tree
+  said ← optional (codes "headers") (policy.StrictOriginWhenCrossOrigin, []) said_of tree
   script ← required (codes "script") (items_of command_of) tree
-  Ok (record { url = url; top = url; script = script })
+  Ok (record {
+    url = url;
+    top = url;
+    policy = said.0;
+    policies = said.1;
+    script = script;
+  })
 
 -- ---- the whole
 

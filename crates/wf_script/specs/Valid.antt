@@ -1,15 +1,11 @@
 -- What every scenario that is read keeps: the bounds and the forms of its values.
-use Rattle.std.specs.Prelude.{◌≡◌, ◌≤◌, ◌<◌, ◌^◌, Bool, true, false, [], length, IfSome, IsTrue}
+use Rattle.std.specs.Prelude.{◌≡◌, ◌≤◌, ◌<◌, ◌^◌, [], length, IfSome, IsTrue}
 use Rattle.std.specs.List.{All}
 use Rattle.wf_text.specs.Tokens.{is_token}
 use Rattle.wf_types.specs.declared.client.Cookie.{Cookie}
 use Rattle.wf_types.specs.declared.init.Init.{Init}
 use Rattle.wf_types.specs.declared.init.Pair.{Pair}
-use Rattle.wf_types.specs.declared.mode.Credentials.TheVariants as credentials
-use Rattle.wf_types.specs.declared.mode.Mode.{Mode}
-use Rattle.wf_types.specs.declared.mode.Mode.TheVariants as mode
-use Rattle.wf_types.specs.declared.mode.RedirectMode.TheVariants as redirect
-use Rattle.wf_types.specs.declared.mode.ReferrerPolicy.TheVariants as policy
+use Rattle.wf_types.specs.Requests.{is_policy}
 use Rattle.wf_script.specs.declared.types.KnownHost.{KnownHost}
 use Rattle.wf_script.specs.declared.types.Rule.{Rule}
 use Rattle.wf_script.specs.declared.types.Server.{Server}
@@ -42,41 +38,30 @@ pub record IsValidServer (server : Server) : Type 0 where
   pub origin : IsTrue (is_origin_text server.origin)
   pub rules : All IsValidRule server.rules
 
--- the mode of a request is same-origin or navigate
-abbrev pub is_opened_mode : Mode → Bool
-is_opened_mode mode.SameOrigin = true
-is_opened_mode mode.NoCors = false
-is_opened_mode mode.Cors = false
-is_opened_mode mode.Navigate = true
-
 -- the value has no template
 abbrev pub IsPlainPair : Pair → Type 0
 IsPlainPair pair = IsTrue (lacks_template pair.value)
 
--- Neither its URL nor its values have templates; it has at most 64 headers and no referrer, and what no key
--- says is as `fetch` has it by itself.
+-- Neither its URL nor its values have templates; it has at most 64 headers, and no integrity text.
 pub record IsValidInit (init : Init) : Type 0 where
   pub url : IsTrue (lacks_template init.url)
-  pub mode : IsTrue (is_opened_mode init.mode)
   pub few : length init.headers ≤ 64
   pub headers : All IsPlainPair init.headers
   pub body : IfSome init.body (λ body. IsTrue (lacks_template body))
-  pub client_referrer : init.client_referrer ≡ false
-  pub credentials : init.credentials ≡ credentials.SameOrigin
-  pub redirect : init.redirect ≡ redirect.Follow
-  pub referrer_policy : init.referrer_policy ≡ policy.Empty
   pub integrity : init.integrity ≡ []
-  pub upload : init.upload ≡ false
 
 -- what a fetch asks for may be asked, and a wait is less than 2^32 seconds long
 abbrev pub IsValidCommand : Command → Type 0
 IsValidCommand (Fetch init) = IsValidInit init
 IsValidCommand (Wait seconds) = seconds < 2 ^ 32
 
--- URLs of the document and of the page at the top that a document may have, and commands
+-- URLs of the document and of the page at the top that a document may have, a referrer policy that is not empty, at
+-- most 16 policies, and commands
 pub record IsValidDocument (document : Document) : Type 0 where
   pub url : IsTrue (is_document_url document.url)
   pub top : IsTrue (is_document_url document.top)
+  pub policy : IsTrue (is_policy document.policy)
+  pub few_policies : length document.policies ≤ 16
   pub script : All IsValidCommand document.script
 
 -- a time of at most 2^40 seconds, at most 4,096 known hosts, a piece of 1 to 65,536 bytes, and at most one

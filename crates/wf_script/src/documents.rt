@@ -2,8 +2,9 @@
 ghost use Rattle.wf_script.specs.Scenarios as spec;
 
 use crate::commands::CommandTable;
-use crate::fields::{only_keys, required};
+use crate::fields::{only_keys, optional, required};
 use crate::form::{Form, refused_here};
+use crate::headers::DocumentHeaders;
 use crate::lists::ItemsOf;
 use crate::refused::Refused;
 use crate::types::Document;
@@ -11,7 +12,10 @@ use crate::urls::is_document_url;
 use serde_json::Value;
 use std::alloc::Global;
 use url::Url;
-use wf_types::url_alone;
+use wf_text::Items;
+use wf_types::{ReferrerPolicy, url_alone};
+
+const KEYS: &[&str] = &["url", "headers", "script"];
 
 const SCRIPT: ItemsOf<CommandTable> = ItemsOf { item: CommandTable };
 
@@ -34,7 +38,7 @@ impl Form for DocumentUrl {
     }
 }
 
-/// A document, the page at the top itself: its URL and its commands.
+/// A document, the page at the top itself: its URL, what its headers say, and its commands.
 #[derive(Drop)]
 pub(crate) struct DocumentTable;
 
@@ -44,10 +48,22 @@ impl Form for DocumentTable {
     ghost reads = { λ _. spec.document_of };
 
     fn read(&self, alloc: Global, tree: &Value) -> Result<Document, Refused> {
-        only_keys(alloc, tree, &["url", "script"])?;
+        only_keys(alloc, tree, KEYS)?;
         let url = required(alloc, tree, "url", &DocumentUrl)?;
+        let unsaid = (
+            ReferrerPolicy::StrictOriginWhenCrossOrigin,
+            Items::new(alloc),
+        );
+        let said = optional(alloc, tree, "headers", unsaid, &DocumentHeaders)?;
+        let (policy, policies) = said;
         let script = required(alloc, tree, "script", &SCRIPT)?;
         let top = url.clone()?;
-        Ok(Document { url, top, script })
+        Ok(Document {
+            url,
+            top,
+            policy,
+            policies,
+            script,
+        })
     }
 }

@@ -1,7 +1,9 @@
 // The table of what a fetch asks for.
+ghost use Rattle.serde_json.specs.View.{view};
+ghost use Rattle.wf_script.specs.Private.Gives.{Gives};
 ghost use Rattle.wf_script.specs.Scenarios as spec;
 
-use crate::fields::{Given, only_keys, optional, required};
+use crate::fields::{Given, Truth, only_keys, optional, required};
 use crate::form::Form;
 use crate::lists::{ListOf, PairOf};
 use crate::refused::Refused;
@@ -10,9 +12,20 @@ use crate::words::Word;
 use serde_json::Value;
 use std::alloc::Global;
 use wf_text::{Bytes, Items};
-use wf_types::{Credentials, Init, Mode, Pair, RedirectMode, ReferrerPolicy};
+use wf_types::{Credentials, Init, Mode, Pair, Pairs, RedirectMode, ReferrerPolicy};
 
-const KEYS: &[&str] = &["url", "method", "mode", "headers", "body", "referrer"];
+const KEYS: &[&str] = &[
+    "url",
+    "method",
+    "mode",
+    "credentials",
+    "redirect",
+    "headers",
+    "body",
+    "referrer",
+    "referrer_policy",
+    "upload",
+];
 
 const URL: TextThat<WithoutTemplate> = TextThat {
     test: WithoutTemplate,
@@ -22,8 +35,26 @@ const METHOD: TextThat<AnyText> = TextThat { test: AnyText };
 
 const MODE: Word<'static, Mode> = Word {
     words: &[
+        ("cors", Mode::Cors),
+        ("no-cors", Mode::NoCors),
         ("same-origin", Mode::SameOrigin),
         ("navigate", Mode::Navigate),
+    ],
+};
+
+const CREDENTIALS: Word<'static, Credentials> = Word {
+    words: &[
+        ("omit", Credentials::Omit),
+        ("same-origin", Credentials::SameOrigin),
+        ("include", Credentials::Include),
+    ],
+};
+
+const REDIRECT: Word<'static, RedirectMode> = Word {
+    words: &[
+        ("follow", RedirectMode::Follow),
+        ("error", RedirectMode::Error),
+        ("manual", RedirectMode::Manual),
     ],
 };
 
@@ -47,7 +78,30 @@ const BODY: Given<TextThat<WithoutTemplate>> = Given {
 
 // Whether the referrer is the client.
 const REFERRER: Word<'static, bool> = Word {
-    words: &[("none", false)],
+    words: &[("client", true), ("none", false)],
+};
+
+const POLICY: Word<'static, ReferrerPolicy> = Word {
+    words: &[
+        ("", ReferrerPolicy::Empty),
+        ("no-referrer", ReferrerPolicy::NoReferrer),
+        (
+            "no-referrer-when-downgrade",
+            ReferrerPolicy::NoReferrerWhenDowngrade,
+        ),
+        ("same-origin", ReferrerPolicy::SameOrigin),
+        ("origin", ReferrerPolicy::Origin),
+        ("strict-origin", ReferrerPolicy::StrictOrigin),
+        (
+            "origin-when-cross-origin",
+            ReferrerPolicy::OriginWhenCrossOrigin,
+        ),
+        (
+            "strict-origin-when-cross-origin",
+            ReferrerPolicy::StrictOriginWhenCrossOrigin,
+        ),
+        ("unsafe-url", ReferrerPolicy::UnsafeUrl),
+    ],
 };
 
 // A name and a value.
@@ -65,6 +119,36 @@ impl Form for HeaderPair {
     }
 }
 
+// How the request is made: its mode, its credentials mode and its redirect mode.
+fn manner(alloc: Global, tree: &Value) -> Result<(Mode, Credentials, RedirectMode), Refused>
+    ensures { Gives result (spec.manner_of (view tree.now)) }
+{
+    let mode = optional(alloc, tree, "mode", Mode::Cors, &MODE)?;
+    let same_origin = Credentials::SameOrigin;
+    let credentials = optional(alloc, tree, "credentials", same_origin, &CREDENTIALS)?;
+    let redirect = optional(alloc, tree, "redirect", RedirectMode::Follow, &REDIRECT)?;
+    Ok((mode, credentials, redirect))
+}
+
+// What is sent: headers, and a body.
+fn content(alloc: Global, tree: &Value) -> Result<(Pairs, Option<Bytes>), Refused>
+    ensures { Gives result (spec.content_of (view tree.now)) }
+{
+    let headers = optional(alloc, tree, "headers", Items::new(alloc), &HEADERS)?;
+    let body = optional(alloc, tree, "body", None, &BODY)?;
+    Ok((headers, body))
+}
+
+// Whether its referrer is the client, and its referrer policy.
+fn referring(alloc: Global, tree: &Value) -> Result<(bool, ReferrerPolicy), Refused>
+    ensures { Gives result (spec.referring_of (view tree.now)) }
+{
+    let client = optional(alloc, tree, "referrer", true, &REFERRER)?;
+    let empty = ReferrerPolicy::Empty;
+    let policy = optional(alloc, tree, "referrer_policy", empty, &POLICY)?;
+    Ok((client, policy))
+}
+
 /// What a fetch asks for. What no key says is as `fetch` has it by itself.
 #[derive(Drop)]
 pub(crate) struct FetchTable;
@@ -79,22 +163,22 @@ impl Form for FetchTable {
         let url = required(alloc, tree, "url", &URL)?;
         let get = Bytes::of(alloc, b"GET")?;
         let method = optional(alloc, tree, "method", get, &METHOD)?;
-        let mode = required(alloc, tree, "mode", &MODE)?;
-        let headers = optional(alloc, tree, "headers", Items::new(alloc), &HEADERS)?;
-        let body = optional(alloc, tree, "body", None, &BODY)?;
-        let client_referrer = required(alloc, tree, "referrer", &REFERRER)?;
+        let (mode, credentials, redirect) = manner(alloc, tree)?;
+        let (headers, body) = content(alloc, tree)?;
+        let (client_referrer, referrer_policy) = referring(alloc, tree)?;
+        let upload = optional(alloc, tree, "upload", false, &Truth)?;
         Ok(Init {
             url,
             method,
             mode,
-            credentials: Credentials::SameOrigin,
-            redirect: RedirectMode::Follow,
+            credentials,
+            redirect,
             headers,
             body,
             client_referrer,
-            referrer_policy: ReferrerPolicy::Empty,
+            referrer_policy,
             integrity: Bytes::new(alloc),
-            upload: false,
+            upload,
         })
     }
 }

@@ -9,6 +9,7 @@ mod documents;
 mod fetches;
 mod fields;
 mod form;
+mod headers;
 mod hosts;
 mod lists;
 mod origins;

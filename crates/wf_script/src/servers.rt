@@ -1,21 +1,26 @@
 // The tables of servers and their rules.
 ghost use Rattle.wf_script.specs.Scenarios as spec;
-ghost use Rattle.wf_types.specs.Statuses.{is_redirect_status};
-ghost use Rattle.std.specs.Prelude.{◌≡◌};
+ghost use Rattle.std.specs.Prelude.{◌≡◌, map, is_some};
+ghost use Rattle.serde_json.specs.View.{view};
+ghost use Rattle.wf_script.specs.Private.Gives.{Gives};
 
 use crate::answers::answer_bytes;
 use crate::fields::{Given, Number, only_keys, optional, required};
-use crate::form::{Form, refused_here};
-use crate::lists::{ItemsOf, PairOf};
+use crate::form::Form;
+use crate::headers::PlainHeader;
+use crate::lists::ItemsOf;
 use crate::refused::Refused;
-use crate::texts::{AnyText, HeaderValue, OriginText, TextThat, Token};
+use crate::texts::{AnyText, OriginText, TextThat, Token};
 use crate::types::{Rule, Server};
 use serde_json::Value;
 use std::alloc::Global;
 use wf_text::{Bytes, Items};
-use wf_types::Pair;
 
-const KEYS: &[&str] = &["method", "path", "status", "headers", "body"];
+// The keys of a rule whose answer is given by its bytes.
+const RAW_KEYS: &[&str] = &["method", "path", "raw"];
+
+// The keys of a rule whose answer is given by its status.
+const STATUS_KEYS: &[&str] = &["method", "path", "status", "headers", "body"];
 
 const METHOD: Given<TextThat<Token>> = Given {
     form: TextThat { test: Token },
@@ -30,58 +35,40 @@ const STATUS: Number = Number {
     most: 999,
 };
 
-const HEADER: PairOf<TextThat<Token>, TextThat<HeaderValue>> = PairOf {
-    first: TextThat { test: Token },
-    second: TextThat { test: HeaderValue },
-};
+const HEADERS: ItemsOf<PlainHeader> = ItemsOf { item: PlainHeader };
 
-const HEADERS: ItemsOf<AnswerHeader> = ItemsOf { item: AnswerHeader };
-
-const BODY: TextThat<AnyText> = TextThat { test: AnyText };
+const TEXT: TextThat<AnyText> = TextThat { test: AnyText };
 
 const ORIGIN: TextThat<OriginText> = TextThat { test: OriginText };
 
 const RULES: ItemsOf<RuleTable> = ItemsOf { item: RuleTable };
 
-// Whether it is a redirect status (Fetch, section 2.2.3).
-fn is_redirect_status(status: u64) -> bool
-    ensures { result ≡ is_redirect_status status }
+// The bytes of an answer by its status.
+fn status_answer(alloc: Global, tree: &Value) -> Result<Bytes, Refused>
+    ensures { Gives result (spec.status_answer_of (view tree.now)) }
 {
-    matches!(status, 301 | 302 | 303 | 307 | 308)
+    let status = required(alloc, tree, "status", &STATUS)?;
+    let headers = optional(alloc, tree, "headers", Items::new(alloc), &HEADERS)?;
+    let body = optional(alloc, tree, "body", Bytes::new(alloc), &TEXT)?;
+    Ok(answer_bytes(alloc, status, headers.as_slice(), body.as_slice())?)
 }
 
-// A status from 100 to 999 that is no redirect status.
-#[derive(Drop)]
-struct Status;
-
-impl Form for Status {
-    type Out = u64;
-
-    ghost reads = { λ _. spec.status_of };
-
-    fn read(&self, alloc: Global, tree: &Value) -> Result<u64, Refused> {
-        let status = STATUS.read(alloc, tree)?;
-        if is_redirect_status(status) {
-            refused_here(alloc)
-        } else {
-            Ok(status)
-        }
+// The bytes of an answer, as they stand or by its status.
+fn rule_answer(alloc: Global, raw: bool, tree: &Value) -> Result<Bytes, Refused>
+    ensures { Gives result (spec.answer_of raw (view tree.now)) }
+{
+    if raw {
+        required(alloc, tree, "raw", &TEXT)
+    } else {
+        status_answer(alloc, tree)
     }
 }
 
-// A header of an answer: its name and its value.
-#[derive(Drop)]
-struct AnswerHeader;
-
-impl Form for AnswerHeader {
-    type Out = Pair;
-
-    ghost reads = { λ _. spec.answer_header_of };
-
-    fn read(&self, alloc: Global, tree: &Value) -> Result<Pair, Refused> {
-        let (name, value) = HEADER.read(alloc, tree)?;
-        Ok(Pair { name, value })
-    }
+// The keys of a rule.
+fn rule_keys(raw: bool) -> &'static [&'static str]
+    ensures { map (λ name. name.now) result.now ≡ spec.rule_keys raw }
+{
+    if raw { RAW_KEYS } else { STATUS_KEYS }
 }
 
 // Which requests a rule is for, and its answer.
@@ -94,13 +81,11 @@ impl Form for RuleTable {
     ghost reads = { λ _. spec.rule_of };
 
     fn read(&self, alloc: Global, tree: &Value) -> Result<Rule, Refused> {
-        only_keys(alloc, tree, KEYS)?;
+        let raw = tree.get("raw").is_some();
+        only_keys(alloc, tree, rule_keys(raw))?;
         let method = optional(alloc, tree, "method", None, &METHOD)?;
         let path = optional(alloc, tree, "path", None, &PATH)?;
-        let status = required(alloc, tree, "status", &Status)?;
-        let headers = optional(alloc, tree, "headers", Items::new(alloc), &HEADERS)?;
-        let body = optional(alloc, tree, "body", Bytes::new(alloc), &BODY)?;
-        let answer = answer_bytes(alloc, status, headers.as_slice(), body.as_slice())?;
+        let answer = rule_answer(alloc, raw, tree)?;
         Ok(Rule {
             method,
             path,

@@ -3,8 +3,9 @@ ghost use Rattle.std.specs.Prelude.{◌≡◌, ◌<◌, ◌++◌, ◌∷◌, [],
 use std::alloc::Global;
 use std::marker::Model;
 use url::Url;
+use wf_csp_text::Policies;
 use wf_text::{Bytes, Items, OutOfMemory};
-use wf_types::{Cookies, Init};
+use wf_types::{Cookies, Init, ReferrerPolicy};
 
 /// A known HSTS host (RFC 6797, section 8.1.1): its domain as a URL has it, whether the names under it
 /// are known too, and the first second in which it is not known any more.
@@ -110,12 +111,14 @@ pub enum Command {
 /// The commands of a document, in order.
 pub type Script = Items<Command>;
 
-/// A document: its URL, the URL of the page at the top, which is its own where it is not embedded,
-/// and its script.
+/// A document: its URL, the URL of the page at the top, which is its own where it is not embedded, its
+/// referrer policy, its content security policies, and its script.
 #[derive(Drop)]
 pub struct Document {
     pub url: Url,
     pub top: Url,
+    pub policy: ReferrerPolicy,
+    pub policies: Policies,
     pub script: Script,
 }
 

@@ -1,9 +1,9 @@
 -- A play of a scenario: one history of the shared book, and the run of each document over what the scenario's servers
 -- answer and over the document's own entries of that history (this project's own; what a run does is wf_run's
--- definition, and what comes of its acts wf_player's).
+-- definition, and what comes of its acts wf_drive's).
 --
--- A run is the whole fetch as its definition has it (wf_fetch); what a scenario cannot ask for yet (other modes, policies,
--- loads) does not come about in a play.
+-- A fetch is the whole one, as its definition has it (wf_fetch). What a scenario cannot ask for yet (loads, integrity,
+-- more documents than one) does not come about in a play.
 use Rattle.std.specs.Prelude.{◌≡◌, ℕ, ◌+◌, ◌<◌, List, [], ◌∷◌, length, Some}
 use Rattle.std.specs.List.{AllByRecursion}
 use Rattle.wf_book.specs.declared.book.Book.{Book}

@@ -27,30 +27,30 @@ returns-in_err-key-clause-began g c =
 pub returns-in_err-wire-clause-began : goal.returns-in_err-wire-clause-began
 returns-in_err-wire-clause-began g c =
     run-unbegun (over_link g.L.Link.answer g.L.Link.next) c.args.limit (g.S.Share.document c.args.pass.now) (document_run c.args.cookies.now c.args.running.now.clock c.args.document.now) c.args.running.now c.from_residual-in_err-wire.result
-    (outside g.S.Share.own g.S.Share.left g.L.Link.state g.L.Link.faults c.args.pass.now c.args.link.now) (outside g.S.Share.own g.S.Share.left g.L.Link.state g.L.Link.faults c.args.pass.now c.new-2.new.link) (outside-is (outside g.S.Share.own g.S.Share.left g.L.Link.state g.L.Link.faults c.args.pass.now c.new-2.new.link) (outside g.S.Share.own g.S.Share.left g.L.Link.state g.L.Link.faults c.args.pass.now c.args.link.now) c.new-2.ensures.state c.new-2.ensures.faults refl refl) (ap (λ (p : Progress). p.shown) c.requires.base)
+    (outside g.S.Share.own g.S.Share.left g.L.Link.state g.L.Link.faults c.args.pass.now c.args.link.now) (outside g.S.Share.own g.S.Share.left g.L.Link.state g.L.Link.faults c.args.pass.now c.new.new.link) (outside-is (outside g.S.Share.own g.S.Share.left g.L.Link.state g.L.Link.faults c.args.pass.now c.new.new.link) (outside g.S.Share.own g.S.Share.left g.L.Link.state g.L.Link.faults c.args.pass.now c.args.link.now) c.new.ensures.state c.new.ensures.faults refl refl) (ap (λ (p : Progress). p.shown) c.requires.base)
 
 pub returns-in_err-ending-clause-began : goal.returns-in_err-ending-clause-began
 returns-in_err-ending-clause-began g c =
-    let first = (world_of g.S.Share.own g.S.Share.left g.L.Link.state g.L.Link.left g.L.Link.faults c.args.pass.now c.new-2.new.link c.in_ok-wire.wire) in
+    let first = (world_of g.S.Share.own g.S.Share.left g.L.Link.state g.L.Link.left g.L.Link.faults c.args.pass.now c.new.new.link c.in_ok-wire.wire) in
     let now = standing_of (world_of g.S.Share.own g.S.Share.left g.L.Link.state g.L.Link.left g.L.Link.faults c.run_script.new.pass c.run_script.new.link c.run_script.new.wire) c.run_script.new.running in
     run-cut (over_link g.L.Link.answer g.L.Link.next) c.args.limit (g.S.Share.document c.args.pass.now) (document_run c.args.cookies.now c.args.running.now.clock c.args.document.now) first (outside g.S.Share.own g.S.Share.left g.L.Link.state g.L.Link.faults c.args.pass.now c.args.link.now) (outside g.S.Share.own g.S.Share.left g.L.Link.state g.L.Link.faults c.run_script.new.pass c.run_script.new.link) c.args.running.now now
     c.from_residual-in_err-ending.result c.in_ok-wire.ensures.idle
-    (outside-is (outside_of first) (outside g.S.Share.own g.S.Share.left g.L.Link.state g.L.Link.faults c.args.pass.now c.args.link.now) c.new-2.ensures.state c.new-2.ensures.faults refl refl) refl (ap (λ (p : Progress). p.shown) c.requires.base)
+    (outside-is (outside_of first) (outside g.S.Share.own g.S.Share.left g.L.Link.state g.L.Link.faults c.args.pass.now c.args.link.now) c.new.ensures.state c.new.ensures.faults refl refl) refl (ap (λ (p : Progress). p.shown) c.requires.base)
     (subst (λ (p : Play). Stopped (over_link g.L.Link.answer g.L.Link.next) c.args.limit (g.S.Share.document c.args.pass.now) p (standing_of first c.args.running.now) now)
     (run-of c.args.document.now c.in_ok-client.client c.in_ok-policies.policies c.args.cookies.now
-    c.args.running.now c.in_ok-client.ensures (c.in_ok-policies.ensures ∙ c.new.ensures) c.requires.base) c.in_err-ending.ensures.stopped)
+    c.args.running.now c.in_ok-client.ensures c.in_ok-policies.ensures c.requires.base) c.in_err-ending.ensures.stopped)
 
 pub returns-clause-ran : goal.returns-clause-ran
 returns-clause-ran g c =
-    let first = (world_of g.S.Share.own g.S.Share.left g.L.Link.state g.L.Link.left g.L.Link.faults c.args.pass.now c.new-2.new.link c.in_ok-wire.wire) in
+    let first = (world_of g.S.Share.own g.S.Share.left g.L.Link.state g.L.Link.left g.L.Link.faults c.args.pass.now c.new.new.link c.in_ok-wire.wire) in
     let now = standing_of (world_of g.S.Share.own g.S.Share.left g.L.Link.state g.L.Link.left g.L.Link.faults c.run_script.new.pass c.run_script.new.link c.run_script.new.wire) c.run_script.new.running in
     run-whole (over_link g.L.Link.answer g.L.Link.next) c.args.limit (g.S.Share.document c.args.pass.now) (document_run c.args.cookies.now c.args.running.now.clock c.args.document.now) first (outside g.S.Share.own g.S.Share.left g.L.Link.state g.L.Link.faults c.args.pass.now c.args.link.now) (outside g.S.Share.own g.S.Share.left g.L.Link.state g.L.Link.faults c.run_script.new.pass c.run_script.new.link) c.args.running.now c.in_ok-ending.ending now
     c.in_ok-wire.ensures.idle
-    (outside-is (outside_of first) (outside g.S.Share.own g.S.Share.left g.L.Link.state g.L.Link.faults c.args.pass.now c.args.link.now) c.new-2.ensures.state c.new-2.ensures.faults refl refl) refl (ap (λ (p : Progress). p.shown) c.requires.base)
+    (outside-is (outside_of first) (outside g.S.Share.own g.S.Share.left g.L.Link.state g.L.Link.faults c.args.pass.now c.args.link.now) c.new.ensures.state c.new.ensures.faults refl refl) refl (ap (λ (p : Progress). p.shown) c.requires.base)
     (subst (λ (p : Play). Ended (over_link g.L.Link.answer g.L.Link.next) c.args.limit (g.S.Share.document c.args.pass.now) p (standing_of first c.args.running.now)
     c.in_ok-ending.ending now) (run-of c.args.document.now c.in_ok-client.client c.in_ok-policies.policies c.args.cookies.now
-    c.args.running.now c.in_ok-client.ensures (c.in_ok-policies.ensures ∙ c.new.ensures) c.requires.base) c.in_ok-ending.ensures.ended)
+    c.args.running.now c.in_ok-client.ensures c.in_ok-policies.ensures c.requires.base) c.in_ok-ending.ensures.ended)
 
 pub run_script-requires-clause-end : goal.run_script-requires-clause-end
 run_script-requires-clause-end g c κs outlives =
-    end-left (window_of c.in_ok-wire.wire) (g.L.Link.left c.new-2.new.link) c.in_ok-wire.ensures.idle.end
+    end-left (window_of c.in_ok-wire.wire) (g.L.Link.left c.new.new.link) c.in_ok-wire.ensures.idle.end

@@ -1,0 +1,125 @@
+// Headers, and what those of a document say.
+ghost use Rattle.std.specs.Prelude.{◌≡◌, ◌++◌, IfOk, OnOk};
+ghost use Rattle.wf_script.specs.Headers as spec;
+ghost use Rattle.wf_script.specs.Scenarios as table;
+
+use crate::form::{Form, refused_here};
+use crate::lists::{ItemsOf, PairOf};
+use crate::refused::Refused;
+use crate::texts::{HeaderValue, TextThat, Token};
+use serde_json::Value;
+use std::alloc::Global;
+use wf_csp_text::{Policies, parse_policies};
+use wf_headers::HeaderList;
+use wf_text::OutOfMemory;
+use wf_types::{Pair, ReferrerPolicy, policy_of_header};
+
+/// How many policies a document has at most.
+const MOST_POLICIES: usize = 16;
+
+const HEADER: PairOf<TextThat<Token>, TextThat<HeaderValue>> = PairOf {
+    first: TextThat { test: Token },
+    second: TextThat { test: HeaderValue },
+};
+
+/// A header: its name and its value.
+#[derive(Drop)]
+pub(crate) struct PlainHeader;
+
+impl Form for PlainHeader {
+    type Out = Pair;
+
+    ghost reads = { λ _. table.plain_header_of };
+
+    fn read(&self, alloc: Global, tree: &Value) -> Result<Pair, Refused> {
+        let (name, value) = HEADER.read(alloc, tree)?;
+        Ok(Pair { name, value })
+    }
+}
+
+const HEADERS: ItemsOf<PlainHeader> = ItemsOf { item: PlainHeader };
+
+// The policies of a header, where it is one of the two that have some.
+fn policies_of_header(alloc: Global, header: &Pair) -> Result<Policies, OutOfMemory>
+    ensures { IfOk result (λ policies. policies ≡ spec.policies_of_header header.now) }
+{
+    let name = header.name.as_slice();
+    if name.eq_ignore_ascii_case(b"Content-Security-Policy") {
+        parse_policies(alloc, header.value.as_slice(), true)
+    } else if name.eq_ignore_ascii_case(b"Content-Security-Policy-Report-Only") {
+        parse_policies(alloc, header.value.as_slice(), false)
+    } else {
+        Ok(Policies::new(alloc))
+    }
+}
+
+// Adds policies at the end.
+fn add_policies(policies: &mut Policies, more: Policies) -> Result<(), OutOfMemory>
+    ensures { OnOk result (policies.new ≡ policies.old ++ more) }
+{
+    for policy in more.into_vec() {
+        policies.push(policy)?;
+    }
+    Ok(())
+}
+
+// The policies of headers, in order.
+fn policies_of_headers(alloc: Global, headers: &[Pair]) -> Result<Policies, OutOfMemory>
+    ensures { IfOk result (λ policies. policies ≡ spec.policies_of_headers headers.now) }
+{
+    let mut policies = Policies::new(alloc);
+    for header in headers {
+        let more = policies_of_header(alloc, header)?;
+        add_policies(&mut policies, more)?;
+    }
+    Ok(policies)
+}
+
+// The headers as a list.
+fn listed(alloc: Global, headers: &[Pair]) -> Result<HeaderList, OutOfMemory>
+    ensures { IfOk result (λ list. list ≡ spec.listed headers.now) }
+{
+    let mut list = HeaderList::new(alloc);
+    for header in headers {
+        list.append(header.name.as_slice(), header.value.as_slice())?;
+    }
+    Ok(list)
+}
+
+// A policy that was named, or the default one.
+fn policy_or_default(named: ReferrerPolicy) -> ReferrerPolicy
+    ensures { result ≡ spec.policy_or_default named }
+{
+    match named {
+        ReferrerPolicy::Empty => ReferrerPolicy::StrictOriginWhenCrossOrigin,
+        _ => named,
+    }
+}
+
+// The referrer policy that headers name, or the default one.
+fn policy_of_headers(alloc: Global, headers: &[Pair]) -> Result<ReferrerPolicy, OutOfMemory>
+    ensures { IfOk result (λ policy. policy ≡ spec.policy_of_headers headers.now) }
+{
+    let list = listed(alloc, headers)?;
+    Ok(policy_or_default(policy_of_header(alloc, &list)?))
+}
+
+/// What the headers of a document say: its referrer policy and its policies.
+#[derive(Drop)]
+pub(crate) struct DocumentHeaders;
+
+impl Form for DocumentHeaders {
+    type Out = (ReferrerPolicy, Policies);
+
+    ghost reads = { λ _. table.said_of };
+
+    fn read(&self, alloc: Global, tree: &Value) -> Result<(ReferrerPolicy, Policies), Refused> {
+        let headers = HEADERS.read(alloc, tree)?;
+        let policies = policies_of_headers(alloc, headers.as_slice())?;
+        if policies.len() > MOST_POLICIES {
+            return refused_here(alloc);
+        }
+        let policy = policy_of_headers(alloc, headers.as_slice())?;
+        Ok((policy, policies))
+    }
+}
