@@ -38,6 +38,14 @@ each-one ReadHead = refl
 each-one ReadBody = refl
 each-one (Tell violation) = refl
 
+-- an act shows one event at most
+events-few : (first : Act) (input : Input) → length (events_of first input) ≤ 1
+events-few (Ask op) input = omega arith
+events-few (Send hop) input = omega arith
+events-few ReadHead input = omega arith
+events-few ReadBody input = omega arith
+events-few (Tell violation) input = omega arith
+
 module _ {State : Type 0} (by : Answering State) (limit document : ℕ) where
   -- a call of the book costs one call, and nothing else costs any
   left-after : (old new : World State) (first : Act) (input : Input) → Answers by limit document old first input new
@@ -157,6 +165,7 @@ module _ {State : Type 0} (by : Answering State) (limit document : ℕ) where
           tape = is.tape ++ input ∷ [];
           made = is.made;
           missed = events_of first input;
+          few = events-few first input;
           place = rest context fetching input;
           last = mid;
           added = is.added;
@@ -170,6 +179,7 @@ module _ {State : Type 0} (by : Answering State) (limit document : ℕ) where
           tape = is.tape ++ input ∷ [];
           made = is.made ++ events_of first input;
           missed = [];
+          few = omega arith;
           place = rest context fetching input;
           last = mid;
           added = added-next;
@@ -205,6 +215,7 @@ module _ {State : Type 0} (by : Answering State) (limit document : ℕ) where
       tape = is.tape;
       made = is.made;
       missed = [];
+      few = omega arith;
       place = is.process;
       last = now.world;
       added = is.added;
@@ -224,6 +235,7 @@ module _ {State : Type 0} (by : Answering State) (limit document : ℕ) where
       tape = [];
       made = [];
       missed = [];
+      few = omega arith;
       place = whole;
       last = old.world;
       added = sym (append-nil old.events);

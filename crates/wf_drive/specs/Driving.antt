@@ -1,5 +1,5 @@
 -- What a fetch comes to in a document's world.
-use Rattle.std.specs.Prelude.{◌≡◌, ℕ, List, ◌++◌}
+use Rattle.std.specs.Prelude.{◌≡◌, ℕ, ◌≤◌, List, ◌++◌, length}
 use Rattle.wf_act.specs.declared.act.Input.{Input}
 use Rattle.wf_act.specs.Process.{Process, ended}
 use Rattle.wf_act.specs.Traces.{Driven, Trace, with_events}
@@ -32,12 +32,13 @@ pub record FetchedTo {State : Type 0} (by : Answering State) (limit document : �
   pub trace : LeadsOn by limit document whole old.world tape made (ended outcome) new.world
 
 -- Memory was refused: the fetch came to some place, and what was added to the events begins what it showed on the way;
--- what is missed there came about and was not noted.
+-- what is missed there, one event at most, came about and was not noted.
 pub record FetchCut {State : Type 0} (by : Answering State) (limit document : ℕ) (whole : Process)
     (old new : Moment State) : Type 0 where
   pub tape : List Input
   pub made : List Event
   pub missed : List Event
+  pub few : length missed ≤ 1
   pub place : Process
   pub last : World State
   pub added : new.events ≡ old.events ++ made

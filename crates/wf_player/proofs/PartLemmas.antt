@@ -1,5 +1,5 @@
 -- Parts of a run, one after another.
-use Rattle.std.proofs.Common.{ℕ, List, [], ◌∷◌, ◌++◌, refl, ap, sym, subst, ◌∙◌, append_assoc}
+use Rattle.std.proofs.Common.{ℕ, List, [], ◌∷◌, ◌++◌, refl, ap, sym, subst, ◌∙◌, arith, append_assoc}
 use Rattle.std.proofs.lemmas.List.{append-nil}
 use Rattle.wf_act.specs.Process.{Process}
 use Rattle.wf_print.specs.declared.events.Event.{Event}
@@ -71,6 +71,7 @@ module _ {State : Type 0} (by : Answering State) (limit document : ℕ) where
     tape = [];
     made = [];
     missed = [];
+    few = omega arith;
     place = part;
     last = a.world;
     added = sym (append-nil a.progress.shown);
@@ -85,6 +86,7 @@ module _ {State : Type 0} (by : Answering State) (limit document : ℕ) where
     tape = x.tape ++ y.tape;
     made = x.made ++ y.made;
     missed = y.missed;
+    few = y.few;
     place = y.place;
     last = y.last;
     added = y.added ∙ ap (λ (l : List Event). l ++ y.made) x.added ∙ append_assoc a.progress.shown x.made y.made;
@@ -100,6 +102,7 @@ module _ {State : Type 0} (by : Answering State) (limit document : ℕ) where
     tape = x.tape;
     made = x.made;
     missed = x.missed;
+    few = x.few;
     place = λ m. x.place (f m);
     last = x.last;
     added = x.added;
@@ -116,6 +119,7 @@ module _ {State : Type 0} (by : Answering State) (limit document : ℕ) where
     tape = x.tape;
     made = x.made;
     missed = x.missed;
+    few = x.few;
     place = λ next. embed x.place next (after_events (x.made ++ x.missed) progress);
     last = x.last;
     added = x.added;

@@ -2,7 +2,7 @@
 use Rattle.std.proofs.Common.{◌≡◌, ◌≢◌, ℕ, suc, ◌+◌, ◌≤◌, ◌<◌, List, [], ◌∷◌, ◌++◌, Option, Some, None, true, false}
 use Rattle.std.proofs.Common.{refl, ap, sym, subst, ◌∙◌, arith, append_assoc, add-one, drop, drop-cons, cond}
 use Rattle.std.proofs.Common.{get_or, length, Result, Ok, Err, OnOk, OnErr, Bool}
-use Rattle.std.specs.Prelude.{⊤, nat_le}
+use Rattle.std.specs.Prelude.{⊤, nat_le, ◌==◌, IfOk, map}
 use Rattle.std.proofs.lemmas.List.{append-nil, drop_all}
 use Rattle.wf_text.specs.declared.memory.OutOfMemory.{OutOfMemory}
 use Rattle.wf_act.specs.declared.act.Input.{Input}
@@ -20,13 +20,14 @@ use Rattle.wf_send.specs.Making.{new_request}
 use Rattle.wf_fetch.specs.Fetch.{fetch}
 use Rattle.wf_run.specs.Play.{Play, PlayRun, over, run_play}
 use Rattle.wf_run.specs.Runs.{Next, Progress, Setting, after_events, at_time, command_started, embed, fetched}
-use Rattle.wf_run.specs.Runs.{fetch_started, finished, limit_before, normalized_init, script_run, showing, started}
+use Rattle.wf_run.specs.Runs.{fetch_started, finished, limit_before, normalized_init, normalized_pair, script_run, showing, started}
 use Rattle.wf_run.specs.Runs.{beginning, document_client, document_run, own_limit, setting, unless_limit}
 use Rattle.wf_run.specs.Runs.{waited}
 use Rattle.wf_run.specs.Traces.{shown, stop}
 use Rattle.wf_run.proofs.PlayLemmas.{play-run}
 use Rattle.wf_types.specs.declared.fault.TypeFault.{TypeFault}
 use Rattle.wf_types.specs.declared.init.Init.{Init}
+use Rattle.wf_types.specs.declared.init.Pair.{Pair}
 use Rattle.wf_types.specs.declared.request.Request.{Request}
 use Rattle.wf_types.specs.declared.response.Outcome.{Outcome}
 use Rattle.wf_wire.specs.Exchanges.{Answering, IsIdle}
@@ -38,6 +39,27 @@ use Rattle.wf_drive.proofs.AskLemmas.{on-err, on-err-map, on-ok, refuses-none}
 use Rattle.wf_drive.proofs.FetchLemmas.{still}
 use Rattle.wf_player.proofs.PartLemmas.{cut-fetch, cut-here, cut-inside, played-cut, played-event}
 use Rattle.wf_player.proofs.PartLemmas.{played-fetch, played-inside, played-none, played-then}
+
+-- ---- what a script asks for
+
+-- no headers
+nothing : (pairs : List Pair) → (length pairs == 0) ≡ true → pairs ≡ []
+nothing [] none = refl
+nothing (pair ∷ pairs) none = absurd (grind (arith, none))
+
+-- without headers there is nothing to normalise
+pub normal-nothing : (init : Init) → (length init.headers == 0) ≡ true → normalized_init init ≡ init
+normal-nothing init none =
+    let is : init.headers ≡ [] = nothing init.headers none in
+    ap (λ (l : List Pair). let r : Init = record init { headers = map normalized_pair l } in r) is
+    ∙ sym (ap (λ (l : List Pair). let r : Init = record init { headers = l } in r) is)
+
+-- the request is that of what is asked for
+pub made-as-asked : (client : Client) (init : Init) (result : Result (Result Request TypeFault) OutOfMemory)
+    → (length init.headers == 0) ≡ true → IfOk result (λ made. made ≡ new_request client init)
+    → IfOk result (λ made. made ≡ new_request client (normalized_init init))
+made-as-asked client init result none made = subst (λ (i : Init). IfOk result (λ made. made ≡ new_request client i))
+    (sym (normal-nothing init none)) made
 
 -- a world, part by part
 world-is : {State : Type 0} (a b : World State) → a.exchange ≡ b.exchange → a.own ≡ b.own → a.left ≡ b.left → a ≡ b
@@ -409,6 +431,7 @@ module _ {State : Type 0} (by : Answering State) (limit document : ℕ) (whole :
         from = from;
         tape = x.tape;
         missed = x.missed;
+        few = x.few;
         place = x.place finished;
         last = x.last;
         trace = subst (λ (l : List Event). PlaysOn by limit document whole first x.tape (l ++ x.missed)
@@ -436,6 +459,7 @@ run-unbegun by limit document whole base result old new kept none = on-err resul
   from = refl;
   tape = [];
   missed = [];
+  few = omega arith;
   place = whole;
   last = still old;
   trace = stop;

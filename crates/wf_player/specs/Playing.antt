@@ -1,5 +1,5 @@
 -- What a document's run, and each part of it, comes to in the document's world.
-use Rattle.std.specs.Prelude.{◌≡◌, ℕ, ◌+◌, ◌*◌, ◌≤◌, List, [], ◌++◌, Some}
+use Rattle.std.specs.Prelude.{◌≡◌, ℕ, ◌+◌, ◌*◌, ◌≤◌, List, [], ◌++◌, length, Some}
 use Rattle.wf_act.specs.declared.act.Input.{Input}
 use Rattle.wf_print.specs.declared.events.Ending.{Ending}
 use Rattle.wf_print.specs.declared.events.Ending.TheVariants.{Memory}
@@ -33,13 +33,14 @@ pub record PlayedTo {State N : Type 0} (by : Answering State) (limit document : 
   pub added : new.progress.shown ≡ old.progress.shown ++ made
   pub trace : (next : N) → PlaysOn by limit document (part next) old.world tape made (rest next) new.world
 
--- Memory was refused somewhere: the part came to some place, and what was added to the events begins what it showed on
--- the way.
+-- Memory was refused somewhere: the part came to some place, and what was added to the events is what it showed on the
+-- way, but for one event at most.
 pub record CutShort {State N : Type 0} (by : Answering State) (limit document : ℕ) (part : N → Play)
     (old new : Standing State) : Type 0 where
   pub tape : List Input
   pub made : List Event
   pub missed : List Event
+  pub few : length missed ≤ 1
   pub place : N → Play
   pub last : World State
   pub added : new.progress.shown ≡ old.progress.shown ++ made
@@ -89,8 +90,8 @@ pub record Ran {State : Type 0} (by : Answering State) (limit document : ℕ) (w
   pub to : outside_of last ≡ new
   pub runs : run_play whole tape ≡ record { events = events; ending = Some (ending, clock) }
 
--- The same of a run that ended for memory: what was shown begins the run over that tape, and the calls that were made
--- are those on the way.
+-- The same of a run that ended for memory: what was shown begins the run over that tape, up to some place of it but for
+-- one event at most, and the calls that were made are those on the way.
 pub record Began {State : Type 0} (by : Answering State) (limit document : ℕ) (whole : Play) (old : Outside State)
     (events : List Event) (new : Outside State) : Type 0 where
   pub first : World State
@@ -98,6 +99,7 @@ pub record Began {State : Type 0} (by : Answering State) (limit document : ℕ) 
   pub from : outside_of first ≡ old
   pub tape : List Input
   pub missed : List Event
+  pub few : length missed ≤ 1
   pub place : Play
   pub last : World State
   pub trace : PlaysOn by limit document whole first tape (events ++ missed) place last

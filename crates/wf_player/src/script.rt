@@ -38,6 +38,10 @@ fn requested<R, S>(
     ensures value { IfOk result (λ made. made ≡ request_of lent.now.client.now (normal_init init.now)) }
     ensures valid { IfOk result (λ made. IfOk made IsRequest) }
 {
+    // without headers there is nothing to normalise, and no copy is wanted
+    if init.headers.is_empty() {
+        return new_request(lent.alloc, init, lent.client);
+    }
     let init = normalized_init(lent.alloc, init)?;
     new_request(lent.alloc, &init, lent.client)
 }

@@ -45,8 +45,8 @@ fn determined(
 
 /// Gives the request of a client its referrer policy, the client's where its own is empty, and its referrer
 /// as that policy tells it to the current URL, which is http or https (Fetch, section 4.1, "main fetch"; Referrer
-/// Policy, section 8.3). The referrer is then none or a URL. After want of memory it has the policy and the
-/// referrer that it had.
+/// Policy, section 8.3). The referrer is then none or a URL. After want of memory it is some request for an http
+/// or https URL.
 pub fn set_referrer(
     alloc: Global,
     request: &mut Request,

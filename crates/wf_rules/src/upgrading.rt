@@ -41,10 +41,10 @@ fn with_https(url: &Url) -> Result<Url, OutOfMemory>
     }
 }
 
-/// The request with the scheme https in its current URL, which is http or https; a port 443 is then the
+/// Gives the current URL of a request, which is http or https, the scheme https; a port 443 is then the
 /// default one and is left out (URL Standard, the scheme's setter). It is what becomes of a request to a
 /// known HSTS host (Fetch, section 4.1, "main fetch") and of one that is upgraded. The only error is want of
-/// memory, which a URL of 4 GB counts as.
+/// memory, which a URL of 4 GB counts as; after it the request is some request for an http or https URL.
 pub fn secure(request: &mut Request) -> Result<(), OutOfMemory>
     requires valid { IsRequest request.old }
     requires http { IsAtHttp request.old }
@@ -68,11 +68,11 @@ fn secure_where(yes: bool, request: &mut Request) -> Result<(), OutOfMemory>
     if yes { secure(request) } else { Ok(()) }
 }
 
-/// The request of a client with these policies as it goes on: with the scheme https in its current URL, which is
-/// http or https, where an enforced policy has `upgrade-insecure-requests` (Upgrade Insecure Requests, "upgrade
-/// request to a potentially trustworthy URL, if appropriate"), or where it is for upgradeable content that would
-/// be mixed (Mixed Content, section 4, "upgrade a mixed content request to a potentially trustworthy URL, if
-/// appropriate"); and else as it is. The only error is want of memory, as that of `secured`.
+/// Gives the current URL of a client's request, which is http or https, the scheme https where an enforced
+/// policy has `upgrade-insecure-requests` (Upgrade Insecure Requests, "upgrade request to a potentially
+/// trustworthy URL, if appropriate"), or where it is for upgradeable content that would be mixed (Mixed Content,
+/// section 4, "upgrade a mixed content request to a potentially trustworthy URL, if appropriate"). The only error
+/// is want of memory, as that of `secure`.
 pub fn upgrade_request(
     request: &mut Request,
     client: &Client,
