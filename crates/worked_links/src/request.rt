@@ -1,4 +1,4 @@
-ghost use Rattle.std.specs.Prelude.{IfOk};
+ghost use Rattle.std.specs.Prelude.{◌≤◌, IfOk};
 ghost use Rattle.wf_types.specs.Requests.{IsClient};
 
 use crate::link::{limit_of, link_of};
@@ -6,9 +6,10 @@ use crate::play::{show, tell};
 use std::alloc::Global;
 use std::sync::Wait;
 use std::thread::Threads;
-use wf_book::{Book, SoloBook};
+use wf_book::{Book, History, Share, SoloBook};
 use wf_csp::Compiled;
 use wf_csp_text::Policies;
+use wf_link::MemoryLink;
 use wf_origin::is_http_url;
 use wf_player::{FetchRun, drive_fetch};
 use wf_print::{Ending, Event, Transcript, Transcripts};
@@ -44,6 +45,60 @@ fn transcript_of(client: Client, run: FetchRun) -> Result<Transcript, Failed> {
     })
 }
 
+// Fetches the request of a row for a client, which has no policies and no cookies.
+fn fetched<R: Threads + Wait + Sync, S: Share>(
+    rt: &R,
+    alloc: Global,
+    row: &Row,
+    text: &[u8],
+    client: &Client,
+    share: &S,
+    pass: &mut S::Pass,
+    link: &mut MemoryLink,
+) -> Result<FetchRun, Failed>
+    requires client { IsClient client.now }
+    requires belongs { S.belongs share.now pass.old }
+    requires left { 126 ≤ S.left pass.old }
+{
+    let limit = limit_of(row)?;
+    let request = request_of(alloc, text)?;
+    let policies = Compiled::of(alloc, &Policies::new(alloc))?;
+    let cookies = Cookies::new(alloc);
+    Ok(drive_fetch(
+        rt, alloc, request, client, &policies, &cookies, 0, limit, share, pass, link,
+    )?)
+}
+
+// The same, as a document of which it is all.
+fn played<R: Threads + Wait + Sync, S: Share>(
+    rt: &R,
+    alloc: Global,
+    row: &Row,
+    text: &[u8],
+    share: &S,
+    pass: &mut S::Pass,
+    link: &mut MemoryLink,
+) -> Result<Transcript, Failed>
+    requires belongs { S.belongs share.now pass.old }
+    requires left { 126 ≤ S.left pass.old }
+{
+    let client = client_of(alloc, text)?;
+    let run = fetched(rt, alloc, row, text, &client, share, pass, link)?;
+    transcript_of(client, run)
+}
+
+// Prints the text of one play, with the history.
+fn show_one<R: Print>(
+    rt: &R,
+    alloc: Global,
+    transcript: Transcript,
+    history: &History,
+) -> Result<(), Failed> {
+    let mut transcripts = Transcripts::new(alloc);
+    transcripts.push(transcript)?;
+    show(rt, alloc, &transcripts, history)
+}
+
 // Fetches the request of a row over its link and a book of its own.
 pub(crate) fn play_request<R: Threads + Wait + Sync + Print + AllocGlobal>(
     rt: &R,
@@ -52,25 +107,10 @@ pub(crate) fn play_request<R: Threads + Wait + Sync + Print + AllocGlobal>(
     let alloc = rt.alloc();
     let text = before_byte(line.as_bytes(), b'\t');
     let row = Row::of(alloc, line.as_bytes())?;
-    let (client, mut link) = (client_of(alloc, text)?, link_of(alloc, &row)?);
-    let policies = Compiled::of(alloc, &Policies::new(alloc))?;
+    let mut link = link_of(alloc, &row)?;
     let (share, mut pass) = SoloBook::new(alloc, Book::new(alloc));
-    let run = drive_fetch(
-        rt,
-        alloc,
-        request_of(alloc, text)?,
-        &client,
-        &policies,
-        &Cookies::new(alloc),
-        0,
-        limit_of(&row)?,
-        &share,
-        &mut pass,
-        &mut link,
-    )?;
+    let transcript = played(rt, alloc, &row, text, &share, &mut pass, &mut link)?;
     tell(rt, alloc, &link)?;
-    let mut transcripts = Transcripts::new(alloc);
-    transcripts.push(transcript_of(client, run)?)?;
     let (_, history) = share.close(pass);
-    show(rt, alloc, &transcripts, &history)
+    show_one(rt, alloc, transcript, &history)
 }
