@@ -34,10 +34,7 @@ scenario() {
     local rule=$1 piece=$2 count=$3
     printf '{"format":1,"hsts":[%s],"servers":[{"origin":"%s","rules":[%s]}],' "$hosts" "$origin" "$rule"
     printf '"piece":%d,"documents":[{"url":"%s/","script":[' "$piece" "$origin"
-    for ((i = 0; i < count; i++)); do
-        ((i == 0)) || printf ','
-        printf '{"fetch":{"url":"/","mode":"same-origin","referrer":"none"}}'
-    done
+    fetches '"url":"/","mode":"same-origin","referrer":"none"' "$count"
     printf ']}]}'
 }
 
@@ -45,4 +42,27 @@ scenario() {
 played() {
     scenario "$@" >"$work/scenario"
     counted "$program" play <"$work/scenario"
+}
+
+# The instructions of a play of the scenario that a function of a bench writes, called with these words.
+cost_of() {
+    "$@" >"$work/scenario"
+    counted "$program" play <"$work/scenario"
+}
+
+# The instructions of a fetch more between two numbers of fetches, of which the last word of that function is one.
+fetch_more() {
+    local few=$1 many=$2
+    shift 2
+    local less=$(cost_of "$@" "$few")
+    local more=$(cost_of "$@" "$many")
+    echo $(((more - less) / (many - few)))
+}
+
+# A script of so many equal fetches, each with these keys.
+fetches() {
+    for ((i = 0; i < $2; i++)); do
+        ((i == 0)) || printf ','
+        printf '{"fetch":{%s}}' "$1"
+    done
 }

@@ -20,23 +20,11 @@ policies() {
 document() {
     printf '{"format":1,"servers":[{"origin":"%s","rules":[{"status":200,"body":"ok"}]}],' "$origin"
     printf '"documents":[{"url":"%s/","headers":[%s],"script":[' "$origin" "$(policies "$1")"
-    for ((i = 0; i < $2; i++)); do
-        ((i == 0)) || printf ','
-        printf '{"fetch":{"url":"/"}}'
-    done
+    fetches '"url":"/"' "$2"
     printf ']}]}'
 }
 
-# The instructions of a fetch more.
-fetch_more() {
-    document "$1" 50 >"$work/scenario"
-    local some=$(counted "$program" play <"$work/scenario")
-    document "$1" 100 >"$work/scenario"
-    local many=$(counted "$program" play <"$work/scenario")
-    echo $(((many - some) / 50))
-}
-
-without=$(fetch_more 0)
-with=$(fetch_more 16)
+without=$(fetch_more 50 100 document 0)
+with=$(fetch_more 50 100 document 16)
 printf 'a fetch more without policies: %d instructions; with 16 of 20 words: %d; these add %d\n' \
     "$without" "$with" $((with - without))

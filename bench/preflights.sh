@@ -13,23 +13,11 @@ requests() {
     printf '{"format":1,"servers":[{"origin":"https://b.test","rules":[{"method":"OPTIONS","status":200,"headers":['
     printf '%s,["Access-Control-Allow-Methods","PUT"],["Access-Control-Max-Age","7200"]]},' "$allowed"
     printf '{"status":200,"headers":[%s],"body":"ok"}]}],"documents":[{"url":"%s/","script":[' "$allowed" "$origin"
-    for ((i = 0; i < count; i++)); do
-        ((i == 0)) || printf ','
-        printf '{"fetch":{"url":"https://b.test/","method":"%s"}}' "$method"
-    done
+    fetches "\"url\":\"https://b.test/\",\"method\":\"$method\"" "$count"
     printf ']}]}'
 }
 
-# The instructions of a play of so many.
-cost() {
-    requests "$1" "$2" >"$work/scenario"
-    counted "$program" play <"$work/scenario"
-}
-
 for method in GET PUT; do
-    few=$(cost $method 125)
-    some=$(cost $method 250)
-    many=$(cost $method 500)
     printf 'a %s more: %d instructions from 125 to 250, %d from 250 to 500\n' "$method" \
-        $(((some - few) / 125)) $(((many - some) / 250))
+        "$(fetch_more 125 250 requests $method)" "$(fetch_more 250 500 requests $method)"
 done

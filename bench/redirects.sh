@@ -13,24 +13,12 @@ chain() {
         printf '{"path":"/%d","status":302,"headers":[["Location","/%d"]]},' "$k" $((k + 1))
     done
     printf '{"status":200,"body":"ok"}]}],"documents":[{"url":"%s/","script":[' "$origin"
-    for ((i = 0; i < count; i++)); do
-        ((i == 0)) || printf ','
-        printf '{"fetch":{"url":"%s"}}' "$path"
-    done
+    fetches "\"url\":\"$path\"" "$count"
     printf ']}]}'
 }
 
-# The instructions of a fetch more of a path.
-fetch_more() {
-    chain "$1" 50 >"$work/scenario"
-    local some=$(counted "$program" play <"$work/scenario")
-    chain "$1" 100 >"$work/scenario"
-    local many=$(counted "$program" play <"$work/scenario")
-    echo $(((many - some) / 50))
-}
-
-none=$(fetch_more /20)
-ten=$(fetch_more /10)
-twenty=$(fetch_more /0)
+none=$(fetch_more 50 100 chain /20)
+ten=$(fetch_more 50 100 chain /10)
+twenty=$(fetch_more 50 100 chain /0)
 printf 'a fetch without redirects: %d instructions; over 10: %d; over 20: %d\n' "$none" "$ten" "$twenty"
 printf 'hops 1 to 10: %d; hops 11 to 20: %d\n' $((ten - none)) $((twenty - ten))
