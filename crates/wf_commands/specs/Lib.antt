@@ -1,0 +1,5 @@
+pub mod Commands
+pub mod Private
+pub mod Scripts
+pub mod Templates
+pub mod Valid

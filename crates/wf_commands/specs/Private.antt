@@ -1,0 +1,4 @@
+pub mod Coding
+pub mod Depth
+pub mod Nesting
+pub mod Pieces

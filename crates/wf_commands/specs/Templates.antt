@@ -1,0 +1,77 @@
+-- Templates: texts in which `${` begins a placeholder for a part of the last result (this project's own; a script in
+-- HTML would put such texts together itself).
+use Rattle.std.specs.Prelude.{ℕ, Bool, true, ◌&&◌, ◌||◌, ◌==◌, not, nat_eq, List, [], ◌∷◌, ◌++◌, codes, bytes_eq, drop}
+use Rattle.std.specs.Prelude.{is_some, if◌then◌else◌}
+use Rattle.std.specs.List.{list_all, list_any, flat_map, position, starts_with, before_first, after_first}
+use Rattle.wf_text.specs.Tokens.{is_token}
+
+-- ---- the pieces of a text
+
+-- a byte more at the front of the first piece
+abbrev pub put_on : ℕ → List (List ℕ) → List (List ℕ)
+put_on byte [] = (byte ∷ []) ∷ []
+put_on byte (piece ∷ pieces) = (byte ∷ piece) ∷ pieces
+
+-- the two bytes are `${`
+abbrev pub opens : ℕ → ℕ → Bool
+opens byte next = byte == 36 && next == 123
+
+-- what stands between the `${` of a text, in order: one piece more than there are of them
+abbrev pub pieces : List ℕ → List (List ℕ)
+pieces [] = [] ∷ []
+pieces (byte ∷ []) = (byte ∷ []) ∷ []
+pieces (byte ∷ next ∷ text) =
+    if opens byte next then [] ∷ pieces text else put_on byte (pieces (next ∷ text))
+
+-- the piece before the first `${`
+abbrev pub first_piece : List (List ℕ) → List ℕ
+first_piece [] = []
+first_piece (piece ∷ pieces) = piece
+
+-- those behind a `${`
+abbrev pub later_pieces : List (List ℕ) → List (List ℕ)
+later_pieces [] = []
+later_pieces (piece ∷ pieces) = pieces
+
+-- ---- placeholders
+
+-- `}`
+abbrev pub closes : ℕ → Bool
+closes byte = byte == 125
+
+-- the name of a placeholder, behind its `${`: what stands before the `}`
+abbrev pub name_in : List ℕ → List ℕ
+name_in piece = before_first closes piece
+
+-- `header:` and the name of a header
+abbrev pub header_prefix : List ℕ
+header_prefix = codes "header:"
+
+abbrev pub names_header : List ℕ → Bool
+names_header name = starts_with nat_eq name header_prefix && is_token (drop 7 name)
+
+-- the other names
+abbrev pub plain_names : List (List ℕ)
+plain_names = codes "status" ∷ codes "type" ∷ codes "url" ∷ codes "body" ∷ []
+
+-- the name stands for a part of the last result
+abbrev pub is_name : List ℕ → Bool
+is_name name = list_any (λ plain. bytes_eq plain name) plain_names || names_header name
+
+-- a piece begins with a name and `}`
+abbrev pub begins_with_name : List ℕ → Bool
+begins_with_name piece = is_some (position closes piece) && is_name (name_in piece)
+
+-- each `${` begins a placeholder
+abbrev pub is_template : List ℕ → Bool
+is_template text = list_all begins_with_name (later_pieces (pieces text))
+
+-- ---- what a template comes to
+
+-- a piece behind a `${`: what its name stands for, and what follows the `}`
+abbrev pub placed : (List ℕ → List ℕ) → List ℕ → List ℕ
+placed value piece = value (name_in piece) ++ after_first closes piece
+
+-- the text with each placeholder replaced by what its name stands for
+abbrev pub filled : (List ℕ → List ℕ) → List ℕ → List ℕ
+filled value text = first_piece (pieces text) ++ flat_map (placed value) (later_pieces (pieces text))

@@ -1,0 +1,101 @@
+use std::alloc::Global;
+use std::marker::Model;
+use wf_text::{Bytes, OutOfMemory};
+use wf_types::{Init, LoadInit};
+
+/// A condition on the last result of a script.
+#[derive(Drop)]
+pub enum Test {
+    /// Its status is 200 to 299.
+    IsOk,
+    /// It is an error: a network error, or there was no request.
+    IsError,
+    /// Its type has this name.
+    TypeIs(Bytes),
+    /// It has this status.
+    StatusIs(u16),
+    /// Its body is whole, and these bytes.
+    BodyIs(Bytes),
+}
+
+/// One command of a script. Its texts may hold templates.
+#[derive(Drop)]
+#[cycle(script)]
+pub enum Command {
+    /// A call of `fetch`.
+    Fetch(Init),
+    /// An element loads a resource.
+    Load(LoadInit),
+    /// So many seconds pass.
+    Wait(u32),
+    /// A script is done so many times.
+    Repeat(u32, Script),
+    /// The first script where the condition holds, else the second.
+    If(Test, Script, Script),
+}
+
+/// The commands of a script, in order, seen as its steps.
+#[derive(Drop)]
+#[cycle(script)]
+pub struct Script {
+    commands: Vec<Command>,
+}
+
+impl Model for Script {
+    ghost use Rattle.wf_commands.specs.Scripts.{Steps};
+    ghost use Rattle.wf_commands.specs.Private.Coding.{steps_code};
+    ghost use Rattle.wf_commands.specs.Private.Depth.{steps_size};
+
+    ghost Value = { Steps };
+
+    ghost coded = { steps_code };
+
+    ghost use Rattle.wf_commands.specs.Commands.{steps_inside};
+
+    ghost view = { steps_inside };
+
+    ghost size = { steps_size };
+
+    ghost use Rattle.std.proofs.Common.{arith};
+    ghost use Rattle.wf_commands.specs.Private.Nesting.{most-steps_size};
+
+    ghost size_decreases = { λ a h. omega (arith, most-steps_size a.commands.items) };
+}
+
+impl Script {
+    ghost use Rattle.std.specs.Prelude.{◌≡◌, ◌<◌, Some, OnOk, OnErr};
+    ghost use Rattle.wf_commands.specs.Scripts.{no_steps, count, and_step};
+    ghost use Rattle.wf_commands.specs.Commands.{step_of, steps_of};
+
+    /// A script without commands. It takes no memory.
+    pub fn new(alloc: Global) -> Script
+        ensures { result ≡ no_steps }
+    {
+        Script {
+            commands: Vec::new(alloc),
+        }
+    }
+
+    /// Adds a command at the end. A refused one leaves the script as it was.
+    pub fn push(&mut self, command: Command) -> Result<(), OutOfMemory>
+        ensures ok { OnOk result (self.new ≡ and_step self.old (step_of command)) }
+        ensures err { OnErr result (self.new ≡ self.old) }
+    {
+        self.commands.push(command)?;
+        Ok(())
+    }
+
+    /// How many commands there are.
+    pub fn len(&self) -> usize
+        ensures { result ≡ count self.now }
+    {
+        self.commands.len()
+    }
+
+    /// The commands, in order.
+    pub fn as_slice(&self) -> &[Command]
+        ensures { steps_of result.now ≡ self.now }
+    {
+        self.commands.as_slice()
+    }
+}
