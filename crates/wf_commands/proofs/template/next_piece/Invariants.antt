@@ -1,4 +1,4 @@
-use Rattle.std.proofs.Common.{◌≡◌, ◌-◌, length, take, drop}
+use Rattle.std.proofs.Common.{◌≡◌, ◌≤◌, ◌-◌, length, take, drop}
 use Rattle.wf_commands.specs.Templates.{pieces}
 use Rattle.wf_commands.proofs.PieceLemmas.{onto}
 use Rattle.wf_commands.proofs.template.next_piece.Given as goal
