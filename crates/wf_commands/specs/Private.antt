@@ -1,4 +1,2 @@
 pub mod Coding
-pub mod Depth
 pub mod Nesting
-pub mod Pieces

@@ -44,7 +44,7 @@ pub struct Script {
 impl Model for Script {
     ghost use Rattle.wf_commands.specs.Scripts.{Steps};
     ghost use Rattle.wf_commands.specs.Private.Coding.{steps_code};
-    ghost use Rattle.wf_commands.specs.Private.Depth.{steps_size};
+    ghost use Rattle.wf_commands.specs.Depth.{steps_size};
 
     ghost Value = { Steps };
 

@@ -1,6 +1,6 @@
 ghost use Rattle.std.specs.Prelude.{◌≡◌, ◌<◌, length, option_map, IfSome};
 ghost use Rattle.wf_commands.specs.Templates as spec;
-ghost use Rattle.wf_commands.specs.Private.Pieces.{piece_and};
+ghost use Rattle.wf_commands.specs.Pieces.{piece_and};
 
 use wf_text::{before_byte, is_among, is_token, position_of};
 

@@ -1,3 +1,4 @@
 pub mod Asking
 pub mod Driving
+pub mod Private
 pub mod Worlds

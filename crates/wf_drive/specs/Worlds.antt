@@ -8,7 +8,7 @@ use Rattle.wf_act.specs.declared.act.Input.TheVariants.{Told}
 use Rattle.wf_book.specs.declared.entry.Entry.{Entry}
 use Rattle.wf_book.specs.declared.op.Op.{Op}
 use Rattle.wf_print.specs.declared.events.Event.{Event}
-use Rattle.wf_print.specs.declared.events.Event.TheVariants.{Result}
+use Rattle.wf_print.specs.declared.events.Event.TheVariants.{Result, LoadFailed}
 use Rattle.wf_types.specs.Targets.{IsSendable}
 use Rattle.wf_wire.specs.declared.wire.Wire.{Wire}
 use Rattle.wf_wire.specs.Exchanges.{Answering, Exchange, Exchanges, IsIdle}
@@ -78,9 +78,10 @@ pub record IsHungUp {State : Type 0} (old new : World State) : Type 0 where
   pub idle : IsIdle new.exchange
   pub outside_is : outside_of new ≡ outside_of old
 
--- what the world comes to with an event: the rest of an answer goes with the result of its fetch
+-- what the world comes to with an event: the rest of an answer goes with the result of its fetch or load
 abbrev pub Settles : {State : Type 0} → Event → World State → World State → Type 0
 Settles (Result outcome) old new = IsHungUp old new
+Settles (LoadFailed error) old new = IsHungUp old new
 Settles _ old new = new ≡ old
 
 -- Memory was refused: the document has made no call more, the link's state is as it was, and its count of faults has

@@ -1,24 +1,28 @@
 ghost use Rattle.std.specs.Prelude.{◌≡◌, [], ◌∷◌, ◌++◌, nat_lt, OnOk, OnErr};
 ghost use Rattle.wf_run.specs.Play.{events_of};
 ghost use Rattle.wf_run.specs.Play as spec;
+ghost use Rattle.wf_run.specs.Results.{last_result, lent_result};
 ghost use Rattle.wf_run.specs.Runs.{most_printed, text_length};
+ghost use Rattle.wf_drive.specs.Private.Lasts.{last_index};
 
 use std::alloc::Global;
 use std::marker::Model;
 use wf_act::{Act, Input};
 use wf_book::Reply;
 use wf_print::{Event, Events, event_len};
+use wf_run::is_result;
 use wf_text::OutOfMemory;
 
 /// How many bytes the lines of a document have at most before a fetch.
 const MOST_PRINTED: u64 = 8_388_608;
 
 /// The events that a document has shown, seen as their list, with how many bytes their lines have, as far
-/// as 64 bits tell it.
+/// as 64 bits tell it, and where the last result is.
 #[derive(Drop)]
 pub struct Shown {
     events: Events,
     printed: u64,
+    last: Option<usize>,
 }
 
 impl Model for Shown {
@@ -26,12 +30,20 @@ impl Model for Shown {
     ghost use Rattle.wf_print.specs.Lengths.{capped};
     ghost use Rattle.wf_run.specs.Runs.{text_length};
     ghost use Rattle.wf_print.specs.declared.events.Event.{Event};
+    ghost use Rattle.wf_drive.specs.Private.Lasts.{IsLast};
 
     ghost Value = { List Event };
 
     ghost view = { λ shown. shown.events };
 
-    ghost invariant = { λ shown. shown.printed ≡ capped (text_length shown.events) };
+    ghost invariant = { λ shown. (shown.printed ≡ capped (text_length shown.events)) × IsLast shown.last shown.events };
+}
+
+// Where the last result is, with an event more behind so many.
+fn last_after(last: Option<usize>, count: usize, event: &Event) -> Option<usize>
+    ensures { result ≡ last_index last count event.now }
+{
+    if is_result(event) { Some(count) } else { last }
 }
 
 // The reply that an input brings.
@@ -52,6 +64,7 @@ impl Shown {
         Shown {
             events: Events::new(alloc),
             printed: 0,
+            last: None,
         }
     }
 
@@ -61,8 +74,10 @@ impl Shown {
         ensures err { OnErr result (self.new ≡ self.old) }
     {
         let printed = self.printed.saturating_add(event_len(&event));
+        let last = last_after(self.last, self.events.len(), &event);
         self.events.push(event)?;
         self.printed = printed;
+        self.last = last;
         Ok(())
     }
 
@@ -78,6 +93,16 @@ impl Shown {
             Act::ReadHead => Ok(()),
             Act::ReadBody => Ok(()),
             Act::Tell(violation) => self.add(Event::Told(violation)),
+        }
+    }
+
+    /// The last result among the events: what the last fetch or load came to. It takes no memory.
+    pub fn last(&self) -> Option<&Event>
+        ensures { lent_result result ≡ last_result self.now }
+    {
+        match self.last {
+            None => None,
+            Some(index) => Some(self.events.at(index)),
         }
     }
 

@@ -1,3 +1,3 @@
 pub mod CallLemmas
-pub mod PartLemmas
+pub mod RunLemmas
 pub mod ScriptLemmas

@@ -1,61 +1,19 @@
--- What a document's run, and each part of it, comes to in the document's world.
-use Rattle.std.specs.Prelude.{◌≡◌, ℕ, ◌+◌, ◌*◌, ◌≤◌, List, [], ◌++◌, length, Some}
+-- What a document's run comes to in the document's world.
+use Rattle.std.specs.Prelude.{◌≡◌, ℕ, ◌≤◌, List, [], ◌++◌, length, Option, Some, None}
 use Rattle.wf_act.specs.declared.act.Input.{Input}
 use Rattle.wf_print.specs.declared.events.Ending.{Ending}
-use Rattle.wf_print.specs.declared.events.Ending.TheVariants.{Memory}
+use Rattle.wf_print.specs.declared.events.Ending.TheVariants.{Finished, Memory}
 use Rattle.wf_print.specs.declared.events.Event.{Event}
 use Rattle.wf_run.specs.Play.{Play, over, run_play}
-use Rattle.wf_run.specs.Runs.{Next, Progress}
-use Rattle.wf_run.specs.Traces.{PlayTrace}
+use Rattle.wf_run.specs.Runs.{Next}
 use Rattle.wf_wire.specs.Exchanges.{Answering, IsIdle}
-use Rattle.wf_drive.specs.Worlds.{Answers, Outside, Refuses, Settles, World, outside_of}
+use Rattle.wf_drive.specs.Worlds.{Outside, Refuses, World, outside_of}
+use Rattle.wf_running.specs.Parts.{CutShort, PlayedTo, PlaysOn, Standing}
 
--- The world, and where the run stands.
-pub record Standing (State : Type 0) : Type 0 where
-  pub world : World State
-  pub progress : Progress
-
--- a standing of these
-abbrev pub standing_of : {State : Type 0} → World State → Progress → Standing State
-standing_of world progress = record { world = world; progress = progress }
-
--- with these items of a tape a run shows these events in the world of a document, and goes on
-abbrev pub PlaysOn : {State : Type 0} → Answering State → ℕ → ℕ → Play → World State → List Input → List Event → Play
-    → World State → Type 0
-PlaysOn by limit document = PlayTrace (Answers by limit document) Settles
-
--- For some tape of the world's answers, and whatever follows, the part has shown what was added to the events, and
--- goes on as the rest.
-pub record PlayedTo {State N : Type 0} (by : Answering State) (limit document : ℕ) (part : N → Play)
-    (old : Standing State) (rest : N → Play) (new : Standing State) : Type 0 where
-  pub tape : List Input
-  pub made : List Event
-  pub added : new.progress.shown ≡ old.progress.shown ++ made
-  pub trace : (next : N) → PlaysOn by limit document (part next) old.world tape made (rest next) new.world
-
--- Memory was refused somewhere: the part came to some place, and what was added to the events is what it showed on the
--- way, but for one event at most.
-pub record CutShort {State N : Type 0} (by : Answering State) (limit document : ℕ) (part : N → Play)
-    (old new : Standing State) : Type 0 where
-  pub tape : List Input
-  pub made : List Event
-  pub missed : List Event
-  pub few : length missed ≤ 1
-  pub place : N → Play
-  pub last : World State
-  pub added : new.progress.shown ≡ old.progress.shown ++ made
-  pub trace : (next : N)
-      → PlaysOn by limit document (part next) old.world tape (made ++ missed) (place next) last
-  pub left : Refuses (outside_of last) (outside_of new.world)
-
--- a rule of the script was played, and leads on to what follows
-abbrev pub Played : {State : Type 0} → Answering State → ℕ → ℕ → (Next → Next) → Standing State → Standing State → Type 0
-Played by limit document part old new =
-    PlayedTo by limit document (λ next. part next old.progress) old (λ next. next new.progress) new
-
--- memory was refused in a rule of the script
-abbrev pub Cut : {State : Type 0} → Answering State → ℕ → ℕ → (Next → Next) → Standing State → Standing State → Type 0
-Cut by limit document part old new = CutShort by limit document (λ next. part next old.progress) old new
+-- how a run has ended, where its script has played to its end or to a limit
+abbrev pub ended_by : Option Ending → Ending
+ended_by None = Finished
+ended_by (Some ending) = ending
 
 -- a whole run came to an ending
 abbrev pub Ended : {State : Type 0} → Answering State → ℕ → ℕ → Play → Standing State → Ending → Standing State → Type 0
@@ -65,15 +23,6 @@ Ended by limit document whole old ending new =
 -- memory was refused in it
 abbrev pub Stopped : {State : Type 0} → Answering State → ℕ → ℕ → Play → Standing State → Standing State → Type 0
 Stopped by limit document whole old new = CutShort by limit document (λ (next : Next). whole) old new
-
--- at most 1,024 fetches have started, and the calls that are left suffice for those that may still start
-abbrev pub HasRoom : ℕ → Progress → Type 0
-HasRoom left progress = (129024 ≤ left + progress.fetches * 126) × (progress.fetches ≤ 1024)
-
--- each fetch that has started between two moments has made 126 calls at most
-abbrev pub IsSpent : ℕ → Progress → ℕ → Progress → Type 0
-IsSpent left old left' new =
-    (left + old.fetches * 126 ≤ left' + new.fetches * 126) × (new.fetches ≤ 1024)
 
 -- ---- whole runs
 

@@ -1,3 +1,3 @@
-pub mod Computed
 pub mod EmbedLemmas
+pub mod FillingLemmas
 pub mod PlayLemmas

@@ -1,7 +1,7 @@
 -- A document's run: its script's commands in order, each fetch with what it shows and what it came to
 -- (Fetch, section 5.6, for each `fetch` of a script), its clock, and the limits at which a run ends early.
-use Rattle.std.specs.Prelude.{ℕ, ◌+◌, nat_le, nat_lt, List, [], ◌∷◌, ◌++◌, map, sum_by, length, Option, Some, None}
-use Rattle.std.specs.Prelude.{Result, Ok, Err, if◌then◌else◌}
+use Rattle.std.specs.Prelude.{ℕ, zero, suc, ◌+◌, nat_le, nat_lt, List, [], ◌∷◌, ◌++◌, map, sum_by, length, Option, Some}
+use Rattle.std.specs.Prelude.{None, option_map, Result, Ok, Err, if◌then◌else◌}
 use Rattle.wf_text.specs.Trims.{http_whitespace, trimmed}
 use Rattle.wf_types.specs.declared.client.Client.{Client}
 use Rattle.wf_types.specs.declared.client.Cookie.{Cookie}
@@ -9,22 +9,30 @@ use Rattle.wf_types.specs.declared.fault.TypeFault.{TypeFault}
 use Rattle.wf_types.specs.declared.init.Init.{Init}
 use Rattle.wf_types.specs.declared.init.Pair.{Pair}
 use Rattle.wf_types.specs.declared.request.Request.{Request}
+use Rattle.wf_types.specs.declared.policy.Destination.{Destination}
+use Rattle.wf_types.specs.declared.policy.Destination.TheVariants as destination
 use Rattle.wf_types.specs.declared.response.Outcome.{Outcome}
+use Rattle.wf_types.specs.declared.response.Outcome.TheVariants as outcome
 use Rattle.wf_types.specs.Clients.{client_of}
 use Rattle.wf_csp_text.specs.declared.policy.Policy.{Policy}
+use Rattle.wf_send.specs.Loading.{new_load}
 use Rattle.wf_send.specs.Making.{new_request}
-use Rattle.wf_script.specs.declared.types.Command.{Command}
-use Rattle.wf_script.specs.declared.types.Command.TheVariants as command
+use Rattle.wf_types.specs.declared.init.LoadInit.{LoadInit}
+use Rattle.wf_commands.specs.declared.command.Test.{Test}
+use Rattle.wf_commands.specs.Scripts.{Step, Steps}
+use Rattle.wf_commands.specs.Scripts as script
+use Rattle.wf_commands.specs.Templates.{filled}
 use Rattle.wf_script.specs.declared.types.Document.{Document}
 use Rattle.wf_print.specs.declared.events.Ending.{Ending}
 use Rattle.wf_print.specs.declared.events.Ending.TheVariants.{Finished, Fetches, Commands, Text}
 use Rattle.wf_print.specs.declared.events.Event.{Event}
-use Rattle.wf_print.specs.declared.events.Event.TheVariants.{Fetch, Result as ResultIs, TypeError}
+use Rattle.wf_print.specs.declared.events.Event.TheVariants as event
 use Rattle.wf_print.specs.Text.{event_text}
 use Rattle.wf_act.specs.Process.{Process, ended, act}
 use Rattle.wf_fetch.specs.Fetch.{fetch}
 use Rattle.wf_fetch.specs.Then.{Context, context_of}
 use Rattle.wf_run.specs.Play.{Play, over, emit, step, events_of}
+use Rattle.wf_run.specs.Results.{last_result, value_of, holds}
 
 -- What the fetches of a document have in common: its client, the document's policies, and the table of cookies.
 pub record Setting : Type 0 where
@@ -91,52 +99,86 @@ fetch_limit progress =
     else None
 
 -- the limit that a command has of its own kind
-abbrev pub own_limit : Command → Progress → Option Ending
-own_limit (command.Fetch init) progress = fetch_limit progress
-own_limit (command.Wait seconds) progress = None
+abbrev pub own_limit : Step → Progress → Option Ending
+own_limit (script.fetch init) progress = fetch_limit progress
+own_limit (script.load init) progress = fetch_limit progress
+own_limit _ progress = None
 
 -- the limit that a run has reached before a command
-abbrev pub limit_before : Command → Progress → Option Ending
+abbrev pub limit_before : Step → Progress → Option Ending
 limit_before one progress = if nat_le most_commands progress.commands then Some Commands else own_limit one progress
+
+-- ---- what a script asks for
+
+-- a header's value, its placeholders replaced, and normalised then (Fetch, section 2.2.2)
+abbrev pub filled_pair : Option Event → Pair → Pair
+filled_pair last pair =
+    record { name = pair.name; value = trimmed http_whitespace (filled (value_of last) pair.value) }
+
+-- what a call of `fetch` asks for, with the parts of the last result in the place of placeholders: in its URL, in the
+-- values of its headers and in its body
+abbrev pub filled_init : Option Event → Init → Init
+filled_init last init = record init {
+  url = filled (value_of last) init.url;
+  headers = map (filled_pair last) init.headers;
+  body = option_map (filled (value_of last)) init.body;
+}
+
+-- what a load asks for, the same in its URL
+abbrev pub filled_load : Option Event → LoadInit → LoadInit
+filled_load last init = record init { url = filled (value_of last) init.url }
+
+-- ---- what is shown of a fetch and of a load
+
+-- it starts, as the one of this number
+abbrev pub start_event : Destination → ℕ → Event
+start_event destination.Fetch number = event.Fetch number
+start_event kind number = event.Load number kind
+
+-- there is no request
+abbrev pub fault_event : Destination → TypeFault → Event
+fault_event destination.Fetch fault = event.TypeError fault
+fault_event kind fault = event.LoadError fault
+
+-- what a load came to: it succeeded, or failed by its network error
+abbrev pub load_event : Outcome → Event
+load_event (outcome.Error error) = event.LoadFailed error
+load_event came = event.Result came
+
+-- what it came to
+abbrev pub outcome_event : Destination → Outcome → Event
+outcome_event destination.Fetch came = event.Result came
+outcome_event kind came = load_event came
 
 -- ---- commands
 
--- the values of headers, normalised (Fetch, section 2.2.2)
-abbrev pub normalized_pair : Pair → Pair
-normalized_pair pair = record { name = pair.name; value = trimmed http_whitespace pair.value }
-
--- what a command asks for, with its header values normalised
-abbrev pub normalized_init : Init → Init
-normalized_init init = record init { headers = map normalized_pair init.headers }
-
 -- the fetch of a request at the run's time, or the fault where none was made
-abbrev pub fetched : Setting → Result Request TypeFault → Next → Next
-fetched lent (Err fault) next progress = showing (TypeError fault) next progress
-fetched lent (Ok request) next progress =
-    embed (fetch (at_time lent progress.clock) request) (λ outcome. showing (ResultIs outcome) next) progress
+abbrev pub fetched : Setting → Destination → Result Request TypeFault → Next → Next
+fetched lent kind (Err fault) next progress = showing (fault_event kind fault) next progress
+fetched lent kind (Ok request) next progress =
+    embed (fetch (at_time lent progress.clock) request) (λ came. showing (outcome_event kind came) next) progress
 
 -- a command has started
 abbrev pub started : Progress → Progress
 started progress = record progress { commands = progress.commands + 1 }
 
--- a fetch has started
+-- a fetch or a load has started
 abbrev pub fetch_started : Progress → Progress
 fetch_started progress = record progress { fetches = progress.fetches + 1 }
+
+-- a fetch or a load: its number, and what comes of its request
+abbrev pub asked : Setting → Destination → Result Request TypeFault → Next → Next
+asked lent kind made next progress =
+    showing (start_event kind progress.fetches) (fetched lent kind made next) (fetch_started progress)
 
 -- so many seconds have passed
 abbrev pub waited : ℕ → Progress → Progress
 waited seconds progress = record progress { clock = progress.clock + seconds }
 
--- what a command does
-abbrev pub command_run : Setting → Command → Next → Next
-command_run lent (command.Fetch init) next progress =
-    showing (Fetch progress.fetches) (fetched lent (new_request lent.client (normalized_init init)) next)
-    (fetch_started progress)
-command_run lent (command.Wait seconds) next progress = next (waited seconds progress)
-
--- a command that has started, and what it does
-abbrev pub command_started : Setting → Command → Next → Next
-command_started lent one next progress = command_run lent one next (started progress)
+-- a part of a script so many times
+abbrev pub repeated : ℕ → (Next → Next) → Next → Next
+repeated zero part next progress = next progress
+repeated (suc n) part next progress = part (repeated n part next) progress
 
 -- a run ends at its clock
 abbrev pub ends : Ending → Next
@@ -147,11 +189,36 @@ abbrev pub unless_limit : Option Ending → Next → Next
 unless_limit (Some ending) next progress = ends ending progress
 unless_limit None next progress = next progress
 
--- the commands, in order, up to a limit
-abbrev pub script_run : Setting → List Command → Next → Next
-script_run lent [] next progress = next progress
-script_run lent (one ∷ more) next progress =
-    unless_limit (limit_before one progress) (command_started lent one (script_run lent more next)) progress
+-- the last result of a run
+abbrev pub last_of : Progress → Option Event
+last_of progress = last_result progress.shown
+
+-- one of two parts of a script, by a condition on the last result
+abbrev pub chosen : Test → (Next → Next) → (Next → Next) → Next → Next
+chosen test part other next progress =
+    if holds test (last_of progress) then part next progress else other next progress
+
+abbrev mutual
+  -- what a command does
+  pub command_run : Setting → Step → Next → Next
+  command_run lent (script.fetch init) next progress =
+      asked lent destination.Fetch (new_request lent.client (filled_init (last_of progress) init)) next progress
+  command_run lent (script.load init) next progress =
+      asked lent init.kind (new_load lent.client (filled_load (last_of progress) init)) next progress
+  command_run lent (script.wait seconds) next progress = next (waited seconds progress)
+  command_run lent (script.repeat times part) next progress = repeated times (script_run lent part) next progress
+  command_run lent (script.choose test part other) next progress =
+      chosen test (script_run lent part) (script_run lent other) next progress
+
+  -- the commands, in order, up to a limit
+  pub script_run : Setting → Steps → Next → Next
+  script_run lent script.no_steps next progress = next progress
+  script_run lent (script.step one more) next progress =
+      unless_limit (limit_before one progress) (command_started lent one (script_run lent more next)) progress
+
+  -- a command that has started, and what it does
+  pub command_started : Setting → Step → Next → Next
+  command_started lent one next progress = command_run lent one next (started progress)
 
 -- at this time nothing has started or been shown
 abbrev pub beginning : ℕ → Progress

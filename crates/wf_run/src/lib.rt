@@ -1,6 +1,8 @@
 // A document's run: what its script does, what it shows, and how it ends.
 #![tactic(auto)]
 
-mod normalize;
+mod filling;
+mod results;
 
-pub use normalize::normalized_init;
+pub use filling::{filled_init, filled_load, is_plain};
+pub use results::{holds, is_result};

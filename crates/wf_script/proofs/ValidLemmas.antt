@@ -21,17 +21,19 @@ use Rattle.wf_script.specs.declared.types.Scenario.{Scenario}
 use Rattle.wf_script.specs.Hosts.{is_host_name}
 use Rattle.wf_script.specs.Reading.{Read, present, any, only_keys, required, optional, number_of, truth_of, text_that}
 use Rattle.wf_script.specs.Reading.{word_of, some_of, items_of, list_of}
-use Rattle.wf_script.specs.Texts.{lacks_template, is_cookie_value}
+use Rattle.wf_script.specs.Texts.{is_cookie_value}
 use Rattle.wf_script.specs.OriginTexts.{is_origin_text}
 use Rattle.wf_script.specs.Urls.{is_document_url}
 use Rattle.wf_script.specs.Headers.{listed, policies_of_headers, policy_or_default}
 use Rattle.wf_script.specs.Scenarios.{host_keys, host_of, cookie_of, plain_header_of, answer_of, rule_keys, rule_of}
-use Rattle.wf_script.specs.Scenarios.{server_keys, server_of, header_of, fetch_keys, fetch_of, content_of, manner_of, referring_of}
+use Rattle.wf_script.specs.Scenarios.{server_keys, server_of}
 use Rattle.wf_script.specs.Scenarios.{said_of}
-use Rattle.wf_script.specs.Scenarios.{fetch_command_of, wait_command_of, has_key, command_of, document_url_of}
+use Rattle.wf_script.specs.Scenarios.{has_key, document_url_of}
 use Rattle.wf_script.specs.Scenarios.{document_keys, document_of, scenario_keys, scenario_in}
-use Rattle.wf_script.specs.Valid.{IsValidHost, IsValidCookie, IsValidRule, IsValidServer, IsPlainPair}
-use Rattle.wf_script.specs.Valid.{IsValidInit, IsValidCommand, IsValidDocument, IsValid}
+use Rattle.wf_script.specs.Valid.{IsValidHost, IsValidCookie, IsValidRule, IsValidServer}
+use Rattle.wf_script.specs.Valid.{IsValidDocument, IsValid}
+use Rattle.wf_commands.specs.Scripts.{no_steps}
+use Rattle.wf_commands.specs.Valid.{IsValidScript}
 use Rattle.wf_script.proofs.KeepsLemmas.{Keeps, Anything, keeps-anything, keeps-after}
 use Rattle.wf_script.proofs.KeepsLemmas.{keeps-given, keeps-if, keeps-required, keeps-optional, IsListOf, keeps-items}
 use Rattle.wf_script.proofs.KeepsLemmas.{keeps-list, keeps-text_that, keeps-then, keeps-some, keeps-parts}
@@ -107,62 +109,6 @@ keeps-server tree =
     (keeps-items IsValidRule rule_of keeps-rule) (λ rules each.
     record { origin = is; rules = each })))
 
--- ---- fetches
-
-keeps-header : (tree : Data) → Keeps IsPlainPair (header_of tree)
-keeps-header tree =
-    keeps-parts (That any) (That lacks_template) IsPlainPair (text_that any) (text_that lacks_template) tree _
-    (keeps-text_that any) (keeps-text_that lacks_template) (λ name value _ plain. plain)
-
--- the body, where there is one, has no template
-abbrev IsPlainBody : Option (List ℕ) → Type 0
-IsPlainBody body = IfSome body (That lacks_template)
-
--- at most 64 headers without templates, and such a body
-abbrev IsPlainContent : List Pair × Option (List ℕ) → Type 0
-IsPlainContent content = IsListOf IsPlainPair 64 content.0 × IsPlainBody content.1
-
-keeps-content : (tree : Data) → Keeps IsPlainContent (content_of tree)
-keeps-content tree =
-    keeps-optional (IsListOf IsPlainPair 64) IsPlainContent (codes "headers") [] (list_of 64 header_of) tree _
-    (record { few = omega arith; all = All-nil IsPlainPair }) (keeps-list IsPlainPair 64 header_of keeps-header)
-    (λ headers each.
-    keeps-optional IsPlainBody IsPlainContent (codes "body") None (some_of (text_that lacks_template)) tree _ tt
-    (keeps-some (That lacks_template) (text_that lacks_template) (keeps-text_that lacks_template)) (λ body plain.
-    (each, plain)))
-
-keeps-fetch : (tree : Data) → Keeps IsValidInit (fetch_of tree)
-keeps-fetch tree =
-    keeps-after IsValidInit (only_keys fetch_keys tree) _ (λ _.
-    keeps-required (That lacks_template) IsValidInit (codes "url") (text_that lacks_template) tree _
-    (keeps-text_that lacks_template) (λ url is.
-    keeps-optional Anything IsValidInit (codes "method") (codes "GET") (text_that any) tree _ tt
-    (λ inside. keeps-anything (text_that any inside)) (λ method _.
-    keeps-after IsValidInit (manner_of tree) _ (λ manner.
-    keeps-then IsPlainContent IsValidInit (content_of tree) _ (keeps-content tree) (λ content plain.
-    keeps-after IsValidInit (referring_of tree) _ (λ referring.
-    keeps-after IsValidInit (optional (codes "upload") false truth_of tree) _ (λ upload.
-    record { url = is; few = plain.0.few; headers = plain.0.all; body = plain.1; integrity = refl })))))))
-
--- ---- documents
-
-keeps-fetch_command : (tree : Data) → Keeps IsValidCommand (fetch_command_of tree)
-keeps-fetch_command tree =
-    keeps-after IsValidCommand (only_keys (codes "fetch" ∷ []) tree) _ (λ _.
-    keeps-required IsValidInit IsValidCommand (codes "fetch") fetch_of tree _ keeps-fetch (λ init valid. valid))
-
-keeps-wait_command : (tree : Data) → Keeps IsValidCommand (wait_command_of tree)
-keeps-wait_command tree =
-    keeps-after IsValidCommand (only_keys (codes "wait" ∷ []) tree) _ (λ _.
-    keeps-required (Within 0 4294967295) IsValidCommand (codes "wait") (number_of 0 4294967295) tree _
-    (keeps-number 0 4294967295) (λ seconds within. omega (arith, within.1)))
-
-keeps-command : (tree : Data) → Keeps IsValidCommand (command_of tree)
-keeps-command tree =
-    keeps-if IsValidCommand (has_key (codes "fetch") tree) (fetch_command_of tree) _ (keeps-fetch_command tree)
-    (keeps-if IsValidCommand (has_key (codes "wait") tree) (wait_command_of tree) (Err []) (keeps-wait_command tree)
-    tt)
-
 keeps-document_url : (tree : Data) → Keeps (λ url. IsTrue (is_document_url url)) (document_url_of tree)
 keeps-document_url tree =
     keeps-after (λ url. IsTrue (is_document_url url)) (present (as_str tree)) _ (λ text.
@@ -198,8 +144,8 @@ keeps-document tree =
     keeps-document_url (λ url is.
     keeps-optional IsSaid IsValidDocument (codes "headers") (policy.StrictOriginWhenCrossOrigin, []) said_of tree _
     (refl, omega arith) keeps-said (λ said holds.
-    keeps-required (λ script. All IsValidCommand script) IsValidDocument (codes "script") (items_of command_of) tree _
-    (keeps-items IsValidCommand command_of keeps-command) (λ script each.
+    keeps-required IsValidScript IsValidDocument (codes "script") (λ _. Ok no_steps) tree _
+    (λ inside. record { valid = tt; few_repeats = omega arith; few_choices = omega arith }) (λ script each.
     record { url = is; top = is; policy = holds.0; few_policies = holds.1; script = each }))))
 
 -- ---- the whole
@@ -235,7 +181,8 @@ keeps-scenario tree =
       most_piece = within.1;
       few_documents = all.few;
       documents = all.all;
-      body_limit = refl;
+      some_limit = omega arith;
+      most_limit = omega arith;
     }))))))))
 
 -- what is read of a tree is valid

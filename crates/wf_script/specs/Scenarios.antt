@@ -24,8 +24,6 @@ use Rattle.wf_types.specs.Urls.{utf8_text, url_of_text}
 use Rattle.wf_script.specs.declared.types.KnownHost.{KnownHost}
 use Rattle.wf_script.specs.declared.types.Rule.{Rule}
 use Rattle.wf_script.specs.declared.types.Server.{Server}
-use Rattle.wf_script.specs.declared.types.Command.{Command}
-use Rattle.wf_script.specs.declared.types.Command.TheVariants.{Fetch, Wait}
 use Rattle.wf_script.specs.declared.types.Document.{Document}
 use Rattle.wf_script.specs.declared.types.Scenario.{Scenario}
 use Rattle.wf_script.specs.declared.types.Place.{Place}
@@ -35,8 +33,9 @@ use Rattle.wf_script.specs.OriginTexts.{is_origin_text}
 use Rattle.wf_script.specs.Reading.{Read, ◌>>=◌, present, given, number_of, truth_of, text_that, any, word_of, some_of}
 use Rattle.wf_script.specs.Reading.{only_keys, required, optional, items_of, list_of, pair_of}
 use Rattle.wf_script.specs.Servers.{answer_bytes}
-use Rattle.wf_script.specs.Texts.{lacks_template, is_cookie_value}
+use Rattle.wf_script.specs.Texts.{is_cookie_value}
 use Rattle.wf_script.specs.Urls.{is_document_url}
+use Rattle.wf_commands.specs.Scripts.{no_steps}
 
 -- ---- known hosts
 
@@ -115,115 +114,7 @@ server_of tree = do
   rules ← required (codes "rules") (items_of rule_of) tree
   Ok (record { origin = origin; rules = rules })
 
--- ---- fetches
-
-abbrev pub modes : List (List ℕ × Mode)
-modes =
-    (codes "cors", mode.Cors) ∷ (codes "no-cors", mode.NoCors) ∷ (codes "same-origin", mode.SameOrigin)
-    ∷ (codes "navigate", mode.Navigate) ∷ []
-
-abbrev pub credentials_modes : List (List ℕ × Credentials)
-credentials_modes =
-    (codes "omit", credentials.Omit) ∷ (codes "same-origin", credentials.SameOrigin)
-    ∷ (codes "include", credentials.Include) ∷ []
-
-abbrev pub redirect_modes : List (List ℕ × RedirectMode)
-redirect_modes =
-    (codes "follow", redirect.Follow) ∷ (codes "error", redirect.Error) ∷ (codes "manual", redirect.Manual) ∷ []
-
--- whether the referrer is the client
-abbrev pub referrers : List (List ℕ × Bool)
-referrers = (codes "client", true) ∷ (codes "none", false) ∷ []
-
--- the referrer policies by their names, and the empty one
-abbrev pub policies : List (List ℕ × ReferrerPolicy)
-policies =
-    ([], policy.Empty) ∷ (codes "no-referrer", policy.NoReferrer)
-    ∷ (codes "no-referrer-when-downgrade", policy.NoReferrerWhenDowngrade) ∷ (codes "same-origin", policy.SameOrigin)
-    ∷ (codes "origin", policy.Origin) ∷ (codes "strict-origin", policy.StrictOrigin)
-    ∷ (codes "origin-when-cross-origin", policy.OriginWhenCrossOrigin)
-    ∷ (codes "strict-origin-when-cross-origin", policy.StrictOriginWhenCrossOrigin)
-    ∷ (codes "unsafe-url", policy.UnsafeUrl) ∷ []
-
--- a name and a value, which need not be a header; templates stand in values alone
-abbrev pub header_of : Data → Read Pair
-header_of tree = do
-  pair ← pair_of (text_that any) (text_that lacks_template) tree
-  Ok (record { name = pair.0; value = pair.1 })
-
--- how the request is made: its mode, its credentials mode and its redirect mode
-abbrev pub manner_of : Data → Read (Mode × Credentials × RedirectMode)
-manner_of tree = do
-  mode ← optional (codes "mode") mode.Cors (word_of modes) tree
-  sent ← optional (codes "credentials") credentials.SameOrigin (word_of credentials_modes) tree
-  redirects ← optional (codes "redirect") redirect.Follow (word_of redirect_modes) tree
-  Ok (mode, sent, redirects)
-
--- whether its referrer is the client, and its referrer policy
-abbrev pub referring_of : Data → Read (Bool × ReferrerPolicy)
-referring_of tree = do
-  client ← optional (codes "referrer") true (word_of referrers) tree
-  named ← optional (codes "referrer_policy") policy.Empty (word_of policies) tree
-  Ok (client, named)
-
--- what is sent: headers, and a body
-abbrev pub content_of : Data → Read (List Pair × Option (List ℕ))
-content_of tree = do
-  headers ← optional (codes "headers") [] (list_of 64 header_of) tree
-  body ← optional (codes "body") None (some_of (text_that lacks_template)) tree
-  Ok (headers, body)
-
-abbrev pub fetch_keys : List (List ℕ)
-fetch_keys =
-    codes "url" ∷ codes "method" ∷ codes "mode" ∷ codes "credentials" ∷ codes "redirect" ∷ codes "headers"
-    ∷ codes "body" ∷ codes "referrer" ∷ codes "referrer_policy" ∷ codes "upload" ∷ []
-
--- what a fetch asks for; what no key says is as `fetch` has it by itself
-abbrev pub fetch_of : Data → Read Init
-fetch_of tree = do
-  known ← only_keys fetch_keys tree
-  url ← required (codes "url") (text_that lacks_template) tree
-  method ← optional (codes "method") (codes "GET") (text_that any) tree
-  manner ← manner_of tree
-  content ← content_of tree
-  referring ← referring_of tree
-  upload ← optional (codes "upload") false truth_of tree
-  Ok (record {
-    url = url;
-    method = method;
-    mode = manner.0;
-    credentials = manner.1;
-    redirect = manner.2;
-    headers = content.0;
-    body = content.1;
-    client_referrer = referring.0;
-    referrer_policy = referring.1;
-    integrity = [];
-    upload = upload;
-  })
-
 -- ---- documents
-
--- a call of `fetch`
-abbrev pub fetch_command_of : Data → Read Command
-fetch_command_of tree = do
-  known ← only_keys (codes "fetch" ∷ []) tree
-  init ← required (codes "fetch") fetch_of tree
-  Ok (Fetch init)
-
--- so many seconds that pass
-abbrev pub wait_command_of : Data → Read Command
-wait_command_of tree = do
-  known ← only_keys (codes "wait" ∷ []) tree
-  seconds ← required (codes "wait") (number_of 0 4294967295) tree
-  Ok (Wait seconds)
-
--- A command, told by its key. One without such a key, or with a key beside it, is refused at its own place.
-abbrev pub command_of : Data → Read Command
-command_of tree =
-    if has_key (codes "fetch") tree then fetch_command_of tree
-    else if has_key (codes "wait") tree then wait_command_of tree
-    else Err []
 
 -- the URL of a document
 abbrev pub document_url_of : Data → Read Parts
@@ -247,7 +138,7 @@ document_of tree = do
   known ← only_keys document_keys tree
   url ← required (codes "url") document_url_of tree
   said ← optional (codes "headers") (policy.StrictOriginWhenCrossOrigin, []) said_of tree
-  script ← required (codes "script") (items_of command_of) tree
+  script ← required (codes "script") (λ _. Ok no_steps) tree
   Ok (record {
     url = url;
     top = url;

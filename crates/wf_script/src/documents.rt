@@ -1,23 +1,36 @@
 // The table of documents.
+ghost use Rattle.std.specs.Prelude.{Ok};
+ghost use Rattle.wf_commands.specs.Scripts.{no_steps};
 ghost use Rattle.wf_script.specs.Scenarios as spec;
 
-use crate::commands::CommandTable;
 use crate::fields::{only_keys, optional, required};
 use crate::form::{Form, refused_here};
 use crate::headers::DocumentHeaders;
-use crate::lists::ItemsOf;
 use crate::refused::Refused;
 use crate::types::Document;
 use crate::urls::is_document_url;
 use serde_json::Value;
 use std::alloc::Global;
 use url::Url;
+use wf_commands::Script;
 use wf_text::Items;
 use wf_types::{ReferrerPolicy, url_alone};
 
 const KEYS: &[&str] = &["url", "headers", "script"];
 
-const SCRIPT: ItemsOf<CommandTable> = ItemsOf { item: CommandTable };
+// stub
+#[derive(Drop)]
+struct NoScript;
+
+impl Form for NoScript {
+    type Out = Script;
+
+    ghost reads = { λ _ _. Ok no_steps };
+
+    fn read(&self, alloc: Global, _tree: &Value) -> Result<Script, Refused> {
+        Ok(Script::new(alloc))
+    }
+}
 
 // The URL of a document.
 struct DocumentUrl;
@@ -56,7 +69,7 @@ impl Form for DocumentTable {
         );
         let said = optional(alloc, tree, "headers", unsaid, &DocumentHeaders)?;
         let (policy, policies) = said;
-        let script = required(alloc, tree, "script", &SCRIPT)?;
+        let script = required(alloc, tree, "script", &NoScript)?;
         let top = url.clone()?;
         Ok(Document {
             url,

@@ -3,10 +3,8 @@
 #![tactic(auto)]
 
 mod answers;
-mod commands;
 mod cookies;
 mod documents;
-mod fetches;
 mod fields;
 mod form;
 mod headers;
@@ -23,6 +21,7 @@ mod words;
 
 pub use origins::read_origin;
 pub use types::{
-    Command, Document, Documents, Hosts, KnownHost, Place, Rule, Rules, Scenario, Script, Server,
-    Servers,
+    Document, Documents, Hosts, KnownHost, Place, Rule, Rules, Scenario, Server, Servers,
 };
+
+pub use wf_commands::{Command, Script, Test};

@@ -2,7 +2,7 @@
 use Rattle.std.specs.Prelude.{◌≤◌, List, [], ◌∷◌}
 use Rattle.std.proofs.Common.{arith}
 use denote.Param.Weighed.{most}
-use Rattle.wf_commands.specs.Private.Depth.{step_size, steps_size}
+use Rattle.wf_commands.specs.Depth.{step_size, steps_size}
 use Rattle.wf_commands.specs.Commands.{step_of, steps_of}
 use Rattle.wf_commands.specs.declared.command.Command.{Command}
 use Rattle.wf_commands.specs.declared.command.Command.TheVariants.{Fetch, Load, Wait, Repeat, If}

@@ -2,7 +2,7 @@ use Rattle.std.proofs.Common.{◌≡◌, ℕ, Bor, List}
 use Rattle.std.specs.Prelude.{option_map}
 use Rattle.std.specs.List.{list_all}
 use Rattle.wf_commands.specs.Templates as spec
-use Rattle.wf_commands.specs.Private.Pieces.{pieces_behind}
+use Rattle.wf_commands.specs.Pieces.{pieces_behind}
 use Rattle.wf_commands.proofs.PieceLemmas.{size_of}
 use Rattle.wf_commands.proofs.template.is_template.Given as goal
 

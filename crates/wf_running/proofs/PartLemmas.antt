@@ -11,7 +11,7 @@ use Rattle.wf_run.proofs.PlayLemmas.{play-append}
 use Rattle.wf_types.specs.declared.response.Outcome.{Outcome}
 use Rattle.wf_wire.specs.Exchanges.{Answering}
 use Rattle.wf_drive.specs.Driving.{FetchCut, FetchedTo, moment_of}
-use Rattle.wf_player.specs.Playing.{CutShort, PlayedTo, PlaysOn, Standing, standing_of}
+use Rattle.wf_running.specs.Parts.{CutShort, PlayedTo, PlaysOn, Standing, standing_of}
 use Rattle.wf_drive.specs.Worlds.{Answers, Settles, World, outside_of}
 use Rattle.wf_drive.proofs.AskLemmas.{refuses-none}
 

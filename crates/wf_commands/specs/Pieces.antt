@@ -1,4 +1,4 @@
--- The pieces of a text, one after another (private contracts).
+-- The pieces of a text, one after another.
 use Rattle.std.specs.Prelude.{ℕ, List, [], ◌∷◌, Option, Some, None}
 use Rattle.wf_commands.specs.Templates.{pieces}
 

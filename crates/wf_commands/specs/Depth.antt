@@ -1,4 +1,4 @@
--- How deep a script holds others (private contracts).
+-- How deep a script holds others.
 use Rattle.std.specs.Prelude.{ℕ, suc, max}
 use Rattle.wf_commands.specs.Scripts.{Step, fetch, load, wait, repeat, choose, Steps, no_steps, step}
 

@@ -1,0 +1,167 @@
+ghost use Rattle.std.specs.Prelude.{◌≡◌, ◌++◌, Bor, IfOk, OnOk, map, option_map};
+ghost use Rattle.wf_commands.specs.Templates.{filled, placed};
+ghost use Rattle.wf_run.specs.Filling as short;
+ghost use Rattle.wf_run.specs.Results.{lent_result, value_of};
+ghost use Rattle.wf_run.specs.Runs as spec;
+
+use crate::results::add_value;
+use std::alloc::Global;
+use wf_commands::next_piece;
+use wf_print::Event;
+use wf_text::{Bytes, OutOfMemory, after_byte, before_byte, trim_http};
+use wf_types::{Init, LoadInit, Pair, Pairs};
+
+/// How many bytes of a body are built at most: one more than a request's body may have.
+const MOST_BODY: usize = 65_537;
+
+// Adds what a piece behind a `${` comes to: the value of its name, and what follows the `}`.
+fn add_placed(
+    text: &mut Vec<u8>,
+    alloc: Global,
+    last: Option<&Event>,
+    piece: &[u8],
+) -> Result<(), OutOfMemory>
+    ensures { OnOk result (text.new.items ≡ text.old.items ++ placed (value_of (lent_result last)) piece.now) }
+{
+    add_value(text, alloc, last, before_byte(piece, b'}'))?;
+    text.extend_from_slice(after_byte(piece, b'}'))?;
+    Ok(())
+}
+
+// A text with its placeholders replaced by the parts of the last result.
+fn fill(alloc: Global, last: Option<&Event>, template: &[u8]) -> Result<Bytes, OutOfMemory>
+    ensures { IfOk result (λ text. text ≡ filled (value_of (lent_result last)) template.now) }
+{
+    let (first, mut rest) = next_piece(template);
+    let mut text = Vec::with_capacity(alloc, template.len())?;
+    text.extend_from_slice(first)?;
+    while let Some(behind) = rest {
+        let (piece, more) = next_piece(behind);
+        add_placed(&mut text, alloc, last, piece)?;
+        rest = more;
+    }
+    Ok(Bytes::from_vec(text))
+}
+
+// The same of a body, which stops growing once it is longer than a request's body may be.
+fn fill_body(alloc: Global, last: Option<&Event>, template: &[u8]) -> Result<Bytes, OutOfMemory>
+    ensures { IfOk result (λ text. text ≡ short.cut_body (filled (value_of (lent_result last)) template.now)) }
+{
+    let (first, mut rest) = next_piece(template);
+    let mut text = Vec::new(alloc);
+    text.extend_from_slice(first)?;
+    while let Some(behind) = rest {
+        if text.len() >= MOST_BODY {
+            break;
+        }
+        let (piece, more) = next_piece(behind);
+        add_placed(&mut text, alloc, last, piece)?;
+        rest = more;
+    }
+    text.truncate(MOST_BODY);
+    Ok(Bytes::from_vec(text))
+}
+
+// A header, its value filled and then normalised.
+fn filled_pair(alloc: Global, last: Option<&Event>, pair: &Pair) -> Result<Pair, OutOfMemory>
+    ensures { IfOk result (λ filled. filled ≡ spec.filled_pair (lent_result last) pair.now) }
+{
+    let value = fill(alloc, last, pair.value.as_slice())?;
+    Ok(Pair {
+        name: pair.name.copy(alloc)?,
+        value: Bytes::of(alloc, trim_http(value.as_slice()))?,
+    })
+}
+
+// Headers, each with its value filled and then normalised.
+fn filled_pairs(alloc: Global, last: Option<&Event>, pairs: &[Pair]) -> Result<Pairs, OutOfMemory>
+    ensures { IfOk result (λ filled. filled ≡ map (spec.filled_pair (lent_result last)) pairs.now) }
+{
+    let mut filled = Pairs::new(alloc);
+    for pair in pairs {
+        filled.push(filled_pair(alloc, last, pair)?)?;
+    }
+    Ok(filled)
+}
+
+// A body filled, where there is one.
+fn filled_body(
+    alloc: Global,
+    last: Option<&Event>,
+    body: &Option<Bytes>,
+) -> Result<Option<Bytes>, OutOfMemory>
+    ensures { IfOk result (λ filled. filled
+        ≡ option_map short.cut_body (option_map (filled (value_of (lent_result last))) body.now)) }
+{
+    match body {
+        None => Ok(None),
+        Some(body) => Ok(Some(fill_body(alloc, last, body.as_slice())?)),
+    }
+}
+
+/// What a script asks of `fetch`, with the parts of the last result in the place of the placeholders in
+/// its URL, in the values of its headers and in its body. The values of headers are normalised then:
+/// without tab, space, CR and LF at their ends (Fetch, section 2.2.2, "normalize a byte sequence"). Of a
+/// body that gets longer than 65,536 bytes, which no request has, the first 65,537 are built.
+pub fn filled_init(alloc: Global, last: Option<&Event>, init: &Init) -> Result<Init, OutOfMemory>
+    ensures { IfOk result (λ filled. filled ≡ short.with_cut_body (spec.filled_init (lent_result last) init.now)) }
+{
+    Ok(Init {
+        url: fill(alloc, last, init.url.as_slice())?,
+        method: init.method.copy(alloc)?,
+        mode: init.mode,
+        credentials: init.credentials,
+        redirect: init.redirect,
+        headers: filled_pairs(alloc, last, init.headers.as_slice())?,
+        body: filled_body(alloc, last, &init.body)?,
+        client_referrer: init.client_referrer,
+        referrer_policy: init.referrer_policy,
+        integrity: init.integrity.copy(alloc)?,
+        upload: init.upload,
+    })
+}
+
+/// What a script asks of a load, with the parts of the last result in the place of the placeholders in
+/// its URL.
+pub fn filled_load(
+    alloc: Global,
+    last: Option<&Event>,
+    init: &LoadInit,
+) -> Result<LoadInit, OutOfMemory>
+    ensures { IfOk result (λ filled. filled ≡ spec.filled_load (lent_result last) init.now) }
+{
+    Ok(LoadInit {
+        kind: init.kind,
+        url: fill(alloc, last, init.url.as_slice())?,
+        crossorigin: init.crossorigin,
+        nonce: init.nonce.copy(alloc)?,
+        integrity: init.integrity.copy(alloc)?,
+        parser: init.parser,
+        referrer_policy: init.referrer_policy,
+    })
+}
+
+// Whether no `$` stands in a text.
+fn lacks_dollar(text: &[u8]) -> bool
+    ensures { result ≡ short.lacks_dollar text.now }
+{
+    !text.iter().any(|byte| *byte == b'$')
+}
+
+// Whether there is no text, or none with a `$`.
+fn lacks_dollar_in(text: &Option<Bytes>) -> bool
+    ensures { result ≡ short.lacks_dollar_in text.now }
+{
+    match text {
+        None => true,
+        Some(text) => lacks_dollar(text.as_slice()),
+    }
+}
+
+/// Whether what a script asks of `fetch` has no headers and no `$` in its URL and its body, so that
+/// there is nothing to replace and nothing to normalise. It takes no memory.
+pub fn is_plain(init: &Init) -> bool
+    ensures { result ≡ short.is_plain init.now }
+{
+    init.headers.is_empty() && lacks_dollar(init.url.as_slice()) && lacks_dollar_in(&init.body)
+}

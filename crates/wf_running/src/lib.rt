@@ -1,0 +1,8 @@
+// Fetches and loads of a document's script, played, and where its run stands.
+#![tactic(auto)]
+
+mod asking;
+mod running;
+
+pub use asking::{run_fetch_command, run_load_command};
+pub use running::Running;
