@@ -1,9 +1,9 @@
 -- Texts without placeholders, and bodies that are cut.
 use Rattle.std.proofs.Common.{◌≡◌, ℕ, ◌+◌, ◌≤◌, ◌<◌, Bool, true, false, cond, List, [], ◌∷◌, ◌++◌, length, take, Option, Some}
 use Rattle.std.proofs.Common.{None, refl, ap, sym, ◌∙◌, subst, arith, Result, Ok, Err, take_all}
-use Rattle.std.proofs.lemmas.List.{append-nil, length-take}
+use Rattle.std.proofs.lemmas.List.{append-nil, length-take, take-append-le}
 use Rattle.std.specs.Prelude.{◌==◌, ◌&&◌, ◌||◌, not, nat_lt, min, map, is_some, option_map}
-use Rattle.std.specs.List.{list_any}
+use Rattle.std.specs.List.{flat_map, list_any}
 use Rattle.wf_types.specs.declared.client.Client.{Client}
 use Rattle.wf_types.specs.declared.fault.TypeFault.{TypeFault}
 use Rattle.wf_types.specs.declared.fault.TypeFault.TheVariants.{UrlCredentials, BadMethod, ForbiddenMethod, BodyWithGet}
@@ -17,7 +17,8 @@ use Rattle.wf_text.specs.Tokens.{is_token}
 use Rattle.url.specs.Parts.{Parts, has_credentials}
 use Rattle.wf_send.specs.Making.{fault_or, fault_where, faults, first_fault, is_long_body, made, new_request, request_for}
 use Rattle.wf_send.specs.Making.{first_bad, given_size, is_navigate, is_no_cors, url_given}
-use Rattle.wf_commands.specs.Templates.{filled, opens, pieces, put_on}
+use Rattle.wf_commands.specs.Pieces.{pieces_behind}
+use Rattle.wf_commands.specs.Templates.{filled, opens, pieces, placed, put_on}
 use Rattle.wf_print.specs.declared.events.Event.{Event}
 use Rattle.wf_run.specs.Filling.{cut_body, is_plain, lacks_dollar, lacks_dollar_in, with_cut_body}
 use Rattle.wf_run.specs.Results.{value_of}
@@ -66,13 +67,13 @@ plain-filled last init plain =
     let all = three (length init.headers == 0) (lacks_dollar init.url) (lacks_dollar_in init.body) plain in
     let none : init.headers ≡ [] = nothing init.headers all.0 in
     let headers : map (filled_pair last) init.headers ≡ init.headers =
-        ap (λ (l : List Pair). map (filled_pair last) l) none ∙ sym none in
+    ap (λ (l : List Pair). map (filled_pair last) l) none ∙ sym none in
     rw (filled-same (value_of last) init.url all.1.0, headers, body-same (value_of last) init.body all.1.1) refl
 
 -- ---- a body that is cut
 
 -- there is a fault
-HasFault : List (Option TypeFault) → Type 0
+abbrev HasFault : List (Option TypeFault) → Type 0
 HasFault [] = ⊥
 HasFault (None ∷ rest) = HasFault rest
 HasFault (Some fault ∷ rest) = Unit {0}
@@ -135,12 +136,12 @@ long-faults : (client : Client) (init : Init) (body : List ℕ) (url : Parts) �
 long-faults client init body url is long =
     let cut : length (take 65537 body) ≡ min 65537 (length body) = length-take 65537 body in
     let one : faults (with_cut_body init) url ≡ faults_by init url true true =
-        faults-of-cut init url ∙ ap (λ (b : Option (List ℕ)). faults_by init url (is_some (option_map cut_body b))
-        (is_long_body (option_map cut_body b))) is
-        ∙ ap (faults_by init url true) (is-long (take 65537 body) (omega (arith, cut, long))) in
+    faults-of-cut init url ∙ ap (λ (b : Option (List ℕ)). faults_by init url (is_some (option_map cut_body b))
+    (is_long_body (option_map cut_body b))) is
+    ∙ ap (faults_by init url true) (is-long (take 65537 body) (omega (arith, cut, long))) in
     let two : faults init url ≡ faults_by init url true true =
-        faults-of init url ∙ ap (λ (b : Option (List ℕ)). faults_by init url (is_some b) (is_long_body b)) is
-        ∙ ap (faults_by init url true) (is-long body long) in
+    faults-of init url ∙ ap (λ (b : Option (List ℕ)). faults_by init url (is_some b) (is_long_body b)) is
+    ∙ ap (faults_by init url true) (is-long body long) in
     ap (λ (l : List (Option TypeFault)). fault_or (first_fault l) (made client (with_cut_body init) url)) one
     ∙ same-fault (faults_by init url true true) (made client (with_cut_body init) url) (made client init url)
     (has-fault init url true)
@@ -172,3 +173,20 @@ by-body client init (Some body) is = by-length client init body (nat_lt 65536 (l
 -- the request, or its fault, is the same where the body is cut
 pub cut-same : (client : Client) (init : Init) → new_request client (with_cut_body init) ≡ new_request client init
 cut-same client init = by-body client init init.body refl
+
+-- ---- a body that grows
+
+-- it is longer than it may be
+pub cut-grown : (value : List ℕ → List ℕ) (template text : List ℕ) (rest : Option (List ℕ))
+    → filled value template ≡ text ++ flat_map (placed value) (pieces_behind rest) → 65537 ≤ length text
+    → take 65537 text ≡ cut_body (filled value template)
+cut-grown value template text rest so long =
+    sym (ap (take 65537) so ∙ take-append-le 65537 text (flat_map (placed value) (pieces_behind rest)) long)
+
+-- or all of it is there
+pub cut-whole : (value : List ℕ → List ℕ) (template text : List ℕ) (rest : Option (List ℕ))
+    → filled value template ≡ text ++ flat_map (placed value) (pieces_behind rest) → rest ≡ None
+    → take 65537 text ≡ cut_body (filled value template)
+cut-whole value template text rest so none =
+    sym (ap (take 65537) (so ∙ ap (λ (r : Option (List ℕ)). text ++ flat_map (placed value) (pieces_behind r)) none
+    ∙ append-nil text))

@@ -1,7 +1,9 @@
 -- The last result of a script, as its conditions and its templates see it (this project's own; Fetch, sections 5.5 and
 -- 5.6, for what a script may read of a response).
 use Rattle.std.specs.Prelude.{ℕ, Bool, true, false, ◌==◌, List, [], ◌∷◌, drop, codes, decimal, bytes_eq, Option, Some, None}
-use Rattle.std.specs.Prelude.{Bor, option_map, option_and_then, option_or, unwrap_or, if◌then◌else◌}
+use Rattle.std.specs.Prelude.{option_map, option_and_then, unwrap_or, if◌then◌else◌}
+use Rattle.std.specs.Borrow.{Bor}
+use Rattle.std.specs.Option.{option_or}
 use Rattle.wf_headers.specs.Headers.{combined}
 use Rattle.wf_types.specs.declared.response.BodyEnd.{BodyEnd}
 use Rattle.wf_types.specs.declared.response.BodyEnd.TheVariants.{Whole}

@@ -214,11 +214,12 @@ abbrev mutual
   pub script_run : Setting → Steps → Next → Next
   script_run lent script.no_steps next progress = next progress
   script_run lent (script.step one more) next progress =
-      unless_limit (limit_before one progress) (command_started lent one (script_run lent more next)) progress
+      unless_limit (limit_before one progress)
+      (λ begun. command_run lent one (script_run lent more next) (started begun)) progress
 
-  -- a command that has started, and what it does
-  pub command_started : Setting → Step → Next → Next
-  command_started lent one next progress = command_run lent one next (started progress)
+-- a command that has started, and what it does
+abbrev pub command_started : Setting → Step → Next → Next
+command_started lent one next progress = command_run lent one next (started progress)
 
 -- at this time nothing has started or been shown
 abbrev pub beginning : ℕ → Progress

@@ -1,4 +1,4 @@
-ghost use Rattle.std.specs.Prelude.{◌≡◌, ◌++◌, Bor, IfOk, OnOk, map, option_map};
+ghost use Rattle.std.specs.Prelude.{◌≡◌, ◌++◌, IfOk, OnOk, map, option_map};
 ghost use Rattle.wf_commands.specs.Templates.{filled, placed};
 ghost use Rattle.wf_run.specs.Filling as short;
 ghost use Rattle.wf_run.specs.Results.{lent_result, value_of};
@@ -21,7 +21,7 @@ fn add_placed(
     last: Option<&Event>,
     piece: &[u8],
 ) -> Result<(), OutOfMemory>
-    ensures { OnOk result (text.new.items ≡ text.old.items ++ placed (value_of (lent_result last)) piece.now) }
+    ensures { OnOk result (text.new.items ≡ text.old.items ++ placed (value_of (lent_result last.entry)) piece.now) }
 {
     add_value(text, alloc, last, before_byte(piece, b'}'))?;
     text.extend_from_slice(after_byte(piece, b'}'))?;
@@ -30,7 +30,7 @@ fn add_placed(
 
 // A text with its placeholders replaced by the parts of the last result.
 fn fill(alloc: Global, last: Option<&Event>, template: &[u8]) -> Result<Bytes, OutOfMemory>
-    ensures { IfOk result (λ text. text ≡ filled (value_of (lent_result last)) template.now) }
+    ensures { IfOk result (λ text. text ≡ filled (value_of (lent_result last.entry)) template.now) }
 {
     let (first, mut rest) = next_piece(template);
     let mut text = Vec::with_capacity(alloc, template.len())?;
@@ -45,7 +45,7 @@ fn fill(alloc: Global, last: Option<&Event>, template: &[u8]) -> Result<Bytes, O
 
 // The same of a body, which stops growing once it is longer than a request's body may be.
 fn fill_body(alloc: Global, last: Option<&Event>, template: &[u8]) -> Result<Bytes, OutOfMemory>
-    ensures { IfOk result (λ text. text ≡ short.cut_body (filled (value_of (lent_result last)) template.now)) }
+    ensures { IfOk result (λ text. text ≡ short.cut_body (filled (value_of (lent_result last.entry)) template.now)) }
 {
     let (first, mut rest) = next_piece(template);
     let mut text = Vec::new(alloc);
@@ -64,7 +64,7 @@ fn fill_body(alloc: Global, last: Option<&Event>, template: &[u8]) -> Result<Byt
 
 // A header, its value filled and then normalised.
 fn filled_pair(alloc: Global, last: Option<&Event>, pair: &Pair) -> Result<Pair, OutOfMemory>
-    ensures { IfOk result (λ filled. filled ≡ spec.filled_pair (lent_result last) pair.now) }
+    ensures { IfOk result (λ filled. filled ≡ spec.filled_pair (lent_result last.entry) pair.now) }
 {
     let value = fill(alloc, last, pair.value.as_slice())?;
     Ok(Pair {
@@ -75,7 +75,7 @@ fn filled_pair(alloc: Global, last: Option<&Event>, pair: &Pair) -> Result<Pair,
 
 // Headers, each with its value filled and then normalised.
 fn filled_pairs(alloc: Global, last: Option<&Event>, pairs: &[Pair]) -> Result<Pairs, OutOfMemory>
-    ensures { IfOk result (λ filled. filled ≡ map (spec.filled_pair (lent_result last)) pairs.now) }
+    ensures { IfOk result (λ filled. filled ≡ map (spec.filled_pair (lent_result last.entry)) pairs.now) }
 {
     let mut filled = Pairs::new(alloc);
     for pair in pairs {
@@ -90,8 +90,8 @@ fn filled_body(
     last: Option<&Event>,
     body: &Option<Bytes>,
 ) -> Result<Option<Bytes>, OutOfMemory>
-    ensures { IfOk result (λ filled. filled
-        ≡ option_map short.cut_body (option_map (filled (value_of (lent_result last))) body.now)) }
+    ensures { IfOk result (λ made. made
+        ≡ option_map short.cut_body (option_map (filled (value_of (lent_result last.entry))) body.now)) }
 {
     match body {
         None => Ok(None),
@@ -104,7 +104,7 @@ fn filled_body(
 /// without tab, space, CR and LF at their ends (Fetch, section 2.2.2, "normalize a byte sequence"). Of a
 /// body that gets longer than 65,536 bytes, which no request has, the first 65,537 are built.
 pub fn filled_init(alloc: Global, last: Option<&Event>, init: &Init) -> Result<Init, OutOfMemory>
-    ensures { IfOk result (λ filled. filled ≡ short.with_cut_body (spec.filled_init (lent_result last) init.now)) }
+    ensures { IfOk result (λ filled. filled ≡ short.with_cut_body (spec.filled_init (lent_result last.entry) init.now)) }
 {
     Ok(Init {
         url: fill(alloc, last, init.url.as_slice())?,
@@ -128,7 +128,7 @@ pub fn filled_load(
     last: Option<&Event>,
     init: &LoadInit,
 ) -> Result<LoadInit, OutOfMemory>
-    ensures { IfOk result (λ filled. filled ≡ spec.filled_load (lent_result last) init.now) }
+    ensures { IfOk result (λ filled. filled ≡ spec.filled_load (lent_result last.entry) init.now) }
 {
     Ok(LoadInit {
         kind: init.kind,
@@ -145,7 +145,12 @@ pub fn filled_load(
 fn lacks_dollar(text: &[u8]) -> bool
     ensures { result ≡ short.lacks_dollar text.now }
 {
-    !text.iter().any(|byte| *byte == b'$')
+    for byte in text {
+        if *byte == b'$' {
+            return false;
+        }
+    }
+    true
 }
 
 // Whether there is no text, or none with a `$`.

@@ -34,7 +34,7 @@ fn response_of(event: &Event) -> Option<&Response>
 
 // The response of the last result, where it is one.
 fn response_in(last: Option<&Event>) -> Option<&Response>
-    ensures { option_map (λ response. response.now) result ≡ spec.response_in (lent_result last) }
+    ensures { option_map (λ response. response.now) result ≡ spec.response_in (lent_result last.entry) }
 {
     match last {
         None => None,
@@ -44,7 +44,7 @@ fn response_in(last: Option<&Event>) -> Option<&Response>
 
 // The status of the last result, or 0.
 fn status_of(last: Option<&Event>) -> u16
-    ensures { result ≡ spec.status_of (spec.response_in (lent_result last)) }
+    ensures { result ≡ spec.status_of (spec.response_in (lent_result last.entry)) }
 {
     match response_in(last) {
         None => 0,
@@ -78,7 +78,7 @@ fn result_type(event: &Event) -> &'static str
 
 // The type of the last result.
 fn type_of(last: Option<&Event>) -> &'static str
-    ensures { result.now ≡ spec.type_of (lent_result last) }
+    ensures { result.now ≡ spec.type_of (lent_result last.entry) }
 {
     match last {
         None => "none",
@@ -98,7 +98,7 @@ fn whole_body(body: &BodyEnd) -> Option<&[u8]>
 
 // The body of the last result, where it is a response whose body came whole.
 fn body_in(last: Option<&Event>) -> Option<&[u8]>
-    ensures { option_map (λ bytes. bytes.now) result ≡ spec.body_in (spec.response_in (lent_result last)) }
+    ensures { option_map (λ bytes. bytes.now) result ≡ spec.body_in (spec.response_in (lent_result last.entry)) }
 {
     match response_in(last) {
         None => None,
@@ -118,7 +118,7 @@ fn add_status(filled: &mut Vec<u8>, alloc: Global, status: u16) -> Result<(), Ou
 // Adds a text where there is one.
 fn add_text(filled: &mut Vec<u8>, text: Option<&[u8]>) -> Result<(), OutOfMemory>
     ensures { OnOk result (filled.new.items
-        ≡ filled.old.items ++ unwrap_or (option_map (λ bytes. bytes.now) text) []) }
+        ≡ filled.old.items ++ unwrap_or (option_map (λ bytes. bytes.now) text.entry) []) }
 {
     if let Some(text) = text {
         filled.extend_from_slice(text)?;
@@ -128,7 +128,7 @@ fn add_text(filled: &mut Vec<u8>, text: Option<&[u8]>) -> Result<(), OutOfMemory
 
 // Adds the URL of the last result.
 fn add_url(filled: &mut Vec<u8>, last: Option<&Event>) -> Result<(), OutOfMemory>
-    ensures { OnOk result (filled.new.items ≡ filled.old.items ++ spec.url_of (spec.response_in (lent_result last))) }
+    ensures { OnOk result (filled.new.items ≡ filled.old.items ++ spec.url_of (spec.response_in (lent_result last.entry))) }
 {
     match response_in(last) {
         None => Ok(()),
@@ -147,7 +147,7 @@ fn add_header(
     name: &[u8],
 ) -> Result<(), OutOfMemory>
     ensures { OnOk result (filled.new.items
-        ≡ filled.old.items ++ spec.header_of name.now (spec.response_in (lent_result last))) }
+        ≡ filled.old.items ++ spec.header_of name.now (spec.response_in (lent_result last.entry))) }
 {
     let Some(response) = response_in(last) else {
         return Ok(());
@@ -176,7 +176,7 @@ pub(crate) fn add_value(
     last: Option<&Event>,
     name: &[u8],
 ) -> Result<(), OutOfMemory>
-    ensures { OnOk result (filled.new.items ≡ filled.old.items ++ spec.value_of (lent_result last) name.now) }
+    ensures { OnOk result (filled.new.items ≡ filled.old.items ++ spec.value_of (lent_result last.entry) name.now) }
 {
     if name == b"status".as_slice() {
         add_status(filled, alloc, status_of(last))
@@ -193,7 +193,7 @@ pub(crate) fn add_value(
 
 // Whether the last result is a network error, or a fault for which there was no request.
 fn is_error(last: Option<&Event>) -> bool
-    ensures { result ≡ spec.is_error (lent_result last) }
+    ensures { result ≡ spec.is_error (lent_result last.entry) }
 {
     match last {
         Some(Event::Result(Outcome::Error(_))) => true,
@@ -206,7 +206,7 @@ fn is_error(last: Option<&Event>) -> bool
 
 // Whether there is a text, and it is this one.
 fn is_text(wanted: &[u8], text: Option<&[u8]>) -> bool
-    ensures { result ≡ spec.is_text wanted.now (option_map (λ bytes. bytes.now) text) }
+    ensures { result ≡ spec.is_text wanted.now (option_map (λ bytes. bytes.now) text.entry) }
 {
     match text {
         None => false,
@@ -217,7 +217,7 @@ fn is_text(wanted: &[u8], text: Option<&[u8]>) -> bool
 /// Whether a condition holds of the last result, which is none before a script's first fetch or load.
 /// It takes no memory.
 pub fn holds(test: &Test, last: Option<&Event>) -> bool
-    ensures { result ≡ spec.holds test.now (lent_result last) }
+    ensures { result ≡ spec.holds test.now (lent_result last.entry) }
 {
     match test {
         Test::IsOk => is_ok_status(status_of(last)),

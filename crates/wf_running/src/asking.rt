@@ -36,7 +36,7 @@ fn requested<R, S>(
     requires client { IsClient lent.now.client.now }
     requires valid { IsValidInit init.now }
     ensures value { IfOk result (λ made. made
-        ≡ request_of lent.now.client.now (filled_fetch (lent_result last) init.now)) }
+        ≡ request_of lent.now.client.now (filled_fetch (lent_result last.entry) init.now)) }
     ensures valid { IfOk result (λ made. IfOk made IsRequest) }
 {
     // where there is nothing to fill and to normalise no copy is wanted
@@ -57,7 +57,7 @@ fn requested_load<R, S>(
     requires client { IsClient lent.now.client.now }
     requires valid { IsValidLoad init.now }
     ensures value { IfOk result (λ made. made
-        ≡ load_of lent.now.client.now (load_filled (lent_result last) init.now)) }
+        ≡ load_of lent.now.client.now (load_filled (lent_result last.entry) init.now)) }
     ensures valid { IfOk result (λ made. IfOk made IsRequest) }
 {
     let filled = filled_load(lent.alloc, last, init)?;
