@@ -1,4 +1,61 @@
 -- Whole runs.
+use Rattle.std.proofs.Common.{◌≡◌, ◌≢◌, ℕ, List, [], ◌++◌, Option, Some, None, refl, ap, sym, subst, ◌∙◌, arith, append_assoc}
+use Rattle.std.proofs.Common.{Result, OnErr}
+use Rattle.std.proofs.lemmas.List.{append-nil}
+use Rattle.wf_text.specs.declared.memory.OutOfMemory.{OutOfMemory}
+use Rattle.wf_act.specs.declared.act.Input.{Input}
+use Rattle.wf_commands.specs.Scripts.{Steps}
+use Rattle.wf_csp_text.specs.declared.policy.Policy.{Policy}
+use Rattle.wf_print.specs.declared.events.Ending.{Ending}
+use Rattle.wf_print.specs.declared.events.Ending.TheVariants.{Commands, Fetches, Finished, Memory, Text}
+use Rattle.wf_print.specs.declared.events.Event.{Event}
+use Rattle.wf_run.specs.Play.{Play, PlayRun, over, run_play}
+use Rattle.wf_run.specs.Runs.{Next, Progress, Setting, beginning, document_client, document_run, finished, script_run}
+use Rattle.wf_run.specs.Runs.{setting}
+use Rattle.wf_run.specs.Traces.{stop}
+use Rattle.wf_run.proofs.PlayLemmas.{play-run}
+use Rattle.wf_script.specs.declared.types.Document.{Document}
+use Rattle.wf_types.specs.declared.client.Client.{Client}
+use Rattle.wf_types.specs.declared.client.Cookie.{Cookie}
+use Rattle.wf_wire.specs.Exchanges.{Answering, IsIdle}
+use Rattle.wf_drive.specs.Worlds.{Answers, Outside, Refuses, Settles, World, outside_of}
+use Rattle.wf_drive.proofs.AskLemmas.{on-err, refuses-none}
+use Rattle.wf_drive.proofs.FetchLemmas.{still}
+use Rattle.wf_running.specs.Parts.{Cut, CutShort, Played, PlaysOn, Standing, standing_of}
+use Rattle.wf_running.proofs.PartLemmas.{cut-inside, played-inside}
+use Rattle.wf_player.specs.Playing.{Began, Came, Ended, Ran, Stopped, ended_by}
+
+-- ---- a script as the whole run
+
+-- no ending is want of memory
+pub ending-told : (ending : Option Ending) → ending ≢ Some Memory → ended_by ending ≢ Memory
+ending-told None told = λ bad. absurd (cc)
+ending-told (Some ending) told =
+    λ bad. told (ap (λ (e : Ending). let o : Option Ending = Some e in o) bad)
+
+module _ {State : Type 0} (by : Answering State) (limit document : ℕ) (lent : Setting) (script : Steps) where
+  ended-as : (ending : Option Ending) (old now : Standing State)
+      → Played by limit document (script_run lent script) old ending now
+      → Ended by limit document (script_run lent script finished old.progress) old (ended_by ending) now
+  ended-as None old now x = played-inside by limit document
+      (λ (next : Next). script_run lent script next old.progress) (λ next. next now.progress) (λ (next : Next). finished)
+      old now x
+  ended-as (Some ending) old now x = played-inside by limit document
+      (λ (next : Next). script_run lent script next old.progress) (λ next. over ending now.progress.clock)
+      (λ (next : Next). finished) old now x
+
+  pub run-ended : (ending : Option Ending) (came : Ending) (old now : Standing State) → came ≡ ended_by ending
+      → Played by limit document (script_run lent script) old ending now
+      → Ended by limit document (script_run lent script finished old.progress) old came now
+  run-ended ending came old now is x =
+      subst (λ (e : Ending). Ended by limit document (script_run lent script finished old.progress) old e now) (sym is)
+      (ended-as ending old now x)
+
+  pub run-stopped : (old now : Standing State) → Cut by limit document (script_run lent script) old now
+      → Stopped by limit document (script_run lent script finished old.progress) old now
+  run-stopped old now x = cut-inside by limit document (λ (next : Next). script_run lent script next old.progress)
+      (λ (next : Next). finished) old now x
+
 -- ---- whole runs
 
 module _ {State : Type 0} (by : Answering State) (limit document : ℕ) (whole : Play) (first : World State)

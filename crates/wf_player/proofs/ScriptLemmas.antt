@@ -2,7 +2,7 @@
 use Rattle.std.proofs.Common.{◌≡◌, ◌≢◌, ℕ, zero, suc, ◌+◌, ◌-◌, ◌≤◌, ◌<◌, List, [], ◌∷◌, Option, Some, None, true, false}
 use Rattle.std.proofs.Common.{refl, ap, sym, subst, ◌∙◌, arith, add-one, drop, drop-cons, cond, get_or, length, Bool}
 use Rattle.std.proofs.Common.{Result, Ok, Err, OnErr}
-use Rattle.std.specs.Prelude.{nat_le, is_some, max, IfOk}
+use Rattle.std.specs.Prelude.{nat_le, nat_lt, is_some, max, IfOk}
 use Rattle.std.proofs.lemmas.List.{drop_all}
 use Rattle.wf_text.specs.declared.memory.OutOfMemory.{OutOfMemory}
 use Rattle.wf_commands.specs.declared.command.Command.{Command}
@@ -10,12 +10,13 @@ use Rattle.wf_commands.specs.declared.command.Test.{Test}
 use Rattle.wf_commands.specs.Commands.{step_of, steps_of}
 use Rattle.wf_commands.specs.Depth.{step_size, steps_size}
 use Rattle.wf_commands.specs.Scripts.{Step, Steps}
+use Rattle.wf_commands.specs.Scripts as script
 use Rattle.wf_commands.specs.Valid.{AreValid, IsValidStep}
 use Rattle.wf_print.specs.declared.events.Ending.{Ending}
 use Rattle.wf_print.specs.declared.events.Ending.TheVariants.{Commands, Fetches, Memory, Text}
 use Rattle.wf_run.specs.Play.{Play, over}
 use Rattle.wf_run.specs.Runs.{Next, Progress, Setting, chosen, command_started, last_of, limit_before, own_limit, repeated}
-use Rattle.wf_run.specs.Runs.{script_run, started, unless_limit}
+use Rattle.wf_run.specs.Runs.{script_run, started, text_length, unless_limit}
 use Rattle.wf_run.specs.Results.{holds}
 use Rattle.wf_wire.specs.Exchanges.{Answering}
 use Rattle.wf_drive.specs.Worlds.{World}
@@ -299,7 +300,7 @@ module _ {State : Type 0} (by : Answering State) (limit document : ℕ) (lent : 
       → Played by limit document (λ next progress. part next (started progress)) (standing_of a old) ending new
   started-played part ending a old mid new is x =
       let y : Played by limit document part (standing_of a (started old)) ending new =
-          subst (λ (p : Progress). Played by limit document part (standing_of a p) ending new) is x in
+      subst (λ (p : Progress). Played by limit document part (standing_of a p) ending new) is x in
       record { tape = y.tape; made = y.made; added = y.added; trace = y.trace }
 
   pub started-cut : (part : Next → Next) (a : World State) (old mid : Progress) (new : Standing State)
@@ -307,7 +308,7 @@ module _ {State : Type 0} (by : Answering State) (limit document : ℕ) (lent : 
       → Cut by limit document (λ next progress. part next (started progress)) (standing_of a old) new
   started-cut part a old mid new is x =
       let y : Cut by limit document part (standing_of a (started old)) new =
-          subst (λ (p : Progress). Cut by limit document part (standing_of a p) new) is x in
+      subst (λ (p : Progress). Cut by limit document part (standing_of a p) new) is x in
       record {
         tape = y.tape;
         made = y.made;
@@ -322,12 +323,26 @@ module _ {State : Type 0} (by : Answering State) (limit document : ℕ) (lent : 
 
 -- ---- limits
 
+cond-told : (many long : Bool) → cond many (Some Fetches) (cond long (Some Text) None) ≢ Some Memory
+cond-told true long = λ bad. absurd (cc)
+cond-told false true = λ bad. absurd (cc)
+cond-told false false = λ bad. absurd (cc)
+
+own-told : (one : Step) (progress : Progress) → own_limit one progress ≢ Some Memory
+own-told (script.fetch init) progress =
+    cond-told (nat_le 1024 progress.fetches) (nat_lt 8388608 (text_length progress.shown))
+own-told (script.load init) progress =
+    cond-told (nat_le 1024 progress.fetches) (nat_lt 8388608 (text_length progress.shown))
+own-told (script.wait seconds) progress = λ bad. absurd (cc)
+own-told (script.repeat times part) progress = λ bad. absurd (cc)
+own-told (script.choose test part other) progress = λ bad. absurd (cc)
+
+commands-told : (all : Bool) (own : Option Ending) → own ≢ Some Memory → cond all (Some Commands) own ≢ Some Memory
+commands-told true own told = λ bad. absurd (cc)
+commands-told false own told = told
+
 -- no limit is want of memory
 pub limit-told : (one : Step) (progress : Progress) (reached : Option Ending) → reached ≡ limit_before one progress
     → reached ≢ Some Memory
-limit-told one progress reached is = λ bad. by-test (nat_le 16384 progress.commands) one progress (sym is ∙ bad)
-  where
-    own : (one : Step) (progress : Progress) → own_limit one progress ≡ Some Memory → ⊥
-    own one progress bad = ?
-    by-test : (test : Bool) (one : Step) (progress : Progress) → limit_before one progress ≡ Some Memory → ⊥
-    by-test test one progress bad = ?
+limit-told one progress reached is = λ bad. commands-told (nat_le 16384 progress.commands) (own_limit one progress)
+    (own-told one progress) (sym is ∙ bad)

@@ -6,9 +6,9 @@ ghost use Rattle.wf_run.specs.Runs.{beginning, document_client, document_run};
 ghost use Rattle.wf_link.specs.Sources.{IsAtEnd};
 ghost use Rattle.wf_wire.specs.Wires.{over_link};
 ghost use Rattle.wf_player.specs.Playing.{Began, Came, Ran};
+ghost use Rattle.wf_player.specs.Playing as spec;
 ghost use Rattle.wf_drive.specs.Worlds.{outside};
 
-use crate::running::Running;
 use crate::script::run_script;
 use std::alloc::Global;
 use std::sync::Wait;
@@ -18,10 +18,21 @@ use wf_csp::Compiled;
 use wf_drive::Lent;
 use wf_link::Link;
 use wf_print::{Ending, Transcript};
+use wf_running::Running;
 use wf_script::{Document, Scenario};
 use wf_text::{Bytes, OutOfMemory};
 use wf_types::{Client, Cookies};
 use wf_wire::Wire;
+
+// How a run has ended, where its script has played to its end or to a limit.
+fn ended_by(ending: Option<Ending>) -> Ending
+    ensures { result ≡ spec.ended_by ending }
+{
+    match ending {
+        None => Ending::Finished,
+        Some(ending) => ending,
+    }
+}
 
 // A document's run, to its ending, with the document's key.
 fn run_document<R: Threads + Wait + Sync, S: Share, L: Link>(
@@ -68,7 +79,7 @@ fn run_document<R: Threads + Wait + Sync, S: Share, L: Link>(
     };
     let mut wire = Wire::new(alloc, link)?;
     let ending = run_script(&lent, pass, link, &mut wire, running, &document.script)?;
-    Ok((ending, key))
+    Ok((ended_by(ending), key))
 }
 
 /// Plays a document's script over a link and a share of the book, from a time in seconds on, which is at

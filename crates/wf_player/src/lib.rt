@@ -2,7 +2,6 @@
 #![tactic(auto)]
 
 mod document;
-mod running;
 mod script;
 
 pub use document::drive;

@@ -104,12 +104,13 @@ module _ {State : Type 0} (by : Answering State) (limit document : ℕ) (lent : 
   onward kind next came = showing (outcome_event kind came) next
 
   -- there is none
-  pub request-fault : (kind : Destination) (made : Result Request TypeFault) (fault : TypeFault) (a : World State) (old new : Progress)
-      (result : Result ⊤ OutOfMemory) → made ≡ Err fault
-      → OnOk result (new ≡ after_events (fault_event kind fault ∷ []) old)
+  pub request-fault : (kind : Destination) (made : Result Request TypeFault) (fault : TypeFault) (one : Event)
+      (a : World State) (old new : Progress) (result : Result ⊤ OutOfMemory) → made ≡ Err fault
+      → one ≡ fault_event kind fault → OnOk result (new ≡ after_events (one ∷ []) old)
       → OnOk result (Played by limit document (fetched lent kind made) (standing_of a old) None (standing_of a new))
-  request-fault kind made fault a old new result is =
-      on-ok result (λ noted. rw (is, noted) (played-event by limit document (fault_event kind fault) old a a (settles-fault kind fault a)))
+  request-fault kind made fault one a old new result is tells =
+      on-ok result (λ noted. rw (is, noted, tells) (played-event by limit document (fault_event kind fault) old a a
+      (settles-fault kind fault a)))
 
   -- memory was refused for it
   pub request-unshown-fault : (kind : Destination) (made : Result Request TypeFault) (a : World State) (old new : Progress)
@@ -155,18 +156,19 @@ module _ {State : Type 0} (by : Answering State) (limit document : ℕ) (lent : 
       (played-event by limit document (outcome_event kind outcome) mid b c (settles-outcome kind outcome b c hung)))
 
   -- the same, as the end of the fetch tells it
-  pub request-ended : (kind : Destination) (made : Result Request TypeFault) (request : Request) (a b c : World State)
-      (old mid new : Progress) (time : ℕ) (start events : List Event) (outcome : Outcome)
-      (result : Result ⊤ OutOfMemory) → made ≡ Ok request → time ≡ old.clock → start ≡ old.shown
-      → mid ≡ record old { shown = events }
+  pub request-ended : (kind : Destination) (made : Result Request TypeFault) (request : Request) (one : Event)
+      (a b c : World State) (old mid new : Progress) (time : ℕ) (start events : List Event) (outcome : Outcome)
+      (result : Result ⊤ OutOfMemory) → made ≡ Ok request → one ≡ outcome_event kind outcome → time ≡ old.clock
+      → start ≡ old.shown → mid ≡ record old { shown = events }
       → FetchedTo by limit document (fetch (at_time lent time) request) (moment_of a start) outcome
       (moment_of b events)
       → outside_of c ≡ outside_of b
-      → OnOk result ((new ≡ after_events (outcome_event kind outcome ∷ []) mid) × IsIdle c.exchange)
+      → OnOk result ((new ≡ after_events (one ∷ []) mid) × IsIdle c.exchange)
       → OnOk result (Played by limit document (fetched lent kind made) (standing_of a old) None (standing_of c new))
-  request-ended kind made request a b c old mid new time start events outcome result is then began after x out ended =
-      on-ok result (λ it. request-whole kind made request a b c old mid new time start events outcome is then began after x
-      (record { idle = it.1; outside_is = out }) it.0) ended
+  request-ended kind made request one a b c old mid new time start events outcome result is tells then began after x out
+      ended = on-ok result (λ it. request-whole kind made request a b c old mid new time start events outcome is then
+      began after x (record { idle = it.1; outside_is = out })
+      (it.0 ∙ ap (λ (e : Event). after_events (e ∷ []) mid) tells)) ended
 
   -- memory was refused in the fetch
   pub request-cut : (kind : Destination) (made : Result Request TypeFault) (request : Request) (a b : World State) (old new : Progress)

@@ -65,4 +65,3 @@ HasRoom left progress = (129024 ≤ left + progress.fetches * 126) × (progress.
 abbrev pub IsSpent : ℕ → Progress → ℕ → Progress → Type 0
 IsSpent left old left' new =
     (left + old.fetches * 126 ≤ left' + new.fetches * 126) × (new.fetches ≤ 1024)
-

@@ -14,4 +14,4 @@ returns-then-is_plain-clause-value g c =
 pub returns-clause-value : goal.returns-clause-value
 returns-clause-value g c =
     asked-as-filled c.args.lent.now.client.now (lent_result c.args.last) c.args.init.now c.in_ok-filled.filled
-    c.new_request.result c.in_ok-filled.ensures c.new_request.ensures.request
+    c.new_request-2.result c.in_ok-filled.ensures c.new_request-2.ensures.request
