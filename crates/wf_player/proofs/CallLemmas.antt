@@ -61,8 +61,8 @@ module _ {State : Type 0} (by : Answering State) (limit document : ℕ) where
       calls-alike a b (ap (λ (w : World State). w.own) is) (ap (λ (w : World State). w.left) is)
   calls-event a b (event.Told violation) is =
       calls-alike a b (ap (λ (w : World State). w.own) is) (ap (λ (w : World State). w.left) is)
-  calls-event a b (event.LoadFailed error) is =
-      calls-alike a b (ap (λ (w : World State). w.own) is) (ap (λ (w : World State). w.left) is)
+  calls-event a b (event.LoadFailed error) is = calls-alike a b (ap (λ (o : Outside State). o.own) is.outside_is)
+      (ap (λ (o : Outside State). o.left) is.outside_is)
   calls-event a b (event.TypeError fault) is =
       calls-alike a b (ap (λ (w : World State). w.own) is) (ap (λ (w : World State). w.left) is)
   calls-event a b (event.LoadError fault) is =

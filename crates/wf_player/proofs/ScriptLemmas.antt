@@ -3,7 +3,7 @@ use Rattle.std.proofs.Common.{◌≡◌, ◌≢◌, ℕ, zero, suc, ◌+◌, ◌
 use Rattle.std.proofs.Common.{refl, ap, sym, subst, ◌∙◌, arith, add-one, drop, drop-cons, cond, get_or, length, Bool}
 use Rattle.std.proofs.Common.{Result, Ok, Err, OnErr}
 use Rattle.std.specs.Prelude.{nat_le, nat_lt, is_some, max, IfOk}
-use Rattle.std.proofs.lemmas.List.{drop_all}
+use Rattle.std.proofs.lemmas.List.{append-nil, drop_all}
 use Rattle.wf_text.specs.declared.memory.OutOfMemory.{OutOfMemory}
 use Rattle.wf_commands.specs.declared.command.Command.{Command}
 use Rattle.wf_commands.specs.declared.command.Test.{Test}
@@ -16,7 +16,8 @@ use Rattle.wf_print.specs.declared.events.Ending.{Ending}
 use Rattle.wf_print.specs.declared.events.Ending.TheVariants.{Commands, Fetches, Memory, Text}
 use Rattle.wf_run.specs.Play.{Play, over}
 use Rattle.wf_run.specs.Runs.{Next, Progress, Setting, chosen, command_started, last_of, limit_before, own_limit, repeated}
-use Rattle.wf_run.specs.Runs.{script_run, started, text_length, unless_limit}
+use Rattle.wf_run.specs.Runs.{script_run, started, text_length, unless_limit, waited}
+use Rattle.wf_run.specs.Traces.{stop}
 use Rattle.wf_run.specs.Results.{holds}
 use Rattle.wf_wire.specs.Exchanges.{Answering}
 use Rattle.wf_drive.specs.Worlds.{World}
@@ -320,6 +321,13 @@ module _ {State : Type 0} (by : Answering State) (limit document : ℕ) (lent : 
         trace = y.trace;
         left = y.left;
       }
+
+  -- a wait
+  pub command-waited : (seconds : ℕ) (a : World State) (old new : Progress) → new ≡ waited seconds (started old)
+      → Played by limit document (command_started lent (script.wait seconds)) (standing_of a old) None
+      (standing_of a new)
+  command-waited seconds a old new is =
+      rw is (record { tape = []; made = []; added = sym (append-nil old.shown); trace = λ next. stop })
 
 -- ---- limits
 
