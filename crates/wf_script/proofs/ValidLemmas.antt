@@ -19,8 +19,8 @@ use Rattle.wf_types.specs.Requests.{is_policy}
 use Rattle.wf_types.specs.Urls.{url_of_text}
 use Rattle.wf_script.specs.declared.types.Scenario.{Scenario}
 use Rattle.wf_script.specs.Hosts.{is_host_name}
-use Rattle.wf_script.specs.Reading.{Read, present, any, only_keys, required, optional, number_of, truth_of, text_that}
-use Rattle.wf_script.specs.Reading.{word_of, some_of, items_of, list_of}
+use Rattle.wf_form.specs.Reading.{Read, present, any, only_keys, required, optional, number_of, truth_of, text_that}
+use Rattle.wf_form.specs.Reading.{word_of, some_of, items_of, list_of}
 use Rattle.wf_script.specs.Texts.{lacks_template, is_cookie_value}
 use Rattle.wf_script.specs.OriginTexts.{is_origin_text}
 use Rattle.wf_script.specs.Urls.{is_document_url}
@@ -32,9 +32,9 @@ use Rattle.wf_script.specs.Scenarios.{fetch_command_of, wait_command_of, has_key
 use Rattle.wf_script.specs.Scenarios.{document_keys, document_of, scenario_keys, scenario_in}
 use Rattle.wf_script.specs.Valid.{IsValidHost, IsValidCookie, IsValidRule, IsValidServer, IsPlainPair}
 use Rattle.wf_script.specs.Valid.{IsValidInit, IsValidCommand, IsValidDocument, IsValid}
-use Rattle.wf_script.proofs.KeepsLemmas.{Keeps, Anything, keeps-anything, keeps-after}
-use Rattle.wf_script.proofs.KeepsLemmas.{keeps-given, keeps-if, keeps-required, keeps-optional, IsListOf, keeps-items}
-use Rattle.wf_script.proofs.KeepsLemmas.{keeps-list, keeps-text_that, keeps-then, keeps-some, keeps-parts}
+use Rattle.wf_form.proofs.KeepsLemmas.{Keeps, Anything, keeps-anything, keeps-after}
+use Rattle.wf_form.proofs.KeepsLemmas.{keeps-given, keeps-if, keeps-required, keeps-optional, IsListOf, keeps-items}
+use Rattle.wf_form.proofs.KeepsLemmas.{keeps-list, keeps-text_that, keeps-then, keeps-some, keeps-parts}
 
 both : (a b : Bool) → IsTrue (a && b) → IsTrue a × IsTrue b
 both true b holds = (refl, holds)

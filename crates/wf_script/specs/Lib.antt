@@ -1,8 +1,6 @@
 pub mod Headers
 pub mod Hosts
 pub mod OriginTexts
-pub mod Private
-pub mod Reading
 pub mod Scenarios
 pub mod Servers
 pub mod Texts

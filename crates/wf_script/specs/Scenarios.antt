@@ -32,8 +32,8 @@ use Rattle.wf_script.specs.declared.types.Place.{Place}
 use Rattle.wf_script.specs.Headers.{policies_of_headers, policy_of_headers}
 use Rattle.wf_script.specs.Hosts.{is_host_name}
 use Rattle.wf_script.specs.OriginTexts.{is_origin_text}
-use Rattle.wf_script.specs.Reading.{Read, ◌>>=◌, present, given, number_of, truth_of, text_that, any, word_of, some_of}
-use Rattle.wf_script.specs.Reading.{only_keys, required, optional, items_of, list_of, pair_of}
+use Rattle.wf_form.specs.Reading.{Read, ◌>>=◌, present, given, number_of, truth_of, text_that, any, word_of, some_of}
+use Rattle.wf_form.specs.Reading.{only_keys, required, optional, items_of, list_of, pair_of}
 use Rattle.wf_script.specs.Servers.{answer_bytes}
 use Rattle.wf_script.specs.Texts.{lacks_template, is_cookie_value}
 use Rattle.wf_script.specs.Urls.{is_document_url}

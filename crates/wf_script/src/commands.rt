@@ -1,15 +1,13 @@
 // The tables of commands.
 ghost use Rattle.serde_json.specs.View.{view};
-ghost use Rattle.wf_script.specs.Private.Gives.{Gives};
+ghost use Rattle.wf_form.specs.Gives.{Gives};
 ghost use Rattle.wf_script.specs.Scenarios as spec;
 
 use crate::fetches::FetchTable;
-use crate::fields::{Number, only_keys, required};
-use crate::form::{Form, refused_here};
-use crate::refused::Refused;
 use crate::types::Command;
 use serde_json::Value;
 use std::alloc::Global;
+use wf_form::{Form, Number, Refused, only_keys, refused_here, required};
 
 const SECONDS: Number = Number {
     least: 0,

@@ -2,16 +2,13 @@
 ghost use Rattle.wf_script.specs.Scenarios as spec;
 
 use crate::commands::CommandTable;
-use crate::fields::{only_keys, optional, required};
-use crate::form::{Form, refused_here};
 use crate::headers::DocumentHeaders;
-use crate::lists::ItemsOf;
-use crate::refused::Refused;
 use crate::types::Document;
 use crate::urls::is_document_url;
 use serde_json::Value;
 use std::alloc::Global;
 use url::Url;
+use wf_form::{Form, ItemsOf, Refused, only_keys, optional, refused_here, required};
 use wf_text::Items;
 use wf_types::{ReferrerPolicy, url_alone};
 

@@ -1,16 +1,15 @@
 // The table of what a fetch asks for.
 ghost use Rattle.serde_json.specs.View.{view};
-ghost use Rattle.wf_script.specs.Private.Gives.{Gives};
+ghost use Rattle.wf_form.specs.Gives.{Gives};
 ghost use Rattle.wf_script.specs.Scenarios as spec;
 
-use crate::fields::{Given, Truth, only_keys, optional, required};
-use crate::form::Form;
-use crate::lists::{ListOf, PairOf};
-use crate::refused::Refused;
-use crate::texts::{AnyText, TextThat, WithoutTemplate};
-use crate::words::Word;
+use crate::texts::WithoutTemplate;
 use serde_json::Value;
 use std::alloc::Global;
+use wf_form::{
+    AnyText, Form, Given, ListOf, PairOf, Refused, TextThat, Truth, Word, only_keys, optional,
+    required,
+};
 use wf_text::{Bytes, Items};
 use wf_types::{Credentials, Init, Mode, Pair, Pairs, RedirectMode, ReferrerPolicy};
 

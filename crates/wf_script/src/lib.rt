@@ -7,19 +7,14 @@ mod commands;
 mod cookies;
 mod documents;
 mod fetches;
-mod fields;
-mod form;
 mod headers;
 mod hosts;
-mod lists;
 mod origins;
 mod read;
-mod refused;
 mod servers;
 mod texts;
 mod types;
 mod urls;
-mod words;
 
 pub use origins::read_origin;
 pub use types::{

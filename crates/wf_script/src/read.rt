@@ -6,15 +6,12 @@ ghost use Rattle.wf_script.specs.Valid.{IsValid};
 
 use crate::cookies::CookiePair;
 use crate::documents::DocumentTable;
-use crate::fields::{Number, only_keys, optional, required};
-use crate::form::Form;
 use crate::hosts::HostTable;
-use crate::lists::{ItemsOf, ListOf};
-use crate::refused::Refused;
 use crate::servers::ServerTable;
 use crate::types::{Place, Scenario, Servers};
 use serde_json::Value;
 use std::alloc::Global;
+use wf_form::{Form, ItemsOf, ListOf, Number, Refused, only_keys, optional, required};
 use wf_text::{Bytes, Items, OutOfMemory};
 use wf_types::utf8_text;
 

@@ -1,6 +1,6 @@
 use Rattle.std.proofs.Common.{◌≡◌, ℕ, List, Bor, map, drop}
-use Rattle.wf_script.specs.Reading.{is_one_of}
-use Rattle.wf_script.proofs.fields.is_one_of.Given as goal
+use Rattle.wf_form.specs.Reading.{is_one_of}
+use Rattle.wf_form.proofs.fields.is_one_of.Given as goal
 
 abbrev pub invariant-loop-name : goal.invariant-loop-name
 invariant-loop-name l =

@@ -1,21 +1,21 @@
-// Numbers, values that may be absent, and the keys of an object.
 ghost use Rattle.std.specs.Prelude.{◌≡◌, map, string_bytes};
 ghost use Rattle.std.specs.List.{list_all};
 ghost use Rattle.serde_json.specs.Find.{as_object};
 ghost use Rattle.serde_json.specs.View.{view};
-ghost use Rattle.wf_script.specs.Reading as spec;
-ghost use Rattle.wf_script.specs.Private.Gives.{Gives};
+ghost use Rattle.wf_form.specs.Reading as spec;
+ghost use Rattle.wf_form.specs.Gives.{Gives};
 
 use crate::form::{Form, at_segment, refused_here};
 use crate::refused::Refused;
 use serde_json::{Map, Value};
 use std::alloc::Global;
 
-/// A whole number from `least` to `most`.
+/// A whole number from `least` to `most`. One that is written as a float, as `1.0` or `-0`, is
+/// refused like any other value.
 #[derive(Drop)]
-pub(crate) struct Number {
-    pub(crate) least: u64,
-    pub(crate) most: u64,
+pub struct Number {
+    pub least: u64,
+    pub most: u64,
 }
 
 impl Form for Number {
@@ -31,9 +31,9 @@ impl Form for Number {
     }
 }
 
-/// True or false.
+/// True or false. Any other value is refused.
 #[derive(Drop)]
-pub(crate) struct Truth;
+pub struct Truth;
 
 impl Form for Truth {
     type Out = bool;
@@ -48,10 +48,10 @@ impl Form for Truth {
     }
 }
 
-/// A value of a key whose default is that there is none.
+/// A value of a form, for a key whose default is that there is none.
 #[derive(Drop)]
-pub(crate) struct Given<F> {
-    pub(crate) form: F,
+pub struct Given<F> {
+    pub form: F,
 }
 
 impl<F: Form> Form for Given<F> {
@@ -64,8 +64,9 @@ impl<F: Form> Form for Given<F> {
     }
 }
 
-// The value of a key, which has to be there.
-pub(crate) fn required<F: Form>(
+/// The value of a key of an object, read by its form. A key that is not there, and a value that its
+/// form refuses, are refused under the key. `Memory` tells want of memory alone.
+pub fn required<F: Form>(
     alloc: Global,
     tree: &Value,
     name: &str,
@@ -79,8 +80,9 @@ pub(crate) fn required<F: Form>(
     }
 }
 
-// The value of a key, or the default where the key is not there.
-pub(crate) fn optional<F: Form>(
+/// The value of a key of an object, read by its form, or the default where the key is not there. A
+/// value that its form refuses is refused under the key. `Memory` tells want of memory alone.
+pub fn optional<F: Form>(
     alloc: Global,
     tree: &Value,
     name: &str,
@@ -95,8 +97,9 @@ pub(crate) fn optional<F: Form>(
     }
 }
 
-// Refuses a tree that is no object, or has a key that is not named.
-pub(crate) fn only_keys(alloc: Global, tree: &Value, names: &[&str]) -> Result<(), Refused>
+/// Refuses a tree that is no object or has a key that is not one of the names, at its own place. It
+/// takes no memory.
+pub fn only_keys(alloc: Global, tree: &Value, names: &[&str]) -> Result<(), Refused>
     ensures { Gives result (spec.only_keys (map (λ name. name.now) names.now) (view tree.now)) }
 {
     if has_keys(tree, names) {

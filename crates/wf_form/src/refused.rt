@@ -2,16 +2,17 @@ use std::alloc::{AllocError, AllocFailed};
 use wf_text::{Bytes, OutOfMemory};
 
 /// Why a value was not read: want of memory, or the first refused place, from where the reading
-/// stands.
+/// stands. A place is empty for the value itself, and has each segment on the way down, a key or a
+/// number, with a `/` before it.
 #[derive(Drop)]
-pub(crate) enum Refused {
+pub enum Refused {
     Memory,
     At(Bytes),
 }
 
 impl From<OutOfMemory> for Refused {
     ghost use Rattle.std.specs.Prelude.{◌≡◌};
-    ghost use Rattle.wf_script.specs.declared.refused.Refused.TheVariants.{Memory};
+    ghost use Rattle.wf_form.specs.declared.refused.Refused.TheVariants.{Memory};
 
     ghost from_gives = { λ _ e. e ≡ Memory };
 
@@ -22,7 +23,7 @@ impl From<OutOfMemory> for Refused {
 
 impl From<AllocError> for Refused {
     ghost use Rattle.std.specs.Prelude.{◌≡◌};
-    ghost use Rattle.wf_script.specs.declared.refused.Refused.TheVariants.{Memory};
+    ghost use Rattle.wf_form.specs.declared.refused.Refused.TheVariants.{Memory};
 
     ghost from_gives = { λ _ e. e ≡ Memory };
 
@@ -33,7 +34,7 @@ impl From<AllocError> for Refused {
 
 impl<T: Drop> From<AllocFailed<T>> for Refused {
     ghost use Rattle.std.specs.Prelude.{◌≡◌};
-    ghost use Rattle.wf_script.specs.declared.refused.Refused.TheVariants.{Memory};
+    ghost use Rattle.wf_form.specs.declared.refused.Refused.TheVariants.{Memory};
 
     ghost from_gives = { λ _ e. e ≡ Memory };
 

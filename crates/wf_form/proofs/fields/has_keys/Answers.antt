@@ -1,8 +1,8 @@
 use Rattle.std.proofs.Common.{ap, ◌∙◌, map, List, Bor, ℕ, Option}
 use Rattle.serde_json.specs.Data.{Members}
-use Rattle.wf_script.specs.Reading.{has_keys}
-use Rattle.wf_script.proofs.ReadingLemmas.{known-keys}
-use Rattle.wf_script.proofs.fields.has_keys.Goals as goal
+use Rattle.wf_form.specs.Reading.{has_keys}
+use Rattle.wf_form.proofs.ReadingLemmas.{known-keys}
+use Rattle.wf_form.proofs.fields.has_keys.Goals as goal
 
 pub returns-in-Some : goal.returns-in-Some
 returns-in-Some c =

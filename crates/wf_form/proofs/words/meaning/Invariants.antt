@@ -1,7 +1,7 @@
 use Rattle.std.proofs.Common.{◌≡◌, drop}
-use Rattle.wf_script.specs.Reading.{meaning}
-use Rattle.wf_script.proofs.ReadingLemmas.{entries}
-use Rattle.wf_script.proofs.words.meaning.Given as goal
+use Rattle.wf_form.specs.Reading.{meaning}
+use Rattle.wf_form.proofs.ReadingLemmas.{entries}
+use Rattle.wf_form.proofs.words.meaning.Given as goal
 
 abbrev pub invariant-loop-word : goal.invariant-loop-word
 invariant-loop-word g l =

@@ -2,11 +2,11 @@ use Rattle.std.proofs.Common.{◌≡◌, List, length, arith, ap, ◌∙◌, Opt
 use Rattle.std.specs.Prelude.{option_and_then}
 use Rattle.serde_json.specs.Data.{Items}
 use Rattle.serde_json.specs.declared.value.Value.{Value}
-use Rattle.wf_script.specs.Reading.{two_of}
-use Rattle.wf_script.proofs.ReadingLemmas.{two_of-None}
-use Rattle.wf_script.proofs.lists.two_of.Goals.{in_default-via-then-as_slice-lt2}
-use Rattle.wf_script.proofs.lists.two_of.Goals.{in_default-via-else-as_slice-lt2+else-this-lt3}
-use Rattle.wf_script.proofs.lists.two_of.Goals as goal
+use Rattle.wf_form.specs.Reading.{two_of}
+use Rattle.wf_form.proofs.ReadingLemmas.{two_of-None}
+use Rattle.wf_form.proofs.lists.two_of.Goals.{in_default-via-then-as_slice-lt2}
+use Rattle.wf_form.proofs.lists.two_of.Goals.{in_default-via-else-as_slice-lt2+else-this-lt3}
+use Rattle.wf_form.proofs.lists.two_of.Goals as goal
 
 pub returns-in_default : goal.returns-in_default
 returns-in_default c =

@@ -1,8 +1,8 @@
 use Rattle.std.proofs.Common.{◌≡◌, drop}
 use Rattle.serde_json.specs.View.{items_view}
-use Rattle.wf_script.specs.Reading.{each_from}
-use Rattle.wf_script.proofs.ReadingLemmas.{with_front}
-use Rattle.wf_script.proofs.lists.each.Given as goal
+use Rattle.wf_form.specs.Reading.{each_from}
+use Rattle.wf_form.proofs.ReadingLemmas.{with_front}
+use Rattle.wf_form.proofs.lists.each.Given as goal
 
 abbrev pub invariant-loop-i : goal.invariant-loop-i
 invariant-loop-i g l =

@@ -1,15 +1,15 @@
 -- What is read keeps: a fact goes through each step of a reading.
 use Rattle.std.proofs.Common.{◌≡◌, ℕ, ◌+◌, ◌≤◌, Bool, true, false, List, [], ◌∷◌, length, Option, Some, None, Ok, Err}
 use Rattle.std.proofs.Common.{refl, arith, if◌then◌else◌}
-use Rattle.std.specs.Prelude.{nat_le, decimal, bytes_eq, option_and_then, IfSome, IsTrue}
+use Rattle.std.specs.Prelude.{nat_le, decimal, option_and_then, IfSome, IsTrue}
 use Rattle.std.specs.List.{All}
 use Rattle.std.proofs.lemmas.Bool.{leb-true}
 use Rattle.std.proofs.lemmas.List.Elements.{All-nil, All-cons}
 use Rattle.serde_json.specs.Data.{Data, Items, no_items, item}
 use Rattle.serde_json.specs.Find.{get, as_str, as_array}
-use Rattle.wf_script.specs.Reading.{Read, ◌>>=◌, under, present, given, text_that, some_of}
-use Rattle.wf_script.specs.Reading.{found_or, required, optional, count, each_from, items_of, list_of, two_of}
-use Rattle.wf_script.specs.Reading.{pair_of}
+use Rattle.wf_form.specs.Reading.{Read, ◌>>=◌, under, present, given, text_that, some_of}
+use Rattle.wf_form.specs.Reading.{found_or, required, optional, count, each_from, items_of, list_of, two_of}
+use Rattle.wf_form.specs.Reading.{pair_of}
 
 -- the value has the property, where one is read
 abbrev pub Keeps : {A : Type 0} → (A → Type 0) → Read A → Type 0

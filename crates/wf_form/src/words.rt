@@ -1,16 +1,16 @@
-// Words that stand for values.
 ghost use Rattle.std.specs.Prelude.{◌≡◌, map};
-ghost use Rattle.wf_script.specs.Reading as spec;
+ghost use Rattle.wf_form.specs.Reading as spec;
 
 use crate::form::{Form, refused_here};
 use crate::refused::Refused;
 use serde_json::Value;
 use std::alloc::Global;
 
-/// One of these words, read as what it stands for.
+/// One of these words, read as what it stands for; of equal words the first counts. Any other text,
+/// and any other value, is refused at its own place.
 #[derive(Drop)]
-pub(crate) struct Word<'a, T> {
-    pub(crate) words: &'a [(&'a str, T)],
+pub struct Word<'a, T> {
+    pub words: &'a [(&'a str, T)],
 }
 
 impl<T: Copy + Drop> Form for Word<'_, T> {

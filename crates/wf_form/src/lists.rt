@@ -1,21 +1,21 @@
-// Lists of items of one form, and pairs.
 ghost use Rattle.std.specs.Prelude.{◌≡◌, decimal, option_map, option_and_then};
 ghost use Rattle.serde_json.specs.Find.{as_array};
 ghost use Rattle.serde_json.specs.View.{view, items_view};
-ghost use Rattle.wf_script.specs.Reading as spec;
-ghost use Rattle.wf_script.specs.Private.Gives.{Gives};
-ghost use Rattle.wf_script.specs.Reading.{under};
+ghost use Rattle.wf_form.specs.Reading as spec;
+ghost use Rattle.wf_form.specs.Gives.{Gives};
+ghost use Rattle.wf_form.specs.Reading.{under};
 
-use crate::form::{Form, at_segment, refused_here};
+use crate::form::{Form, refused_at, refused_here};
 use crate::refused::Refused;
 use serde_json::Value;
 use std::alloc::Global;
 use wf_text::Items;
 
-/// A list of any number of items of one form.
+/// A list of any number of items of one form. A value that is no list is refused at its own place,
+/// and the first item that is not of the form under its number, counted from 0.
 #[derive(Drop)]
-pub(crate) struct ItemsOf<F> {
-    pub(crate) item: F,
+pub struct ItemsOf<F> {
+    pub item: F,
 }
 
 impl<F: Form> Form for ItemsOf<F> {
@@ -31,11 +31,13 @@ impl<F: Form> Form for ItemsOf<F> {
     }
 }
 
-/// A list of at most `most` items of one form.
+/// A list of at most `most` items of one form. A value that is no list or a longer one is refused
+/// at its own place, before any item is looked at, and the first item that is not of the form under
+/// its number, counted from 0.
 #[derive(Drop)]
-pub(crate) struct ListOf<F> {
-    pub(crate) most: usize,
-    pub(crate) item: F,
+pub struct ListOf<F> {
+    pub most: usize,
+    pub item: F,
 }
 
 impl<F: Form> Form for ListOf<F> {
@@ -70,18 +72,16 @@ fn item_at<F: Form>(alloc: Global, index: usize, item: &Value, form: &F) -> Resu
 {
     match form.read(alloc, item) {
         Ok(x) => Ok(x),
-        Err(refused) => {
-            let segment = index.to_string(alloc)?;
-            at_segment(alloc, segment.as_str(), Err(refused))
-        }
+        Err(refused) => Err(refused_at(alloc, index, refused)),
     }
 }
 
-/// A list of two items, each of its own form.
+/// A list of two items, each of its own form. A value that is no such list is refused at its own
+/// place, and else the first item that is not of its form under its number, 0 or 1.
 #[derive(Drop)]
-pub(crate) struct PairOf<F, G> {
-    pub(crate) first: F,
-    pub(crate) second: G,
+pub struct PairOf<F, G> {
+    pub first: F,
+    pub second: G,
 }
 
 impl<F: Form, G: Form> Form for PairOf<F, G> {

@@ -8,10 +8,20 @@ use Rattle.std.specs.List.{list_all}
 use Rattle.serde_json.specs.Data.{Data, item}
 use Rattle.serde_json.specs.View.{view, members_view, items_view}
 use Rattle.serde_json.specs.declared.value.Value.{Value}
-use Rattle.wf_script.specs.Private.Gives.{Gives}
-use Rattle.wf_script.specs.Reading.{Read, ◌>>=◌, is_one_of, known, count, two_of, under, each_from}
-use Rattle.wf_script.specs.declared.refused.Refused.{Refused}
-use Rattle.wf_script.specs.declared.refused.Refused.TheVariants.{Memory, At}
+use Rattle.wf_form.specs.Gives.{Gives, Refuses, IsUnder}
+use Rattle.wf_form.specs.Reading.{Read, ◌>>=◌, is_one_of, known, count, two_of, under, each_from}
+use Rattle.wf_form.specs.declared.refused.Refused.{Refused}
+use Rattle.wf_form.specs.declared.refused.Refused.TheVariants.{Memory, At}
+
+-- ---- places
+
+-- what is refused below is refused under the segment
+pub refuses-under : {A : Type 0} (segment : List ℕ) (inner outer : Refused) (read : Read A)
+    → IsUnder segment inner outer → Refuses inner read → Refuses outer (under segment read)
+refuses-under segment inner Memory read is refuses = tt
+refuses-under segment Memory (At place) read is refuses = absurd is
+refuses-under {A} segment (At inner) (At place) read is refuses =
+    ap (λ (r : Read A). under segment r) refuses ∙ ap (λ (p : List ℕ). let r : Read A = Err p in r) (sym is)
 
 -- ---- words and keys
 
