@@ -66,8 +66,14 @@ fn each<F: Form>(alloc: Global, items: &[Value], form: &F) -> Result<Items<F::Ou
     Ok(read)
 }
 
-// The item at an index.
-fn item_at<F: Form>(alloc: Global, index: usize, item: &Value, form: &F) -> Result<F::Out, Refused>
+/// An item of a list, at a number counted from 0, read by its form. One that its form refuses is
+/// refused under the number. `Memory` tells want of memory alone.
+pub fn item_at<F: Form>(
+    alloc: Global,
+    index: usize,
+    item: &Value,
+    form: &F,
+) -> Result<F::Out, Refused>
     ensures { Gives result (under (decimal index) (F.reads form.now (view item.now))) }
 {
     match form.read(alloc, item) {
