@@ -1,13 +1,13 @@
 -- What is read keeps: a fact goes through each step of a reading.
 use Rattle.std.proofs.Common.{◌≡◌, ℕ, ◌+◌, ◌≤◌, Bool, true, false, List, [], ◌∷◌, length, Option, Some, None, Ok, Err}
 use Rattle.std.proofs.Common.{refl, arith, if◌then◌else◌}
-use Rattle.std.specs.Prelude.{nat_le, decimal, option_and_then, IfSome, IsTrue}
-use Rattle.std.specs.List.{All}
+use Rattle.std.specs.Prelude.{◌&&◌, bytes_eq, nat_le, decimal, option_and_then, IfSome, IsTrue}
+use Rattle.std.specs.List.{All, AllByRecursion}
 use Rattle.std.proofs.lemmas.Bool.{leb-true}
 use Rattle.std.proofs.lemmas.List.Elements.{All-nil, All-cons}
 use Rattle.serde_json.specs.Data.{Data, Items, no_items, item}
-use Rattle.serde_json.specs.Find.{get, as_str, as_array}
-use Rattle.wf_form.specs.Reading.{Read, ◌>>=◌, under, present, given, text_that, some_of}
+use Rattle.serde_json.specs.Find.{get, as_str, as_array, as_number, as_u64}
+use Rattle.wf_form.specs.Reading.{Read, ◌>>=◌, under, present, given, number_of, text_that, meaning, word_of, some_of}
 use Rattle.wf_form.specs.Reading.{found_or, required, optional, count, each_from, items_of, list_of, two_of}
 use Rattle.wf_form.specs.Reading.{pair_of}
 
@@ -24,7 +24,7 @@ pub keeps-anything : {A : Type 0} (read : Read A) → Keeps Anything read
 keeps-anything (Ok x) = tt
 keeps-anything (Err place) = tt
 
-keeps-weaker : {A : Type 0} (P Q : A → Type 0) (read : Read A) → ((x : A) → P x → Q x) → Keeps P read → Keeps Q read
+pub keeps-weaker : {A : Type 0} (P Q : A → Type 0) (read : Read A) → ((x : A) → P x → Q x) → Keeps P read → Keeps Q read
 keeps-weaker P Q (Ok x) goes kept = goes x kept
 keeps-weaker P Q (Err place) goes kept = tt
 
@@ -48,11 +48,16 @@ pub keeps-if : {A : Type 0} (P : A → Type 0) (test : Bool) (one other : Read A
 keeps-if P true one other first second = first
 keeps-if P false one other first second = second
 
+-- what is there, where it has the property
+pub keeps-there : {A : Type 0} (P : A → Type 0) (found : Option A) → IfSome found P → Keeps P (present found)
+keeps-there P None is = tt
+keeps-there P (Some x) is = is
+
 pub keeps-present : {A : Type 0} (found : Option A) → Keeps (λ x. found ≡ Some x) (present found)
 keeps-present None = tt
 keeps-present (Some x) = refl
 
-keeps-found_or : {A : Type 0} (P : A → Type 0) (default : Read A) (read : Data → Read A) (found : Option Data)
+pub keeps-found_or : {A : Type 0} (P : A → Type 0) (default : Read A) (read : Data → Read A) (found : Option Data)
     → Keeps P default → ((tree : Data) → Keeps P (read tree)) → Keeps P (found_or default read found)
 keeps-found_or P default read None kept each = kept
 keeps-found_or P default read (Some tree) kept each = each tree
@@ -86,7 +91,7 @@ pub record IsListOf {A : Type 0} (P : A → Type 0) (most : ℕ) (xs : List A) :
   pub few : length xs ≤ most
   pub all : All P xs
 
-keeps-each : {A : Type 0} (P : A → Type 0) (read : Data → Read A) → ((tree : Data) → Keeps P (read tree))
+pub keeps-each : {A : Type 0} (P : A → Type 0) (read : Data → Read A) → ((tree : Data) → Keeps P (read tree))
     → (i : ℕ) (items : Items) → Keeps (IsListOf P (count items)) (each_from read i items)
 keeps-each P read each i no_items = record { few = omega arith; all = All-nil P }
 keeps-each P read each i (item tree items) =
@@ -118,6 +123,37 @@ keeps-list P most read each tree =
     (keeps-each P read each 0 few)))
 
 -- ---- values of one form
+
+both : (a b : Bool) → IsTrue (a && b) → IsTrue a × IsTrue b
+both true b holds = (refl, holds)
+both false b holds = let no : ⊥ = cc in absurd no
+
+-- the number is from least to most
+abbrev pub Within : ℕ → ℕ → ℕ → Type 0
+Within least most n = (least ≤ n) × (n ≤ most)
+
+pub keeps-number : (least most : ℕ) (tree : Data) → Keeps (Within least most) (number_of least most tree)
+keeps-number least most tree =
+    keeps-after (Within least most) (present (option_and_then as_u64 (as_number tree))) _
+    (λ n. keeps-given (Within least most) (nat_le least n && nat_le n most) n
+    (λ holds. let h = both (nat_le least n) (nat_le n most) holds in (leb-true least n h.0, leb-true n most h.1)))
+
+if_some : {A : Type 0} (P : A → Type 0) (test : Bool) (x : A) (other : Option A) → P x → IfSome other P
+    → IfSome (if test then Some x else other) P
+if_some P true x other is or = is
+if_some P false x other is or = or
+
+-- what a word stands for is one of the table
+meant : {A : Type 0} (P : A → Type 0) (words : List (List ℕ × A)) (text : List ℕ)
+    → AllByRecursion (λ (entry : List ℕ × A). P entry.1) words → IfSome (meaning words text) P
+meant P [] text all = tt
+meant P (entry ∷ words) text all = if_some P (bytes_eq entry.0 text) entry.1 (meaning words text) all.0 (meant P words text all.1)
+
+pub keeps-word : {A : Type 0} (P : A → Type 0) (words : List (List ℕ × A))
+    → AllByRecursion (λ (entry : List ℕ × A). P entry.1) words → (tree : Data) → Keeps P (word_of words tree)
+keeps-word P words all tree =
+    keeps-after P (present (as_str tree)) (λ text. present (meaning words text))
+    (λ text. keeps-there P (meaning words text) (meant P words text all))
 
 pub keeps-text_that : (passes : List ℕ → Bool) (tree : Data)
     → Keeps (λ text. IsTrue (passes text)) (text_that passes tree)

@@ -1,4 +1,2 @@
-pub mod TextLemmas
-pub mod ValidLemmas
-pub mod Computed
 pub mod AnswerLemmas
+pub mod ValidLemmas

@@ -1,54 +1,41 @@
 -- Every scenario that is read is valid.
 use Rattle.std.proofs.Common.{◌≡◌, ℕ, ◌≤◌, Bool, true, false, List, [], ◌∷◌, length, Option, Some, None, Ok, Err, refl}
 use Rattle.std.proofs.Common.{subst, arith}
-use Rattle.std.specs.Prelude.{nat_le, ◌&&◌, codes, IfSome, IsTrue, option_and_then}
+use Rattle.std.specs.Prelude.{nat_le, codes, IfSome, IsTrue}
 use Rattle.std.specs.List.{All}
 use Rattle.std.proofs.lemmas.Bool.{leb-true}
 use Rattle.std.proofs.lemmas.List.Elements.{All-nil}
 use Rattle.serde_json.specs.Data.{Data}
-use Rattle.serde_json.specs.Find.{as_number, as_u64, as_str}
+use Rattle.serde_json.specs.Find.{get, as_str}
 use Rattle.url.proofs.OnLiterals.{url_on_literals}
 use Rattle.url.specs.Parts.{Parts}
 use Rattle.wf_text.specs.Tokens.{is_token}
-use Rattle.wf_types.specs.declared.init.Pair.{Pair}
 use Rattle.wf_csp_text.specs.declared.policy.Policy.{Policy}
 use Rattle.wf_types.specs.declared.mode.ReferrerPolicy.{ReferrerPolicy}
 use Rattle.wf_types.specs.declared.mode.ReferrerPolicy.TheVariants as policy
 use Rattle.wf_types.specs.ReferrerPolicies.{policy_of_header}
 use Rattle.wf_types.specs.Requests.{is_policy}
 use Rattle.wf_types.specs.Urls.{url_of_text}
+use Rattle.wf_commands.specs.Valid.{IsValidScript}
+use Rattle.wf_form.specs.Reading.{Read, present, any, only_keys, required, optional, found_or, number_of, truth_of}
+use Rattle.wf_form.specs.Reading.{text_that, some_of, items_of, list_of}
+use Rattle.wf_form.proofs.KeepsLemmas.{Keeps, Anything, keeps-anything, keeps-after, keeps-then, keeps-under}
+use Rattle.wf_form.proofs.KeepsLemmas.{keeps-found_or, keeps-given, keeps-required, keeps-optional, IsListOf, keeps-items}
+use Rattle.wf_form.proofs.KeepsLemmas.{keeps-list, Within, keeps-number, keeps-text_that, keeps-some, keeps-parts}
+use Rattle.wf_steps.specs.Scripts.{document_script_of}
+use Rattle.wf_steps.proofs.ValidLemmas.{keeps-document_script}
+use Rattle.wf_script.specs.declared.format.Format.{Format}
+use Rattle.wf_script.specs.declared.format.Format.TheVariants.{First, Second}
 use Rattle.wf_script.specs.declared.types.Scenario.{Scenario}
+use Rattle.wf_script.specs.Formats.{root_keys, body_limit_of, document_keys, top_of}
 use Rattle.wf_script.specs.Hosts.{is_host_name}
-use Rattle.wf_form.specs.Reading.{Read, present, any, only_keys, required, optional, number_of, truth_of, text_that}
-use Rattle.wf_form.specs.Reading.{word_of, some_of, items_of, list_of}
-use Rattle.wf_script.specs.Texts.{lacks_template, is_cookie_value}
+use Rattle.wf_script.specs.Texts.{is_cookie_value}
 use Rattle.wf_script.specs.OriginTexts.{is_origin_text}
-use Rattle.wf_script.specs.Urls.{is_document_url}
+use Rattle.wf_script.specs.Urls.{is_document_url, document_url_of}
 use Rattle.wf_script.specs.Headers.{listed, policies_of_headers, policy_or_default}
 use Rattle.wf_script.specs.Scenarios.{host_keys, host_of, cookie_of, plain_header_of, answer_of, rule_keys, rule_of}
-use Rattle.wf_script.specs.Scenarios.{server_keys, server_of, header_of, fetch_keys, fetch_of, content_of, manner_of, referring_of}
-use Rattle.wf_script.specs.Scenarios.{said_of}
-use Rattle.wf_script.specs.Scenarios.{fetch_command_of, wait_command_of, has_key, command_of, document_url_of}
-use Rattle.wf_script.specs.Scenarios.{document_keys, document_of, scenario_keys, scenario_in}
-use Rattle.wf_script.specs.Valid.{IsValidHost, IsValidCookie, IsValidRule, IsValidServer, IsPlainPair}
-use Rattle.wf_script.specs.Valid.{IsValidInit, IsValidCommand, IsValidDocument, IsValid}
-use Rattle.wf_form.proofs.KeepsLemmas.{Keeps, Anything, keeps-anything, keeps-after}
-use Rattle.wf_form.proofs.KeepsLemmas.{keeps-given, keeps-if, keeps-required, keeps-optional, IsListOf, keeps-items}
-use Rattle.wf_form.proofs.KeepsLemmas.{keeps-list, keeps-text_that, keeps-then, keeps-some, keeps-parts}
-
-both : (a b : Bool) → IsTrue (a && b) → IsTrue a × IsTrue b
-both true b holds = (refl, holds)
-both false b holds = let no : ⊥ = cc in absurd no
-
--- the number is from least to most
-abbrev Within : ℕ → ℕ → ℕ → Type 0
-Within least most n = (least ≤ n) × (n ≤ most)
-
-keeps-number : (least most : ℕ) (tree : Data) → Keeps (Within least most) (number_of least most tree)
-keeps-number least most tree =
-    keeps-after (Within least most) (present (option_and_then as_u64 (as_number tree))) _
-    (λ n. keeps-given (Within least most) (nat_le least n && nat_le n most) n
-    (λ holds. let h = both (nat_le least n) (nat_le n most) holds in (leb-true least n h.0, leb-true n most h.1)))
+use Rattle.wf_script.specs.Scenarios.{server_keys, server_of, has_key, said_of, document_of, scenario_as}
+use Rattle.wf_script.specs.Valid.{IsValidHost, IsValidCookie, IsValidRule, IsValidServer, IsValidDocument, IsValid}
 
 -- the text passes a test
 abbrev That : (List ℕ → Bool) → List ℕ → Type 0
@@ -107,61 +94,7 @@ keeps-server tree =
     (keeps-items IsValidRule rule_of keeps-rule) (λ rules each.
     record { origin = is; rules = each })))
 
--- ---- fetches
-
-keeps-header : (tree : Data) → Keeps IsPlainPair (header_of tree)
-keeps-header tree =
-    keeps-parts (That any) (That lacks_template) IsPlainPair (text_that any) (text_that lacks_template) tree _
-    (keeps-text_that any) (keeps-text_that lacks_template) (λ name value _ plain. plain)
-
--- the body, where there is one, has no template
-abbrev IsPlainBody : Option (List ℕ) → Type 0
-IsPlainBody body = IfSome body (That lacks_template)
-
--- at most 64 headers without templates, and such a body
-abbrev IsPlainContent : List Pair × Option (List ℕ) → Type 0
-IsPlainContent content = IsListOf IsPlainPair 64 content.0 × IsPlainBody content.1
-
-keeps-content : (tree : Data) → Keeps IsPlainContent (content_of tree)
-keeps-content tree =
-    keeps-optional (IsListOf IsPlainPair 64) IsPlainContent (codes "headers") [] (list_of 64 header_of) tree _
-    (record { few = omega arith; all = All-nil IsPlainPair }) (keeps-list IsPlainPair 64 header_of keeps-header)
-    (λ headers each.
-    keeps-optional IsPlainBody IsPlainContent (codes "body") None (some_of (text_that lacks_template)) tree _ tt
-    (keeps-some (That lacks_template) (text_that lacks_template) (keeps-text_that lacks_template)) (λ body plain.
-    (each, plain)))
-
-keeps-fetch : (tree : Data) → Keeps IsValidInit (fetch_of tree)
-keeps-fetch tree =
-    keeps-after IsValidInit (only_keys fetch_keys tree) _ (λ _.
-    keeps-required (That lacks_template) IsValidInit (codes "url") (text_that lacks_template) tree _
-    (keeps-text_that lacks_template) (λ url is.
-    keeps-optional Anything IsValidInit (codes "method") (codes "GET") (text_that any) tree _ tt
-    (λ inside. keeps-anything (text_that any inside)) (λ method _.
-    keeps-after IsValidInit (manner_of tree) _ (λ manner.
-    keeps-then IsPlainContent IsValidInit (content_of tree) _ (keeps-content tree) (λ content plain.
-    keeps-after IsValidInit (referring_of tree) _ (λ referring.
-    keeps-after IsValidInit (optional (codes "upload") false truth_of tree) _ (λ upload.
-    record { url = is; few = plain.0.few; headers = plain.0.all; body = plain.1; integrity = refl })))))))
-
 -- ---- documents
-
-keeps-fetch_command : (tree : Data) → Keeps IsValidCommand (fetch_command_of tree)
-keeps-fetch_command tree =
-    keeps-after IsValidCommand (only_keys (codes "fetch" ∷ []) tree) _ (λ _.
-    keeps-required IsValidInit IsValidCommand (codes "fetch") fetch_of tree _ keeps-fetch (λ init valid. valid))
-
-keeps-wait_command : (tree : Data) → Keeps IsValidCommand (wait_command_of tree)
-keeps-wait_command tree =
-    keeps-after IsValidCommand (only_keys (codes "wait" ∷ []) tree) _ (λ _.
-    keeps-required (Within 0 4294967295) IsValidCommand (codes "wait") (number_of 0 4294967295) tree _
-    (keeps-number 0 4294967295) (λ seconds within. omega (arith, within.1)))
-
-keeps-command : (tree : Data) → Keeps IsValidCommand (command_of tree)
-keeps-command tree =
-    keeps-if IsValidCommand (has_key (codes "fetch") tree) (fetch_command_of tree) _ (keeps-fetch_command tree)
-    (keeps-if IsValidCommand (has_key (codes "wait") tree) (wait_command_of tree) (Err []) (keeps-wait_command tree)
-    tt)
 
 keeps-document_url : (tree : Data) → Keeps (λ url. IsTrue (is_document_url url)) (document_url_of tree)
 keeps-document_url tree =
@@ -191,23 +124,42 @@ keeps-said tree =
     keeps-given IsSaid (nat_le (length (policies_of_headers headers)) 16) _
     (λ few. (never-empty (policy_of_header (listed headers)), leb-true (length (policies_of_headers headers)) 16 few)))
 
-keeps-document : (tree : Data) → Keeps IsValidDocument (document_of tree)
-keeps-document tree =
-    keeps-after IsValidDocument (only_keys document_keys tree) _ (λ _.
-    keeps-required (λ url. IsTrue (is_document_url url)) IsValidDocument (codes "url") document_url_of tree _
-    keeps-document_url (λ url is.
+-- the URL may be that of a document
+abbrev IsDocumentUrl : Parts → Type 0
+IsDocumentUrl url = IsTrue (is_document_url url)
+
+keeps-top : (format : Format) (url : Parts) → IsDocumentUrl url → (tree : Data) → Keeps IsDocumentUrl (top_of format url tree)
+keeps-top First url is tree = is
+keeps-top Second url is tree =
+    keeps-under IsDocumentUrl (codes "top") (found_or (Ok url) document_url_of (get (codes "top") tree))
+    (keeps-found_or IsDocumentUrl (Ok url) document_url_of (get (codes "top") tree) is keeps-document_url)
+
+keeps-document : (format : Format) (tree : Data) → Keeps IsValidDocument (document_of format tree)
+keeps-document format tree =
+    keeps-after IsValidDocument (only_keys (document_keys format) tree) _ (λ _.
+    keeps-required IsDocumentUrl IsValidDocument (codes "url") document_url_of tree _ keeps-document_url (λ url is.
+    keeps-then IsDocumentUrl IsValidDocument (top_of format url tree) _ (keeps-top format url is tree) (λ top above.
     keeps-optional IsSaid IsValidDocument (codes "headers") (policy.StrictOriginWhenCrossOrigin, []) said_of tree _
     (refl, omega arith) keeps-said (λ said holds.
-    keeps-required (λ script. All IsValidCommand script) IsValidDocument (codes "script") (items_of command_of) tree _
-    (keeps-items IsValidCommand command_of keeps-command) (λ script each.
-    record { url = is; top = is; policy = holds.0; few_policies = holds.1; script = each }))))
+    keeps-required IsValidScript IsValidDocument (codes "script") document_script_of tree _ keeps-document_script
+    (λ script good.
+    record { url = is; top = above; policy = holds.0; few_policies = holds.1; script = good })))))
 
 -- ---- the whole
 
-keeps-scenario : (tree : Data) → Keeps IsValid (scenario_in tree)
-keeps-scenario tree =
-    keeps-after IsValid (only_keys scenario_keys tree) _ (λ _.
+keeps-body_limit : (format : Format) (tree : Data) → Keeps (Within 1 1048576) (body_limit_of format tree)
+keeps-body_limit First tree = (omega arith, omega arith)
+keeps-body_limit Second tree =
+    let read = number_of 1 1048576 in
+    keeps-under (Within 1 1048576) (codes "body_limit") (found_or (Ok 1048576) read (get (codes "body_limit") tree))
+    (keeps-found_or (Within 1 1048576) (Ok 1048576) read (get (codes "body_limit") tree) (omega arith, omega arith)
+    (keeps-number 1 1048576))
+
+keeps-scenario : (format : Format) (tree : Data) → Keeps IsValid (scenario_as format tree)
+keeps-scenario format tree =
+    keeps-after IsValid (only_keys (root_keys format) tree) _ (λ _.
     keeps-after IsValid _ _ (λ _.
+    keeps-then (Within 1 1048576) IsValid (body_limit_of format tree) _ (keeps-body_limit format tree) (λ limit most.
     keeps-optional (Within 0 1099511627776) IsValid (codes "now") 0 (number_of 0 1099511627776) tree _ (
       omega arith,
       omega arith,
@@ -223,8 +175,8 @@ keeps-scenario tree =
       omega arith,
       omega arith,
     ) (keeps-number 1 65536) (λ piece within.
-    keeps-required (IsListOf IsValidDocument 1) IsValid (codes "documents") (list_of 1 document_of) tree _
-    (keeps-list IsValidDocument 1 document_of keeps-document) (λ documents all.
+    keeps-required (IsListOf IsValidDocument 1) IsValid (codes "documents") (list_of 1 (document_of format)) tree _
+    (keeps-list IsValidDocument 1 (document_of format) (keeps-document format)) (λ documents all.
     record {
       now = past.1;
       few_hosts = known.few;
@@ -235,9 +187,12 @@ keeps-scenario tree =
       most_piece = within.1;
       few_documents = all.few;
       documents = all.all;
-      body_limit = refl;
-    }))))))))
+      some_limit = most.0;
+      most_limit = most.1;
+    })))))))))
 
 -- what is read of a tree is valid
-pub scenario_in-IsValid : (tree : Data) (scenario : Scenario) → scenario_in tree ≡ Ok scenario → IsValid scenario
-scenario_in-IsValid tree scenario is = subst (λ (read : Read Scenario). Keeps IsValid read) is (keeps-scenario tree)
+pub scenario_as-IsValid : (format : Format) (tree : Data) (scenario : Scenario) → scenario_as format tree ≡ Ok scenario
+    → IsValid scenario
+scenario_as-IsValid format tree scenario is =
+    subst (λ (read : Read Scenario). Keeps IsValid read) is (keeps-scenario format tree)

@@ -1,3 +1,4 @@
+pub mod Formats
 pub mod Headers
 pub mod Hosts
 pub mod OriginTexts

@@ -1,42 +1,35 @@
 -- The scenario of a text: the tables of a scenario's objects over the tree that `serde_json` reads.
 -- The keys of a table are listed and read in one order.
 use Rattle.std.specs.Prelude.{ℕ, Bool, true, false, nat_le, List, [], ◌∷◌, length, codes, Option, Some, None, is_some}
-use Rattle.std.specs.Prelude.{option_and_then, Result, Ok, Err, if◌then◌else◌}
+use Rattle.std.specs.Prelude.{option_and_then, Result, Ok, Err}
 use Rattle.serde_json.specs.Data.{Data}
-use Rattle.serde_json.specs.Find.{get, as_str}
+use Rattle.serde_json.specs.Find.{get}
 use Rattle.serde_json.specs.Read.{read}
-use Rattle.url.specs.Parts.{Parts}
 use Rattle.wf_text.specs.Tokens.{is_token}
 use Rattle.wf_text.specs.Values.{is_header_value}
 use Rattle.wf_csp_text.specs.declared.policy.Policy.{Policy}
 use Rattle.wf_types.specs.declared.client.Cookie.{Cookie}
-use Rattle.wf_types.specs.declared.init.Init.{Init}
 use Rattle.wf_types.specs.declared.init.Pair.{Pair}
-use Rattle.wf_types.specs.declared.mode.Credentials.{Credentials}
-use Rattle.wf_types.specs.declared.mode.Credentials.TheVariants as credentials
-use Rattle.wf_types.specs.declared.mode.Mode.{Mode}
-use Rattle.wf_types.specs.declared.mode.Mode.TheVariants as mode
-use Rattle.wf_types.specs.declared.mode.RedirectMode.{RedirectMode}
-use Rattle.wf_types.specs.declared.mode.RedirectMode.TheVariants as redirect
 use Rattle.wf_types.specs.declared.mode.ReferrerPolicy.{ReferrerPolicy}
 use Rattle.wf_types.specs.declared.mode.ReferrerPolicy.TheVariants as policy
-use Rattle.wf_types.specs.Urls.{utf8_text, url_of_text}
+use Rattle.wf_types.specs.Urls.{utf8_text}
+use Rattle.wf_form.specs.Reading.{Read, ◌>>=◌, given, number_of, truth_of, text_that, any, some_of}
+use Rattle.wf_form.specs.Reading.{only_keys, required, optional, items_of, list_of, pair_of}
+use Rattle.wf_steps.specs.Scripts.{document_script_of}
 use Rattle.wf_script.specs.declared.types.KnownHost.{KnownHost}
 use Rattle.wf_script.specs.declared.types.Rule.{Rule}
 use Rattle.wf_script.specs.declared.types.Server.{Server}
-use Rattle.wf_script.specs.declared.types.Command.{Command}
-use Rattle.wf_script.specs.declared.types.Command.TheVariants.{Fetch, Wait}
 use Rattle.wf_script.specs.declared.types.Document.{Document}
 use Rattle.wf_script.specs.declared.types.Scenario.{Scenario}
 use Rattle.wf_script.specs.declared.types.Place.{Place}
+use Rattle.wf_script.specs.declared.format.Format.{Format}
+use Rattle.wf_script.specs.Formats.{format_of, number_of_format, root_keys, body_limit_of, document_keys, top_of}
 use Rattle.wf_script.specs.Headers.{policies_of_headers, policy_of_headers}
 use Rattle.wf_script.specs.Hosts.{is_host_name}
 use Rattle.wf_script.specs.OriginTexts.{is_origin_text}
-use Rattle.wf_form.specs.Reading.{Read, ◌>>=◌, present, given, number_of, truth_of, text_that, any, word_of, some_of}
-use Rattle.wf_form.specs.Reading.{only_keys, required, optional, items_of, list_of, pair_of}
 use Rattle.wf_script.specs.Servers.{answer_bytes}
-use Rattle.wf_script.specs.Texts.{lacks_template, is_cookie_value}
-use Rattle.wf_script.specs.Urls.{is_document_url}
+use Rattle.wf_script.specs.Texts.{is_cookie_value}
+use Rattle.wf_script.specs.Urls.{document_url_of}
 
 -- ---- known hosts
 
@@ -115,125 +108,7 @@ server_of tree = do
   rules ← required (codes "rules") (items_of rule_of) tree
   Ok (record { origin = origin; rules = rules })
 
--- ---- fetches
-
-abbrev pub modes : List (List ℕ × Mode)
-modes =
-    (codes "cors", mode.Cors) ∷ (codes "no-cors", mode.NoCors) ∷ (codes "same-origin", mode.SameOrigin)
-    ∷ (codes "navigate", mode.Navigate) ∷ []
-
-abbrev pub credentials_modes : List (List ℕ × Credentials)
-credentials_modes =
-    (codes "omit", credentials.Omit) ∷ (codes "same-origin", credentials.SameOrigin)
-    ∷ (codes "include", credentials.Include) ∷ []
-
-abbrev pub redirect_modes : List (List ℕ × RedirectMode)
-redirect_modes =
-    (codes "follow", redirect.Follow) ∷ (codes "error", redirect.Error) ∷ (codes "manual", redirect.Manual) ∷ []
-
--- whether the referrer is the client
-abbrev pub referrers : List (List ℕ × Bool)
-referrers = (codes "client", true) ∷ (codes "none", false) ∷ []
-
--- the referrer policies by their names, and the empty one
-abbrev pub policies : List (List ℕ × ReferrerPolicy)
-policies =
-    ([], policy.Empty) ∷ (codes "no-referrer", policy.NoReferrer)
-    ∷ (codes "no-referrer-when-downgrade", policy.NoReferrerWhenDowngrade) ∷ (codes "same-origin", policy.SameOrigin)
-    ∷ (codes "origin", policy.Origin) ∷ (codes "strict-origin", policy.StrictOrigin)
-    ∷ (codes "origin-when-cross-origin", policy.OriginWhenCrossOrigin)
-    ∷ (codes "strict-origin-when-cross-origin", policy.StrictOriginWhenCrossOrigin)
-    ∷ (codes "unsafe-url", policy.UnsafeUrl) ∷ []
-
--- a name and a value, which need not be a header; templates stand in values alone
-abbrev pub header_of : Data → Read Pair
-header_of tree = do
-  pair ← pair_of (text_that any) (text_that lacks_template) tree
-  Ok (record { name = pair.0; value = pair.1 })
-
--- how the request is made: its mode, its credentials mode and its redirect mode
-abbrev pub manner_of : Data → Read (Mode × Credentials × RedirectMode)
-manner_of tree = do
-  mode ← optional (codes "mode") mode.Cors (word_of modes) tree
-  sent ← optional (codes "credentials") credentials.SameOrigin (word_of credentials_modes) tree
-  redirects ← optional (codes "redirect") redirect.Follow (word_of redirect_modes) tree
-  Ok (mode, sent, redirects)
-
--- whether its referrer is the client, and its referrer policy
-abbrev pub referring_of : Data → Read (Bool × ReferrerPolicy)
-referring_of tree = do
-  client ← optional (codes "referrer") true (word_of referrers) tree
-  named ← optional (codes "referrer_policy") policy.Empty (word_of policies) tree
-  Ok (client, named)
-
--- what is sent: headers, and a body
-abbrev pub content_of : Data → Read (List Pair × Option (List ℕ))
-content_of tree = do
-  headers ← optional (codes "headers") [] (list_of 64 header_of) tree
-  body ← optional (codes "body") None (some_of (text_that lacks_template)) tree
-  Ok (headers, body)
-
-abbrev pub fetch_keys : List (List ℕ)
-fetch_keys =
-    codes "url" ∷ codes "method" ∷ codes "mode" ∷ codes "credentials" ∷ codes "redirect" ∷ codes "headers"
-    ∷ codes "body" ∷ codes "referrer" ∷ codes "referrer_policy" ∷ codes "upload" ∷ []
-
--- what a fetch asks for; what no key says is as `fetch` has it by itself
-abbrev pub fetch_of : Data → Read Init
-fetch_of tree = do
-  known ← only_keys fetch_keys tree
-  url ← required (codes "url") (text_that lacks_template) tree
-  method ← optional (codes "method") (codes "GET") (text_that any) tree
-  manner ← manner_of tree
-  content ← content_of tree
-  referring ← referring_of tree
-  upload ← optional (codes "upload") false truth_of tree
-  Ok (record {
-    url = url;
-    method = method;
-    mode = manner.0;
-    credentials = manner.1;
-    redirect = manner.2;
-    headers = content.0;
-    body = content.1;
-    client_referrer = referring.0;
-    referrer_policy = referring.1;
-    integrity = [];
-    upload = upload;
-  })
-
 -- ---- documents
-
--- a call of `fetch`
-abbrev pub fetch_command_of : Data → Read Command
-fetch_command_of tree = do
-  known ← only_keys (codes "fetch" ∷ []) tree
-  init ← required (codes "fetch") fetch_of tree
-  Ok (Fetch init)
-
--- so many seconds that pass
-abbrev pub wait_command_of : Data → Read Command
-wait_command_of tree = do
-  known ← only_keys (codes "wait" ∷ []) tree
-  seconds ← required (codes "wait") (number_of 0 4294967295) tree
-  Ok (Wait seconds)
-
--- A command, told by its key. One without such a key, or with a key beside it, is refused at its own place.
-abbrev pub command_of : Data → Read Command
-command_of tree =
-    if has_key (codes "fetch") tree then fetch_command_of tree
-    else if has_key (codes "wait") tree then wait_command_of tree
-    else Err []
-
--- the URL of a document
-abbrev pub document_url_of : Data → Read Parts
-document_url_of tree = do
-  text ← present (as_str tree)
-  url ← present (url_of_text None (Some text))
-  given (is_document_url url) url
-
-abbrev pub document_keys : List (List ℕ)
-document_keys = codes "url" ∷ codes "headers" ∷ codes "script" ∷ []
 
 -- what the headers of a document say: its referrer policy, and its policies, which are at most 16
 abbrev pub said_of : Data → Read (ReferrerPolicy × List Policy)
@@ -241,16 +116,17 @@ said_of tree = do
   headers ← items_of plain_header_of tree
   given (nat_le (length (policies_of_headers headers)) 16) (policy_of_headers headers, policies_of_headers headers)
 
--- a document, the page at the top itself: its URL, its policies and its commands
-abbrev pub document_of : Data → Read Document
-document_of tree = do
-  known ← only_keys document_keys tree
+-- a document: its URL and that of the page at the top, what its headers say, and its script
+abbrev pub document_of : Format → Data → Read Document
+document_of format tree = do
+  known ← only_keys (document_keys format) tree
   url ← required (codes "url") document_url_of tree
+  top ← top_of format url tree
   said ← optional (codes "headers") (policy.StrictOriginWhenCrossOrigin, []) said_of tree
-  script ← required (codes "script") (items_of command_of) tree
+  script ← required (codes "script") document_script_of tree
   Ok (record {
     url = url;
-    top = url;
+    top = top;
     policy = said.0;
     policies = said.1;
     script = script;
@@ -258,22 +134,18 @@ document_of tree = do
 
 -- ---- the whole
 
-abbrev pub scenario_keys : List (List ℕ)
-scenario_keys =
-    codes "format" ∷ codes "now" ∷ codes "hsts" ∷ codes "cookies" ∷ codes "servers" ∷ codes "piece"
-    ∷ codes "documents" ∷ []
-
--- a scenario of format 1: at most one document
-abbrev pub scenario_in : Data → Read Scenario
-scenario_in tree = do
-  known ← only_keys scenario_keys tree
-  format ← required (codes "format") (number_of 1 1) tree
+-- a scenario of a format: at most one document
+abbrev pub scenario_as : Format → Data → Read Scenario
+scenario_as format tree = do
+  known ← only_keys (root_keys format) tree
+  version ← required (codes "format") (number_of (number_of_format format) (number_of_format format)) tree
+  body_limit ← body_limit_of format tree
   now ← optional (codes "now") 0 (number_of 0 1099511627776) tree
   hosts ← optional (codes "hsts") [] (list_of 4096 host_of) tree
   cookies ← optional (codes "cookies") [] (items_of cookie_of) tree
   servers ← optional (codes "servers") [] (items_of server_of) tree
   piece ← optional (codes "piece") 4096 (number_of 1 65536) tree
-  documents ← required (codes "documents") (list_of 1 document_of) tree
+  documents ← required (codes "documents") (list_of 1 (document_of format)) tree
   Ok (record {
     now = now;
     hosts = hosts;
@@ -281,8 +153,12 @@ scenario_in tree = do
     servers = servers;
     piece = piece;
     documents = documents;
-    body_limit = 262144;
+    body_limit = body_limit;
   })
+
+-- a scenario, in the format that its root names
+abbrev pub scenario_in : Data → Read Scenario
+scenario_in tree = scenario_as (format_of tree) tree
 
 -- a place as it is told: that of the root is `/`
 abbrev pub place_text : List ℕ → List ℕ

@@ -1,20 +1,17 @@
 -- What every scenario that is read keeps: the bounds and the forms of its values.
-use Rattle.std.specs.Prelude.{◌≡◌, ◌≤◌, ◌<◌, ◌^◌, [], length, IfSome, IsTrue}
+use Rattle.std.specs.Prelude.{◌≤◌, length, IfSome, IsTrue}
 use Rattle.std.specs.List.{All}
 use Rattle.wf_text.specs.Tokens.{is_token}
 use Rattle.wf_types.specs.declared.client.Cookie.{Cookie}
-use Rattle.wf_types.specs.declared.init.Init.{Init}
-use Rattle.wf_types.specs.declared.init.Pair.{Pair}
 use Rattle.wf_types.specs.Requests.{is_policy}
+use Rattle.wf_commands.specs.Valid.{IsValidScript}
 use Rattle.wf_script.specs.declared.types.KnownHost.{KnownHost}
 use Rattle.wf_script.specs.declared.types.Rule.{Rule}
 use Rattle.wf_script.specs.declared.types.Server.{Server}
-use Rattle.wf_script.specs.declared.types.Command.{Command}
-use Rattle.wf_script.specs.declared.types.Command.TheVariants.{Fetch, Wait}
 use Rattle.wf_script.specs.declared.types.Document.{Document}
 use Rattle.wf_script.specs.declared.types.Scenario.{Scenario}
 use Rattle.wf_script.specs.Hosts.{is_host_name}
-use Rattle.wf_script.specs.Texts.{lacks_template, is_cookie_value}
+use Rattle.wf_script.specs.Texts.{is_cookie_value}
 use Rattle.wf_script.specs.OriginTexts.{is_origin_text}
 use Rattle.wf_script.specs.Urls.{is_document_url}
 
@@ -38,34 +35,17 @@ pub record IsValidServer (server : Server) : Type 0 where
   pub origin : IsTrue (is_origin_text server.origin)
   pub rules : All IsValidRule server.rules
 
--- the value has no template
-abbrev pub IsPlainPair : Pair → Type 0
-IsPlainPair pair = IsTrue (lacks_template pair.value)
-
--- Neither its URL nor its values have templates; it has at most 64 headers, and no integrity text.
-pub record IsValidInit (init : Init) : Type 0 where
-  pub url : IsTrue (lacks_template init.url)
-  pub few : length init.headers ≤ 64
-  pub headers : All IsPlainPair init.headers
-  pub body : IfSome init.body (λ body. IsTrue (lacks_template body))
-  pub integrity : init.integrity ≡ []
-
--- what a fetch asks for may be asked, and a wait is less than 2^32 seconds long
-abbrev pub IsValidCommand : Command → Type 0
-IsValidCommand (Fetch init) = IsValidInit init
-IsValidCommand (Wait seconds) = seconds < 2 ^ 32
-
 -- URLs of the document and of the page at the top that a document may have, a referrer policy that is not empty, at
--- most 16 policies, and commands
+-- most 16 policies, and a script
 pub record IsValidDocument (document : Document) : Type 0 where
   pub url : IsTrue (is_document_url document.url)
   pub top : IsTrue (is_document_url document.top)
   pub policy : IsTrue (is_policy document.policy)
   pub few_policies : length document.policies ≤ 16
-  pub script : All IsValidCommand document.script
+  pub script : IsValidScript document.script
 
--- a time of at most 2^40 seconds, at most 4,096 known hosts, a piece of 1 to 65,536 bytes, and at most one
--- document
+-- a time of at most 2^40 seconds, at most 4,096 known hosts, a piece of 1 to 65,536 bytes, at most one document, and
+-- bodies of 1 to 1,048,576 bytes at most
 pub record IsValid (scenario : Scenario) : Type 0 where
   pub now : scenario.now ≤ 1099511627776
   pub few_hosts : length scenario.hosts ≤ 4096
@@ -76,4 +56,5 @@ pub record IsValid (scenario : Scenario) : Type 0 where
   pub most_piece : scenario.piece ≤ 65536
   pub few_documents : length scenario.documents ≤ 1
   pub documents : All IsValidDocument scenario.documents
-  pub body_limit : scenario.body_limit ≡ 262144
+  pub some_limit : 1 ≤ scenario.body_limit
+  pub most_limit : scenario.body_limit ≤ 1048576

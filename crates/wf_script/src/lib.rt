@@ -3,10 +3,9 @@
 #![tactic(auto)]
 
 mod answers;
-mod commands;
 mod cookies;
 mod documents;
-mod fetches;
+mod format;
 mod headers;
 mod hosts;
 mod origins;
@@ -18,6 +17,6 @@ mod urls;
 
 pub use origins::read_origin;
 pub use types::{
-    Command, Document, Documents, Hosts, KnownHost, Place, Rule, Rules, Scenario, Script, Server,
-    Servers,
+    Document, Documents, Hosts, KnownHost, Place, Rule, Rules, Scenario, Server, Servers,
 };
+pub use wf_commands::{Command, Script, Test};

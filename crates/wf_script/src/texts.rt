@@ -1,5 +1,4 @@
 // What a text of a scenario has to be.
-ghost use Rattle.std.specs.Prelude.{◌≡◌};
 ghost use Rattle.wf_script.specs.Texts as spec;
 ghost use Rattle.wf_script.specs.OriginTexts.{is_origin_text};
 
@@ -7,18 +6,6 @@ use crate::origins::read_origin;
 use std::alloc::Global;
 use wf_form::TextTest;
 use wf_text::{OutOfMemory, is_value};
-
-/// A text in which no template begins.
-#[derive(Drop)]
-pub(crate) struct WithoutTemplate;
-
-impl TextTest for WithoutTemplate {
-    ghost taken = { λ _. spec.lacks_template };
-
-    fn takes(&self, _alloc: Global, text: &str) -> Result<bool, OutOfMemory> {
-        Ok(!has_template(text.as_bytes()))
-    }
-}
 
 /// The value of a Cookie header: a header value of 1 to 4,096 bytes.
 #[derive(Drop)]
@@ -42,19 +29,4 @@ impl TextTest for OriginText {
     fn takes(&self, alloc: Global, text: &str) -> Result<bool, OutOfMemory> {
         Ok(read_origin(alloc, text.as_bytes())?.is_some())
     }
-}
-
-// Whether `${` stands somewhere in the text.
-#[tactic(auto, using(crate::proofs::TextLemmas::templates))]
-pub(crate) fn has_template(text: &[u8]) -> bool
-    ensures { result ≡ spec.has_template text.now }
-{
-    let mut dollar = false;
-    for byte in text {
-        if dollar && *byte == b'{' {
-            return true;
-        }
-        dollar = *byte == b'$';
-    }
-    false
 }

@@ -3,9 +3,10 @@ ghost use Rattle.std.specs.Prelude.{◌≡◌, ◌<◌, ◌++◌, ◌∷◌, [],
 use std::alloc::Global;
 use std::marker::Model;
 use url::Url;
+use wf_commands::Script;
 use wf_csp_text::Policies;
 use wf_text::{Bytes, Items, OutOfMemory};
-use wf_types::{Cookies, Init, ReferrerPolicy};
+use wf_types::{Cookies, ReferrerPolicy};
 
 /// A known HSTS host (RFC 6797, section 8.1.1): its domain as a URL has it, whether the names under it
 /// are known too, and the first second in which it is not known any more.
@@ -98,18 +99,6 @@ impl Servers {
         self.items.as_slice()
     }
 }
-
-/// One command of a script.
-#[derive(Drop)]
-pub enum Command {
-    /// A call of `fetch`.
-    Fetch(Init),
-    /// So many seconds pass.
-    Wait(u32),
-}
-
-/// The commands of a document, in order.
-pub type Script = Items<Command>;
 
 /// A document: its URL, the URL of the page at the top, which is its own where it is not embedded, its
 /// referrer policy, its content security policies, and its script.

@@ -12,7 +12,7 @@ use wf_commands::Test;
 use wf_form::{Form, Number, Refused, Word, item_at, refused_here};
 
 /// What a condition is about.
-#[derive(Clone, Copy, Debug, Drop)]
+#[derive(Clone, Copy, Debug)]
 pub(crate) enum Subject {
     Success,
     Error,
