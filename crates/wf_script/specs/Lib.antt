@@ -1,6 +1,7 @@
 pub mod Formats
 pub mod Headers
 pub mod Hosts
+pub mod Migration
 pub mod OriginTexts
 pub mod Scenarios
 pub mod Servers

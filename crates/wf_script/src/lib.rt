@@ -8,6 +8,7 @@ mod documents;
 mod format;
 mod headers;
 mod hosts;
+mod laws;
 mod origins;
 mod read;
 mod servers;
@@ -15,6 +16,7 @@ mod texts;
 mod types;
 mod urls;
 
+pub use laws::law_migrated;
 pub use origins::read_origin;
 pub use types::{
     Document, Documents, Hosts, KnownHost, Place, Rule, Rules, Scenario, Server, Servers,
