@@ -1,3 +1,4 @@
 pub mod AnswerLemmas
 pub mod ValidLemmas
 pub mod MigrationLemmas
+pub mod Computed

@@ -1,28 +1,27 @@
 -- Every script that is read is valid, and holds no more `repeat` and `if` inside each other than may stand there.
-use Rattle.std.proofs.Common.{◌≡◌, ℕ, zero, suc, ◌+◌, ◌≤◌, ◌<◌, Bool, true, false, List, [], ◌∷◌, length, Option, Some, None}
-use Rattle.std.proofs.Common.{Ok, Err, refl, sym, subst, arith}
+use Rattle.std.proofs.Common.{◌≡◌, ℕ, zero, suc, ◌+◌, ◌≤◌, Bool, true, false, List, [], ◌∷◌, Option, Some, None}
+use Rattle.std.proofs.Common.{Ok, Err, refl, subst, arith}
 use Rattle.std.specs.Prelude.{codes, decimal, IfSome, IsTrue, option_map, option_and_then, ◌≢◌}
-use Rattle.std.specs.List.{All, AllByRecursion}
+use Rattle.std.specs.List.{AllByRecursion}
 use Rattle.std.proofs.lemmas.List.Elements.{All-nil, recursion_from_All}
 use Rattle.serde_json.specs.Data.{Data}
 use Rattle.serde_json.specs.Find.{as_array}
-use Rattle.wf_types.specs.declared.init.LoadInit.{LoadInit}
 use Rattle.wf_types.specs.declared.init.Pair.{Pair}
 use Rattle.wf_types.specs.declared.policy.Destination.{Destination}
 use Rattle.wf_types.specs.declared.policy.Destination.TheVariants as destination
 use Rattle.wf_types.specs.declared.init.CrossOrigin.TheVariants as crossorigin
-use Rattle.wf_commands.specs.Scripts.{Step, Steps, no_steps, step}
+use Rattle.wf_commands.specs.Scripts.{Step, Steps, no_steps}
 use Rattle.wf_commands.specs.Templates.{is_template}
 use Rattle.wf_commands.specs.Valid.{IsTemplatePair, IsValidInit, IsValidLoad, IsValidTest, IsValidStep, AreValid}
 use Rattle.wf_commands.specs.Valid.{step_repeats, repeats, step_choices, choices, IsValidScript}
-use Rattle.wf_commands.specs.declared.command.Test.TheVariants.{IsOk, IsError, TypeIs, StatusIs, BodyIs}
-use Rattle.wf_form.specs.Reading.{Read, ◌>>=◌, under, present, number_of, truth_of, text_that, any, word_of, some_of}
-use Rattle.wf_form.specs.Reading.{only_keys, required, optional, list_of, count, each_from}
+use Rattle.wf_commands.specs.declared.command.Test.TheVariants.{TypeIs, StatusIs, BodyIs}
+use Rattle.wf_form.specs.Reading.{Read, under, present, number_of, truth_of, text_that, any, word_of, some_of}
+use Rattle.wf_form.specs.Reading.{only_keys, optional, list_of, count, each_from}
 use Rattle.wf_form.proofs.KeepsLemmas.{Keeps, Anything, keeps-anything, keeps-after, keeps-weaker, keeps-then, keeps-under}
 use Rattle.wf_form.proofs.KeepsLemmas.{keeps-there, keeps-if, keeps-required, keeps-optional, IsListOf, keeps-each}
 use Rattle.wf_form.proofs.KeepsLemmas.{keeps-list, Within, keeps-number, keeps-word, keeps-text_that, keeps-some}
 use Rattle.wf_form.proofs.KeepsLemmas.{keeps-parts}
-use Rattle.wf_steps.specs.Conditions.{subjects, second_part, compared, alone, parts_of, test_about, test_of}
+use Rattle.wf_steps.specs.Conditions.{subjects, second_part, parts_of, test_about, test_of}
 use Rattle.wf_steps.specs.Fetches.{header_of, content_of, manner_of, referring_of, fetch_keys, fetch_of}
 use Rattle.wf_steps.specs.Loads.{kinds, settings, load_keys, load_of}
 use Rattle.wf_steps.specs.Referring.{policy_of}
