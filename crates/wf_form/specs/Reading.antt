@@ -1,7 +1,7 @@
 -- Reading a JSON tree (RFC 8259) by tables of keys: the value, or the first refused place. A place is
 -- written from where the reading stands: a segment is put before it at each level.
 use Rattle.std.specs.Prelude.{ℕ, ◌+◌, ◌&&◌, Bool, true, false, nat_le, List, [], ◌∷◌, ◌++◌, codes, decimal}
-use Rattle.std.specs.Prelude.{bytes_eq, Option, Some, None, option_and_then, Result, Ok, Err, if◌then◌else◌, ⊤}
+use Rattle.std.specs.Prelude.{bytes_eq, Option, Some, None, is_some, option_and_then, Result, Ok, Err, if◌then◌else◌, ⊤}
 use Rattle.std.specs.List.{list_any}
 use Rattle.serde_json.specs.Data.{Data, Items, no_items, item, Members, no_members, member}
 use Rattle.serde_json.specs.Find.{get, as_bool, as_number, as_u64, as_str, as_array, as_object}
@@ -92,6 +92,10 @@ has_keys names (Some members) = known names members
 -- refused where the tree is no object, or has a key that is not named
 abbrev pub only_keys : List (List ℕ) → Data → Read ⊤
 only_keys names tree = given (has_keys names (as_object tree)) tt
+
+-- the tree has this key
+abbrev pub has_key : List ℕ → Data → Bool
+has_key name tree = is_some (get name tree)
 
 -- the value that was found, or what stands in its place
 abbrev pub found_or : {A : Type 0} → Read A → (Data → Read A) → Option Data → Read A

@@ -73,7 +73,8 @@ pub fn at_segment<T: Drop>(
     segment: &str,
     read: Result<T, Refused>,
 ) -> Result<T, Refused>
-    ensures { (expected : Read T) → Gives read expected → Gives result (under segment.now expected) }
+    ensures { (expected : Read T) → Gives read expected
+        → Gives result (under segment.now expected) }
 {
     match read {
         Ok(x) => Ok(x),

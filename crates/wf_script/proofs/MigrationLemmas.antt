@@ -1,12 +1,11 @@
 -- A scenario of the first format is read alike as one of the second.
 use Rattle.std.proofs.Common.{◌≡◌, ℕ, List, [], ◌∷◌}
-use Rattle.std.proofs.Common.{Option, Some, None, Result, Ok, Err, refl, ap, sym, subst, ◌∙◌}
+use Rattle.std.proofs.Common.{Option, Some, None, Result, Ok, Err, refl, ap, sym, ◌∙◌}
 use Rattle.std.specs.Prelude.{codes, bytes_eq, false, option_and_then, IsTrue}
 use Rattle.serde_json.proofs.Views.{get_member-put, get_member-put_other}
 use Rattle.serde_json.specs.Data.{Data, number, unsigned, object, Members, put}
-use Rattle.serde_json.specs.Find.{get, get_member, as_object}
+use Rattle.serde_json.specs.Find.{get, as_object}
 use Rattle.url.specs.Parts.{Parts}
-use Rattle.wf_types.specs.declared.mode.ReferrerPolicy.TheVariants as policy
 use Rattle.wf_form.specs.Reading.{Read, under, found_or, number_of, required, optional, items_of, list_of, has_keys}
 use Rattle.wf_form.proofs.FollowsLemmas.{Follows, follows-same, follows-then, follows-past, follows-required}
 use Rattle.wf_form.proofs.FollowsLemmas.{follows-optional, follows-list, follows-only_keys, apart, get-unknown}
@@ -19,7 +18,6 @@ use Rattle.wf_script.specs.Formats.{format_numbered, whole_number, format_of, la
 use Rattle.wf_script.specs.Formats.{document_keys, top_of}
 use Rattle.wf_script.specs.Migration.{migrated, IsMigratedAlike}
 use Rattle.wf_script.specs.Scenarios.{host_of, cookie_of, server_of, document_of, scenario_as, scenario_in, told}
-use Rattle.wf_script.specs.Scenarios.{scenario_of_tree}
 use Rattle.wf_script.specs.Urls.{document_url_of}
 
 -- ---- documents

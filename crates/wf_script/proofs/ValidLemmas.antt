@@ -1,5 +1,5 @@
 -- Every scenario that is read is valid.
-use Rattle.std.proofs.Common.{◌≡◌, ℕ, ◌≤◌, Bool, true, false, List, [], ◌∷◌, length, Option, Some, None, Ok, Err, refl}
+use Rattle.std.proofs.Common.{◌≡◌, ℕ, ◌≤◌, Bool, false, List, [], ◌∷◌, length, Option, Some, None, Ok, refl}
 use Rattle.std.proofs.Common.{subst, arith}
 use Rattle.std.specs.Prelude.{nat_le, codes, IfSome, IsTrue}
 use Rattle.std.specs.List.{All}
@@ -17,7 +17,7 @@ use Rattle.wf_types.specs.ReferrerPolicies.{policy_of_header}
 use Rattle.wf_types.specs.Requests.{is_policy}
 use Rattle.wf_types.specs.Urls.{url_of_text}
 use Rattle.wf_commands.specs.Valid.{IsValidScript}
-use Rattle.wf_form.specs.Reading.{Read, present, any, only_keys, required, optional, found_or, number_of, truth_of}
+use Rattle.wf_form.specs.Reading.{Read, present, any, has_key, only_keys, optional, found_or, number_of, truth_of}
 use Rattle.wf_form.specs.Reading.{text_that, some_of, items_of, list_of}
 use Rattle.wf_form.proofs.KeepsLemmas.{Keeps, Anything, keeps-anything, keeps-after, keeps-then, keeps-under}
 use Rattle.wf_form.proofs.KeepsLemmas.{keeps-found_or, keeps-given, keeps-required, keeps-optional, IsListOf, keeps-items}
@@ -34,7 +34,7 @@ use Rattle.wf_script.specs.OriginTexts.{is_origin_text}
 use Rattle.wf_script.specs.Urls.{is_document_url, document_url_of}
 use Rattle.wf_script.specs.Headers.{listed, policies_of_headers, policy_or_default}
 use Rattle.wf_script.specs.Scenarios.{host_keys, host_of, cookie_of, plain_header_of, answer_of, rule_keys, rule_of}
-use Rattle.wf_script.specs.Scenarios.{server_keys, server_of, has_key, said_of, document_of, scenario_as}
+use Rattle.wf_script.specs.Scenarios.{server_keys, server_of, said_of, document_of, scenario_as}
 use Rattle.wf_script.specs.Valid.{IsValidHost, IsValidCookie, IsValidRule, IsValidServer, IsValidDocument, IsValid}
 
 -- the text passes a test

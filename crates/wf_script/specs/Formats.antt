@@ -1,5 +1,5 @@
--- The two formats of scenarios. In the second one a document may stand in a page of another origin, and the scenario says
--- how long a response's body may be.
+-- The two formats of scenarios. In the second one a document may stand in a page of another origin, and the scenario
+-- says how long a response's body may be.
 use Rattle.std.specs.Prelude.{ℕ, ◌==◌, List, [], ◌∷◌, codes, Option, Some, None, option_and_then, Ok, if◌then◌else◌}
 use Rattle.serde_json.specs.Data.{Data}
 use Rattle.serde_json.specs.Find.{get, as_number, as_u64}

@@ -8,7 +8,8 @@ use Rattle.wf_script.specs.Scenarios.{scenario_of_tree}
 
 -- the members of the root, with 2 as its `format`, and with the body limit of the first format
 abbrev pub migrated : Members → Members
-migrated members = put (codes "body_limit") (number (unsigned 262144)) (put (codes "format") (number (unsigned 2)) members)
+migrated members =
+    put (codes "body_limit") (number (unsigned 262144)) (put (codes "format") (number (unsigned 2)) members)
 
 -- what the root is read as in the first format it is read as in the second one too
 abbrev pub IsMigratedAlike : Members → Scenario → Type 0

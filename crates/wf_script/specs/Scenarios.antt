@@ -1,9 +1,8 @@
 -- The scenario of a text: the tables of a scenario's objects over the tree that `serde_json` reads.
 -- The keys of a table are listed and read in one order.
-use Rattle.std.specs.Prelude.{ℕ, Bool, true, false, nat_le, List, [], ◌∷◌, length, codes, Option, Some, None, is_some}
+use Rattle.std.specs.Prelude.{ℕ, Bool, true, false, nat_le, List, [], ◌∷◌, length, codes, Option, Some, None}
 use Rattle.std.specs.Prelude.{option_and_then, Result, Ok, Err}
 use Rattle.serde_json.specs.Data.{Data}
-use Rattle.serde_json.specs.Find.{get}
 use Rattle.serde_json.specs.Read.{read}
 use Rattle.wf_text.specs.Tokens.{is_token}
 use Rattle.wf_text.specs.Values.{is_header_value}
@@ -14,7 +13,7 @@ use Rattle.wf_types.specs.declared.mode.ReferrerPolicy.{ReferrerPolicy}
 use Rattle.wf_types.specs.declared.mode.ReferrerPolicy.TheVariants as policy
 use Rattle.wf_types.specs.Urls.{utf8_text}
 use Rattle.wf_form.specs.Reading.{Read, ◌>>=◌, given, number_of, truth_of, text_that, any, some_of}
-use Rattle.wf_form.specs.Reading.{only_keys, required, optional, items_of, list_of, pair_of}
+use Rattle.wf_form.specs.Reading.{has_key, only_keys, required, optional, items_of, list_of, pair_of}
 use Rattle.wf_steps.specs.Scripts.{document_script_of}
 use Rattle.wf_script.specs.declared.types.KnownHost.{KnownHost}
 use Rattle.wf_script.specs.declared.types.Rule.{Rule}
@@ -58,10 +57,6 @@ abbrev pub plain_header_of : Data → Read Pair
 plain_header_of tree = do
   pair ← pair_of (text_that is_token) (text_that is_header_value) tree
   Ok (record { name = pair.0; value = pair.1 })
-
--- the tree has this key
-abbrev pub has_key : List ℕ → Data → Bool
-has_key name tree = is_some (get name tree)
 
 -- an answer by its bytes, or by its status, headers and body
 abbrev pub raw_keys : List (List ℕ)

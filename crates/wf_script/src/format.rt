@@ -66,7 +66,8 @@ pub(crate) fn format_of(tree: &Value) -> Format
 
 // The number of a format.
 pub(crate) fn format_number(format: Format) -> Number
-    ensures { result ≡ record { least = spec.number_of_format format; most = spec.number_of_format format } }
+    ensures { result
+        ≡ record { least = spec.number_of_format format; most = spec.number_of_format format } }
 {
     match format {
         Format::First => FIRST,

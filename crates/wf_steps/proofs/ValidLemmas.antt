@@ -16,7 +16,7 @@ use Rattle.wf_commands.specs.Valid.{IsTemplatePair, IsValidInit, IsValidLoad, Is
 use Rattle.wf_commands.specs.Valid.{step_repeats, repeats, step_choices, choices, IsValidScript}
 use Rattle.wf_commands.specs.declared.command.Test.TheVariants.{TypeIs, StatusIs, BodyIs}
 use Rattle.wf_form.specs.Reading.{Read, under, present, number_of, truth_of, text_that, any, word_of, some_of}
-use Rattle.wf_form.specs.Reading.{only_keys, optional, list_of, count, each_from}
+use Rattle.wf_form.specs.Reading.{has_key, only_keys, optional, list_of, count, each_from}
 use Rattle.wf_form.proofs.KeepsLemmas.{Keeps, Anything, keeps-anything, keeps-after, keeps-weaker, keeps-then, keeps-under}
 use Rattle.wf_form.proofs.KeepsLemmas.{keeps-there, keeps-if, keeps-required, keeps-optional, IsListOf, keeps-each}
 use Rattle.wf_form.proofs.KeepsLemmas.{keeps-list, Within, keeps-number, keeps-word, keeps-text_that, keeps-some}
@@ -26,7 +26,7 @@ use Rattle.wf_steps.specs.Fetches.{header_of, content_of, manner_of, referring_o
 use Rattle.wf_steps.specs.Loads.{kinds, settings, load_keys, load_of}
 use Rattle.wf_steps.specs.Referring.{policy_of}
 use Rattle.wf_steps.specs.Scripts.{fetch_command_of, load_command_of, wait_command_of, repeat_command_of, if_command_of}
-use Rattle.wf_steps.specs.Scripts.{has_key, command_of, in_order, commands_of, script_with, script_of, document_script_of}
+use Rattle.wf_steps.specs.Scripts.{command_of, in_order, commands_of, script_with, script_of, document_script_of}
 use Rattle.wf_steps.specs.declared.conditions.Subject.{Subject}
 use Rattle.wf_steps.specs.declared.conditions.Subject.TheVariants as subject
 

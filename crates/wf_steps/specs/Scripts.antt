@@ -1,10 +1,10 @@
 -- Scripts: the tables of commands, and how deep they stand inside each other.
-use Rattle.std.specs.Prelude.{ℕ, zero, suc, Bool, List, [], ◌∷◌, codes, Option, Some, None, is_some, option_map, Ok, Err}
+use Rattle.std.specs.Prelude.{ℕ, zero, suc, List, [], ◌∷◌, codes, Option, Some, None, option_map, Ok, Err}
 use Rattle.std.specs.Prelude.{if◌then◌else◌}
 use Rattle.serde_json.specs.Data.{Data, Items}
-use Rattle.serde_json.specs.Find.{get, as_array}
+use Rattle.serde_json.specs.Find.{as_array}
 use Rattle.wf_commands.specs.Scripts.{Step, fetch, load, wait, repeat, choose, Steps, no_steps, step}
-use Rattle.wf_form.specs.Reading.{Read, ◌>>=◌, under, present, number_of, only_keys, required, optional, each_from}
+use Rattle.wf_form.specs.Reading.{Read, ◌>>=◌, under, present, number_of, has_key, only_keys, required, optional, each_from}
 use Rattle.wf_steps.specs.Conditions.{test_of}
 use Rattle.wf_steps.specs.Fetches.{fetch_of}
 use Rattle.wf_steps.specs.Loads.{load_of}
@@ -35,9 +35,9 @@ wait_command_of tree = do
 abbrev pub repeat_command_of : Option (Data → Read Steps) → Data → Read Step
 repeat_command_of inside tree = do
   known ← only_keys (codes "repeat" ∷ codes "do" ∷ []) tree
-  script_of ← under (codes "repeat") (present inside)
+  deeper ← under (codes "repeat") (present inside)
   times ← required (codes "repeat") (number_of 0 1000) tree
-  script ← required (codes "do") script_of tree
+  script ← required (codes "do") deeper tree
   Ok (repeat times script)
 
 -- One of two scripts, with what reads them, the second of which is empty by itself. Where no `if` may stand here it is
@@ -45,15 +45,11 @@ repeat_command_of inside tree = do
 abbrev pub if_command_of : Option (Data → Read Steps) → Data → Read Step
 if_command_of inside tree = do
   known ← only_keys (codes "if" ∷ codes "then" ∷ codes "else" ∷ []) tree
-  script_of ← under (codes "if") (present inside)
+  deeper ← under (codes "if") (present inside)
   test ← required (codes "if") test_of tree
-  script ← required (codes "then") script_of tree
-  other ← optional (codes "else") no_steps script_of tree
+  script ← required (codes "then") deeper tree
+  other ← optional (codes "else") no_steps deeper tree
   Ok (choose test script other)
-
--- the tree has this key
-abbrev pub has_key : List ℕ → Data → Bool
-has_key name tree = is_some (get name tree)
 
 -- A command, told by the first of these keys that it has, with what reads the scripts inside a `repeat` and inside an
 -- `if`. One without such a key is refused at its own place.

@@ -38,7 +38,8 @@ const STATUS: Number = Number {
 
 // The first part of a list of one or two, and the second, where there is one.
 fn parts_of(tree: &Value) -> Option<(&Value, Option<&Value>)>
-    ensures { option_map (λ parts. (view parts.0.now, option_map (λ second. view second.now) parts.1)) result
+    ensures { option_map
+        (λ parts. (view parts.0.now, option_map (λ second. view second.now) parts.1)) result
         ≡ option_and_then spec.parts_of (as_array (view tree.now)) }
 {
     match tree.as_array()?.as_slice() {
@@ -60,7 +61,8 @@ fn alone(alloc: Global, test: Test, second: Option<&Value>) -> Result<Test, Refu
 
 // The second part of a condition that has one.
 fn second_part<F: Form>(alloc: Global, second: Option<&Value>, form: &F) -> Result<F::Out, Refused>
-    ensures { Gives result (spec.second_part (F.reads form.now) (option_map (λ part. view part.now) second.entry)) }
+    ensures { Gives result
+        (spec.second_part (F.reads form.now) (option_map (λ part. view part.now) second.entry)) }
 {
     match second {
         None => refused_here(alloc),
@@ -70,7 +72,8 @@ fn second_part<F: Form>(alloc: Global, second: Option<&Value>, form: &F) -> Resu
 
 // The condition of a word and a second part.
 fn test_about(alloc: Global, about: Subject, second: Option<&Value>) -> Result<Test, Refused>
-    ensures { Gives result (spec.test_about about (option_map (λ part. view part.now) second.entry)) }
+    ensures { Gives result
+        (spec.test_about about (option_map (λ part. view part.now) second.entry)) }
 {
     match about {
         Subject::Success => alone(alloc, Test::IsOk, second),

@@ -37,7 +37,8 @@ const SETTING: Word<'static, CrossOrigin> = Word {
     ],
 };
 
-/// What an element asks for that loads a resource. A parser inserted it where no key says otherwise.
+/// What an element asks for that loads a resource. A parser inserted it where no key says
+/// otherwise.
 #[derive(Drop)]
 pub(crate) struct LoadTable;
 

@@ -59,7 +59,8 @@ fn command_at(
     repeats: u32,
     ifs: u32,
 ) -> Result<Command, Refused>
-    ensures { GivesAs step_of result (under (decimal index) (spec.command_in repeats ifs (view item.now))) }
+    ensures { GivesAs step_of result
+        (under (decimal index) (spec.command_in repeats ifs (view item.now))) }
 {
     match command(alloc, item, repeats, ifs) {
         Ok(command) => Ok(command),
@@ -90,7 +91,8 @@ fn command(alloc: Global, tree: &Value, repeats: u32, ifs: u32) -> Result<Comman
 // A script so many times.
 #[cycle(scripts)]
 fn repeat_command(alloc: Global, tree: &Value, repeats: u32, ifs: u32) -> Result<Command, Refused>
-    ensures { GivesAs step_of result (spec.repeat_command_of (spec.inside_repeat repeats ifs) (view tree.now)) }
+    ensures { GivesAs step_of result
+        (spec.repeat_command_of (spec.inside_repeat repeats ifs) (view tree.now)) }
 {
     only_keys(alloc, tree, &["repeat", "do"])?;
     if repeats == 0 {
@@ -104,7 +106,8 @@ fn repeat_command(alloc: Global, tree: &Value, repeats: u32, ifs: u32) -> Result
 // One of two scripts, by a condition.
 #[cycle(scripts)]
 fn if_command(alloc: Global, tree: &Value, repeats: u32, ifs: u32) -> Result<Command, Refused>
-    ensures { GivesAs step_of result (spec.if_command_of (spec.inside_if repeats ifs) (view tree.now)) }
+    ensures { GivesAs step_of result
+        (spec.if_command_of (spec.inside_if repeats ifs) (view tree.now)) }
 {
     only_keys(alloc, tree, &["if", "then", "else"])?;
     if ifs == 0 {
@@ -142,7 +145,8 @@ fn script_or_none(
     repeats: u32,
     ifs: u32,
 ) -> Result<Script, Refused>
-    ensures { Gives result (optional name.now no_steps (spec.script_of repeats ifs) (view tree.now)) }
+    ensures { Gives result
+        (optional name.now no_steps (spec.script_of repeats ifs) (view tree.now)) }
 {
     match tree.get(name) {
         Some(found) => at_segment(alloc, name, script(alloc, found, repeats, ifs)),
