@@ -11,6 +11,7 @@ use Rattle.serde_json.specs.Data.{Data, null, boolean, number, string, array, ob
 use Rattle.serde_json.specs.Find.{get, get_member, as_array, as_object}
 use Rattle.wf_form.specs.Reading.{Read, ◌>>=◌, below, under, present, given, found_or, required, optional, count, each_from}
 use Rattle.wf_form.specs.Reading.{list_of, is_one_of, known, has_keys, only_keys}
+use Rattle.wf_form.proofs.KeepsLemmas.{both}
 
 pub record Follows {A : Type 0} (read other : Read A) : Type 0 where
   pub same : (x : A) → read ≡ Ok x → other ≡ Ok x
@@ -98,10 +99,6 @@ follows-only_keys names others tree other next goes each =
     follows-given (has_keys names (as_object tree)) (has_keys others (as_object other)) next goes each
 
 -- ---- known keys
-
-both : (a b : Bool) → IsTrue (a && b) → IsTrue a × IsTrue b
-both true b holds = (refl, holds)
-both false b holds = let never : ⊥ = cc in absurd never
 
 with_both : (a b : Bool) → IsTrue a → IsTrue b → IsTrue (a && b)
 with_both true b one other = other

@@ -124,7 +124,7 @@ keeps-list P most read each tree =
 
 -- ---- values of one form
 
-both : (a b : Bool) → IsTrue (a && b) → IsTrue a × IsTrue b
+pub both : (a b : Bool) → IsTrue (a && b) → IsTrue a × IsTrue b
 both true b holds = (refl, holds)
 both false b holds = let no : ⊥ = cc in absurd no
 
