@@ -1,5 +1,4 @@
-pub mod TextLemmas
-pub mod ReadingLemmas
-pub mod KeepsLemmas
-pub mod ValidLemmas
 pub mod AnswerLemmas
+pub mod ValidLemmas
+pub mod MigrationLemmas
+pub mod Computed

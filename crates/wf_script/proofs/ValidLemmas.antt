@@ -1,56 +1,41 @@
 -- Every scenario that is read is valid.
-use Rattle.std.proofs.Common.{◌≡◌, ℕ, ◌≤◌, Bool, true, false, List, [], ◌∷◌, length, Option, Some, None, Ok, Err, refl}
+use Rattle.std.proofs.Common.{◌≡◌, ℕ, ◌≤◌, Bool, false, List, [], ◌∷◌, length, Option, Some, None, Ok, refl}
 use Rattle.std.proofs.Common.{subst, arith}
-use Rattle.std.specs.Prelude.{nat_le, ◌&&◌, codes, IfSome, IsTrue, option_and_then}
+use Rattle.std.specs.Prelude.{nat_le, codes, IfSome, IsTrue}
 use Rattle.std.specs.List.{All}
 use Rattle.std.proofs.lemmas.Bool.{leb-true}
 use Rattle.std.proofs.lemmas.List.Elements.{All-nil}
 use Rattle.serde_json.specs.Data.{Data}
-use Rattle.serde_json.specs.Find.{as_number, as_u64, as_str}
+use Rattle.serde_json.specs.Find.{get, as_str}
 use Rattle.url.proofs.OnLiterals.{url_on_literals}
 use Rattle.url.specs.Parts.{Parts}
 use Rattle.wf_text.specs.Tokens.{is_token}
-use Rattle.wf_types.specs.declared.init.Pair.{Pair}
 use Rattle.wf_csp_text.specs.declared.policy.Policy.{Policy}
 use Rattle.wf_types.specs.declared.mode.ReferrerPolicy.{ReferrerPolicy}
 use Rattle.wf_types.specs.declared.mode.ReferrerPolicy.TheVariants as policy
 use Rattle.wf_types.specs.ReferrerPolicies.{policy_of_header}
 use Rattle.wf_types.specs.Requests.{is_policy}
 use Rattle.wf_types.specs.Urls.{url_of_text}
+use Rattle.wf_commands.specs.Valid.{IsValidScript}
+use Rattle.wf_form.specs.Reading.{Read, present, any, has_key, only_keys, optional, found_or, number_of, truth_of}
+use Rattle.wf_form.specs.Reading.{text_that, some_of, items_of, list_of}
+use Rattle.wf_form.proofs.KeepsLemmas.{Keeps, Anything, keeps-anything, keeps-after, keeps-then, keeps-under}
+use Rattle.wf_form.proofs.KeepsLemmas.{keeps-found_or, keeps-given, keeps-required, keeps-optional, IsListOf, keeps-items}
+use Rattle.wf_form.proofs.KeepsLemmas.{keeps-list, Within, keeps-number, keeps-text_that, keeps-some, keeps-parts}
+use Rattle.wf_steps.specs.Scripts.{document_script_of}
+use Rattle.wf_steps.proofs.ValidLemmas.{keeps-document_script}
+use Rattle.wf_script.specs.declared.format.Format.{Format}
+use Rattle.wf_script.specs.declared.format.Format.TheVariants.{First, Second}
 use Rattle.wf_script.specs.declared.types.Scenario.{Scenario}
+use Rattle.wf_script.specs.Formats.{root_keys, body_limit_of, document_keys, top_of}
 use Rattle.wf_script.specs.Hosts.{is_host_name}
-use Rattle.wf_script.specs.Reading.{Read, present, any, only_keys, required, optional, number_of, truth_of, text_that}
-use Rattle.wf_script.specs.Reading.{word_of, some_of, items_of, list_of}
 use Rattle.wf_script.specs.Texts.{is_cookie_value}
 use Rattle.wf_script.specs.OriginTexts.{is_origin_text}
-use Rattle.wf_script.specs.Urls.{is_document_url}
+use Rattle.wf_script.specs.Urls.{is_document_url, document_url_of}
 use Rattle.wf_script.specs.Headers.{listed, policies_of_headers, policy_or_default}
 use Rattle.wf_script.specs.Scenarios.{host_keys, host_of, cookie_of, plain_header_of, answer_of, rule_keys, rule_of}
-use Rattle.wf_script.specs.Scenarios.{server_keys, server_of}
-use Rattle.wf_script.specs.Scenarios.{said_of}
-use Rattle.wf_script.specs.Scenarios.{has_key, document_url_of}
-use Rattle.wf_script.specs.Scenarios.{document_keys, document_of, scenario_keys, scenario_in}
-use Rattle.wf_script.specs.Valid.{IsValidHost, IsValidCookie, IsValidRule, IsValidServer}
-use Rattle.wf_script.specs.Valid.{IsValidDocument, IsValid}
-use Rattle.wf_commands.specs.Scripts.{no_steps}
-use Rattle.wf_commands.specs.Valid.{IsValidScript}
-use Rattle.wf_script.proofs.KeepsLemmas.{Keeps, Anything, keeps-anything, keeps-after}
-use Rattle.wf_script.proofs.KeepsLemmas.{keeps-given, keeps-if, keeps-required, keeps-optional, IsListOf, keeps-items}
-use Rattle.wf_script.proofs.KeepsLemmas.{keeps-list, keeps-text_that, keeps-then, keeps-some, keeps-parts}
-
-both : (a b : Bool) → IsTrue (a && b) → IsTrue a × IsTrue b
-both true b holds = (refl, holds)
-both false b holds = let no : ⊥ = cc in absurd no
-
--- the number is from least to most
-abbrev Within : ℕ → ℕ → ℕ → Type 0
-Within least most n = (least ≤ n) × (n ≤ most)
-
-keeps-number : (least most : ℕ) (tree : Data) → Keeps (Within least most) (number_of least most tree)
-keeps-number least most tree =
-    keeps-after (Within least most) (present (option_and_then as_u64 (as_number tree))) _
-    (λ n. keeps-given (Within least most) (nat_le least n && nat_le n most) n
-    (λ holds. let h = both (nat_le least n) (nat_le n most) holds in (leb-true least n h.0, leb-true n most h.1)))
+use Rattle.wf_script.specs.Scenarios.{server_keys, server_of, said_of, document_of, scenario_as}
+use Rattle.wf_script.specs.Valid.{IsValidHost, IsValidCookie, IsValidRule, IsValidServer, IsValidDocument, IsValid}
 
 -- the text passes a test
 abbrev That : (List ℕ → Bool) → List ℕ → Type 0
@@ -109,6 +94,8 @@ keeps-server tree =
     (keeps-items IsValidRule rule_of keeps-rule) (λ rules each.
     record { origin = is; rules = each })))
 
+-- ---- documents
+
 keeps-document_url : (tree : Data) → Keeps (λ url. IsTrue (is_document_url url)) (document_url_of tree)
 keeps-document_url tree =
     keeps-after (λ url. IsTrue (is_document_url url)) (present (as_str tree)) _ (λ text.
@@ -137,23 +124,42 @@ keeps-said tree =
     keeps-given IsSaid (nat_le (length (policies_of_headers headers)) 16) _
     (λ few. (never-empty (policy_of_header (listed headers)), leb-true (length (policies_of_headers headers)) 16 few)))
 
-keeps-document : (tree : Data) → Keeps IsValidDocument (document_of tree)
-keeps-document tree =
-    keeps-after IsValidDocument (only_keys document_keys tree) _ (λ _.
-    keeps-required (λ url. IsTrue (is_document_url url)) IsValidDocument (codes "url") document_url_of tree _
-    keeps-document_url (λ url is.
+-- the URL may be that of a document
+abbrev IsDocumentUrl : Parts → Type 0
+IsDocumentUrl url = IsTrue (is_document_url url)
+
+keeps-top : (format : Format) (url : Parts) → IsDocumentUrl url → (tree : Data) → Keeps IsDocumentUrl (top_of format url tree)
+keeps-top First url is tree = is
+keeps-top Second url is tree =
+    keeps-under IsDocumentUrl (codes "top") (found_or (Ok url) document_url_of (get (codes "top") tree))
+    (keeps-found_or IsDocumentUrl (Ok url) document_url_of (get (codes "top") tree) is keeps-document_url)
+
+keeps-document : (format : Format) (tree : Data) → Keeps IsValidDocument (document_of format tree)
+keeps-document format tree =
+    keeps-after IsValidDocument (only_keys (document_keys format) tree) _ (λ _.
+    keeps-required IsDocumentUrl IsValidDocument (codes "url") document_url_of tree _ keeps-document_url (λ url is.
+    keeps-then IsDocumentUrl IsValidDocument (top_of format url tree) _ (keeps-top format url is tree) (λ top above.
     keeps-optional IsSaid IsValidDocument (codes "headers") (policy.StrictOriginWhenCrossOrigin, []) said_of tree _
     (refl, omega arith) keeps-said (λ said holds.
-    keeps-required IsValidScript IsValidDocument (codes "script") (λ _. Ok no_steps) tree _
-    (λ inside. record { valid = tt; few_repeats = omega arith; few_choices = omega arith }) (λ script each.
-    record { url = is; top = is; policy = holds.0; few_policies = holds.1; script = each }))))
+    keeps-required IsValidScript IsValidDocument (codes "script") document_script_of tree _ keeps-document_script
+    (λ script good.
+    record { url = is; top = above; policy = holds.0; few_policies = holds.1; script = good })))))
 
 -- ---- the whole
 
-keeps-scenario : (tree : Data) → Keeps IsValid (scenario_in tree)
-keeps-scenario tree =
-    keeps-after IsValid (only_keys scenario_keys tree) _ (λ _.
+keeps-body_limit : (format : Format) (tree : Data) → Keeps (Within 1 1048576) (body_limit_of format tree)
+keeps-body_limit First tree = (omega arith, omega arith)
+keeps-body_limit Second tree =
+    let read = number_of 1 1048576 in
+    keeps-under (Within 1 1048576) (codes "body_limit") (found_or (Ok 1048576) read (get (codes "body_limit") tree))
+    (keeps-found_or (Within 1 1048576) (Ok 1048576) read (get (codes "body_limit") tree) (omega arith, omega arith)
+    (keeps-number 1 1048576))
+
+keeps-scenario : (format : Format) (tree : Data) → Keeps IsValid (scenario_as format tree)
+keeps-scenario format tree =
+    keeps-after IsValid (only_keys (root_keys format) tree) _ (λ _.
     keeps-after IsValid _ _ (λ _.
+    keeps-then (Within 1 1048576) IsValid (body_limit_of format tree) _ (keeps-body_limit format tree) (λ limit most.
     keeps-optional (Within 0 1099511627776) IsValid (codes "now") 0 (number_of 0 1099511627776) tree _ (
       omega arith,
       omega arith,
@@ -169,8 +175,8 @@ keeps-scenario tree =
       omega arith,
       omega arith,
     ) (keeps-number 1 65536) (λ piece within.
-    keeps-required (IsListOf IsValidDocument 1) IsValid (codes "documents") (list_of 1 document_of) tree _
-    (keeps-list IsValidDocument 1 document_of keeps-document) (λ documents all.
+    keeps-required (IsListOf IsValidDocument 1) IsValid (codes "documents") (list_of 1 (document_of format)) tree _
+    (keeps-list IsValidDocument 1 (document_of format) (keeps-document format)) (λ documents all.
     record {
       now = past.1;
       few_hosts = known.few;
@@ -181,10 +187,12 @@ keeps-scenario tree =
       most_piece = within.1;
       few_documents = all.few;
       documents = all.all;
-      some_limit = omega arith;
-      most_limit = omega arith;
-    }))))))))
+      some_limit = most.0;
+      most_limit = most.1;
+    })))))))))
 
 -- what is read of a tree is valid
-pub scenario_in-IsValid : (tree : Data) (scenario : Scenario) → scenario_in tree ≡ Ok scenario → IsValid scenario
-scenario_in-IsValid tree scenario is = subst (λ (read : Read Scenario). Keeps IsValid read) is (keeps-scenario tree)
+pub scenario_as-IsValid : (format : Format) (tree : Data) (scenario : Scenario) → scenario_as format tree ≡ Ok scenario
+    → IsValid scenario
+scenario_as-IsValid format tree scenario is =
+    subst (λ (read : Read Scenario). Keeps IsValid read) is (keeps-scenario format tree)

@@ -1,8 +1,8 @@
+pub mod Formats
 pub mod Headers
 pub mod Hosts
+pub mod Migration
 pub mod OriginTexts
-pub mod Private
-pub mod Reading
 pub mod Scenarios
 pub mod Servers
 pub mod Texts

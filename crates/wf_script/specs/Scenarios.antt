@@ -1,41 +1,34 @@
 -- The scenario of a text: the tables of a scenario's objects over the tree that `serde_json` reads.
 -- The keys of a table are listed and read in one order.
-use Rattle.std.specs.Prelude.{ℕ, Bool, true, false, nat_le, List, [], ◌∷◌, length, codes, Option, Some, None, is_some}
-use Rattle.std.specs.Prelude.{option_and_then, Result, Ok, Err, if◌then◌else◌}
+use Rattle.std.specs.Prelude.{ℕ, Bool, true, false, nat_le, List, [], ◌∷◌, length, codes, Option, Some, None}
+use Rattle.std.specs.Prelude.{option_and_then, Result, Ok, Err}
 use Rattle.serde_json.specs.Data.{Data}
-use Rattle.serde_json.specs.Find.{get, as_str}
 use Rattle.serde_json.specs.Read.{read}
-use Rattle.url.specs.Parts.{Parts}
 use Rattle.wf_text.specs.Tokens.{is_token}
 use Rattle.wf_text.specs.Values.{is_header_value}
 use Rattle.wf_csp_text.specs.declared.policy.Policy.{Policy}
 use Rattle.wf_types.specs.declared.client.Cookie.{Cookie}
-use Rattle.wf_types.specs.declared.init.Init.{Init}
 use Rattle.wf_types.specs.declared.init.Pair.{Pair}
-use Rattle.wf_types.specs.declared.mode.Credentials.{Credentials}
-use Rattle.wf_types.specs.declared.mode.Credentials.TheVariants as credentials
-use Rattle.wf_types.specs.declared.mode.Mode.{Mode}
-use Rattle.wf_types.specs.declared.mode.Mode.TheVariants as mode
-use Rattle.wf_types.specs.declared.mode.RedirectMode.{RedirectMode}
-use Rattle.wf_types.specs.declared.mode.RedirectMode.TheVariants as redirect
 use Rattle.wf_types.specs.declared.mode.ReferrerPolicy.{ReferrerPolicy}
 use Rattle.wf_types.specs.declared.mode.ReferrerPolicy.TheVariants as policy
-use Rattle.wf_types.specs.Urls.{utf8_text, url_of_text}
+use Rattle.wf_types.specs.Urls.{utf8_text}
+use Rattle.wf_form.specs.Reading.{Read, ◌>>=◌, given, number_of, truth_of, text_that, any, some_of}
+use Rattle.wf_form.specs.Reading.{has_key, only_keys, required, optional, items_of, list_of, pair_of}
+use Rattle.wf_steps.specs.Scripts.{document_script_of}
 use Rattle.wf_script.specs.declared.types.KnownHost.{KnownHost}
 use Rattle.wf_script.specs.declared.types.Rule.{Rule}
 use Rattle.wf_script.specs.declared.types.Server.{Server}
 use Rattle.wf_script.specs.declared.types.Document.{Document}
 use Rattle.wf_script.specs.declared.types.Scenario.{Scenario}
 use Rattle.wf_script.specs.declared.types.Place.{Place}
+use Rattle.wf_script.specs.declared.format.Format.{Format}
+use Rattle.wf_script.specs.Formats.{format_of, number_of_format, root_keys, body_limit_of, document_keys, top_of}
 use Rattle.wf_script.specs.Headers.{policies_of_headers, policy_of_headers}
 use Rattle.wf_script.specs.Hosts.{is_host_name}
 use Rattle.wf_script.specs.OriginTexts.{is_origin_text}
-use Rattle.wf_script.specs.Reading.{Read, ◌>>=◌, present, given, number_of, truth_of, text_that, any, word_of, some_of}
-use Rattle.wf_script.specs.Reading.{only_keys, required, optional, items_of, list_of, pair_of}
 use Rattle.wf_script.specs.Servers.{answer_bytes}
 use Rattle.wf_script.specs.Texts.{is_cookie_value}
-use Rattle.wf_script.specs.Urls.{is_document_url}
-use Rattle.wf_commands.specs.Scripts.{no_steps}
+use Rattle.wf_script.specs.Urls.{document_url_of}
 
 -- ---- known hosts
 
@@ -64,10 +57,6 @@ abbrev pub plain_header_of : Data → Read Pair
 plain_header_of tree = do
   pair ← pair_of (text_that is_token) (text_that is_header_value) tree
   Ok (record { name = pair.0; value = pair.1 })
-
--- the tree has this key
-abbrev pub has_key : List ℕ → Data → Bool
-has_key name tree = is_some (get name tree)
 
 -- an answer by its bytes, or by its status, headers and body
 abbrev pub raw_keys : List (List ℕ)
@@ -116,32 +105,23 @@ server_of tree = do
 
 -- ---- documents
 
--- the URL of a document
-abbrev pub document_url_of : Data → Read Parts
-document_url_of tree = do
-  text ← present (as_str tree)
-  url ← present (url_of_text None (Some text))
-  given (is_document_url url) url
-
-abbrev pub document_keys : List (List ℕ)
-document_keys = codes "url" ∷ codes "headers" ∷ codes "script" ∷ []
-
 -- what the headers of a document say: its referrer policy, and its policies, which are at most 16
 abbrev pub said_of : Data → Read (ReferrerPolicy × List Policy)
 said_of tree = do
   headers ← items_of plain_header_of tree
   given (nat_le (length (policies_of_headers headers)) 16) (policy_of_headers headers, policies_of_headers headers)
 
--- a document, the page at the top itself: its URL, its policies and its commands
-abbrev pub document_of : Data → Read Document
-document_of tree = do
-  known ← only_keys document_keys tree
+-- a document: its URL and that of the page at the top, what its headers say, and its script
+abbrev pub document_of : Format → Data → Read Document
+document_of format tree = do
+  known ← only_keys (document_keys format) tree
   url ← required (codes "url") document_url_of tree
+  top ← top_of format url tree
   said ← optional (codes "headers") (policy.StrictOriginWhenCrossOrigin, []) said_of tree
-  script ← required (codes "script") (λ _. Ok no_steps) tree
+  script ← required (codes "script") document_script_of tree
   Ok (record {
     url = url;
-    top = url;
+    top = top;
     policy = said.0;
     policies = said.1;
     script = script;
@@ -149,22 +129,18 @@ document_of tree = do
 
 -- ---- the whole
 
-abbrev pub scenario_keys : List (List ℕ)
-scenario_keys =
-    codes "format" ∷ codes "now" ∷ codes "hsts" ∷ codes "cookies" ∷ codes "servers" ∷ codes "piece"
-    ∷ codes "documents" ∷ []
-
--- a scenario of format 1: at most one document
-abbrev pub scenario_in : Data → Read Scenario
-scenario_in tree = do
-  known ← only_keys scenario_keys tree
-  format ← required (codes "format") (number_of 1 1) tree
+-- a scenario of a format: at most one document
+abbrev pub scenario_as : Format → Data → Read Scenario
+scenario_as format tree = do
+  known ← only_keys (root_keys format) tree
+  version ← required (codes "format") (number_of (number_of_format format) (number_of_format format)) tree
+  body_limit ← body_limit_of format tree
   now ← optional (codes "now") 0 (number_of 0 1099511627776) tree
   hosts ← optional (codes "hsts") [] (list_of 4096 host_of) tree
   cookies ← optional (codes "cookies") [] (items_of cookie_of) tree
   servers ← optional (codes "servers") [] (items_of server_of) tree
   piece ← optional (codes "piece") 4096 (number_of 1 65536) tree
-  documents ← required (codes "documents") (list_of 1 document_of) tree
+  documents ← required (codes "documents") (list_of 1 (document_of format)) tree
   Ok (record {
     now = now;
     hosts = hosts;
@@ -172,8 +148,12 @@ scenario_in tree = do
     servers = servers;
     piece = piece;
     documents = documents;
-    body_limit = 262144;
+    body_limit = body_limit;
   })
+
+-- a scenario, in the format that its root names
+abbrev pub scenario_in : Data → Read Scenario
+scenario_in tree = scenario_as (format_of tree) tree
 
 -- a place as it is told: that of the root is `/`
 abbrev pub place_text : List ℕ → List ℕ

@@ -1,11 +1,10 @@
 -- What every scenario that is read keeps: the bounds and the forms of its values.
-use Rattle.std.specs.Prelude.{◌≡◌, ◌≤◌, ◌<◌, ◌^◌, [], length, IfSome, IsTrue}
+use Rattle.std.specs.Prelude.{◌≤◌, length, IfSome, IsTrue}
 use Rattle.std.specs.List.{All}
 use Rattle.wf_text.specs.Tokens.{is_token}
 use Rattle.wf_types.specs.declared.client.Cookie.{Cookie}
-use Rattle.wf_types.specs.declared.init.Init.{Init}
-use Rattle.wf_types.specs.declared.init.Pair.{Pair}
 use Rattle.wf_types.specs.Requests.{is_policy}
+use Rattle.wf_commands.specs.Valid.{IsValidScript}
 use Rattle.wf_script.specs.declared.types.KnownHost.{KnownHost}
 use Rattle.wf_script.specs.declared.types.Rule.{Rule}
 use Rattle.wf_script.specs.declared.types.Server.{Server}
@@ -14,7 +13,6 @@ use Rattle.wf_script.specs.declared.types.Scenario.{Scenario}
 use Rattle.wf_script.specs.Hosts.{is_host_name}
 use Rattle.wf_script.specs.Texts.{is_cookie_value}
 use Rattle.wf_script.specs.OriginTexts.{is_origin_text}
-use Rattle.wf_commands.specs.Valid.{IsValidScript}
 use Rattle.wf_script.specs.Urls.{is_document_url}
 
 -- a domain as a URL has it, which is no localhost name, and the second in which its term ends
@@ -38,7 +36,7 @@ pub record IsValidServer (server : Server) : Type 0 where
   pub rules : All IsValidRule server.rules
 
 -- URLs of the document and of the page at the top that a document may have, a referrer policy that is not empty, at
--- most 16 policies, and commands
+-- most 16 policies, and a script
 pub record IsValidDocument (document : Document) : Type 0 where
   pub url : IsTrue (is_document_url document.url)
   pub top : IsTrue (is_document_url document.top)
@@ -46,8 +44,8 @@ pub record IsValidDocument (document : Document) : Type 0 where
   pub few_policies : length document.policies ≤ 16
   pub script : IsValidScript document.script
 
--- a time of at most 2^40 seconds, at most 4,096 known hosts, a piece of 1 to 65,536 bytes, and at most one
--- document
+-- a time of at most 2^40 seconds, at most 4,096 known hosts, a piece of 1 to 65,536 bytes, at most one document, and
+-- bodies of 1 to 1,048,576 bytes at most
 pub record IsValid (scenario : Scenario) : Type 0 where
   pub now : scenario.now ≤ 1099511627776
   pub few_hosts : length scenario.hosts ≤ 4096

@@ -1,12 +1,10 @@
 // The table of cookies.
 ghost use Rattle.wf_script.specs.Scenarios as spec;
 
-use crate::form::Form;
-use crate::lists::PairOf;
-use crate::refused::Refused;
-use crate::texts::{CookieValue, OriginText, TextThat};
+use crate::texts::{CookieValue, OriginText};
 use serde_json::Value;
 use std::alloc::Global;
+use wf_form::{Form, PairOf, Refused, TextThat};
 use wf_types::Cookie;
 
 const COOKIE: PairOf<TextThat<OriginText>, TextThat<CookieValue>> = PairOf {

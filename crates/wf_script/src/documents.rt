@@ -1,76 +1,39 @@
 // The table of documents.
-ghost use Rattle.std.specs.Prelude.{Ok};
-ghost use Rattle.wf_commands.specs.Scripts.{no_steps};
 ghost use Rattle.wf_script.specs.Scenarios as spec;
 
-use crate::fields::{only_keys, optional, required};
-use crate::form::{Form, refused_here};
+use crate::format::{Format, document_keys, top_url};
 use crate::headers::DocumentHeaders;
-use crate::refused::Refused;
 use crate::types::Document;
-use crate::urls::is_document_url;
+use crate::urls::DocumentUrl;
 use serde_json::Value;
 use std::alloc::Global;
-use url::Url;
-use wf_commands::Script;
+use wf_form::{Form, Refused, only_keys, optional, required};
+use wf_steps::DocumentScript;
 use wf_text::Items;
-use wf_types::{ReferrerPolicy, url_alone};
+use wf_types::ReferrerPolicy;
 
-const KEYS: &[&str] = &["url", "headers", "script"];
-
-// stub
+/// A document: its URL and that of the page at the top, what its headers say, and its script.
 #[derive(Drop)]
-struct NoScript;
-
-impl Form for NoScript {
-    type Out = Script;
-
-    ghost reads = { λ _ _. Ok no_steps };
-
-    fn read(&self, alloc: Global, _tree: &Value) -> Result<Script, Refused> {
-        Ok(Script::new(alloc))
-    }
+pub(crate) struct DocumentTable {
+    pub(crate) format: Format,
 }
-
-// The URL of a document.
-struct DocumentUrl;
-
-impl Form for DocumentUrl {
-    type Out = Url;
-
-    ghost reads = { λ _. spec.document_url_of };
-
-    fn read(&self, alloc: Global, tree: &Value) -> Result<Url, Refused> {
-        let Some(text) = tree.as_str() else {
-            return refused_here(alloc);
-        };
-        match url_alone(alloc, text)? {
-            Some(url) if is_document_url(&url) => Ok(url),
-            _ => refused_here(alloc),
-        }
-    }
-}
-
-/// A document, the page at the top itself: its URL, what its headers say, and its commands.
-#[derive(Drop)]
-pub(crate) struct DocumentTable;
 
 impl Form for DocumentTable {
     type Out = Document;
 
-    ghost reads = { λ _. spec.document_of };
+    ghost reads = { λ table. spec.document_of table.format };
 
     fn read(&self, alloc: Global, tree: &Value) -> Result<Document, Refused> {
-        only_keys(alloc, tree, KEYS)?;
+        only_keys(alloc, tree, document_keys(self.format))?;
         let url = required(alloc, tree, "url", &DocumentUrl)?;
+        let top = top_url(alloc, self.format, &url, tree)?;
         let unsaid = (
             ReferrerPolicy::StrictOriginWhenCrossOrigin,
             Items::new(alloc),
         );
         let said = optional(alloc, tree, "headers", unsaid, &DocumentHeaders)?;
         let (policy, policies) = said;
-        let script = required(alloc, tree, "script", &NoScript)?;
-        let top = url.clone()?;
+        let script = required(alloc, tree, "script", &DocumentScript)?;
         Ok(Document {
             url,
             top,

@@ -3,13 +3,10 @@ ghost use Rattle.std.specs.Prelude.{◌≡◌, ◌++◌, IfOk, OnOk};
 ghost use Rattle.wf_script.specs.Headers as spec;
 ghost use Rattle.wf_script.specs.Scenarios as table;
 
-use crate::form::{Form, refused_here};
-use crate::lists::{ItemsOf, PairOf};
-use crate::refused::Refused;
-use crate::texts::{HeaderValue, TextThat, Token};
 use serde_json::Value;
 use std::alloc::Global;
 use wf_csp_text::{Policies, parse_policies};
+use wf_form::{Form, HeaderValue, ItemsOf, PairOf, Refused, TextThat, Token, refused_here};
 use wf_headers::HeaderList;
 use wf_text::OutOfMemory;
 use wf_types::{Pair, ReferrerPolicy, policy_of_header};

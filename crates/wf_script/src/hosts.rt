@@ -3,14 +3,11 @@ ghost use Rattle.std.specs.Prelude.{◌≡◌, IfOk};
 ghost use Rattle.wf_script.specs.Hosts as hosts;
 ghost use Rattle.wf_script.specs.Scenarios as spec;
 
-use crate::fields::{Number, Truth, only_keys, required};
-use crate::form::Form;
-use crate::refused::Refused;
-use crate::texts::{TextTest, TextThat};
 use crate::types::KnownHost;
 use serde_json::Value;
 use std::alloc::Global;
 use url::Url;
+use wf_form::{Form, Number, Refused, TextTest, TextThat, Truth, only_keys, required};
 use wf_origin::is_local_name;
 use wf_text::OutOfMemory;
 use wf_types::url_alone;

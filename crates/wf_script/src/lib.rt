@@ -5,23 +5,20 @@
 mod answers;
 mod cookies;
 mod documents;
-mod fields;
-mod form;
+mod format;
 mod headers;
 mod hosts;
-mod lists;
+mod laws;
 mod origins;
 mod read;
-mod refused;
 mod servers;
 mod texts;
 mod types;
 mod urls;
-mod words;
 
+pub use laws::law_migrated;
 pub use origins::read_origin;
 pub use types::{
     Document, Documents, Hosts, KnownHost, Place, Rule, Rules, Scenario, Server, Servers,
 };
-
 pub use wf_commands::{Command, Script, Test};

@@ -6,29 +6,15 @@ ghost use Rattle.wf_script.specs.Valid.{IsValid};
 
 use crate::cookies::CookiePair;
 use crate::documents::DocumentTable;
-use crate::fields::{Number, only_keys, optional, required};
-use crate::form::Form;
+use crate::format::{Format, body_limit, format_number, format_of, root_keys};
 use crate::hosts::HostTable;
-use crate::lists::{ItemsOf, ListOf};
-use crate::refused::Refused;
 use crate::servers::ServerTable;
 use crate::types::{Place, Scenario, Servers};
 use serde_json::Value;
 use std::alloc::Global;
+use wf_form::{Form, ItemsOf, ListOf, Number, Refused, only_keys, optional, required};
 use wf_text::{Bytes, Items, OutOfMemory};
 use wf_types::utf8_text;
-
-const KEYS: &[&str] = &[
-    "format",
-    "now",
-    "hsts",
-    "cookies",
-    "servers",
-    "piece",
-    "documents",
-];
-
-const FORMAT: Number = Number { least: 1, most: 1 };
 
 const NOW: Number = Number {
     least: 0,
@@ -49,28 +35,37 @@ const PIECE: Number = Number {
     most: 65_536,
 };
 
-const DOCUMENTS: ListOf<DocumentTable> = ListOf {
-    most: 1,
-    item: DocumentTable,
-};
+// The documents of a scenario, of which there is at most one.
+fn documents_of(format: Format) -> ListOf<DocumentTable>
+    ensures { result ≡ record { most = 1; item = record { format = format } } }
+{
+    ListOf {
+        most: 1,
+        item: DocumentTable { format },
+    }
+}
 
-// A scenario of format 1.
-struct ScenarioTable;
+// A scenario of a format.
+#[derive(Drop)]
+struct ScenarioTable {
+    format: Format,
+}
 
 impl Form for ScenarioTable {
     type Out = Scenario;
 
-    ghost reads = { λ _. spec.scenario_in };
+    ghost reads = { λ table. spec.scenario_as table.format };
 
     fn read(&self, alloc: Global, tree: &Value) -> Result<Scenario, Refused> {
-        only_keys(alloc, tree, KEYS)?;
-        required(alloc, tree, "format", &FORMAT)?;
+        only_keys(alloc, tree, root_keys(self.format))?;
+        required(alloc, tree, "format", &format_number(self.format))?;
+        let body_limit = body_limit(alloc, self.format, tree)?;
         let now = optional(alloc, tree, "now", 0, &NOW)?;
         let hosts = optional(alloc, tree, "hsts", Items::new(alloc), &HSTS)?;
         let cookies = optional(alloc, tree, "cookies", Items::new(alloc), &COOKIES)?;
         let servers = optional(alloc, tree, "servers", Items::new(alloc), &SERVERS)?;
         let piece = optional(alloc, tree, "piece", 4096, &PIECE)?;
-        let documents = required(alloc, tree, "documents", &DOCUMENTS)?;
+        let documents = required(alloc, tree, "documents", &documents_of(self.format))?;
         Ok(Scenario {
             now,
             hosts,
@@ -78,7 +73,7 @@ impl Form for ScenarioTable {
             servers: Servers::of(servers),
             piece: piece as u32,
             documents,
-            body_limit: 262_144,
+            body_limit,
         })
     }
 }
@@ -110,14 +105,16 @@ fn told(alloc: Global, place: Bytes) -> Result<Place, OutOfMemory>
 }
 
 impl Scenario {
-    /// Reads a scenario of format 1 from the JSON tree (RFC 8259) of a text, or answers the place at
-    /// which the text is refused: `json` exactly where it is no tree, since it is not UTF-8 or not
-    /// JSON, and else the first place, in the order in which the tables are walked, depth first. An
-    /// object that is none, or has a key that its table lacks, is refused at its own place, a
-    /// required key that is missing and a value that is not taken at the key, an item of a list at
-    /// its number, as in `/documents/0/script/0/fetch/headers/0/1`. The place of the root is `/`.
-    /// What is read is valid: its counts and values keep the format's bounds. `OutOfMemory` tells
-    /// want of memory alone.
+    /// Reads a scenario of format 1 or 2 from the JSON tree (RFC 8259) of a text, or answers the
+    /// place at which the text is refused: `json` exactly where it is no tree, since it is not UTF-8
+    /// or not JSON, and else the first place, in the order in which the tables are walked, depth
+    /// first. The tables of format 2 hold exactly where the root is an object whose `format` is the
+    /// number 2. An object that is none, or has a key that its table lacks, is refused at its own
+    /// place, a required key that is missing and a value that is not taken at the key, an item of a
+    /// list at its number, as in `/documents/0/script/0/fetch/headers/0/1`; a `repeat` inside eight
+    /// others and an `if` inside 16 others at that key. The place of the root is `/`. What is read
+    /// is valid: its counts and values keep the format's bounds. `OutOfMemory` tells want of memory
+    /// alone.
     pub fn read(alloc: Global, text: &[u8]) -> Result<Result<Scenario, Place>, OutOfMemory>
         ensures value { IfOk result (λ read. read ≡ spec.scenario_of text.now) }
         ensures valid { IfOk result (λ read. IfOk read IsValid) }
@@ -126,7 +123,10 @@ impl Scenario {
             let text = Bytes::of(alloc, b"json")?;
             return Ok(Err(Place { text }));
         };
-        match ScenarioTable.read(alloc, &tree) {
+        let table = ScenarioTable {
+            format: format_of(&tree),
+        };
+        match table.read(alloc, &tree) {
             Ok(scenario) => Ok(Ok(scenario)),
             Err(Refused::Memory) => Err(OutOfMemory),
             Err(Refused::At(place)) => Ok(Err(told(alloc, place)?)),

@@ -2,18 +2,17 @@
 ghost use Rattle.wf_script.specs.Scenarios as spec;
 ghost use Rattle.std.specs.Prelude.{◌≡◌, map, is_some};
 ghost use Rattle.serde_json.specs.View.{view};
-ghost use Rattle.wf_script.specs.Private.Gives.{Gives};
+ghost use Rattle.wf_form.specs.Gives.{Gives};
 
 use crate::answers::answer_bytes;
-use crate::fields::{Given, Number, only_keys, optional, required};
-use crate::form::Form;
 use crate::headers::PlainHeader;
-use crate::lists::ItemsOf;
-use crate::refused::Refused;
-use crate::texts::{AnyText, OriginText, TextThat, Token};
+use crate::texts::OriginText;
 use crate::types::{Rule, Server};
 use serde_json::Value;
 use std::alloc::Global;
+use wf_form::{
+    AnyText, Form, Given, ItemsOf, Number, Refused, TextThat, Token, only_keys, optional, required,
+};
 use wf_text::{Bytes, Items};
 
 // The keys of a rule whose answer is given by its bytes.

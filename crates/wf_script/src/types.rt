@@ -3,9 +3,9 @@ ghost use Rattle.std.specs.Prelude.{◌≡◌, ◌<◌, ◌++◌, ◌∷◌, [],
 use std::alloc::Global;
 use std::marker::Model;
 use url::Url;
+use wf_commands::Script;
 use wf_csp_text::Policies;
 use wf_text::{Bytes, Items, OutOfMemory};
-use wf_commands::Script;
 use wf_types::{Cookies, ReferrerPolicy};
 
 /// A known HSTS host (RFC 6797, section 8.1.1): its domain as a URL has it, whether the names under it

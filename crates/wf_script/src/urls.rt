@@ -1,16 +1,40 @@
-// The URLs that documents may have.
+// The URLs that documents, and the pages at their top, may have.
 ghost use Rattle.std.specs.Prelude.{◌≡◌};
 ghost use Rattle.wf_script.specs.Urls as spec;
 
+use serde_json::Value;
+use std::alloc::Global;
 use url::Url;
+use wf_form::{Form, Refused, refused_here};
 use wf_origin::is_http_url;
+use wf_types::url_alone;
 
 // Whether it is an http or https URL without credentials, of at most 8,192 bytes.
-pub(crate) fn is_document_url(url: &Url) -> bool
+fn is_document_url(url: &Url) -> bool
     ensures { result ≡ spec.is_document_url url.now }
 {
     is_http_url(url)
         && url.username().is_empty()
         && url.password().is_none()
         && url.as_str().len() <= 8192
+}
+
+/// The URL of a document, or of the page at its top.
+#[derive(Drop)]
+pub(crate) struct DocumentUrl;
+
+impl Form for DocumentUrl {
+    type Out = Url;
+
+    ghost reads = { λ _. spec.document_url_of };
+
+    fn read(&self, alloc: Global, tree: &Value) -> Result<Url, Refused> {
+        let Some(text) = tree.as_str() else {
+            return refused_here(alloc);
+        };
+        match url_alone(alloc, text)? {
+            Some(url) if is_document_url(&url) => Ok(url),
+            _ => refused_here(alloc),
+        }
+    }
 }

@@ -1,0 +1,125 @@
+// The formats of scenarios, and the keys that only one of them has.
+ghost use Rattle.std.specs.Prelude.{◌≡◌, map};
+ghost use Rattle.serde_json.specs.View.{view};
+ghost use Rattle.wf_form.specs.Gives.{Gives};
+ghost use Rattle.wf_script.specs.Formats as spec;
+
+use crate::urls::DocumentUrl;
+use serde_json::Value;
+use std::alloc::Global;
+use url::Url;
+use wf_form::{Number, Refused, optional};
+
+/// The format of a scenario.
+#[derive(Clone, Copy, Debug)]
+pub(crate) enum Format {
+    First,
+    Second,
+}
+
+const FIRST: Number = Number { least: 1, most: 1 };
+
+const SECOND: Number = Number { least: 2, most: 2 };
+
+const ROOT_KEYS: &[&str] = &[
+    "format",
+    "now",
+    "hsts",
+    "cookies",
+    "servers",
+    "piece",
+    "documents",
+];
+
+const ROOT_KEYS_OF_SECOND: &[&str] = &[
+    "format",
+    "body_limit",
+    "now",
+    "hsts",
+    "cookies",
+    "servers",
+    "piece",
+    "documents",
+];
+
+const DOCUMENT_KEYS: &[&str] = &["url", "headers", "script"];
+
+const DOCUMENT_KEYS_OF_SECOND: &[&str] = &["url", "top", "headers", "script"];
+
+const BODY_LIMIT: Number = Number {
+    least: 1,
+    most: 1_048_576,
+};
+
+// The format of a tree: the second where the root is an object whose `format` is the number 2.
+pub(crate) fn format_of(tree: &Value) -> Format
+    ensures { result ≡ spec.format_of (view tree.now) }
+{
+    let Some(number) = tree.get("format") else {
+        return Format::First;
+    };
+    match number.as_u64() {
+        Some(2) => Format::Second,
+        _ => Format::First,
+    }
+}
+
+// The number of a format.
+pub(crate) fn format_number(format: Format) -> Number
+    ensures { result
+        ≡ record { least = spec.number_of_format format; most = spec.number_of_format format } }
+{
+    match format {
+        Format::First => FIRST,
+        Format::Second => SECOND,
+    }
+}
+
+// The keys of a scenario.
+pub(crate) fn root_keys(format: Format) -> &'static [&'static str]
+    ensures { map (λ name. name.now) result.now ≡ spec.root_keys format }
+{
+    match format {
+        Format::First => ROOT_KEYS,
+        Format::Second => ROOT_KEYS_OF_SECOND,
+    }
+}
+
+// The keys of a document.
+pub(crate) fn document_keys(format: Format) -> &'static [&'static str]
+    ensures { map (λ name. name.now) result.now ≡ spec.document_keys format }
+{
+    match format {
+        Format::First => DOCUMENT_KEYS,
+        Format::Second => DOCUMENT_KEYS_OF_SECOND,
+    }
+}
+
+// The greatest number of bytes that a response's body may have.
+pub(crate) fn body_limit(alloc: Global, format: Format, tree: &Value) -> Result<u32, Refused>
+    ensures { Gives result (spec.body_limit_of format (view tree.now)) }
+{
+    match format {
+        Format::First => Ok(262_144),
+        Format::Second => {
+            let limit = optional(alloc, tree, "body_limit", 1_048_576, &BODY_LIMIT)?;
+            Ok(limit as u32)
+        }
+    }
+}
+
+// The URL of the page at the top of a document with this URL.
+pub(crate) fn top_url(
+    alloc: Global,
+    format: Format,
+    url: &Url,
+    tree: &Value,
+) -> Result<Url, Refused>
+    ensures { Gives result (spec.top_of format url.now (view tree.now)) }
+{
+    let itself = url.clone()?;
+    match format {
+        Format::First => Ok(itself),
+        Format::Second => optional(alloc, tree, "top", itself, &DocumentUrl),
+    }
+}
