@@ -48,7 +48,14 @@ fn kept(
     requires { IsRequest request.now }
 {
     match call {
-        Call::Filtered => Ok(filtered(alloc, request, head, false)?.headers.len()),
+        Call::Filtered => {
+            // The call takes the head, so it is given a copy.
+            let head = Head {
+                status: head.status,
+                headers: head.headers.copy(alloc)?,
+            };
+            Ok(filtered(alloc, request, head, false)?.headers.len())
+        }
         Call::Hide => Ok(hide(alloc, request, hop, head)?.headers.len()),
     }
 }

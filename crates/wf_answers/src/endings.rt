@@ -62,11 +62,12 @@ fn handed_over(request: &Request, response: Response) -> Outcome
 }
 
 // The response of a head, before its body is read.
-fn response_of(alloc: Global, request: &Request, head: &Head) -> Result<Response, OutOfMemory>
+fn response_of(alloc: Global, request: &Request, head: Head) -> Result<Response, OutOfMemory>
     requires { IsRequest request.now }
-    ensures { IfOk result (λ response. response ≡ spec.response_of request.now head.now) }
+    ensures { IfOk result (λ response. response ≡ spec.response_of request.now head) }
 {
-    filtered(alloc, request, head, is_manual(request, head))
+    let manual = is_manual(request, &head);
+    filtered(alloc, request, head, manual)
 }
 
 // The text, where there is one.
@@ -156,11 +157,11 @@ fn is_read(request: &Request) -> bool
 }
 
 // A response whose body is read, unless it is coded.
-fn ended_read(alloc: Global, request: &Request, head: &Head) -> Result<Ended, OutOfMemory>
+fn ended_read(alloc: Global, request: &Request, head: Head) -> Result<Ended, OutOfMemory>
     requires { IsRequest request.now }
-    ensures { IfOk result (λ end. end ≡ spec.ended_read request.now head.now) }
+    ensures { IfOk result (λ end. end ≡ spec.ended_read request.now head) }
 {
-    if is_coded(alloc, head)? {
+    if is_coded(alloc, &head)? {
         Ok(Ended::Over(Outcome::Error(NetError::Coding)))
     } else {
         Ok(Ended::Reads(response_of(alloc, request, head)?))
@@ -168,11 +169,11 @@ fn ended_read(alloc: Global, request: &Request, head: &Head) -> Result<Ended, Ou
 }
 
 // A response that is not blocked.
-fn ended_unblocked(alloc: Global, request: &Request, head: &Head) -> Result<Ended, OutOfMemory>
+fn ended_unblocked(alloc: Global, request: &Request, head: Head) -> Result<Ended, OutOfMemory>
     requires { IsRequest request.now }
-    ensures { IfOk result (λ end. end ≡ spec.ended_unblocked request.now head.now) }
+    ensures { IfOk result (λ end. end ≡ spec.ended_unblocked request.now head) }
 {
-    if is_bodiless(request, head) {
+    if is_bodiless(request, &head) {
         let response = response_of(alloc, request, head)?;
         Ok(Ended::Over(without_body(request, response)))
     } else if !is_read(request) {
@@ -193,11 +194,11 @@ fn ended_unblocked(alloc: Global, request: &Request, head: &Head) -> Result<Ende
 pub fn ended(
     alloc: Global,
     request: &Request,
-    head: &Head,
+    head: Head,
     blocked: bool,
 ) -> Result<Ended, OutOfMemory>
     requires { IsRequest request.now }
-    ensures { IfOk result (λ end. end ≡ spec.ended blocked request.now head.now) }
+    ensures { IfOk result (λ end. end ≡ spec.ended blocked request.now head) }
 {
     match block_error(alloc, blocked, request.destination, &head.headers)? {
         Some(error) => Ok(Ended::Over(Outcome::Error(error))),

@@ -133,7 +133,7 @@ pub(crate) fn finish(
     let (violations, blocked) = lent
         .policies
         .check_response(alloc, &level.request, &lent.client.origin)?;
-    let end = ended(alloc, &level.request, &head, blocked)?;
+    let end = ended(alloc, &level.request, head, blocked)?;
     tell_at_end(alloc, lent, level, violations, 0, end)
 }
 

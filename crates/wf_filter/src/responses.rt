@@ -1,4 +1,4 @@
-ghost use Rattle.std.specs.Prelude.{◌≡◌, filter, IfOk};
+ghost use Rattle.std.specs.Prelude.{◌≡◌, filter, IfOk, OnOk};
 ghost use Rattle.wf_filter.specs.Filtered as spec;
 ghost use Rattle.wf_filter.specs.Names.{is_safelisted};
 ghost use Rattle.wf_filter.specs.Private.Exposing as private;
@@ -37,30 +37,42 @@ pub fn exposure_to(
     exposure_of(alloc, headers, request.credentials.is_include())
 }
 
-// The headers with a CORS-safelisted response-header name, given the names that the list exposes to a
-// request.
-fn safelisted_headers(
+// Takes out the headers that have a forbidden response-header name.
+fn take_out_forbidden(headers: &mut HeaderList)
+    ensures { headers.new ≡ spec.without_forbidden headers.old }
+{
+    headers.retain(&Keep::Allowed);
+}
+
+// Keeps the headers with a CORS-safelisted response-header name, given the names that the list exposes
+// to a request.
+fn keep_safelisted(
     alloc: Global,
     request: &Request,
-    headers: &HeaderList,
-) -> Result<HeaderList, OutOfMemory>
-    ensures { IfOk result (λ list. list
-        ≡ filter (is_safelisted (spec.exposed_to request.now headers.now)) headers.now) }
+    headers: &mut HeaderList,
+) -> Result<(), OutOfMemory>
+    ensures { OnOk result (headers.new
+        ≡ filter (is_safelisted (spec.exposed_to request.now headers.old)) headers.old) }
 {
     let exposure = exposure_to(alloc, request, headers)?;
-    headers.copy_where(alloc, &Keep::Safelisted(&exposure))
+    headers.retain(&Keep::Safelisted(&exposure));
+    Ok(())
 }
 
 // "basic filtered response"
-fn basic_filtered(alloc: Global, request: &Request, head: &Head) -> Result<Response, OutOfMemory>
+fn basic_filtered(alloc: Global, request: &Request, head: Head) -> Result<Response, OutOfMemory>
     requires { IsRequest request.now }
-    ensures { IfOk result (λ response. response ≡ spec.basic_filtered request.now head.now) }
+    ensures { IfOk result (λ response. response ≡ spec.basic_filtered request.now head) }
 {
     let url = response_url(alloc, request)?;
-    let headers = without_forbidden(alloc, &head.headers)?;
+    let Head {
+        status,
+        mut headers,
+    } = head;
+    take_out_forbidden(&mut headers);
     Ok(Response {
         kind: ResponseKind::Basic,
-        status: head.status,
+        status,
         url: Some(url),
         headers,
         body: BodyEnd::Null,
@@ -68,15 +80,19 @@ fn basic_filtered(alloc: Global, request: &Request, head: &Head) -> Result<Respo
 }
 
 // "CORS filtered response"
-fn cors_filtered(alloc: Global, request: &Request, head: &Head) -> Result<Response, OutOfMemory>
+fn cors_filtered(alloc: Global, request: &Request, head: Head) -> Result<Response, OutOfMemory>
     requires { IsRequest request.now }
-    ensures { IfOk result (λ response. response ≡ spec.cors_filtered request.now head.now) }
+    ensures { IfOk result (λ response. response ≡ spec.cors_filtered request.now head) }
 {
     let url = response_url(alloc, request)?;
-    let headers = safelisted_headers(alloc, request, &head.headers)?;
+    let Head {
+        status,
+        mut headers,
+    } = head;
+    keep_safelisted(alloc, request, &mut headers)?;
     Ok(Response {
         kind: ResponseKind::Cors,
-        status: head.status,
+        status,
         url: Some(url),
         headers,
         body: BodyEnd::Null,
@@ -114,16 +130,16 @@ fn redirect_filtered(alloc: Global, request: &Request) -> Result<Response, OutOf
 /// The filtered response of a head (Fetch, section 2.2.6), whose body is null until it is read: an
 /// opaque-redirect one where the head is a redirect and the redirect mode is manual, which `manual`
 /// tells, and else a basic, CORS or opaque one by the request's tainting. Headers stand in order
-/// and as they are spelled. Each header of a CORS response is compared with the exposed names that
-/// are listed. The only error is want of memory.
+/// and as they are spelled, and are those of the head, not copies. Each header of a CORS response is
+/// compared with the exposed names that are listed. The only error is want of memory.
 pub fn filtered(
     alloc: Global,
     request: &Request,
-    head: &Head,
+    head: Head,
     manual: bool,
 ) -> Result<Response, OutOfMemory>
     requires { IsRequest request.now }
-    ensures { IfOk result (λ response. response ≡ spec.filtered request.now head.now manual) }
+    ensures { IfOk result (λ response. response ≡ spec.filtered request.now head manual) }
 {
     if manual {
         return redirect_filtered(alloc, request);

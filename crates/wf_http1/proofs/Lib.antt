@@ -12,3 +12,4 @@ pub mod ChunkLemmas
 pub mod TakingLemmas
 pub mod BodyLemmas
 pub mod OpenLemmas
+pub mod LengthLemmas

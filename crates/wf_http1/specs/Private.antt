@@ -2,3 +2,4 @@ pub mod HeadReading
 pub mod HeadPushing
 pub mod Places
 pub mod BodyPlaces
+pub mod Lengths

@@ -1,11 +1,12 @@
-ghost use Rattle.std.specs.Prelude.{◌≡◌, ◌==◌, IfOk, IsTrue};
+ghost use Rattle.std.specs.Prelude.{◌≡◌, ◌==◌, IfOk, IfSome, IsTrue, option_copied};
 ghost use Rattle.std.specs.List.{list_all};
 ghost use Rattle.std.specs.Str.Parse.{digits_value};
 ghost use Rattle.wf_text.specs.Digits.{is_digits};
 ghost use Rattle.wf_http1.specs.Framings as spec;
+ghost use Rattle.wf_http1.specs.Private.Lengths.{first_value};
 
 use std::alloc::Global;
-use wf_headers::HeaderList;
+use wf_headers::{Header, HeaderList};
 use wf_text::{BytesList, OutOfMemory, digits_at_most, eq_fold, parse_digits, trim_tab_or_space};
 use wf_types::Head;
 
@@ -56,10 +57,37 @@ fn of_coding(coding: &[u8]) -> Framing
     }
 }
 
+// The value of the first header of that name.
+fn first_value<'a>(headers: &'a [Header], name: &[u8]) -> Option<&'a [u8]>
+    ensures { option_copied result ≡ first_value name.now headers.now }
+{
+    for header in headers {
+        if eq_fold(header.name.as_slice(), name) {
+            return Some(header.value.as_slice());
+        }
+    }
+    None
+}
+
+// The length that one value of Content-Length tells by its digits alone, as most do. It takes no memory.
+fn length_alone(headers: &HeaderList) -> Option<u64>
+    ensures { IfSome result (λ length. spec.of_content_length headers.now ≡ Framing.Length length) }
+{
+    let value = first_value(headers.as_slice(), b"Content-Length")?;
+    if headers.has_value(b"Content-Length", value) {
+        parse_digits(value, u64::MAX)
+    } else {
+        None
+    }
+}
+
 // By the values of Content-Length, and to the end where there are none.
 fn of_content_length(alloc: Global, headers: &HeaderList) -> Result<Framing, OutOfMemory>
     ensures { IfOk result (λ framing. framing ≡ spec.of_content_length headers.now) }
 {
+    if let Some(length) = length_alone(headers) {
+        return Ok(Framing::Length(length));
+    }
     match headers.split_values(alloc, b"Content-Length")? {
         Some(texts) => Ok(of_lengths(&texts)),
         None => Ok(Framing::ToEnd),

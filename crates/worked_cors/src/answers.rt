@@ -41,7 +41,7 @@ fn exposed(alloc: Global, row: &Row) -> Result<Option<Bytes>, Failed> {
 fn response(alloc: Global, row: &Row, manual: bool) -> Result<Option<Bytes>, Failed> {
     let request = request_of(alloc, row.text(0))?;
     let head = head_of(alloc, row, 1)?;
-    response_shown(alloc, &filtered(alloc, &request, &head, manual)?)
+    response_shown(alloc, &filtered(alloc, &request, head, manual)?)
 }
 
 // The type of a response, its status, its URL and its headers.
