@@ -1,3 +1,4 @@
+pub mod Computed
 pub mod EmbedLemmas
 pub mod FillingLemmas
 pub mod PlayLemmas

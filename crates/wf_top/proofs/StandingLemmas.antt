@@ -90,7 +90,7 @@ event-state a (event.Load n kind) b is = ap (λ (w : World (List Server)). w.exc
 event-state a (event.Call op reply) b is = ap (λ (w : World (List Server)). w.exchange.state) is
 event-state a (event.Sent hop) b is = ap (λ (w : World (List Server)). w.exchange.state) is
 event-state a (event.Told violation) b is = ap (λ (w : World (List Server)). w.exchange.state) is
-event-state a (event.LoadFailed error) b is = ap (λ (w : World (List Server)). w.exchange.state) is
+event-state a (event.LoadFailed error) b is = ap (λ (o : Outside (List Server)). o.state) is.outside_is
 event-state a (event.TypeError fault) b is = ap (λ (w : World (List Server)). w.exchange.state) is
 event-state a (event.LoadError fault) b is = ap (λ (w : World (List Server)). w.exchange.state) is
 
