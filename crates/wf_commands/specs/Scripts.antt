@@ -1,6 +1,6 @@
 -- A script as plain data: its steps in order, with the scripts inside them (this project's own; a page's script in HTML
 -- would call `fetch` and load resources).
-use Rattle.std.specs.Prelude.{ℕ, ◌+◌}
+use Rattle.std.specs.Prelude.{ℕ, zero, suc, ◌+◌, Option, Some, None}
 use Rattle.wf_types.specs.declared.init.Init.{Init}
 use Rattle.wf_types.specs.declared.init.LoadInit.{LoadInit}
 use Rattle.wf_commands.specs.declared.command.Test.{Test}
@@ -23,6 +23,12 @@ mutual
 abbrev pub count : Steps → ℕ
 count no_steps = 0
 count (step one more) = count more + 1
+
+-- the step at an index, where there is one
+abbrev pub step_at : ℕ → Steps → Option Step
+step_at index no_steps = None
+step_at zero (step one more) = Some one
+step_at (suc index) (step one more) = step_at index more
 
 -- a step more, at the end
 abbrev pub and_step : Steps → Step → Steps

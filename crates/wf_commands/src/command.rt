@@ -64,7 +64,7 @@ impl Model for Script {
 
 impl Script {
     ghost use Rattle.std.specs.Prelude.{◌≡◌, ◌<◌, Some, OnOk, OnErr};
-    ghost use Rattle.wf_commands.specs.Scripts.{no_steps, count, and_step};
+    ghost use Rattle.wf_commands.specs.Scripts.{no_steps, count, and_step, step_at};
     ghost use Rattle.wf_commands.specs.Commands.{step_of, steps_of};
 
     /// A script without commands. It takes no memory.
@@ -90,6 +90,14 @@ impl Script {
         ensures { result ≡ count self.now }
     {
         self.commands.len()
+    }
+
+    /// The command at an index below the number of commands.
+    pub fn at(&self, index: usize) -> &Command
+        requires { index < count self.now }
+        ensures { step_at index self.now ≡ Some (step_of result.now) }
+    {
+        &self.commands[index]
     }
 
     /// The commands, in order.

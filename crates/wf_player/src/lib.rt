@@ -1,4 +1,4 @@
-// Documents, played: each script, fetch by fetch, over a link and a share of the book.
+// Documents, played: each script, command by command, over a link and a share of the book.
 #![tactic(auto)]
 
 mod document;

@@ -1,4 +1,5 @@
 ghost use Rattle.std.specs.Prelude.{◌≡◌, ◌++◌, IfOk, OnOk, map, option_map};
+ghost use Rattle.wf_text.specs.Trims.{http_whitespace, trimmed};
 ghost use Rattle.wf_commands.specs.Templates.{filled, placed};
 ghost use Rattle.wf_run.specs.Filling as short;
 ghost use Rattle.wf_run.specs.Results.{lent_result, value_of};
@@ -11,7 +12,7 @@ use wf_print::Event;
 use wf_text::{Bytes, OutOfMemory, after_byte, before_byte, trim_http};
 use wf_types::{Init, LoadInit, Pair, Pairs};
 
-/// How many bytes of a body are built at most: one more than a request's body may have.
+/// How many bytes of a body are handed on at most: one more than a request's body may have.
 const MOST_BODY: usize = 65_537;
 
 // Adds what a piece behind a `${` comes to: the value of its name, and what follows the `}`.
@@ -62,6 +63,17 @@ fn fill_body(alloc: Global, last: Option<&Event>, template: &[u8]) -> Result<Byt
     Ok(Bytes::from_vec(text))
 }
 
+// A header value, normalised. It is copied only where there is something to trim.
+fn normalized(alloc: Global, value: Bytes) -> Result<Bytes, OutOfMemory>
+    ensures { IfOk result (λ made. made ≡ trimmed http_whitespace value) }
+{
+    let trimmed = trim_http(value.as_slice());
+    if trimmed.len() == value.len() {
+        return Ok(value);
+    }
+    Bytes::of(alloc, trimmed)
+}
+
 // A header, its value filled and then normalised.
 fn filled_pair(alloc: Global, last: Option<&Event>, pair: &Pair) -> Result<Pair, OutOfMemory>
     ensures { IfOk result (λ filled. filled ≡ spec.filled_pair (lent_result last.entry) pair.now) }
@@ -69,7 +81,7 @@ fn filled_pair(alloc: Global, last: Option<&Event>, pair: &Pair) -> Result<Pair,
     let value = fill(alloc, last, pair.value.as_slice())?;
     Ok(Pair {
         name: pair.name.copy(alloc)?,
-        value: Bytes::of(alloc, trim_http(value.as_slice()))?,
+        value: normalized(alloc, value)?,
     })
 }
 
@@ -101,8 +113,9 @@ fn filled_body(
 
 /// What a script asks of `fetch`, with the parts of the last result in the place of the placeholders in
 /// its URL, in the values of its headers and in its body. The values of headers are normalised then:
-/// without tab, space, CR and LF at their ends (Fetch, section 2.2.2, "normalize a byte sequence"). Of a
-/// body that gets longer than 65,536 bytes, which no request has, the first 65,537 are built.
+/// without tab, space, CR and LF at their ends (Fetch, section 2.2.2, "normalize a byte sequence"). A body
+/// that gets longer than 65,536 bytes, which no request has, stops growing there, and its first 65,537 are
+/// handed on.
 pub fn filled_init(alloc: Global, last: Option<&Event>, init: &Init) -> Result<Init, OutOfMemory>
     ensures { IfOk result (λ filled. filled ≡ short.with_cut_body (spec.filled_init (lent_result last.entry) init.now)) }
 {

@@ -2,8 +2,7 @@
 -- answer and over the document's own entries of that history (this project's own; what a run does is wf_run's
 -- definition, and what comes of its acts wf_drive's).
 --
--- A fetch is the whole one, as its definition has it (wf_fetch). What a scenario cannot ask for yet (loads, integrity,
--- more documents than one) does not come about in a play.
+-- A fetch is the whole one, as its definition has it (wf_fetch). A scenario has one document at most for now.
 use Rattle.std.specs.Prelude.{◌≡◌, ℕ, ◌+◌, ◌<◌, List, [], ◌∷◌, length, Some}
 use Rattle.std.specs.List.{AllByRecursion}
 use Rattle.wf_book.specs.declared.book.Book.{Book}

@@ -8,7 +8,7 @@ use wf_text::{Bytes, OutOfMemory};
 use wf_top::fetchplay;
 
 /// How many bytes the output and the complaints each have room for.
-const ROOM: usize = 1_048_576;
+const ROOM: usize = 16_777_216;
 
 /// What a play came to: the number of its status, and what was written and complained.
 #[derive(Drop)]
