@@ -185,15 +185,45 @@ run_script-returns-then-is_some-clause-played g t c =
 
 pub run_script-run_command-requires : goal.run_script-run_command-requires
 run_script-run_command-requires g t c = λ κs live. (
-  omega (arith, command-size c.as_slice-command-items.result.now c.args.script.now c.loop-command.command-index c.command-item.result
-      c.as_slice-command-items.ensures c.loop-command-test.true c.command-item.is),
-  (live.0, (live.1.0, (live.1.1.0, (live.1.1.1, (search rules, (c.requires.client, (valid-command c.as_slice-command-items.result.now c.args.script.now
-      c.loop-command.command-index c.command-item.result c.as_slice-command-items.ensures c.requires.valid
-      c.loop-command-test.true c.command-item.is,
-  (sym c.limit_before-limit.ensures ∙ no-ending c.limit_before-limit.result (sym c.is_some.ensures
-      ∙ c.if-is_some.false), (c.loop-command.invariant.belongs, (
-  (omega (arith, c.requires.room.0, c.loop-command.invariant.spent.0), c.loop-command.invariant.spent.1),
-  c.loop-command.invariant.end)))))))))),
+  omega (
+    arith,
+    command-size c.as_slice-command-items.result.now c.args.script.now c.loop-command.command-index c.command-item.result
+        c.as_slice-command-items.ensures c.loop-command-test.true c.command-item.is,
+  ),
+  (
+    live.0,
+    (
+      live.1.0,
+      (
+        live.1.1.0,
+        (
+          live.1.1.1,
+          (
+            search rules,
+            (
+              c.requires.client,
+              (
+                valid-command c.as_slice-command-items.result.now c.args.script.now
+                    c.loop-command.command-index c.command-item.result c.as_slice-command-items.ensures c.requires.valid
+                    c.loop-command-test.true c.command-item.is,
+                (
+                  sym c.limit_before-limit.ensures ∙ no-ending c.limit_before-limit.result (sym c.is_some.ensures
+                      ∙ c.if-is_some.false),
+                  (
+                    c.loop-command.invariant.belongs,
+                    (
+                      (omega (arith, c.requires.room.0, c.loop-command.invariant.spent.0), c.loop-command.invariant.spent.1),
+                      c.loop-command.invariant.end,
+                    ),
+                  ),
+                ),
+              ),
+            ),
+          ),
+        ),
+      ),
+    ),
+  ),
 )
 
 pub run_script-returns-in_err-ending-clause-cut : goal.run_script-returns-in_err-ending-clause-cut
