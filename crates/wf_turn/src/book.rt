@@ -12,7 +12,7 @@ use crate::view::View;
 use atomic_table::{Refused, Table};
 use std::alloc::Global;
 use std::snapshot::Snapshot;
-use std::sync::Wait;
+use std::sync::{Mutex, Wait};
 use std::thread::Threads;
 use wf_book::{Book, History, Op, Reply, Share};
 use wf_text::OutOfMemory;
@@ -21,6 +21,8 @@ use wf_text::OutOfMemory;
 #[derive(Drop)]
 pub struct TurnBook {
     pub(crate) table: Table<Option<Desk>, View, Snapshot<Book>, Turns, Global>,
+    // Locked for the whole of a call, so that a thread that waits sleeps before it draws its ticket.
+    pub(crate) door: Mutex<()>,
     ghost sized: { (table.shared.table_id.words ≡ 2) × (table.shared.table_id.slots ≡ 1) },
 }
 
@@ -40,7 +42,10 @@ impl TurnBook {
         }));
         match Table::new(alloc, &[0, 0], slots, &key) {
             Ok((table, seat)) => Ok((
-                TurnBook { table },
+                TurnBook {
+                    table,
+                    door: Mutex::new(()),
+                },
                 TurnPass {
                     document: FIRST,
                     seat,
@@ -121,6 +126,7 @@ impl Share for TurnBook {
         ensures err { OnErr result
             ((own_of pass.new ≡ own_of pass.old) × StartsWith (seen_of pass.new) (seen_of pass.old)) }
     {
+        let _entered = self.door.lock(rt);
         take_turn(
             rt,
             alloc,

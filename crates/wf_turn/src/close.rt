@@ -69,7 +69,7 @@ impl TurnBook {
             mut seat,
         } = first;
         gather(&self.table.shared, &mut seat, passes);
-        let TurnBook { table } = self;
+        let TurnBook { table, door: _ } = self;
         let mut closed = table.close_with(seat);
         let taken = closed.take(0);
         closed.free();

@@ -12,6 +12,7 @@ use atomic_table::{Seat, Shared};
 use std::alloc::Global;
 use std::snapshot::Snapshot;
 use std::sync::Wait;
+use std::thread;
 use wf_book::{Book, Op, Reply};
 use wf_text::OutOfMemory;
 
@@ -21,12 +22,8 @@ pub type Held = Seat<Option<Desk>, View>;
 /// What all passes share. Word 0 is the ticket that is drawn next, word 1 the one that is served.
 pub type Common = Shared<Option<Desk>, View, Snapshot<Book>, Turns>;
 
-// The bits of a number that a thread sleeps on.
-fn low_half(number: u64) -> u32 {
-    (number % (1 << 32)) as u32
-}
-
-// Looks until the ticket is served. Between two looks the thread sleeps until a turn is passed.
+// Looks until the ticket is served. That is at the first look where calls come one at a time, as those of
+// `TurnBook` do.
 fn wait<R: Wait>(rt: &R, shared: &Common, seat: &mut Held, ticket: u64)
     requires table { (seat.old.table_id ≡ shared.now.table_id) × (shared.now.table_id.words ≡ 2) }
     requires waits { (seat.old.me.0.live ≡ true) × (seat.old.me.0.waits ≡ true)
@@ -35,11 +32,10 @@ fn wait<R: Wait>(rt: &R, shared: &Common, seat: &mut Held, ticket: u64)
     ensures served { Served seat.old.me seat.new.me.0.seen seat.new.me }
 {
     for _ in rt.forever() {
-        let serving = shared.load::<Look>(seat, 1);
-        if serving == ticket {
+        if shared.load::<Look>(seat, 1) == ticket {
             return;
         }
-        shared.park(rt, 1, low_half(serving));
+        thread::yield_now();
     }
     unreachable!()
 }
@@ -58,15 +54,6 @@ fn work(
 {
     desk.history
         .apply(alloc, &mut desk.book, turn, document, op)
-}
-
-// Wakes those that wait, once `next` is served. Nobody does where it has not been drawn.
-fn wake_waiting(shared: &Common, next: u64)
-    requires { shared.now.table_id.words ≡ 2 }
-{
-    if shared.peek(0) != next {
-        shared.wake_all(1);
-    }
 }
 
 // Draws a ticket, waits, works on the desk and passes the turn. The desk is back, and what it has more
@@ -103,6 +90,5 @@ pub(crate) fn take_turn<R: Wait>(
     drop(shared.exchange(seat, 0, Some(desk)));
     shared.load::<Note>(seat, 1);
     shared.store::<Pass>(seat, 1, ticket + 1);
-    wake_waiting(shared, ticket + 1);
     answer
 }

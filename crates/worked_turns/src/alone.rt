@@ -1,4 +1,4 @@
-ghost use Rattle.std.specs.Prelude.{◌<◌, ◌^◌, length, IfOk, OnOk};
+ghost use Rattle.std.specs.Prelude.{◌≡◌, ◌<◌, ◌^◌, length, IfOk, OnOk};
 ghost use Rattle.wf_book.specs.Ops.{InRange};
 
 use crate::failed::Failed;
@@ -6,7 +6,7 @@ use crate::ops::{clear, covers, is_known, learn, note};
 use std::alloc::Global;
 use std::sync::Wait;
 use std::thread::Threads;
-use wf_book::{Book, Entry, History, Op, Reply, Share, SoloBook};
+use wf_book::{Book, Entry, History, Op, Reply, Share, SoloBook, SoloPass};
 use wf_text::OutOfMemory;
 
 // Does an equal op on a book.
@@ -15,6 +15,20 @@ fn applied(alloc: Global, book: &mut Book, op: &Op) -> Result<Reply, OutOfMemory
 {
     let op = op.copy(alloc)?;
     book.apply(alloc, &op)
+}
+
+// Does the op on a book, where it could be made.
+fn reply_to(
+    alloc: Global,
+    book: &mut Book,
+    op: Result<Op, OutOfMemory>,
+) -> Result<Reply, OutOfMemory>
+    requires { IfOk op InRange }
+{
+    match op {
+        Ok(op) => applied(alloc, book, &op),
+        Err(error) => Err(error),
+    }
 }
 
 // Does the op on a book, where it could be made, and writes its reply.
@@ -26,7 +40,7 @@ fn tell<R: Print>(
 ) -> Result<(), Failed>
     requires { IfOk op InRange }
 {
-    let reply = applied(alloc, book, &op?)?;
+    let reply = reply_to(alloc, book, op)?;
     println!(rt; "{reply:?}")?;
     Ok(())
 }
@@ -57,13 +71,19 @@ pub(crate) fn play_book<R: Print>(rt: &R, alloc: Global) -> Result<(), Failed> {
     play_cache(rt, alloc, &mut book)
 }
 
+// Writes an entry of a history.
+fn write_entry<R: Print>(rt: &R, entry: &Entry) -> Result<(), Failed> {
+    println!(rt;
+        "turn {} of document {}: {:?}",
+        entry.turn, entry.document, entry.reply
+    )?;
+    Ok(())
+}
+
 // Writes the entries of a history.
 pub(crate) fn write_history<R: Print>(rt: &R, entries: &[Entry]) -> Result<(), Failed> {
     for entry in entries {
-        println!(rt;
-            "turn {} of document {}: {:?}",
-            entry.turn, entry.document, entry.reply
-        )?;
+        write_entry(rt, entry)?;
     }
     Ok(())
 }
@@ -90,19 +110,53 @@ fn write_solo<R: Print>(rt: &R, history: &History) -> Result<(), Failed>
     Ok(())
 }
 
+// Two calls on a pass.
+fn note_and_ask<R: Threads + Wait + Sync>(
+    rt: &R,
+    alloc: Global,
+    share: &SoloBook,
+    pass: &mut SoloPass,
+) -> Result<(), OutOfMemory>
+    requires { pass.old.calls ≡ 0 }
+{
+    share.call(rt, alloc, pass, note(alloc, 0)?)?;
+    share.call(rt, alloc, pass, is_known(alloc, 9)?)?;
+    Ok(())
+}
+
+// The book and the history that a pass leaves.
+fn solo<R: Threads + Wait + Sync>(rt: &R, alloc: Global) -> Result<(Book, History), OutOfMemory> {
+    let (share, mut pass) = SoloBook::new(alloc, Book::new(alloc));
+    note_and_ask(rt, alloc, &share, &mut pass)?;
+    Ok(share.close(pass))
+}
+
+// Asks the book once more. The history takes an entry more, and is written.
+fn write_more<R: Print>(
+    rt: &R,
+    alloc: Global,
+    book: &mut Book,
+    history: &mut History,
+) -> Result<(), Failed> {
+    tell(rt, alloc, book, is_known(alloc, 9))?;
+    lengthen(alloc, history)?;
+    write_solo(rt, history)
+}
+
 // A book that one pass has for itself. Its history takes an entry more after it.
+fn write_pass<R: Threads + Wait + Sync + Print>(rt: &R, alloc: Global) -> Result<(), Failed> {
+    let (mut book, mut history) = solo(rt, alloc)?;
+    write_more(rt, alloc, &mut book, &mut history)
+}
+
+// A book that one pass has for itself, and a new history.
 pub(crate) fn play_solo<R: Threads + Wait + Sync + Print>(
     rt: &R,
     alloc: Global,
 ) -> Result<(), Failed> {
     println!(rt; "# one pass")?;
-    let (share, mut pass) = SoloBook::new(alloc, Book::new(alloc));
-    share.call(rt, alloc, &mut pass, note(alloc, 0)?)?;
-    share.call(rt, alloc, &mut pass, is_known(alloc, 9)?)?;
-    let (mut book, mut history) = share.close(pass);
-    tell(rt, alloc, &mut book, is_known(alloc, 9))?;
-    lengthen(alloc, &mut history)?;
-    write_solo(rt, &history)?;
-    println!(rt; "a new history has {} entries", History::new(alloc).len())?;
+    write_pass(rt, alloc)?;
+    let entries = History::new(alloc).len();
+    println!(rt; "a new history has {entries} entries")?;
     Ok(())
 }

@@ -5,14 +5,17 @@
 mod alone;
 mod failed;
 mod ops;
+mod passes;
 mod threads;
+mod turns;
 
 use alone::{play_book, play_solo};
 use failed::Failed;
 use std::process::ExitCode;
 use std::sync::Wait;
 use std::thread::Threads;
-use threads::{play_threads, play_turns};
+use threads::play_threads;
+use turns::play_turns;
 
 fn run<R: Threads + Wait + Sync + Print + AllocGlobal>(rt: &R) -> Result<(), Failed> {
     let alloc = rt.alloc();

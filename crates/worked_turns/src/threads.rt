@@ -1,68 +1,74 @@
-ghost use Rattle.std.specs.Prelude.{◌≡◌, ◌≤◌, ◌<◌, ◌^◌, IfOk};
-ghost use Rattle.wf_turn.specs.Passes.{left_of};
+ghost use Rattle.std.specs.Prelude.{◌≡◌, ◌≤◌, ◌<◌, ◌-◌, ◌^◌, [], IfOk, IfSome};
+ghost use Rattle.wf_turn.specs.Passes.{IsWhole, left_of, made_of};
 
-use crate::alone::write_history;
 use crate::failed::Failed;
-use crate::ops::{covers, is_numbered, learn, numbered, time_of};
+use crate::ops::{is_numbered, numbered, time_of};
+use crate::passes::{collected, two_documents};
 use std::alloc::Global;
 use std::sync::Wait;
 use std::thread;
 use std::thread::Threads;
-use wf_book::{Book, Entry, Reply, Share};
+use wf_book::{Book, Entry, History, Reply, Share};
 use wf_text::OutOfMemory;
-use wf_turn::{FIRST, TurnBook, TurnPass};
+use wf_turn::{TurnBook, TurnPass};
 
 /// How many calls a thread makes.
 const CALLS: u64 = 500;
 
-// What one document learnt another is told.
-pub(crate) fn play_turns<R: Threads + Wait + Sync + Print>(
+/// What was replied to a thread's calls.
+type Replies = Result<Vec<Reply>, OutOfMemory>;
+
+// A thread's call of this number.
+fn make_call<R: Threads + Wait + Sync>(
     rt: &R,
     alloc: Global,
-) -> Result<(), Failed> {
-    println!(rt; "# two passes")?;
-    let (book, mut first) = TurnBook::new(alloc, Book::new(alloc))?;
-    let mut zero = book.pass(alloc, &mut first, 0)?;
-    let mut one = book.pass(alloc, &mut first, 1)?;
-    let mut passes = Vec::with_capacity(alloc, 3)?;
-    book.call(rt, alloc, &mut zero, learn(alloc, 9)?)?;
-    book.call(rt, alloc, &mut one, covers(alloc, 9)?)?;
-    passes.push_reserved(first);
-    passes.push_reserved(zero);
-    passes.push_reserved(one);
-    let closed = book.close(passes);
-    write_history(rt, closed.history.as_slice())?;
-    println!(rt; "the first pass is that of document {FIRST}")?;
-    Ok(())
+    book: &TurnBook,
+    pass: &mut TurnPass,
+    number: u64,
+) -> Result<Reply, OutOfMemory>
+    requires belongs { pass.old.seat.table_id ≡ book.now.table.shared.table_id }
+    requires left { 0 < left_of pass.old }
+    requires range { number < 2 ^ 48 }
+    ensures belongs { pass.new.seat.table_id ≡ pass.old.seat.table_id }
+    ensures document { pass.new.document ≡ pass.old.document }
+    ensures left { left_of pass.old - 1 ≤ left_of pass.new }
+{
+    book.call(rt, alloc, pass, numbered(alloc, number)?)
 }
 
-// A thread's calls. It gives its pass back, with the replies.
+// A thread's calls.
 fn make_calls<R: Threads + Wait + Sync>(
     rt: &R,
     alloc: Global,
     book: &TurnBook,
+    pass: &mut TurnPass,
+) -> Replies
+    requires belongs { pass.old.seat.table_id ≡ book.now.table.shared.table_id }
+    requires left { 500 ≤ left_of pass.old }
+    ensures belongs { pass.new.seat.table_id ≡ pass.old.seat.table_id }
+    ensures document { pass.new.document ≡ pass.old.document }
+{
+    let mut replies = Vec::new(alloc);
+    for number in 0..CALLS {
+        replies.push(make_call(rt, alloc, book, pass, number)?)?;
+    }
+    Ok(replies)
+}
+
+// A thread's calls. It gives its pass back, with the replies.
+fn play_pass<R: Threads + Wait + Sync>(
+    rt: &R,
+    alloc: Global,
+    book: &TurnBook,
     mut pass: TurnPass,
-) -> (TurnPass, Result<Vec<Reply>, OutOfMemory>)
+) -> (TurnPass, Replies)
     requires belongs { pass.seat.table_id ≡ book.now.table.shared.table_id }
     requires left { 500 ≤ left_of pass }
     ensures belongs { result.0.seat.table_id ≡ pass.seat.table_id }
     ensures document { result.0.document ≡ pass.document }
 {
-    let mut replies = Vec::new(alloc);
-    for number in 0..CALLS {
-        let op = match numbered(alloc, number) {
-            Ok(op) => op,
-            Err(error) => return (pass, Err(error)),
-        };
-        let reply = match book.call(rt, alloc, &mut pass, op) {
-            Ok(reply) => reply,
-            Err(error) => return (pass, Err(error)),
-        };
-        if replies.push(reply).is_err() {
-            return (pass, Err(OutOfMemory));
-        }
-    }
-    (pass, Ok(replies))
+    let replies = make_calls(rt, alloc, book, &mut pass);
+    (pass, replies)
 }
 
 // Whether the entries of a document are a thread's ops, in order, with these replies.
@@ -79,21 +85,128 @@ fn are_calls(entries: &[Entry], document: u32, replies: &[Reply]) -> bool {
     number == 500 && replies.len() == 500
 }
 
+// What a book replies to a thread's op of this number.
+fn reply_to(alloc: Global, book: &mut Book, number: u64) -> Result<Reply, OutOfMemory>
+    requires { number < 2 ^ 48 }
+{
+    let op = numbered(alloc, number)?;
+    book.apply(alloc, &op)
+}
+
+// When the op of an entry is done, where it is a thread's op and the entry has this turn.
+fn time_at(turn: u64, entry: &Entry) -> Option<u64>
+    ensures { IfSome result (λ time. time < 500) }
+{
+    let time = time_of(&entry.op)?;
+    if time < CALLS && entry.turn == turn {
+        Some(time)
+    } else {
+        None
+    }
+}
+
+// Whether an entry has this turn and the reply that a book of one thread gives to its op.
+fn is_next(alloc: Global, book: &mut Book, turn: u64, entry: &Entry) -> Result<bool, OutOfMemory> {
+    match time_at(turn, entry) {
+        Some(time) => Ok(reply_to(alloc, book, time)? == entry.reply),
+        None => Ok(false),
+    }
+}
+
 // Whether entry i has turn i and the reply that a book of one thread gives to its op.
 fn is_legal(alloc: Global, entries: &[Entry]) -> Result<bool, OutOfMemory> {
     let mut book = Book::new(alloc);
     for (turn, entry) in entries.iter().enumerate() {
-        let Some(time) = time_of(&entry.op) else {
-            return Ok(false);
-        };
-        if time >= CALLS || entry.turn != turn as u64 {
-            return Ok(false);
-        }
-        if book.apply(alloc, &numbered(alloc, time)?)? != entry.reply {
+        if !is_next(alloc, &mut book, turn as u64, entry)? {
             return Ok(false);
         }
     }
     Ok(true)
+}
+
+// Both passes at once, each on a thread.
+fn play_both<R: Threads + Wait + Sync>(
+    rt: &R,
+    alloc: Global,
+    shared: &TurnBook,
+    zero: TurnPass,
+    one: TurnPass,
+) -> ((TurnPass, Replies), (TurnPass, Replies))
+    requires zero { (zero.seat.table_id ≡ shared.now.table.shared.table_id) × (500 ≤ left_of zero) }
+    requires one { (one.seat.table_id ≡ shared.now.table.shared.table_id) × (500 ≤ left_of one) }
+    ensures zero { (result.0.0.seat.table_id ≡ zero.seat.table_id) × (result.0.0.document ≡ zero.document) }
+    ensures one { (result.1.0.seat.table_id ≡ one.seat.table_id) × (result.1.0.document ≡ one.document) }
+{
+    thread::join(
+        rt,
+        move ||
+            requires { (zero.seat.table_id ≡ shared.now.table.shared.table_id) × (500 ≤ left_of zero) }
+            ensures { (result.0.seat.table_id ≡ zero.seat.table_id) × (result.0.document ≡ zero.document) }
+        { play_pass(rt, alloc, shared, zero) },
+        move ||
+            requires { (one.seat.table_id ≡ shared.now.table.shared.table_id) × (500 ≤ left_of one) }
+            ensures { (result.0.seat.table_id ≡ one.seat.table_id) × (result.0.document ≡ one.document) }
+        { play_pass(rt, alloc, shared, one) },
+    )
+}
+
+// Two threads on a book. All passes come back.
+fn play_passes<R: Threads + Wait + Sync>(
+    rt: &R,
+    alloc: Global,
+    book: &TurnBook,
+    mut first: TurnPass,
+) -> Result<(Vec<TurnPass>, Replies, Replies), OutOfMemory>
+    requires belongs { first.seat.table_id ≡ book.now.table.shared.table_id }
+    requires first { (first.document ≡ 4294967295) × (made_of first ≡ []) }
+    ensures { IfOk result (λ played. IsWhole book.now.table.shared.table_id played.0.items) }
+{
+    let (zero, one) = two_documents(alloc, book, &mut first)?;
+    let ((zero, low), (one, high)) = play_both(rt, alloc, book, zero, one);
+    let passes = collected(alloc, first, zero, one)?;
+    Ok((passes, low, high))
+}
+
+// The history of two threads, with what was replied to each.
+fn history_of<R: Threads + Wait + Sync>(
+    rt: &R,
+    alloc: Global,
+) -> Result<(History, Replies, Replies), OutOfMemory> {
+    let (book, first) = TurnBook::new(alloc, Book::new(alloc))?;
+    let (passes, low, high) = play_passes(rt, alloc, &book, first)?;
+    Ok((book.close(passes).history, low, high))
+}
+
+// Writes whether a thread's calls are those of a document.
+fn write_calls<R: Print>(
+    rt: &R,
+    entries: &[Entry],
+    document: u32,
+    replies: &Replies,
+) -> Result<(), Failed> {
+    let Ok(replies) = replies else {
+        return Err(Failed);
+    };
+    println!(rt;
+        "document {document} made its calls: {}",
+        are_calls(entries, document, replies.as_slice())
+    )?;
+    Ok(())
+}
+
+// Writes what two threads have left.
+fn write_threads<R: Print>(
+    rt: &R,
+    alloc: Global,
+    entries: &[Entry],
+    low: &Replies,
+    high: &Replies,
+) -> Result<(), Failed> {
+    println!(rt; "{} entries", entries.len())?;
+    write_calls(rt, entries, 0, low)?;
+    write_calls(rt, entries, 1, high)?;
+    println!(rt; "the history is legal: {}", is_legal(alloc, entries)?)?;
+    Ok(())
 }
 
 // Two threads make 500 calls each on one book.
@@ -102,36 +215,6 @@ pub(crate) fn play_threads<R: Threads + Wait + Sync + Print>(
     alloc: Global,
 ) -> Result<(), Failed> {
     println!(rt; "# two threads")?;
-    let (book, mut first) = TurnBook::new(alloc, Book::new(alloc))?;
-    let zero = book.pass(alloc, &mut first, 0)?;
-    let one = book.pass(alloc, &mut first, 1)?;
-    let mut passes = Vec::with_capacity(alloc, 3)?;
-    let shared = &book;
-    let ((zero, low), (one, high)) = thread::join(
-        rt,
-        move ||
-            requires { (zero.seat.table_id ≡ shared.now.table.shared.table_id) × (500 ≤ left_of zero) }
-            ensures { (result.0.seat.table_id ≡ zero.seat.table_id) × (result.0.document ≡ zero.document) }
-        { make_calls(rt, alloc, shared, zero) },
-        move ||
-            requires { (one.seat.table_id ≡ shared.now.table.shared.table_id) × (500 ≤ left_of one) }
-            ensures { (result.0.seat.table_id ≡ one.seat.table_id) × (result.0.document ≡ one.document) }
-        { make_calls(rt, alloc, shared, one) },
-    );
-    passes.push_reserved(one);
-    passes.push_reserved(first);
-    passes.push_reserved(zero);
-    let history = book.close(passes).history;
-    let entries = history.as_slice();
-    println!(rt; "{} entries", entries.len())?;
-    println!(rt;
-        "document 0 made its calls: {}",
-        are_calls(entries, 0, low?.as_slice())
-    )?;
-    println!(rt;
-        "document 1 made its calls: {}",
-        are_calls(entries, 1, high?.as_slice())
-    )?;
-    println!(rt; "the history is legal: {}", is_legal(alloc, entries)?)?;
-    Ok(())
+    let (history, low, high) = history_of(rt, alloc)?;
+    write_threads(rt, alloc, history.as_slice(), &low, &high)
 }

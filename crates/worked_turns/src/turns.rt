@@ -1,0 +1,73 @@
+ghost use Rattle.std.specs.Prelude.{◌≡◌, ◌<◌, [], IfOk, OnOk};
+ghost use Rattle.wf_turn.specs.Passes.{IsWhole, left_of, made_of};
+
+use crate::alone::write_history;
+use crate::failed::Failed;
+use crate::ops::{covers, learn};
+use crate::passes::{collected, two_documents};
+use std::alloc::Global;
+use std::sync::Wait;
+use std::thread::Threads;
+use wf_book::{Book, History, Share};
+use wf_text::OutOfMemory;
+use wf_turn::{FIRST, TurnBook, TurnPass};
+
+// One pass learns, and the other asks.
+fn learn_and_ask<R: Threads + Wait + Sync>(
+    rt: &R,
+    alloc: Global,
+    book: &TurnBook,
+    zero: &mut TurnPass,
+    one: &mut TurnPass,
+) -> Result<(), OutOfMemory>
+    requires zero { (zero.old.seat.table_id ≡ book.now.table.shared.table_id) × (0 < left_of zero.old) }
+    requires one { (one.old.seat.table_id ≡ book.now.table.shared.table_id) × (0 < left_of one.old) }
+    ensures zero { OnOk result ((zero.new.seat.table_id ≡ zero.old.seat.table_id)
+        × (zero.new.document ≡ zero.old.document)) }
+    ensures one { OnOk result ((one.new.seat.table_id ≡ one.old.seat.table_id)
+        × (one.new.document ≡ one.old.document)) }
+{
+    book.call(rt, alloc, zero, learn(alloc, 9)?)?;
+    book.call(rt, alloc, one, covers(alloc, 9)?)?;
+    Ok(())
+}
+
+// Two passes and what they do on a book. All passes come back.
+fn play_passes<R: Threads + Wait + Sync>(
+    rt: &R,
+    alloc: Global,
+    book: &TurnBook,
+    mut first: TurnPass,
+) -> Result<Vec<TurnPass>, OutOfMemory>
+    requires belongs { first.seat.table_id ≡ book.now.table.shared.table_id }
+    requires first { (first.document ≡ 4294967295) × (made_of first ≡ []) }
+    ensures { IfOk result (λ passes. IsWhole book.now.table.shared.table_id passes.items) }
+{
+    let (mut zero, mut one) = two_documents(alloc, book, &mut first)?;
+    learn_and_ask(rt, alloc, book, &mut zero, &mut one)?;
+    collected(alloc, first, zero, one)
+}
+
+// The history of two passes.
+fn history_of<R: Threads + Wait + Sync>(rt: &R, alloc: Global) -> Result<History, OutOfMemory> {
+    let (book, first) = TurnBook::new(alloc, Book::new(alloc))?;
+    let passes = play_passes(rt, alloc, &book, first)?;
+    Ok(book.close(passes).history)
+}
+
+// Writes the entries that two passes have made.
+fn write_turns<R: Threads + Wait + Sync + Print>(rt: &R, alloc: Global) -> Result<(), Failed> {
+    let history = history_of(rt, alloc)?;
+    write_history(rt, history.as_slice())
+}
+
+// What one document learnt another is told.
+pub(crate) fn play_turns<R: Threads + Wait + Sync + Print>(
+    rt: &R,
+    alloc: Global,
+) -> Result<(), Failed> {
+    println!(rt; "# two passes")?;
+    write_turns(rt, alloc)?;
+    println!(rt; "the first pass is that of document {FIRST}")?;
+    Ok(())
+}
