@@ -21,7 +21,7 @@ use Rattle.wf_script.specs.Servers.{answer, answer_bytes}
 abbrev refused : List ℕ → Result Scenario Place
 refused place = Err (record { text = place })
 
--- a text that is no tree, URLs of documents, the root, a key, and a list that is too long
+-- a text that is no tree, URLs of documents, the root, a key, and a document that is no object
 pub computes-places : (scenario_of (codes "{\"format\":") ≡ refused (codes "json"))
     × (scenario_of (codes "{\"format\":1,\"documents\":[{\"url\":\"ftp://a/\",\"script\":[]}]}")
     ≡ refused (codes "/documents/0/url"))
@@ -29,7 +29,7 @@ pub computes-places : (scenario_of (codes "{\"format\":") ≡ refused (codes "js
     ≡ refused (codes "/documents/0/url"))
     × (scenario_of (codes "{\"format\":1,\"documents\":[],\"extra\":0}") ≡ refused (codes "/"))
     × (scenario_of (codes "{\"servers\":[],\"format\":1.0}") ≡ refused (codes "/format"))
-    × (scenario_of (codes "{\"format\":1,\"documents\":[0,0]}") ≡ refused (codes "/documents"))
+    × (scenario_of (codes "{\"format\":1,\"documents\":[0,0]}") ≡ refused (codes "/documents/0"))
 unfolding url_on_literals serde_json_on_literals is_utf8 chars
 computes-places = (refl, refl, refl, refl, refl, refl)
 
@@ -75,6 +75,7 @@ pub computes-whole : scenario_of
         rules =
             record { method = None; path = None; answer = codes "HTTP/1.1 200 Scripted\r\n\r\nhi" } ∷ [];
       } ∷ [];
+      routes = [];
       piece = 4096;
       documents = record {
         url = page;
@@ -126,6 +127,7 @@ pub computes-hosts : scenario_of
           ∷ record { host = codes "a.test"; subdomains = false; until = 281474976710655 } ∷ [];
       cookies = [];
       servers = [];
+      routes = [];
       piece = 4096;
       documents = record {
         url = record page { scheme = codes "http"; port = Some 8080 };
@@ -194,6 +196,7 @@ pub computes-raw : scenario_of (with_rule (codes "{\"path\":\"/\",\"raw\":\"HTTP
           answer = codes "HTTP/1.1 302 \r\n\r\n";
         } ∷ [];
       } ∷ [];
+      routes = [];
       piece = 4096;
       documents = [];
       body_limit = 262144;
@@ -221,6 +224,7 @@ pub computes-headers : scenario_of
       hosts = [];
       cookies = [];
       servers = [];
+      routes = [];
       piece = 4096;
       documents = record {
         url = page;
@@ -254,6 +258,7 @@ embedded top limit = record {
   hosts = [];
   cookies = [];
   servers = [];
+  routes = [];
   piece = 4096;
   documents = record {
     url = page;

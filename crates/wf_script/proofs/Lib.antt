@@ -2,3 +2,4 @@ pub mod AnswerLemmas
 pub mod ValidLemmas
 pub mod MigrationLemmas
 pub mod Computed
+pub mod GeneratedLemmas

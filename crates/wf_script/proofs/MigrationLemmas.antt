@@ -1,12 +1,14 @@
 -- A scenario of the first format is read alike as one of the second.
-use Rattle.std.proofs.Common.{◌≡◌, ℕ, List, [], ◌∷◌}
+use Rattle.std.proofs.Common.{◌≡◌, ℕ, Bool, true, List, [], ◌∷◌, arith}
 use Rattle.std.proofs.Common.{Option, Some, None, Result, Ok, Err, refl, ap, sym, ◌∙◌}
-use Rattle.std.specs.Prelude.{codes, bytes_eq, false, option_and_then, IsTrue}
+use Rattle.std.specs.Prelude.{codes, bytes_eq, false, nat_le, option_and_then, IsTrue}
+use Rattle.std.proofs.lemmas.Bool.{leb-true, le-leb}
 use Rattle.serde_json.proofs.Views.{get_member-put, get_member-put_other}
-use Rattle.serde_json.specs.Data.{Data, number, unsigned, object, Members, put}
-use Rattle.serde_json.specs.Find.{get, as_object}
+use Rattle.serde_json.specs.Data.{Data, Items, number, unsigned, object, Members, put}
+use Rattle.serde_json.specs.Find.{get, as_array, as_object}
 use Rattle.url.specs.Parts.{Parts}
-use Rattle.wf_form.specs.Reading.{Read, under, found_or, number_of, required, optional, items_of, list_of, has_keys}
+use Rattle.wf_form.specs.Reading.{Read, present, given, under, found_or, number_of, required, optional, count, each_from}
+use Rattle.wf_form.specs.Reading.{items_of, list_of, has_keys}
 use Rattle.wf_form.proofs.FollowsLemmas.{Follows, follows-same, follows-then, follows-past, follows-required}
 use Rattle.wf_form.proofs.FollowsLemmas.{follows-optional, follows-list, follows-only_keys, apart, get-unknown}
 use Rattle.wf_form.proofs.FollowsLemmas.{has_keys-more, known-put}
@@ -15,9 +17,9 @@ use Rattle.wf_script.specs.declared.format.Format.TheVariants.{First, Second}
 use Rattle.wf_script.specs.declared.types.Scenario.{Scenario}
 use Rattle.wf_script.specs.declared.types.Place.{Place}
 use Rattle.wf_script.specs.Formats.{format_numbered, whole_number, format_of, later_keys, root_keys, body_limit_of}
-use Rattle.wf_script.specs.Formats.{document_keys, top_of}
+use Rattle.wf_script.specs.Formats.{most_documents, document_keys, top_of}
 use Rattle.wf_script.specs.Migration.{migrated, IsMigratedAlike}
-use Rattle.wf_script.specs.Scenarios.{host_of, cookie_of, server_of, document_of, scenario_as, scenario_in, told}
+use Rattle.wf_script.specs.Scenarios.{host_of, cookie_of, route_of, server_of, document_of, scenario_as, scenario_in, told}
 use Rattle.wf_script.specs.Urls.{document_url_of}
 
 -- ---- documents
@@ -37,6 +39,35 @@ follows-document tree =
           (follows-same _ _ (no_top tree url (get-unknown (document_keys First) tree (codes "top") all refl))) (λ top.
           follows-same _ _ refl)),
     ))
+
+-- at most 64 is at most 128
+few-more : (n : ℕ) → IsTrue (nat_le n 64) → IsTrue (nat_le n 128)
+few-more n few = le-leb n 128 (omega (arith, leb-true n 64 few))
+
+-- a value that passes its test passes another one
+follows-test : {A : Type 0} (passes other : Bool) (x : A) → (IsTrue passes → IsTrue other)
+    → Follows (given passes x) (given other x)
+follows-test {A} true other x each = follows-same (Ok x) (given other x) (ap (λ (b : Bool). given b x) (each refl))
+follows-test false other x each = record { same = λ y is. let never : ⊥ = cc is in absurd never }
+
+-- a list of at most 64 items has at most 128
+follows-longer : {A : Type 0} (read : Data → Read A) (tree : Data)
+    → Follows (list_of 64 read tree) (list_of 128 read tree)
+follows-longer read tree =
+    follows-then (present (as_array tree)) (present (as_array tree)) _ _ (follows-same _ _ refl) (λ items.
+    follows-then (given (nat_le (count items) 64) items) (given (nat_le (count items) 128) items) _ _
+    (follows-test (nat_le (count items) 64) (nat_le (count items) 128) items (λ few. few-more (count items) few))
+    (λ all. follows-same (each_from read 0 all) (each_from read 0 all) refl))
+
+-- the documents of the first format are read alike in the second
+follows-documents : (tree : Data)
+    → Follows (list_of (most_documents First) (document_of First) tree)
+    (list_of (most_documents Second) (document_of Second) tree)
+follows-documents tree = record {
+  same = λ documents is.
+      (follows-longer (document_of Second) tree).same documents
+      ((follows-list 64 (document_of First) (document_of Second) follows-document tree).same documents is);
+}
 
 -- ---- the root
 
@@ -100,16 +131,20 @@ follows-scenario rest =
           (optional (codes "servers") [] (items_of server_of) new) _ _
           (follows-optional (codes "servers") [] (items_of server_of) old new (same (codes "servers") refl refl rest))
           (λ servers.
+          follows-then (optional (codes "routes") [] (items_of route_of) old)
+          (optional (codes "routes") [] (items_of route_of) new) _ _
+          (follows-optional (codes "routes") [] (items_of route_of) old new (same (codes "routes") refl refl rest))
+          (λ routes.
           follows-then (optional (codes "piece") 4096 (number_of 1 65536) old)
           (optional (codes "piece") 4096 (number_of 1 65536) new) _ _
           (follows-optional (codes "piece") 4096 (number_of 1 65536) old new (same (codes "piece") refl refl rest))
           (λ piece.
-          follows-then (required (codes "documents") (list_of 1 (document_of First)) old)
-          (required (codes "documents") (list_of 1 (document_of Second)) new) _ _
-          (follows-required (codes "documents") (list_of 1 (document_of First)) (list_of 1 (document_of Second)) old new
-          (same (codes "documents") refl refl rest)
-          (follows-list 1 (document_of First) (document_of Second) follows-document)) (λ documents.
-          follows-same _ _ refl)))))))),
+          follows-then (required (codes "documents") (list_of (most_documents First) (document_of First)) old)
+          (required (codes "documents") (list_of (most_documents Second) (document_of Second)) new) _ _
+          (follows-required (codes "documents") (list_of (most_documents First) (document_of First))
+          (list_of (most_documents Second) (document_of Second)) old new (same (codes "documents") refl refl rest)
+          follows-documents) (λ documents.
+          follows-same _ _ refl))))))))),
     ))
 
 -- ---- the whole

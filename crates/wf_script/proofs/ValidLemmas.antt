@@ -26,16 +26,18 @@ use Rattle.wf_steps.specs.Scripts.{document_script_of}
 use Rattle.wf_steps.proofs.ValidLemmas.{keeps-document_script}
 use Rattle.wf_script.specs.declared.format.Format.{Format}
 use Rattle.wf_script.specs.declared.format.Format.TheVariants.{First, Second}
+use Rattle.wf_script.specs.declared.types.Document.{Document}
 use Rattle.wf_script.specs.declared.types.Scenario.{Scenario}
-use Rattle.wf_script.specs.Formats.{root_keys, body_limit_of, document_keys, top_of}
+use Rattle.wf_script.specs.Formats.{root_keys, body_limit_of, document_keys, top_of, most_documents}
 use Rattle.wf_script.specs.Hosts.{is_host_name}
 use Rattle.wf_script.specs.Texts.{is_cookie_value}
 use Rattle.wf_script.specs.OriginTexts.{is_origin_text}
 use Rattle.wf_script.specs.Urls.{is_document_url, document_url_of}
 use Rattle.wf_script.specs.Headers.{listed, policies_of_headers, policy_or_default}
-use Rattle.wf_script.specs.Scenarios.{host_keys, host_of, cookie_of, plain_header_of, answer_of, rule_keys, rule_of}
+use Rattle.wf_script.specs.Scenarios.{host_keys, host_of, cookie_of, route_of, plain_header_of, answer_of, rule_keys, rule_of}
 use Rattle.wf_script.specs.Scenarios.{server_keys, server_of, said_of, document_of, scenario_as}
-use Rattle.wf_script.specs.Valid.{IsValidHost, IsValidCookie, IsValidRule, IsValidServer, IsValidDocument, IsValid}
+use Rattle.wf_script.specs.Valid.{IsValidHost, IsValidCookie, IsValidRoute, IsValidRule, IsValidServer, IsValidDocument}
+use Rattle.wf_script.specs.Valid.{IsValid}
 
 -- the text passes a test
 abbrev That : (List ℕ → Bool) → List ℕ → Type 0
@@ -63,7 +65,7 @@ keeps-host tree =
     (keeps-number 0 281474976710655) (λ until within.
     record { host = is; some_host = some-name host is; until = within.1 }))))
 
--- ---- cookies and servers
+-- ---- cookies, routes and servers
 
 keeps-cookie : (tree : Data) → Keeps IsValidCookie (cookie_of tree)
 keeps-cookie tree =
@@ -71,6 +73,12 @@ keeps-cookie tree =
     (text_that is_cookie_value) tree _
     (keeps-text_that is_origin_text) (keeps-text_that is_cookie_value)
     (λ origin value is holds. record { origin = is; value = holds })
+
+keeps-route : (tree : Data) → Keeps IsValidRoute (route_of tree)
+keeps-route tree =
+    keeps-parts (That is_origin_text) (That any) IsValidRoute (text_that is_origin_text) (text_that any) tree _
+    (keeps-text_that is_origin_text) (keeps-text_that any)
+    (λ origin address is _. record { origin = is })
 
 -- the method, where there is one, is a token
 abbrev IsToken : Option (List ℕ) → Type 0
@@ -155,6 +163,12 @@ keeps-body_limit Second tree =
     (keeps-found_or (Within 1 1048576) (Ok 1048576) read (get (codes "body_limit") tree) (omega arith, omega arith)
     (keeps-number 1 1048576))
 
+-- each format has at most 128 documents
+few-documents : (format : Format) (documents : List Document) → length documents ≤ most_documents format
+    → length documents ≤ 128
+few-documents First documents few = omega (arith, few)
+few-documents Second documents few = few
+
 keeps-scenario : (format : Format) (tree : Data) → Keeps IsValid (scenario_as format tree)
 keeps-scenario format tree =
     keeps-after IsValid (only_keys (root_keys format) tree) _ (λ _.
@@ -171,25 +185,30 @@ keeps-scenario format tree =
     (All-nil IsValidCookie) (keeps-items IsValidCookie cookie_of keeps-cookie) (λ cookies good.
     keeps-optional (λ servers. All IsValidServer servers) IsValid (codes "servers") [] (items_of server_of) tree _
     (All-nil IsValidServer) (keeps-items IsValidServer server_of keeps-server) (λ servers each.
+    keeps-optional (λ routes. All IsValidRoute routes) IsValid (codes "routes") [] (items_of route_of) tree _
+    (All-nil IsValidRoute) (keeps-items IsValidRoute route_of keeps-route) (λ routes ways.
     keeps-optional (Within 1 65536) IsValid (codes "piece") 4096 (number_of 1 65536) tree _ (
       omega arith,
       omega arith,
     ) (keeps-number 1 65536) (λ piece within.
-    keeps-required (IsListOf IsValidDocument 1) IsValid (codes "documents") (list_of 1 (document_of format)) tree _
-    (keeps-list IsValidDocument 1 (document_of format) (keeps-document format)) (λ documents all.
+    keeps-required (IsListOf IsValidDocument (most_documents format)) IsValid (codes "documents")
+    (list_of (most_documents format) (document_of format)) tree _
+    (keeps-list IsValidDocument (most_documents format) (document_of format) (keeps-document format))
+    (λ documents all.
     record {
       now = past.1;
       few_hosts = known.few;
       hosts = known.all;
       cookies = good;
       servers = each;
+      routes = ways;
       some_piece = within.0;
       most_piece = within.1;
-      few_documents = all.few;
+      few_documents = few-documents format documents all.few;
       documents = all.all;
       some_limit = most.0;
       most_limit = most.1;
-    })))))))))
+    }))))))))))
 
 -- what is read of a tree is valid
 pub scenario_as-IsValid : (format : Format) (tree : Data) (scenario : Scenario) → scenario_as format tree ≡ Ok scenario

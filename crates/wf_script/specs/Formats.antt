@@ -1,5 +1,5 @@
--- The two formats of scenarios. In the second one a document may stand in a page of another origin, and the scenario
--- says how long a response's body may be.
+-- The two formats of scenarios. In the second one a document may stand in a page of another origin, the scenario says
+-- how long a response's body may be, and it may have more documents.
 use Rattle.std.specs.Prelude.{ℕ, ◌==◌, List, [], ◌∷◌, codes, Option, Some, None, option_and_then, Ok, if◌then◌else◌}
 use Rattle.serde_json.specs.Data.{Data}
 use Rattle.serde_json.specs.Find.{get, as_number, as_u64}
@@ -31,7 +31,8 @@ number_of_format Second = 2
 -- the keys behind `format`, and behind `body_limit` where there is one
 abbrev pub later_keys : List (List ℕ)
 later_keys =
-    codes "now" ∷ codes "hsts" ∷ codes "cookies" ∷ codes "servers" ∷ codes "piece" ∷ codes "documents" ∷ []
+    codes "now" ∷ codes "hsts" ∷ codes "cookies" ∷ codes "servers" ∷ codes "routes" ∷ codes "piece"
+    ∷ codes "documents" ∷ []
 
 abbrev pub root_keys : Format → List (List ℕ)
 root_keys First = codes "format" ∷ later_keys
@@ -43,6 +44,11 @@ body_limit_of First tree = Ok 262144
 body_limit_of Second tree = optional (codes "body_limit") 1048576 (number_of 1 1048576) tree
 
 -- ---- documents
+
+-- how many documents there are at most
+abbrev pub most_documents : Format → ℕ
+most_documents First = 64
+most_documents Second = 128
 
 abbrev pub document_keys : Format → List (List ℕ)
 document_keys First = codes "url" ∷ codes "headers" ∷ codes "script" ∷ []

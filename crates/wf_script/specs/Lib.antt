@@ -1,4 +1,5 @@
 pub mod Formats
+pub mod Generated
 pub mod Headers
 pub mod Hosts
 pub mod Migration

@@ -12,6 +12,7 @@ use Rattle.wf_types.specs.declared.init.Pair.{Pair}
 use Rattle.wf_types.specs.declared.mode.ReferrerPolicy.{ReferrerPolicy}
 use Rattle.wf_types.specs.declared.mode.ReferrerPolicy.TheVariants as policy
 use Rattle.wf_types.specs.Urls.{utf8_text}
+use Rattle.wf_link.specs.declared.target.Route.{Route}
 use Rattle.wf_form.specs.Reading.{Read, ◌>>=◌, given, number_of, truth_of, text_that, any, some_of}
 use Rattle.wf_form.specs.Reading.{has_key, only_keys, required, optional, items_of, list_of, pair_of}
 use Rattle.wf_steps.specs.Scripts.{document_script_of}
@@ -22,7 +23,8 @@ use Rattle.wf_script.specs.declared.types.Document.{Document}
 use Rattle.wf_script.specs.declared.types.Scenario.{Scenario}
 use Rattle.wf_script.specs.declared.types.Place.{Place}
 use Rattle.wf_script.specs.declared.format.Format.{Format}
-use Rattle.wf_script.specs.Formats.{format_of, number_of_format, root_keys, body_limit_of, document_keys, top_of}
+use Rattle.wf_script.specs.Formats.{format_of, number_of_format, root_keys, body_limit_of, most_documents}
+use Rattle.wf_script.specs.Formats.{document_keys, top_of}
 use Rattle.wf_script.specs.Headers.{policies_of_headers, policy_of_headers}
 use Rattle.wf_script.specs.Hosts.{is_host_name}
 use Rattle.wf_script.specs.OriginTexts.{is_origin_text}
@@ -44,13 +46,19 @@ host_of tree = do
   until ← required (codes "until") (number_of 0 281474976710655) tree
   Ok (record { host = host; subdomains = subdomains; until = until })
 
--- ---- cookies and servers
+-- ---- cookies, routes and servers
 
 -- a serialized origin, and the value of the Cookie header that goes to it
 abbrev pub cookie_of : Data → Read Cookie
 cookie_of tree = do
   pair ← pair_of (text_that is_origin_text) (text_that is_cookie_value) tree
   Ok (record { origin = pair.0; value = pair.1 })
+
+-- a serialized origin, and the address at which its server listens, which may be any text
+abbrev pub route_of : Data → Read Route
+route_of tree = do
+  pair ← pair_of (text_that is_origin_text) (text_that any) tree
+  Ok (record { origin = pair.0; address = pair.1 })
 
 -- a header: its name and its value
 abbrev pub plain_header_of : Data → Read Pair
@@ -129,7 +137,7 @@ document_of format tree = do
 
 -- ---- the whole
 
--- a scenario of a format: at most one document
+-- a scenario of a format, with as many documents at most as the format allows
 abbrev pub scenario_as : Format → Data → Read Scenario
 scenario_as format tree = do
   known ← only_keys (root_keys format) tree
@@ -139,13 +147,15 @@ scenario_as format tree = do
   hosts ← optional (codes "hsts") [] (list_of 4096 host_of) tree
   cookies ← optional (codes "cookies") [] (items_of cookie_of) tree
   servers ← optional (codes "servers") [] (items_of server_of) tree
+  routes ← optional (codes "routes") [] (items_of route_of) tree
   piece ← optional (codes "piece") 4096 (number_of 1 65536) tree
-  documents ← required (codes "documents") (list_of 1 (document_of format)) tree
+  documents ← required (codes "documents") (list_of (most_documents format) (document_of format)) tree
   Ok (record {
     now = now;
     hosts = hosts;
     cookies = cookies;
     servers = servers;
+    routes = routes;
     piece = piece;
     documents = documents;
     body_limit = body_limit;

@@ -4,6 +4,7 @@ use Rattle.std.specs.List.{All}
 use Rattle.wf_text.specs.Tokens.{is_token}
 use Rattle.wf_types.specs.declared.client.Cookie.{Cookie}
 use Rattle.wf_types.specs.Requests.{is_policy}
+use Rattle.wf_link.specs.declared.target.Route.{Route}
 use Rattle.wf_commands.specs.Valid.{IsValidScript}
 use Rattle.wf_script.specs.declared.types.KnownHost.{KnownHost}
 use Rattle.wf_script.specs.declared.types.Rule.{Rule}
@@ -26,6 +27,10 @@ pub record IsValidCookie (cookie : Cookie) : Type 0 where
   pub origin : IsTrue (is_origin_text cookie.origin)
   pub value : IsTrue (is_cookie_value cookie.value)
 
+-- a serialized origin
+pub record IsValidRoute (route : Route) : Type 0 where
+  pub origin : IsTrue (is_origin_text route.origin)
+
 -- a method that is there is a token
 pub record IsValidRule (rule : Rule) : Type 0 where
   pub method : IfSome rule.method (λ method. IsTrue (is_token method))
@@ -44,7 +49,7 @@ pub record IsValidDocument (document : Document) : Type 0 where
   pub few_policies : length document.policies ≤ 16
   pub script : IsValidScript document.script
 
--- a time of at most 2^40 seconds, at most 4,096 known hosts, a piece of 1 to 65,536 bytes, at most one document, and
+-- a time of at most 2^40 seconds, at most 4,096 known hosts, a piece of 1 to 65,536 bytes, at most 128 documents, and
 -- bodies of 1 to 1,048,576 bytes at most
 pub record IsValid (scenario : Scenario) : Type 0 where
   pub now : scenario.now ≤ 1099511627776
@@ -52,9 +57,10 @@ pub record IsValid (scenario : Scenario) : Type 0 where
   pub hosts : All IsValidHost scenario.hosts
   pub cookies : All IsValidCookie scenario.cookies
   pub servers : All IsValidServer scenario.servers
+  pub routes : All IsValidRoute scenario.routes
   pub some_piece : 1 ≤ scenario.piece
   pub most_piece : scenario.piece ≤ 65536
-  pub few_documents : length scenario.documents ≤ 1
+  pub few_documents : length scenario.documents ≤ 128
   pub documents : All IsValidDocument scenario.documents
   pub some_limit : 1 ≤ scenario.body_limit
   pub most_limit : scenario.body_limit ≤ 1048576

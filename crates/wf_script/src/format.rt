@@ -27,6 +27,7 @@ const ROOT_KEYS: &[&str] = &[
     "hsts",
     "cookies",
     "servers",
+    "routes",
     "piece",
     "documents",
 ];
@@ -38,6 +39,7 @@ const ROOT_KEYS_OF_SECOND: &[&str] = &[
     "hsts",
     "cookies",
     "servers",
+    "routes",
     "piece",
     "documents",
 ];
@@ -105,6 +107,16 @@ pub(crate) fn body_limit(alloc: Global, format: Format, tree: &Value) -> Result<
             let limit = optional(alloc, tree, "body_limit", 1_048_576, &BODY_LIMIT)?;
             Ok(limit as u32)
         }
+    }
+}
+
+// How many documents there are at most.
+pub(crate) fn most_documents(format: Format) -> usize
+    ensures { result ≡ spec.most_documents format }
+{
+    match format {
+        Format::First => 64,
+        Format::Second => 128,
     }
 }
 

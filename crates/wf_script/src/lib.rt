@@ -1,21 +1,24 @@
-// Scenarios: documents with their scripts, the hosts that are known, the cookies that are sent, and the
-// servers that answer.
+// Scenarios: documents with their scripts, the hosts that are known, the cookies that are sent, the
+// servers that answer, and where servers listen.
 #![tactic(auto)]
 
 mod answers;
 mod cookies;
 mod documents;
 mod format;
+mod generated;
 mod headers;
 mod hosts;
 mod laws;
 mod origins;
 mod read;
+mod routes;
 mod servers;
 mod texts;
 mod types;
 mod urls;
 
+pub use generated::generate;
 pub use laws::law_migrated;
 pub use origins::read_origin;
 pub use types::{

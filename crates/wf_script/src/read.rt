@@ -1,13 +1,15 @@
 // The table of a scenario, and the reading of one from bytes.
 ghost use Rattle.std.specs.Prelude.{◌≡◌, IfOk, option_map};
 ghost use Rattle.serde_json.specs.View.{view};
+ghost use Rattle.wf_script.specs.Formats as formats;
 ghost use Rattle.wf_script.specs.Scenarios as spec;
 ghost use Rattle.wf_script.specs.Valid.{IsValid};
 
 use crate::cookies::CookiePair;
 use crate::documents::DocumentTable;
-use crate::format::{Format, body_limit, format_number, format_of, root_keys};
+use crate::format::{Format, body_limit, format_number, format_of, most_documents, root_keys};
 use crate::hosts::HostTable;
+use crate::routes::RoutePair;
 use crate::servers::ServerTable;
 use crate::types::{Place, Scenario, Servers};
 use serde_json::Value;
@@ -30,17 +32,19 @@ const COOKIES: ItemsOf<CookiePair> = ItemsOf { item: CookiePair };
 
 const SERVERS: ItemsOf<ServerTable> = ItemsOf { item: ServerTable };
 
+const ROUTES: ItemsOf<RoutePair> = ItemsOf { item: RoutePair };
+
 const PIECE: Number = Number {
     least: 1,
     most: 65_536,
 };
 
-// The documents of a scenario, of which there is at most one.
+// The documents of a scenario, of which there are 64 at most, and 128 in the second format.
 fn documents_of(format: Format) -> ListOf<DocumentTable>
-    ensures { result ≡ record { most = 1; item = record { format = format } } }
+    ensures { result ≡ record { most = formats.most_documents format; item = record { format = format } } }
 {
     ListOf {
-        most: 1,
+        most: most_documents(format),
         item: DocumentTable { format },
     }
 }
@@ -64,6 +68,7 @@ impl Form for ScenarioTable {
         let hosts = optional(alloc, tree, "hsts", Items::new(alloc), &HSTS)?;
         let cookies = optional(alloc, tree, "cookies", Items::new(alloc), &COOKIES)?;
         let servers = optional(alloc, tree, "servers", Items::new(alloc), &SERVERS)?;
+        let routes = optional(alloc, tree, "routes", Items::new(alloc), &ROUTES)?;
         let piece = optional(alloc, tree, "piece", 4096, &PIECE)?;
         let documents = required(alloc, tree, "documents", &documents_of(self.format))?;
         Ok(Scenario {
@@ -71,6 +76,7 @@ impl Form for ScenarioTable {
             hosts,
             cookies,
             servers: Servers::of(servers),
+            routes,
             piece: piece as u32,
             documents,
             body_limit,

@@ -5,6 +5,7 @@ use std::marker::Model;
 use url::Url;
 use wf_commands::Script;
 use wf_csp_text::Policies;
+use wf_link::Routes;
 use wf_text::{Bytes, Items, OutOfMemory};
 use wf_types::{Cookies, ReferrerPolicy};
 
@@ -115,14 +116,16 @@ pub struct Document {
 pub type Documents = Items<Document>;
 
 /// A scenario: the second in which it begins, the hosts that are known then, the cookies that are
-/// sent, the servers that answer, the greatest number of bytes that come of an answer at once, the
-/// documents that fetch, and the greatest number of bytes that a response's body may have.
+/// sent, the servers that answer, where servers listen, the greatest number of bytes that come of an
+/// answer at once, the documents that fetch, and the greatest number of bytes that a response's body
+/// may have.
 #[derive(Drop)]
 pub struct Scenario {
     pub now: u64,
     pub hosts: Hosts,
     pub cookies: Cookies,
     pub servers: Servers,
+    pub routes: Routes,
     pub piece: u32,
     pub documents: Documents,
     pub body_limit: u32,

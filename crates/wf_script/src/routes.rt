@@ -1,0 +1,28 @@
+// The table of routes.
+ghost use Rattle.wf_script.specs.Scenarios as spec;
+
+use crate::texts::OriginText;
+use serde_json::Value;
+use std::alloc::Global;
+use wf_form::{AnyText, Form, PairOf, Refused, TextThat};
+use wf_link::Route;
+
+const ROUTE: PairOf<TextThat<OriginText>, TextThat<AnyText>> = PairOf {
+    first: TextThat { test: OriginText },
+    second: TextThat { test: AnyText },
+};
+
+/// A serialized origin, and the address at which its server listens.
+#[derive(Drop)]
+pub(crate) struct RoutePair;
+
+impl Form for RoutePair {
+    type Out = Route;
+
+    ghost reads = { λ _. spec.route_of };
+
+    fn read(&self, alloc: Global, tree: &Value) -> Result<Route, Refused> {
+        let (origin, address) = ROUTE.read(alloc, tree)?;
+        Ok(Route { origin, address })
+    }
+}
