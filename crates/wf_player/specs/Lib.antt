@@ -1,1 +1,3 @@
 pub mod Playing
+pub mod Private
+pub mod Seats

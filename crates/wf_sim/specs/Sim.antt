@@ -3,6 +3,7 @@
 use Rattle.std.specs.Prelude.{ℕ, Bool, ◌==◌, min, drop, length, List, Option, None}
 use Rattle.std.specs.List.{after_first, before_first}
 use Rattle.wf_text.specs.Ascii.{space}
+use Rattle.wf_link.specs.Links.{Lent}
 use Rattle.wf_link.specs.declared.target.Ask.{Ask}
 use Rattle.wf_script.specs.Servers.{answer}
 use Rattle.wf_script.specs.declared.types.Server.{Server}
@@ -36,6 +37,10 @@ pub record SimState : Type 0 where
 -- it does not tell what it was asked
 abbrev pub told_asks : Option (List Ask)
 told_asks = None
+
+-- nor do links to them tell which of them are out
+abbrev pub not_lent : Option (Lent SimState)
+not_lent = None
 
 -- it never failed
 abbrev pub fault_count : ℕ

@@ -1,4 +1,4 @@
-ghost use Rattle.std.specs.Prelude.{◌≡◌, ◌<◌, ◌++◌, [], List, take, drop, length, Some, Ok, IfOk, OnOk, OnErr};
+ghost use Rattle.std.specs.Prelude.{◌≡◌, ◌<◌, ◌≤◌, ◌++◌, [], List, take, drop, length, Some, Ok, IfOk, OnOk, OnErr};
 ghost use Rattle.std.specs.Io.{ReadsAtMost};
 ghost use Rattle.wf_link.specs.Counts.{HasCause};
 ghost use Rattle.wf_link.specs.Links.{Asked, MayHaveAsked};
@@ -38,9 +38,17 @@ impl<'a> SimLink<'a> {
         requires { IsValid scenario.now }
         ensures { result ≡ record { servers = scenario.entry.now.servers; piece = scenario.entry.now.piece; left = [] } }
     {
+        SimLink::to(&scenario.servers, scenario.piece as usize)
+    }
+
+    // A link to servers, with no answer to come, whose answers come in pieces of this size.
+    pub(crate) fn to(servers: &'a Servers, piece: usize) -> SimLink<'a>
+        requires { 1 ≤ piece }
+        ensures { result ≡ record { servers = servers.now; piece = piece; left = [] } }
+    {
         SimLink {
-            servers: &scenario.servers,
-            piece: scenario.piece as usize,
+            servers,
+            piece,
             left: &[],
         }
     }

@@ -1,54 +1,16 @@
--- The definitions computed on worked examples: what scripted servers answer to a document that fetches its own root, and
--- the book that a play opens with.
-use Rattle.std.proofs.Common.{◌≡◌, ℕ, Bool, refl, true, false, List, [], ◌∷◌, codes, Some, None}
-use Rattle.wf_book.specs.Book.{empty}
-use Rattle.wf_script.specs.Servers.{answer, answer_bytes}
-use Rattle.wf_script.specs.declared.types.KnownHost.{KnownHost}
-use Rattle.wf_script.specs.declared.types.Server.{Server}
-use Rattle.wf_run.proofs.Computed.{hop}
-use Rattle.wf_top.specs.Plays.{with_hosts}
-use Rattle.wf_top.specs.Words.{is_play}
+-- The words computed on worked examples.
+use Rattle.std.proofs.Common.{◌≡◌, ℕ, refl, List, [], ◌∷◌, codes, Some, None}
+use Rattle.wf_top.specs.Words.{subcommand_of}
+use Rattle.wf_top.specs.declared.words.Subcommand.TheVariants.{Gen, Play}
 
--- a server that answers PUT by 201 and all else by 200 with the body `hi`
-abbrev servers : List Server
-servers =
-    record {
-      origin = codes "https://a.test";
-      rules =
-          record { method = Some (codes "PUT"); path = None; answer = answer_bytes 201 [] [] }
-          ∷ record { method = None; path = Some (codes "/"); answer = answer_bytes 200 [] (codes "hi") }
-          ∷ [];
-    } ∷ []
+-- accepted are `play`, and `gen` with a number from 1 to 64
+pub accepted : (subcommand_of (codes "play" ∷ []) ≡ Some Play) × (subcommand_of (codes "gen" ∷ codes "8" ∷ []) ≡ Some (Gen 8))
+    × (subcommand_of (codes "gen" ∷ codes "64" ∷ []) ≡ Some (Gen 64))
+accepted = (refl, refl, refl)
 
--- a host of a scenario
-abbrev known : List ℕ → Bool → ℕ → KnownHost
-known host subdomains until = record { host = host; subdomains = subdomains; until = until }
-
--- the second rule answers the document's request
-pub second_rule : answer servers hop.origin hop.method hop.url ≡ answer_bytes 200 [] (codes "hi")
-second_rule = refl
-
--- without a rule the status is 404, and without a server the answer is empty
-pub without_a_rule : answer (record { origin = codes "https://a.test"; rules = [] } ∷ []) hop.origin hop.method hop.url
-    ≡ codes "HTTP/1.1 404 Scripted\r\n\r\n"
-without_a_rule = refl
-
-pub without_a_server : answer [] hop.origin hop.method hop.url ≡ []
-without_a_server = refl
-
--- of two equal hosts the one noted last counts, and one whose time is 0 is not held
-pub opened : with_hosts
-    (known (codes "a.test") true 5 ∷ known (codes "b.test") false 7 ∷ known (codes "a.test") false 9
-    ∷ known (codes "c.test") false 0 ∷ []) empty
-    ≡ record empty {
-      hosts =
-          record { host = codes "a.test"; subdomains = false; until = 9 }
-          ∷ record { host = codes "b.test"; subdomains = false; until = 7 }
-          ∷ [];
-    }
-opened = refl
-
--- the words
-pub words : (is_play (codes "play" ∷ []) ≡ true) × (is_play [] ≡ false)
-    × (is_play (codes "gen" ∷ codes "0" ∷ []) ≡ false)
-words = (refl, refl, refl)
+-- no words, a zero in front, a number out of the range, a sign, and a word more are not
+pub refused : (subcommand_of [] ≡ None) × (subcommand_of (codes "gen" ∷ codes "0" ∷ []) ≡ None)
+    × (subcommand_of (codes "gen" ∷ codes "065" ∷ []) ≡ None) × (subcommand_of (codes "gen" ∷ codes "08" ∷ []) ≡ None)
+    × (subcommand_of (codes "gen" ∷ codes "65" ∷ []) ≡ None) × (subcommand_of (codes "gen" ∷ codes "+8" ∷ []) ≡ None)
+    × (subcommand_of (codes "gen" ∷ []) ≡ None) × (subcommand_of (codes "play" ∷ codes "x" ∷ []) ≡ None)
+refused = (refl, refl, refl, refl, refl, refl, refl, refl)

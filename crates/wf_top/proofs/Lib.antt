@@ -1,4 +1,2 @@
 pub mod Computed
-pub mod PlayLemmas
 pub mod ProgramLemmas
-pub mod StandingLemmas

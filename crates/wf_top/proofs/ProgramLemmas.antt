@@ -1,5 +1,5 @@
 -- What the program's account of its answer says of each status.
-use Rattle.std.proofs.Common.{◌≡◌, ◌≢◌, ℕ, ◌+◌, ◌≤◌, ◌<◌, ◌⊎◌, inl, inr, Bool, true, false, List, [], ◌++◌, length}
+use Rattle.std.proofs.Common.{◌≡◌, ◌≢◌, ℕ, ◌+◌, ◌≤◌, ◌<◌, ◌⊎◌, inl, inr, List, [], ◌++◌, length}
 use Rattle.std.proofs.Common.{Option, Some, None, Result, Ok, Err, refl, ap, sym, subst, ◌∙◌, arith, length-append}
 use Rattle.std.proofs.lemmas.List.{append-nil}
 use Rattle.wf_link.specs.Sinks.{Took}
@@ -7,13 +7,19 @@ use Rattle.wf_link.specs.Sources.{Gave, IsAtEnd}
 use Rattle.wf_script.specs.declared.types.Place.{Place}
 use Rattle.wf_script.specs.declared.types.Scenario.{Scenario}
 use Rattle.wf_script.specs.Scenarios.{scenario_of}
+use Rattle.wf_book.specs.declared.entry.Entry.{Entry}
+use Rattle.wf_print.specs.declared.events.Transcript.{Transcript}
+use Rattle.wf_play.specs.Plays.{IsPlay}
 use Rattle.wf_top.specs.Program.{most_input, IsWhole, WritesPlay, IsCause, IsPlayed, IsVerdict, IsComplained, IsTold}
-use Rattle.wf_top.specs.Program.{IsOutcome, IsAnswer, IsExcused, GaveFor, Answers}
+use Rattle.wf_top.specs.Program.{IsOutcome, IsAnswer, IsExcused, IsExcusedRead, IsSummed, WritesSummary}
+use Rattle.wf_top.specs.Program.{WritesSummaryPart, GaveFor, AnswersInput, AnswersCount, Answers}
 use Rattle.wf_top.specs.Statuses.{complaint}
 use Rattle.wf_top.specs.Streams.{Source, Sink, Failed}
-use Rattle.wf_top.specs.Words.{is_play}
+use Rattle.wf_top.specs.Words.{subcommand_of}
 use Rattle.wf_top.specs.declared.status.Status.{Status}
 use Rattle.wf_top.specs.declared.status.Status.TheVariants as status
+use Rattle.wf_top.specs.declared.words.Subcommand.{Subcommand}
+use Rattle.wf_top.specs.declared.words.Subcommand.TheVariants.{Gen, Play}
 
 -- ---- what was told
 
@@ -81,270 +87,314 @@ gave-nothing : (left : Option (List ℕ)) → Gave left left []
 gave-nothing None = tt
 gave-nothing (Some left) = (left, refl, refl)
 
--- ---- the verdict
-
-played-of : (accepted : Bool) (input input' : Source) (output output' : Sink) (verdict : Status) → accepted ≡ true
-    → IsVerdict accepted input input' output output' verdict → IsPlayed input input' output output' verdict
-played-of true input input' output output' verdict e v = v
-played-of false input input' output output' verdict e v = cc
-
-usage-of : (accepted : Bool) (input input' : Source) (output output' : Sink) (verdict : Status) → accepted ≡ false
-    → IsVerdict accepted input input' output output' verdict → verdict ≡ status.Usage
-usage-of true input input' output output' verdict e v = cc
-usage-of false input input' output output' verdict e v = v.0
-
--- a verdict other than Usage was played
-played-other : (accepted : Bool) (input input' : Source) (output output' : Sink) (verdict : Status)
-    → verdict ≢ status.Usage → IsVerdict accepted input input' output output' verdict
-    → IsPlayed input input' output output' verdict
-played-other true input input' output output' verdict other v = v
-played-other false input input' output output' verdict other v = absurd (other v.0)
-
-not_accepted-of : (accepted : Bool) (input input' : Source) (output output' : Sink)
-    → IsVerdict accepted input input' output output' status.Usage → accepted ≡ false
-not_accepted-of true input input' output output' v = absurd v.cause.1
-not_accepted-of false input input' output output' v = refl
-
--- what was read has this cause
-cause-at : (input input' : Source) (output output' : Sink) (verdict answer : Status)
-    → IsPlayed input input' output output' verdict → verdict ≡ answer
-    → GaveFor input input' (λ bytes. IsCause bytes input input' output output' answer)
-cause-at input input' output output' verdict answer p e = record {
-  bytes = p.bytes;
-  gave = p.gave;
-  reason_is = subst (λ (v : Status). IsCause p.bytes input input' output output' v) e p.cause;
-}
-
-bound-at : (input input' : Source) (output output' : Sink) (bytes : List ℕ) (verdict : Status)
-    → IsCause bytes input input' output output' verdict → length bytes ≤ most_input + 1
-bound-at input input' output output' bytes status.Ok c = omega (arith, c.0.short)
-bound-at input input' output output' bytes status.Usage c = absurd c.1
-bound-at input input' output output' bytes (status.Scenario place) c = omega (arith, c.0.short)
-bound-at input input' output output' bytes status.ReadFault c = omega (arith, c.0)
-bound-at input input' output output' bytes status.WriteFault c = omega (arith, c.0.short)
-bound-at input input' output output' bytes status.OutOfMemory c = omega (arith, c.0)
-bound-at input input' output output' bytes status.InputTooLong c = omega (arith, c.0)
-
-bound-of : (accepted : Bool) (input input' : Source) (output output' : Sink) (verdict : Status)
-    → IsVerdict accepted input input' output output' verdict
-    → GaveFor input input' (λ bytes. length bytes ≤ most_input + 1)
-bound-of true input input' output output' verdict v =
-    record { bytes = v.bytes; gave = v.gave; reason_is = bound-at input input' output output' v.bytes verdict v.cause }
-bound-of false input input' output output' verdict v = record {
-  bytes = [];
-  gave = subst (λ (s : Source). Gave input.left s.left []) (sym v.1) (gave-nothing input.left);
-  reason_is = omega arith;
-}
-
--- what the bytes of the whole input come to is the cause
-pub whole_cause : (bytes : List ℕ) (input input' : Source) (output output' : Sink) (verdict : Status)
-    → IsWhole bytes input' → IsOutcome bytes output output' verdict
-    → IsCause bytes input input' output output' verdict
-whole_cause bytes input input' output output' status.Ok whole o = (whole, o)
-whole_cause bytes input input' output output' status.Usage whole o = absurd o
-whole_cause bytes input input' output output' (status.Scenario place) whole o = (whole, o)
-whole_cause bytes input input' output output' status.ReadFault whole o = absurd o
-whole_cause bytes input input' output output' status.WriteFault whole o = (whole, o)
-whole_cause bytes input input' output output' status.OutOfMemory whole o =
-    (whole.short, elim o [ inl same ↦ inl same | inr part ↦ inr (whole, part) ])
-whole_cause bytes input input' output output' status.InputTooLong whole o = absurd o
-
--- ---- exactly where
-
 same_place : (a b : Place) (read : Result Scenario Place) → read ≡ Err a → read ≡ Err b → a ≡ b
 same_place a b read x y = cc
 
--- the bytes are refused, or longer, or a scenario: the verdict is this one, but for the excuses
-no_scenario-at : (input input' : Source) (output output' c c' : Sink) (bytes : List ℕ) (place : Place)
-    (verdict answer : Status) → IsPlayed input input' output output' verdict → answer ≡ verdict → input.left
-    ≡ Some bytes → length bytes ≤ most_input → scenario_of bytes ≡ Err place → (answer ≡ status.Scenario place)
-    ⊎ IsExcused input input' output output' c c' answer
-no_scenario-at input input' output output' c c' bytes place status.Ok answer p e tells short is =
-    let same = whole-told bytes p.bytes input.left input'.left tells p.gave p.cause.0.end in
-    let read : scenario_of bytes ≡ Ok p.cause.1.of.scenario =
-    subst (λ (l : List ℕ). scenario_of l ≡ Ok p.cause.1.of.scenario) same p.cause.1.of.read in
-    absurd (other p.cause.1.of.scenario (sym read ∙ is))
-  where
-    other : (s : Scenario) → Ok s ≡ Err place → ⊥
-    other s h = cc
-no_scenario-at input input' output output' c c' bytes place status.Usage answer p e tells short is = absurd p.cause.1
-no_scenario-at input input' output output' c c' bytes place (status.Scenario told) answer p e tells short is =
-    let same = whole-told bytes p.bytes input.left input'.left tells p.gave p.cause.0.end in
-    let read : scenario_of bytes ≡ Err told = subst (λ (l : List ℕ). scenario_of l ≡ Err told) same p.cause.1.0 in
-    inl (e ∙ ap status.Scenario (same_place told place (scenario_of bytes) read is))
-no_scenario-at input input' output output' c c' bytes place status.ReadFault answer p e tells short is =
-    inr (inr (inl (e, p.cause.1)))
-no_scenario-at input input' output output' c c' bytes place status.WriteFault answer p e tells short is =
-    inr (inr (inr (e, inl p.cause.1.1)))
-no_scenario-at input input' output output' c c' bytes place status.OutOfMemory answer p e tells short is = inr (inl e)
-no_scenario-at input input' output output' c c' bytes place status.InputTooLong answer p e tells short is =
-    absurd (omega (arith, p.cause.0, given-short bytes p.bytes input.left input'.left tells p.gave))
+-- ---- an input that was read
 
-longer-at : (input input' : Source) (output output' c c' : Sink) (bytes : List ℕ) (verdict answer : Status)
-    → IsPlayed input input' output output' verdict → answer ≡ verdict → input.left ≡ Some bytes
-    → most_input < length bytes → (answer ≡ status.InputTooLong) ⊎ IsExcused input input' output output' c c' answer
-longer-at input input' output output' c c' bytes status.Ok answer p e tells long =
-    absurd (omega (
-      arith,
-      p.cause.0.short,
-      ap length (whole-told bytes p.bytes input.left input'.left tells p.gave p.cause.0.end),
-    ))
-longer-at input input' output output' c c' bytes status.Usage answer p e tells long = absurd p.cause.1
-longer-at input input' output output' c c' bytes (status.Scenario told) answer p e tells long =
-    absurd (omega (
-      arith,
-      p.cause.0.short,
-      ap length (whole-told bytes p.bytes input.left input'.left tells p.gave p.cause.0.end),
-    ))
-longer-at input input' output output' c c' bytes status.ReadFault answer p e tells long = inr (inr (inl (e, p.cause.1)))
-longer-at input input' output output' c c' bytes status.WriteFault answer p e tells long =
-    inr (inr (inr (e, inl p.cause.1.1)))
-longer-at input input' output output' c c' bytes status.OutOfMemory answer p e tells long = inr (inl e)
-longer-at input input' output output' c c' bytes status.InputTooLong answer p e tells long = inl e
+module _ (Plays : Scenario → List Transcript → List Entry → Type 0) where
+  -- what was read has this cause
+  cause-at : (input input' : Source) (output output' : Sink) (verdict answer : Status)
+      → IsPlayed Plays input input' output output' verdict → verdict ≡ answer
+      → GaveFor input input' (λ bytes. IsCause Plays bytes input input' output output' answer)
+  cause-at input input' output output' verdict answer p e = record {
+    bytes = p.bytes;
+    gave = p.gave;
+    reason_is = subst (λ (v : Status). IsCause Plays p.bytes input input' output output' v) e p.cause;
+  }
 
-complete-at : (input input' : Source) (output output' c c' : Sink) (bytes : List ℕ) (scenario : Scenario)
-    (verdict answer : Status) → IsPlayed input input' output output' verdict → answer ≡ verdict → input.left
-    ≡ Some bytes → length bytes ≤ most_input → scenario_of bytes ≡ Ok scenario → (answer ≡ status.Ok)
-    ⊎ IsExcused input input' output output' c c' answer
-complete-at input input' output output' c c' bytes scenario status.Ok answer p e tells short is = inl e
-complete-at input input' output output' c c' bytes scenario status.Usage answer p e tells short is = absurd p.cause.1
-complete-at input input' output output' c c' bytes scenario (status.Scenario told) answer p e tells short is =
-    let same = whole-told bytes p.bytes input.left input'.left tells p.gave p.cause.0.end in
-    let read : scenario_of bytes ≡ Err told = subst (λ (l : List ℕ). scenario_of l ≡ Err told) same p.cause.1.0 in
-    absurd (other (sym is ∙ read))
+  bound-at : (input input' : Source) (output output' : Sink) (bytes : List ℕ) (verdict : Status)
+      → IsCause Plays bytes input input' output output' verdict → length bytes ≤ most_input + 1
+  bound-at input input' output output' bytes status.Ok c = omega (arith, c.0.short)
+  bound-at input input' output output' bytes status.Usage c = absurd c.1
+  bound-at input input' output output' bytes (status.Scenario place) c = omega (arith, c.0.short)
+  bound-at input input' output output' bytes status.ReadFault c = omega (arith, c.0)
+  bound-at input input' output output' bytes status.WriteFault c = omega (arith, c.0.short)
+  bound-at input input' output output' bytes status.OutOfMemory c = omega (arith, c.0)
+  bound-at input input' output output' bytes status.InputTooLong c = omega (arith, c.0)
+
+  -- what the bytes of the whole input come to is the cause
+  pub whole_cause : (bytes : List ℕ) (input input' : Source) (output output' : Sink) (verdict : Status)
+      → IsWhole bytes input' → IsOutcome Plays bytes output output' verdict
+      → IsCause Plays bytes input input' output output' verdict
+  whole_cause bytes input input' output output' status.Ok whole o = (whole, o)
+  whole_cause bytes input input' output output' status.Usage whole o = absurd o
+  whole_cause bytes input input' output output' (status.Scenario place) whole o = (whole, o)
+  whole_cause bytes input input' output output' status.ReadFault whole o = absurd o
+  whole_cause bytes input input' output output' status.WriteFault whole o = (whole, o)
+  whole_cause bytes input input' output output' status.OutOfMemory whole o =
+      (whole.short, elim o [ inl same ↦ inl same | inr part ↦ inr (whole, part) ])
+  whole_cause bytes input input' output output' status.InputTooLong whole o = absurd o
+
+  -- ---- exactly where
+
+  -- the bytes are refused, or longer, or a scenario: the verdict is this one, but for the excuses
+  no_scenario-at : (input input' : Source) (output output' c c' : Sink) (bytes : List ℕ) (place : Place)
+      (verdict answer : Status) → IsPlayed Plays input input' output output' verdict → answer ≡ verdict → input.left
+      ≡ Some bytes → length bytes ≤ most_input → scenario_of bytes ≡ Err place → (answer ≡ status.Scenario place)
+      ⊎ IsExcusedRead input input' output output' c c' answer
+  no_scenario-at input input' output output' c c' bytes place status.Ok answer p e tells short is =
+      let same = whole-told bytes p.bytes input.left input'.left tells p.gave p.cause.0.end in
+      let read : scenario_of bytes ≡ Ok p.cause.1.of.scenario =
+      subst (λ (l : List ℕ). scenario_of l ≡ Ok p.cause.1.of.scenario) same p.cause.1.of.read in
+      absurd (other p.cause.1.of.scenario (sym read ∙ is))
+    where
+      other : (s : Scenario) → Ok s ≡ Err place → ⊥
+      other s h = cc
+  no_scenario-at input input' output output' c c' bytes place status.Usage answer p e tells short is = absurd p.cause.1
+  no_scenario-at input input' output output' c c' bytes place (status.Scenario told) answer p e tells short is =
+      let same = whole-told bytes p.bytes input.left input'.left tells p.gave p.cause.0.end in
+      let read : scenario_of bytes ≡ Err told = subst (λ (l : List ℕ). scenario_of l ≡ Err told) same p.cause.1.0 in
+      inl (e ∙ ap status.Scenario (same_place told place (scenario_of bytes) read is))
+  no_scenario-at input input' output output' c c' bytes place status.ReadFault answer p e tells short is =
+      inr (inl (e, p.cause.1))
+  no_scenario-at input input' output output' c c' bytes place status.WriteFault answer p e tells short is =
+      inr (inr (inr (e, inl p.cause.1.1)))
+  no_scenario-at input input' output output' c c' bytes place status.OutOfMemory answer p e tells short is = inr (inr (inl e))
+  no_scenario-at input input' output output' c c' bytes place status.InputTooLong answer p e tells short is =
+      absurd (omega (arith, p.cause.0, given-short bytes p.bytes input.left input'.left tells p.gave))
+
+  longer-at : (input input' : Source) (output output' c c' : Sink) (bytes : List ℕ) (verdict answer : Status)
+      → IsPlayed Plays input input' output output' verdict → answer ≡ verdict → input.left ≡ Some bytes
+      → most_input < length bytes → (answer ≡ status.InputTooLong) ⊎ IsExcusedRead input input' output output' c c' answer
+  longer-at input input' output output' c c' bytes status.Ok answer p e tells long =
+      absurd (omega (
+        arith,
+        p.cause.0.short,
+        ap length (whole-told bytes p.bytes input.left input'.left tells p.gave p.cause.0.end),
+      ))
+  longer-at input input' output output' c c' bytes status.Usage answer p e tells long = absurd p.cause.1
+  longer-at input input' output output' c c' bytes (status.Scenario told) answer p e tells long =
+      absurd (omega (
+        arith,
+        p.cause.0.short,
+        ap length (whole-told bytes p.bytes input.left input'.left tells p.gave p.cause.0.end),
+      ))
+  longer-at input input' output output' c c' bytes status.ReadFault answer p e tells long = inr (inl (e, p.cause.1))
+  longer-at input input' output output' c c' bytes status.WriteFault answer p e tells long =
+      inr (inr (inr (e, inl p.cause.1.1)))
+  longer-at input input' output output' c c' bytes status.OutOfMemory answer p e tells long = inr (inr (inl e))
+  longer-at input input' output output' c c' bytes status.InputTooLong answer p e tells long = inl e
+
+  complete-at : (input input' : Source) (output output' c c' : Sink) (bytes : List ℕ) (scenario : Scenario)
+      (verdict answer : Status) → IsPlayed Plays input input' output output' verdict → answer ≡ verdict → input.left
+      ≡ Some bytes → length bytes ≤ most_input → scenario_of bytes ≡ Ok scenario → (answer ≡ status.Ok)
+      ⊎ IsExcusedRead input input' output output' c c' answer
+  complete-at input input' output output' c c' bytes scenario status.Ok answer p e tells short is = inl e
+  complete-at input input' output output' c c' bytes scenario status.Usage answer p e tells short is = absurd p.cause.1
+  complete-at input input' output output' c c' bytes scenario (status.Scenario told) answer p e tells short is =
+      let same = whole-told bytes p.bytes input.left input'.left tells p.gave p.cause.0.end in
+      let read : scenario_of bytes ≡ Err told = subst (λ (l : List ℕ). scenario_of l ≡ Err told) same p.cause.1.0 in
+      absurd (other (sym is ∙ read))
+    where
+      other : Ok scenario ≡ Err told → ⊥
+      other h = cc
+  complete-at input input' output output' c c' bytes scenario status.ReadFault answer p e tells short is =
+      inr (inl (e, p.cause.1))
+  complete-at input input' output output' c c' bytes scenario status.WriteFault answer p e tells short is =
+      inr (inr (inr (e, inl p.cause.1.1)))
+  complete-at input input' output output' c c' bytes scenario status.OutOfMemory answer p e tells short is = inr (inr (inl e))
+  complete-at input input' output output' c c' bytes scenario status.InputTooLong answer p e tells short is =
+      absurd (omega (arith, p.cause.0, given-short bytes p.bytes input.left input'.left tells p.gave))
+
+  -- ---- what the account of an answer to an input says
+
+  input-answers : (input input' : Source) (output output' c c' : Sink) (verdict answer : Status)
+      → IsPlayed Plays input input' output output' verdict → IsTold c c' verdict answer
+      → AnswersInput Plays input input' output output' c c' answer
+  input-answers input input' output output' c c' verdict answer p t =
+      let told = told-answer c c' verdict answer t in
+      record {
+        ok = λ is. ok_at (same is (λ h. ok_write h)) is;
+        refused = λ place is. cause-at input input' output output' verdict (status.Scenario place) p
+            (same is (λ h. scenario_write place h) ∙ is);
+        no_scenario = λ bytes place tells short is. elim told [
+          | inl e ↦ no_scenario-at input input' output output' c c' bytes place verdict answer p e tells short is
+          | inr x ↦ inr (inr (inr (x.0, inr x.1)))
+        ];
+        too_long = λ is. cause-at input input' output output' verdict status.InputTooLong p
+            (same is (λ h. long_write h) ∙ is);
+        longer = λ bytes tells long. elim told [
+          | inl e ↦ longer-at input input' output output' c c' bytes verdict answer p e tells long
+          | inr x ↦ inr (inr (inr (x.0, inr x.1)))
+        ];
+        read_fault = λ is. (cause-at input input' output output' verdict status.ReadFault p
+            (same is (λ h. read_write h) ∙ is)).reason_is.1;
+        complete = λ bytes scenario tells short is. elim told [
+          | inl e ↦ complete-at input input' output output' c c' bytes scenario verdict answer p e tells short is
+          | inr x ↦ inr (inr (inr (x.0, inr x.1)))
+        ];
+        out_of_memory = λ is. cause-at input input' output output' verdict status.OutOfMemory p
+            (same is (λ h. memory_write h) ∙ is);
+        bound = record { bytes = p.bytes; gave = p.gave; reason_is = bound-at input input' output output' p.bytes verdict p.cause };
+      }
+    where
+      ok_write : status.Ok ≡ status.WriteFault → ⊥
+      ok_write h = cc
+
+      scenario_write : (place : Place) → status.Scenario place ≡ status.WriteFault → ⊥
+      scenario_write place h = cc
+
+      long_write : status.InputTooLong ≡ status.WriteFault → ⊥
+      long_write h = cc
+
+      read_write : status.ReadFault ≡ status.WriteFault → ⊥
+      read_write h = cc
+
+      memory_write : status.OutOfMemory ≡ status.WriteFault → ⊥
+      memory_write h = cc
+
+      -- the verdict is the answer
+      same : {other : Status} → answer ≡ other → (other ≡ status.WriteFault → ⊥) → verdict ≡ answer
+      same is apart = told-same c c' verdict answer t (λ h. apart (sym is ∙ h))
+
+      ok_at : verdict ≡ answer → answer ≡ status.Ok
+          → GaveFor input input' (λ bytes. IsWhole bytes input' × WritesPlay Plays bytes output output' × (c' ≡ c))
+      ok_at v is =
+          let cause = cause-at input input' output output' verdict status.Ok p (v ∙ is) in
+          record {
+            bytes = cause.bytes;
+            gave = cause.gave;
+            reason_is = (
+              cause.reason_is.0,
+              cause.reason_is.1,
+              told-nothing c c' verdict (subst (λ (x : Status). IsTold c c' verdict x) is t) (v ∙ is),
+            );
+          }
+
+  -- a verdict of WriteFault has its cause
+  input-write : (input input' : Source) (output output' : Sink) (verdict : Status)
+      → IsPlayed Plays input input' output output' verdict → verdict ≡ status.WriteFault → Failed output output'
+  input-write input input' output output' verdict p is =
+      (cause-at input input' output output' verdict status.WriteFault p is).reason_is.1.1
+
+  input-usage : (input input' : Source) (output output' : Sink) (verdict : Status)
+      → IsPlayed Plays input input' output output' verdict → verdict ≡ status.Usage → ⊥
+  input-usage input input' output output' verdict p is =
+      (cause-at input input' output output' verdict status.Usage p is).reason_is.1
+
+-- ---- a generated scenario
+
+module _ (count : ℕ) where
+  summed-ok : (output output' : Sink) (verdict : Status) → IsSummed count output output' verdict
+      → verdict ≡ status.Ok → WritesSummary count output output'
+  summed-ok output output' verdict s is = subst (λ (v : Status). IsSummed count output output' v) is s
+
+  summed-memory : (output output' : Sink) (verdict : Status) → IsSummed count output output' verdict
+      → verdict ≡ status.OutOfMemory → (output' ≡ output) ⊎ WritesSummaryPart count output output'
+  summed-memory output output' verdict s is = subst (λ (v : Status). IsSummed count output output' v) is s
+
+  summed-write : (output output' : Sink) (verdict : Status) → IsSummed count output output' verdict
+      → verdict ≡ status.WriteFault → Failed output output'
+  summed-write output output' verdict s is =
+      let w : WritesSummaryPart count output output' × Failed output output' =
+      subst (λ (v : Status). IsSummed count output output' v) is s in w.1
+
+  summed-usage : (output output' : Sink) (verdict : Status) → IsSummed count output output' verdict
+      → verdict ≡ status.Usage → ⊥
+  summed-usage output output' verdict s is = subst (λ (v : Status). IsSummed count output output' v) is s
+
+  summed-complete : (output output' c c' : Sink) (verdict answer : Status) → IsSummed count output output' verdict
+      → answer ≡ verdict → (answer ≡ status.Ok) ⊎ IsExcused output output' c c' answer
+  summed-complete output output' c c' status.Ok answer s e = inl e
+  summed-complete output output' c c' status.Usage answer s e = absurd s
+  summed-complete output output' c c' (status.Scenario place) answer s e = absurd s
+  summed-complete output output' c c' status.ReadFault answer s e = absurd s
+  summed-complete output output' c c' status.WriteFault answer s e = inr (inr (e, inl s.1))
+  summed-complete output output' c c' status.OutOfMemory answer s e = inr (inl e)
+  summed-complete output output' c c' status.InputTooLong answer s e = absurd s
+
+  count-answers : (input input' : Source) (output output' c c' : Sink) (verdict answer : Status) → input' ≡ input
+      → IsSummed count output output' verdict → IsTold c c' verdict answer
+      → AnswersCount count input input' output output' c c' answer
+  count-answers input input' output output' c c' verdict answer unread s t = record {
+    unread = unread;
+    ok = λ is. let v = same is (λ h. ok_write h) in (
+      summed-ok output output' verdict s (v ∙ is),
+      told-nothing c c' verdict (subst (λ (x : Status). IsTold c c' verdict x) is t) (v ∙ is),
+    );
+    complete = elim (told-answer c c' verdict answer t) [
+      | inl e ↦ summed-complete output output' c c' verdict answer s e
+      | inr x ↦ inr (inr (x.0, inr x.1))
+    ];
+    out_of_memory = λ is. summed-memory output output' verdict s (same is (λ h. memory_write h) ∙ is);
+  }
+    where
+      ok_write : status.Ok ≡ status.WriteFault → ⊥
+      ok_write h = cc
+
+      memory_write : status.OutOfMemory ≡ status.WriteFault → ⊥
+      memory_write h = cc
+
+      same : {other : Status} → answer ≡ other → (other ≡ status.WriteFault → ⊥) → verdict ≡ answer
+      same is apart = told-same c c' verdict answer t (λ h. apart (sym is ∙ h))
+
+-- ---- the verdict
+
+play-verdict : (asked : Option Subcommand) (input input' : Source) (output output' : Sink) (verdict : Status)
+    → asked ≡ Some Play → IsVerdict asked input input' output output' verdict
+    → IsPlayed IsPlay input input' output output' verdict
+play-verdict asked input input' output output' verdict is v =
+    subst (λ (a : Option Subcommand). IsVerdict a input input' output output' verdict) is v
+
+gen-verdict : (asked : Option Subcommand) (count : ℕ) (input input' : Source) (output output' : Sink)
+    (verdict : Status) → asked ≡ Some (Gen count) → IsVerdict asked input input' output output' verdict
+    → (input' ≡ input) × IsSummed count output output' verdict
+gen-verdict asked count input input' output output' verdict is v =
+    subst (λ (a : Option Subcommand). IsVerdict a input input' output output' verdict) is v
+
+usage-of : (asked : Option Subcommand) (input input' : Source) (output output' : Sink) (verdict : Status)
+    → asked ≡ None → IsVerdict asked input input' output output' verdict → verdict ≡ status.Usage
+usage-of asked input input' output output' verdict is v =
+    let n : (verdict ≡ status.Usage) × (input' ≡ input) × (output' ≡ output) =
+    subst (λ (a : Option Subcommand). IsVerdict a input input' output output' verdict) is v in n.0
+
+not_accepted-of : (asked : Option Subcommand) (input input' : Source) (output output' : Sink) (verdict : Status)
+    → verdict ≡ status.Usage → IsVerdict asked input input' output output' verdict → asked ≡ None
+not_accepted-of None input input' output output' verdict is v = refl
+not_accepted-of (Some Play) input input' output output' verdict is v =
+    absurd (input-usage IsPlay input input' output output' verdict v is)
+not_accepted-of (Some (Gen count)) input input' output output' verdict is v =
+    absurd (summed-usage count output output' verdict v.1 is)
+
+verdict-write : (asked : Option Subcommand) (input input' : Source) (output output' : Sink) (verdict : Status)
+    → verdict ≡ status.WriteFault → IsVerdict asked input input' output output' verdict → Failed output output'
+verdict-write None input input' output output' verdict is v = absurd (other (sym v.0 ∙ is))
   where
-    other : Ok scenario ≡ Err told → ⊥
+    other : status.Usage ≡ status.WriteFault → ⊥
     other h = cc
-complete-at input input' output output' c c' bytes scenario status.ReadFault answer p e tells short is =
-    inr (inr (inl (e, p.cause.1)))
-complete-at input input' output output' c c' bytes scenario status.WriteFault answer p e tells short is =
-    inr (inr (inr (e, inl p.cause.1.1)))
-complete-at input input' output output' c c' bytes scenario status.OutOfMemory answer p e tells short is = inr (inl e)
-complete-at input input' output output' c c' bytes scenario status.InputTooLong answer p e tells short is =
-    absurd (omega (arith, p.cause.0, given-short bytes p.bytes input.left input'.left tells p.gave))
+verdict-write (Some Play) input input' output output' verdict is v =
+    input-write IsPlay input input' output output' verdict v is
+verdict-write (Some (Gen count)) input input' output output' verdict is v =
+    summed-write count output output' verdict v.1 is
 
 -- ---- the whole
-
-write_fault-of : (accepted : Bool) (input input' : Source) (output output' c c' : Sink) (verdict answer : Status)
-    → IsVerdict accepted input input' output output' verdict → (answer ≡ verdict)
-    ⊎ ((answer ≡ status.WriteFault) × Failed c c') → answer ≡ status.WriteFault → Failed output output' ⊎ Failed c c'
-write_fault-of accepted input input' output output' c c' verdict answer v told is = elim told [
-  | inl e ↦ let w : verdict ≡ status.WriteFault = sym e ∙ is in
-      let p = played-other accepted input input' output output' verdict (λ u. other (sym w ∙ u)) v in
-      inl (cause-at input input' output output' verdict status.WriteFault p w).reason_is.1.1
-  | inr x ↦ inr x.1
-]
-  where
-    other : status.WriteFault ≡ status.Usage → ⊥
-    other h = cc
 
 -- the account of an answer says what the program promises
 pub answers : (words : List (List ℕ)) (input input' : Source) (output output' c c' : Sink) (answer : Status)
     → IsAnswer words input input' output output' c c' answer → Answers words input input' output output' c c' answer
 answers words input input' output output' c c' answer a =
+    let asked = subcommand_of words in
     let told = told-answer c c' a.verdict answer a.is_told in
     record {
       is_answer = a;
-      ok = λ is. ok_at (same is (λ h. ok_write h)) is;
-      usage = λ is. not_accepted-of (is_play words) input input' output output'
-          (subst (λ (v : Status). IsVerdict (is_play words) input input' output output' v)
-          (same is (λ h. usage_write h) ∙ is) a.is_verdict);
+      usage = λ is. not_accepted-of asked input input' output output' a.verdict
+          (told-same c c' a.verdict answer a.is_told (λ h. usage_write (sym is ∙ h)) ∙ is) a.is_verdict;
       not_accepted = λ no_words. elim told [
-        | inl e ↦
-            inl (e ∙ usage-of (is_play words) input input' output output' a.verdict no_words a.is_verdict)
-        | inr x ↦
-            inr x
+        | inl e ↦ inl (e ∙ usage-of asked input input' output output' a.verdict no_words a.is_verdict)
+        | inr x ↦ inr x
       ];
-      refused = λ place is. cause-at input input' output output' a.verdict (status.Scenario place)
-          (played-other (is_play words) input input' output output' a.verdict
-          (λ u. scenario_usage place (sym (same is (λ h. scenario_write place h) ∙ is) ∙ u)) a.is_verdict)
-          (same is (λ h. scenario_write place h) ∙ is);
-      no_scenario = λ bytes place accepted tells short is. elim told [
-        | inl e ↦
-            no_scenario-at input input' output output' c c' bytes place a.verdict answer
-            (played-of (is_play words) input input' output output' a.verdict accepted a.is_verdict) e tells short is
-        | inr x ↦ inr (inr (inr (x.0, inr x.1)))
+      play = λ is. input-answers IsPlay input input' output output' c c' a.verdict answer
+          (play-verdict asked input input' output output' a.verdict is a.is_verdict) a.is_told;
+      gen = λ count is.
+          let v = gen-verdict asked count input input' output output' a.verdict is a.is_verdict in
+          count-answers count input input' output output' c c' a.verdict answer v.0 v.1 a.is_told;
+      write_fault = λ is. elim told [
+        | inl e ↦ inl (verdict-write asked input input' output output' a.verdict (sym e ∙ is) a.is_verdict)
+        | inr x ↦ inr x.1
       ];
-      too_long = λ is. cause-at input input' output output' a.verdict status.InputTooLong
-          (played-other (is_play words) input input' output output' a.verdict
-          (λ u. long_usage (sym (same is (λ h. long_write h) ∙ is) ∙ u)) a.is_verdict) (same is (λ h. long_write h)
-          ∙ is);
-      longer = λ bytes accepted tells long. elim told [
-        | inl e ↦
-            longer-at input input' output output' c c' bytes a.verdict answer
-            (played-of (is_play words) input input' output output' a.verdict accepted a.is_verdict) e tells long
-        | inr x ↦ inr (inr (inr (x.0, inr x.1)))
-      ];
-      read_fault =
-          λ is. (cause-at input input' output output' a.verdict status.ReadFault
-          (played-other (is_play words) input input' output output' a.verdict
-          (λ u. read_usage (sym (same is (λ h. read_write h) ∙ is) ∙ u)) a.is_verdict) (same is (λ h. read_write h)
-          ∙ is)).reason_is.1;
-      write_fault = λ is. write_fault-of (is_play words) input input' output output' c c' a.verdict answer
-          a.is_verdict told is;
-      complete = λ bytes scenario accepted tells short is. elim told [
-        | inl e ↦
-            complete-at input input' output output' c c' bytes scenario a.verdict answer
-            (played-of (is_play words) input input' output output' a.verdict accepted a.is_verdict) e tells short is
-        | inr x ↦ inr (inr (inr (x.0, inr x.1)))
-      ];
-      out_of_memory = λ is. cause-at input input' output output' a.verdict status.OutOfMemory
-          (played-other (is_play words) input input' output output' a.verdict
-          (λ u. memory_usage (sym (same is (λ h. memory_write h) ∙ is) ∙ u)) a.is_verdict)
-          (same is (λ h. memory_write h) ∙ is);
-      bound = bound-of (is_play words) input input' output output' a.verdict a.is_verdict;
       told = told-line c c' a.verdict answer a.is_told;
     }
   where
-    ok_write : status.Ok ≡ status.WriteFault → ⊥
-    ok_write h = cc
-
     usage_write : status.Usage ≡ status.WriteFault → ⊥
     usage_write h = cc
-
-    scenario_write : (place : Place) → status.Scenario place ≡ status.WriteFault → ⊥
-    scenario_write place h = cc
-
-    long_write : status.InputTooLong ≡ status.WriteFault → ⊥
-    long_write h = cc
-
-    read_write : status.ReadFault ≡ status.WriteFault → ⊥
-    read_write h = cc
-
-    memory_write : status.OutOfMemory ≡ status.WriteFault → ⊥
-    memory_write h = cc
-
-    memory_usage : status.OutOfMemory ≡ status.Usage → ⊥
-    memory_usage h = cc
-
-    ok_usage : status.Ok ≡ status.Usage → ⊥
-    ok_usage h = cc
-
-    scenario_usage : (place : Place) → status.Scenario place ≡ status.Usage → ⊥
-    scenario_usage place h = cc
-
-    long_usage : status.InputTooLong ≡ status.Usage → ⊥
-    long_usage h = cc
-
-    read_usage : status.ReadFault ≡ status.Usage → ⊥
-    read_usage h = cc
-
-    -- the verdict is the answer
-    same : {other : Status} → answer ≡ other → (other ≡ status.WriteFault → ⊥) → a.verdict ≡ answer
-    same is apart = told-same c c' a.verdict answer a.is_told (λ h. apart (sym is ∙ h))
-
-    ok_at : a.verdict ≡ answer → answer ≡ status.Ok
-        → GaveFor input input' (λ bytes. IsWhole bytes input' × WritesPlay bytes output output' × (c' ≡ c))
-    ok_at v is =
-        let cause = cause-at input input' output output' a.verdict status.Ok
-        (played-other (is_play words) input input' output output' a.verdict (λ u. ok_usage (sym (v ∙ is) ∙ u))
-        a.is_verdict) (v ∙ is) in
-        record {
-          bytes = cause.bytes;
-          gave = cause.gave;
-          reason_is = (
-            cause.reason_is.0,
-            cause.reason_is.1,
-            told-nothing c c' a.verdict (subst (λ (x : Status). IsTold c c' a.verdict x) is a.is_told) (v ∙ is),
-          );
-        }

@@ -1,5 +1,4 @@
 pub mod Words
 pub mod Statuses
 pub mod Streams
-pub mod Plays
 pub mod Program

@@ -1,82 +1,123 @@
--- What the program answers to `play`: its verdict by the words and the bytes of the input, what it has
--- written then, and what it tells the complaints. A play is one as far as specs/Plays.antt says.
-use Rattle.std.specs.Prelude.{◌≡◌, ◌≢◌, ℕ, ◌+◌, ◌≤◌, ◌<◌, ◌⊎◌, Bool, true, false, List, length, Some, Ok, Err}
+-- What the program answers to its words: its verdict by the words and the bytes of the input, what it has written
+-- then, and what it tells the complaints. A play is one as wf_play's definition has it.
+use Rattle.std.specs.Prelude.{◌≡◌, ◌≢◌, ℕ, ◌+◌, ◌≤◌, ◌<◌, ◌⊎◌, List, length, Option, Some, None, Ok, Err}
 use Rattle.wf_book.specs.declared.entry.Entry.{Entry}
 use Rattle.wf_link.specs.Counts.{Rose}
 use Rattle.wf_link.specs.Sinks.{Took, TookPart}
 use Rattle.wf_link.specs.Sources.{Gave, IsAtEnd}
 use Rattle.wf_print.specs.declared.events.Transcript.{Transcript}
+use Rattle.wf_print.specs.Summary.{summary_text}
 use Rattle.wf_print.specs.Text.{play_text}
 use Rattle.wf_script.specs.declared.types.Place.{Place}
 use Rattle.wf_script.specs.declared.types.Scenario.{Scenario}
+use Rattle.wf_script.specs.Generated.{generated}
 use Rattle.wf_script.specs.Scenarios.{scenario_of}
-use Rattle.wf_top.specs.Plays.{IsPlay}
+use Rattle.wf_play.specs.Plays.{IsPlay}
 use Rattle.wf_top.specs.Statuses.{complaint}
 use Rattle.wf_top.specs.Streams.{Source, Sink, Failed}
-use Rattle.wf_top.specs.Words.{is_play}
+use Rattle.wf_top.specs.Words.{subcommand_of}
 use Rattle.wf_top.specs.declared.status.Status.{Status}
 use Rattle.wf_top.specs.declared.status.Status.TheVariants as status
+use Rattle.wf_top.specs.declared.words.Subcommand.{Subcommand}
+use Rattle.wf_top.specs.declared.words.Subcommand.TheVariants.{Gen, Play}
 
 -- the longest input, in bytes
 abbrev pub most_input : ℕ
 most_input = 4194304
-
--- a play of the scenario that the bytes are
-pub record PlayOf (bytes : List ℕ) : Type 0 where
-  pub scenario : Scenario
-  pub read : scenario_of bytes ≡ Ok scenario
-  pub transcripts : List Transcript
-  pub history : List Entry
-  pub play : IsPlay scenario transcripts history
-
--- the output has taken the text of a play of what the bytes say, and nothing else
-pub record WritesPlay (bytes : List ℕ) (old new : Sink) : Type 0 where
-  pub of : PlayOf bytes
-  pub took : Took old.taken new.taken (play_text of.transcripts of.history)
-
--- it has taken nothing, or a prefix of such a text
-pub record WritesPart (bytes : List ℕ) (old new : Sink) : Type 0 where
-  pub of : PlayOf bytes
-  pub took : TookPart old.taken new.taken (play_text of.transcripts of.history)
 
 -- the input was read to its end, and is not too long
 pub record IsWhole (bytes : List ℕ) (new : Source) : Type 0 where
   pub end : IsAtEnd new.left
   pub short : length bytes ≤ most_input
 
--- what the bytes of a whole input come to, and what the output has taken then
-abbrev pub IsOutcome : List ℕ → Sink → Sink → Status → Type 0
-IsOutcome bytes output output' status.Ok = WritesPlay bytes output output'
-IsOutcome bytes output output' (status.Scenario place) = (scenario_of bytes ≡ Err place) × (output' ≡ output)
-IsOutcome bytes output output' status.WriteFault = WritesPart bytes output output' × Failed output output'
-IsOutcome bytes output output' status.OutOfMemory = (output' ≡ output) ⊎ WritesPart bytes output output'
-IsOutcome bytes output output' status.Usage = ⊥
-IsOutcome bytes output output' status.ReadFault = ⊥
-IsOutcome bytes output output' status.InputTooLong = ⊥
+-- ---- a scenario that is read
 
--- Why the program comes to a verdict on the bytes that the input gave. Where memory was refused and the output
--- has taken something, the input was read to its end.
-abbrev pub IsCause : List ℕ → Source → Source → Sink → Sink → Status → Type 0
-IsCause bytes input input' output output' status.ReadFault =
-    (length bytes ≤ most_input) × Rose input.faults input'.faults × (output' ≡ output)
-IsCause bytes input input' output output' status.InputTooLong =
-    (length bytes ≡ most_input + 1) × (output' ≡ output)
-IsCause bytes input input' output output' status.OutOfMemory =
-    (length bytes ≤ most_input) × ((output' ≡ output) ⊎ (IsWhole bytes input' × WritesPart bytes output output'))
-IsCause bytes input input' output output' verdict = IsWhole bytes input' × IsOutcome bytes output output' verdict
+-- By what a play of a scenario is:
+module _ (Plays : Scenario → List Transcript → List Entry → Type 0) where
+  -- a play of the scenario that the bytes are
+  pub record PlayOf (bytes : List ℕ) : Type 0 where
+    pub scenario : Scenario
+    pub read : scenario_of bytes ≡ Ok scenario
+    pub transcripts : List Transcript
+    pub history : List Entry
+    pub play : Plays scenario transcripts history
 
--- the verdict on accepted words
-pub record IsPlayed (input input' : Source) (output output' : Sink) (verdict : Status) : Type 0 where
-  -- the bytes that the input gave
-  pub bytes : List ℕ
-  pub gave : Gave input.left input'.left bytes
-  pub cause : IsCause bytes input input' output output' verdict
+  -- the output has taken the text of a play of what the bytes say, and nothing else
+  pub record WritesPlay (bytes : List ℕ) (old new : Sink) : Type 0 where
+    pub of : PlayOf bytes
+    pub took : Took old.taken new.taken (play_text of.transcripts of.history)
 
--- the verdict: Usage exactly where the words are not accepted, and then nothing was read or written
-abbrev pub IsVerdict : Bool → Source → Source → Sink → Sink → Status → Type 0
-IsVerdict true input input' output output' verdict = IsPlayed input input' output output' verdict
-IsVerdict false input input' output output' verdict =
+  -- it has taken nothing, or a prefix of such a text
+  pub record WritesPart (bytes : List ℕ) (old new : Sink) : Type 0 where
+    pub of : PlayOf bytes
+    pub took : TookPart old.taken new.taken (play_text of.transcripts of.history)
+
+  -- what the bytes of a whole input come to, and what the output has taken then
+  abbrev pub IsOutcome : List ℕ → Sink → Sink → Status → Type 0
+  IsOutcome bytes output output' status.Ok = WritesPlay bytes output output'
+  IsOutcome bytes output output' (status.Scenario place) = (scenario_of bytes ≡ Err place) × (output' ≡ output)
+  IsOutcome bytes output output' status.WriteFault = WritesPart bytes output output' × Failed output output'
+  IsOutcome bytes output output' status.OutOfMemory = (output' ≡ output) ⊎ WritesPart bytes output output'
+  IsOutcome bytes output output' status.Usage = ⊥
+  IsOutcome bytes output output' status.ReadFault = ⊥
+  IsOutcome bytes output output' status.InputTooLong = ⊥
+
+  -- Why the program comes to a verdict on the bytes that the input gave. Where memory was refused and the output
+  -- has taken something, the input was read to its end.
+  abbrev pub IsCause : List ℕ → Source → Source → Sink → Sink → Status → Type 0
+  IsCause bytes input input' output output' status.ReadFault =
+      (length bytes ≤ most_input) × Rose input.faults input'.faults × (output' ≡ output)
+  IsCause bytes input input' output output' status.InputTooLong =
+      (length bytes ≡ most_input + 1) × (output' ≡ output)
+  IsCause bytes input input' output output' status.OutOfMemory =
+      (length bytes ≤ most_input) × ((output' ≡ output) ⊎ (IsWhole bytes input' × WritesPart bytes output output'))
+  IsCause bytes input input' output output' verdict = IsWhole bytes input' × IsOutcome bytes output output' verdict
+
+  -- the verdict on an input
+  pub record IsPlayed (input input' : Source) (output output' : Sink) (verdict : Status) : Type 0 where
+    -- the bytes that the input gave
+    pub bytes : List ℕ
+    pub gave : Gave input.left input'.left bytes
+    pub cause : IsCause bytes input input' output output' verdict
+
+-- ---- a generated scenario
+
+-- a play of the generated scenario of so many documents
+pub record GeneratedPlay (count : ℕ) : Type 0 where
+  pub transcripts : List Transcript
+  pub history : List Entry
+  pub play : IsPlay (generated count) transcripts history
+
+-- the output has taken the summary of such a play, and nothing else
+pub record WritesSummary (count : ℕ) (old new : Sink) : Type 0 where
+  pub of : GeneratedPlay count
+  pub took : Took old.taken new.taken (summary_text count of.transcripts of.history)
+
+-- it has taken nothing, or a prefix of such a summary
+pub record WritesSummaryPart (count : ℕ) (old new : Sink) : Type 0 where
+  pub of : GeneratedPlay count
+  pub took : TookPart old.taken new.taken (summary_text count of.transcripts of.history)
+
+-- the verdict on a generated scenario
+abbrev pub IsSummed : ℕ → Sink → Sink → Status → Type 0
+IsSummed count output output' status.Ok = WritesSummary count output output'
+IsSummed count output output' status.WriteFault = WritesSummaryPart count output output' × Failed output output'
+IsSummed count output output' status.OutOfMemory = (output' ≡ output) ⊎ WritesSummaryPart count output output'
+IsSummed count output output' (status.Scenario place) = ⊥
+IsSummed count output output' status.Usage = ⊥
+IsSummed count output output' status.ReadFault = ⊥
+IsSummed count output output' status.InputTooLong = ⊥
+
+-- ---- the whole
+
+-- The verdict, by what the words ask for: Usage exactly where they are not accepted, and then nothing was read or
+-- written; with `gen` nothing was read.
+abbrev pub IsVerdict : Option Subcommand → Source → Source → Sink → Sink → Status → Type 0
+IsVerdict None input input' output output' verdict =
     (verdict ≡ status.Usage) × (input' ≡ input) × (output' ≡ output)
+IsVerdict (Some Play) input input' output output' verdict = IsPlayed IsPlay input input' output output' verdict
+IsVerdict (Some (Gen count)) input input' output output' verdict =
+    (input' ≡ input) × IsSummed count output output' verdict
 
 -- the complaints have taken the verdict's line and the program answers it; or a part of the line, since
 -- they failed, and it answers WriteFault
@@ -94,15 +135,21 @@ IsTold old new verdict answer = IsComplained old new verdict answer
 pub record IsAnswer (words : List (List ℕ)) (input input' : Source) (output output' complaints complaints' : Sink)
     (answer : Status) : Type 0 where
   pub verdict : Status
-  pub is_verdict : IsVerdict (is_play words) input input' output output' verdict
+  pub is_verdict : IsVerdict (subcommand_of words) input input' output output' verdict
   pub is_told : IsTold complaints complaints' verdict answer
 
--- the other answers that an input without a fault of the scenario can have: memory was refused, the
--- input failed, or the complaints or the output failed
-abbrev pub IsExcused : Source → Source → Sink → Sink → Sink → Sink → Status → Type 0
-IsExcused input input' output output' complaints complaints' answer =
-    (answer ≡ status.OutOfMemory) ⊎ (((answer ≡ status.ReadFault) × Rose input.faults input'.faults)
-    ⊎ ((answer ≡ status.WriteFault) × (Failed output output' ⊎ Failed complaints complaints')))
+-- the other answers that a play without a fault of its scenario can have: memory was refused, or the complaints or
+-- the output failed
+abbrev pub IsExcused : Sink → Sink → Sink → Sink → Status → Type 0
+IsExcused output output' complaints complaints' answer =
+    (answer ≡ status.OutOfMemory)
+    ⊎ ((answer ≡ status.WriteFault) × (Failed output output' ⊎ Failed complaints complaints'))
+
+-- where an input was read, it may have failed too
+abbrev pub IsExcusedRead : Source → Source → Sink → Sink → Sink → Sink → Status → Type 0
+IsExcusedRead input input' output output' complaints complaints' answer =
+    ((answer ≡ status.ReadFault) × Rose input.faults input'.faults)
+    ⊎ IsExcused output output' complaints complaints' answer
 
 -- the bytes that the input gave, and why they have this answer
 pub record GaveFor (input input' : Source) (reason : List ℕ → Type 0) : Type 0 where
@@ -110,42 +157,64 @@ pub record GaveFor (input input' : Source) (reason : List ℕ → Type 0) : Type
   pub gave : Gave input.left input'.left bytes
   pub reason_is : reason bytes
 
+-- What the program promises of its answer to an input, by what a play of a scenario is.
+pub record AnswersInput (Plays : Scenario → List Transcript → List Entry → Type 0) (input input' : Source)
+    (output output' complaints complaints' : Sink) (answer : Status) : Type 0 where
+  -- Ok only where the whole input is a scenario, whose play the output has taken, and the complaints nothing
+  pub ok : answer ≡ status.Ok → GaveFor input input' (λ bytes.
+      IsWhole bytes input' × WritesPlay Plays bytes output output' × (complaints' ≡ complaints))
+  -- Scenario only where the whole input is refused at that place, and there always, but for the excuses
+  pub refused : (place : Place) → answer ≡ status.Scenario place → GaveFor input input' (λ bytes.
+      IsWhole bytes input' × ((scenario_of bytes ≡ Err place) × (output' ≡ output)))
+  pub no_scenario : (bytes : List ℕ) (place : Place) → input.left ≡ Some bytes
+      → length bytes ≤ most_input → scenario_of bytes ≡ Err place
+      → (answer ≡ status.Scenario place) ⊎ IsExcusedRead input input' output output' complaints complaints' answer
+  -- InputTooLong only where one byte more than the longest input was read, and there always, but for the excuses
+  pub too_long : answer ≡ status.InputTooLong
+      → GaveFor input input' (λ bytes. (length bytes ≡ most_input + 1) × (output' ≡ output))
+  pub longer : (bytes : List ℕ) → input.left ≡ Some bytes → most_input < length bytes
+      → (answer ≡ status.InputTooLong) ⊎ IsExcusedRead input input' output output' complaints complaints' answer
+  -- ReadFault only where the input failed
+  pub read_fault : answer ≡ status.ReadFault → Rose input.faults input'.faults
+  -- an input that is a scenario has the answer Ok, but for the excuses
+  pub complete : (bytes : List ℕ) (scenario : Scenario) → input.left ≡ Some bytes
+      → length bytes ≤ most_input → scenario_of bytes ≡ Ok scenario
+      → (answer ≡ status.Ok) ⊎ IsExcusedRead input input' output output' complaints complaints' answer
+  -- OutOfMemory only where the output has taken nothing, or the whole input is a scenario, and it has taken a
+  -- prefix of the text of its play
+  pub out_of_memory : answer ≡ status.OutOfMemory → GaveFor input input' (λ bytes. (length bytes ≤ most_input)
+      × ((output' ≡ output) ⊎ (IsWhole bytes input' × WritesPart Plays bytes output output')))
+  -- at most one byte more than the longest input is read
+  pub bound : GaveFor input input' (λ bytes. length bytes ≤ most_input + 1)
+
+-- What the program promises of its answer to `gen`.
+pub record AnswersCount (count : ℕ) (input input' : Source) (output output' complaints complaints' : Sink)
+    (answer : Status) : Type 0 where
+  -- the input is left unread
+  pub unread : input' ≡ input
+  -- Ok only where the output has taken the summary of a play, and the complaints nothing
+  pub ok : answer ≡ status.Ok → WritesSummary count output output' × (complaints' ≡ complaints)
+  -- the answer is Ok, but for the excuses
+  pub complete : (answer ≡ status.Ok) ⊎ IsExcused output output' complaints complaints' answer
+  -- OutOfMemory only where the output has taken nothing, or a prefix of such a summary
+  pub out_of_memory : answer ≡ status.OutOfMemory → (output' ≡ output) ⊎ WritesSummaryPart count output output'
+
 -- What the program promises of its answer. The first field says all; the others are what it says of each
 -- status.
 pub record Answers (words : List (List ℕ)) (input input' : Source) (output output' complaints complaints' : Sink)
     (answer : Status) : Type 0 where
   pub is_answer : IsAnswer words input input' output output' complaints complaints' answer
-  -- Ok only where the whole input is a scenario, whose play the output has taken, and the complaints nothing
-  pub ok : answer ≡ status.Ok → GaveFor input input' (λ bytes.
-      IsWhole bytes input' × WritesPlay bytes output output' × (complaints' ≡ complaints))
   -- Usage only where the words are not accepted, and there always, unless the complaints failed
-  pub usage : answer ≡ status.Usage → is_play words ≡ false
-  pub not_accepted : is_play words ≡ false
+  pub usage : answer ≡ status.Usage → subcommand_of words ≡ None
+  pub not_accepted : subcommand_of words ≡ None
       → (answer ≡ status.Usage) ⊎ ((answer ≡ status.WriteFault) × Failed complaints complaints')
-  -- Scenario only where the whole input is refused at that place, and there always, but for the excuses
-  pub refused : (place : Place) → answer ≡ status.Scenario place → GaveFor input input' (λ bytes.
-      IsWhole bytes input' × ((scenario_of bytes ≡ Err place) × (output' ≡ output)))
-  pub no_scenario : (bytes : List ℕ) (place : Place) → is_play words ≡ true → input.left ≡ Some bytes
-      → length bytes ≤ most_input → scenario_of bytes ≡ Err place
-      → (answer ≡ status.Scenario place) ⊎ IsExcused input input' output output' complaints complaints' answer
-  -- InputTooLong only where one byte more than the longest input was read, and there always, but for the excuses
-  pub too_long : answer ≡ status.InputTooLong
-      → GaveFor input input' (λ bytes. (length bytes ≡ most_input + 1) × (output' ≡ output))
-  pub longer : (bytes : List ℕ) → is_play words ≡ true → input.left ≡ Some bytes → most_input < length bytes
-      → (answer ≡ status.InputTooLong) ⊎ IsExcused input input' output output' complaints complaints' answer
-  -- ReadFault only where the input failed; WriteFault only where a sink failed or took nothing
-  pub read_fault : answer ≡ status.ReadFault → Rose input.faults input'.faults
+  -- what the accepted words ask for
+  pub play : subcommand_of words ≡ Some Play
+      → AnswersInput IsPlay input input' output output' complaints complaints' answer
+  pub gen : (count : ℕ) → subcommand_of words ≡ Some (Gen count)
+      → AnswersCount count input input' output output' complaints complaints' answer
+  -- WriteFault only where a sink failed or took nothing
   pub write_fault : answer ≡ status.WriteFault → Failed output output' ⊎ Failed complaints complaints'
-  -- accepted words and an input that is a scenario have the answer Ok, but for the excuses
-  pub complete : (bytes : List ℕ) (scenario : Scenario) → is_play words ≡ true → input.left ≡ Some bytes
-      → length bytes ≤ most_input → scenario_of bytes ≡ Ok scenario
-      → (answer ≡ status.Ok) ⊎ IsExcused input input' output output' complaints complaints' answer
-  -- OutOfMemory only where the output has taken nothing, or the whole input is a scenario, and it has taken a
-  -- prefix of the text of its play
-  pub out_of_memory : answer ≡ status.OutOfMemory → GaveFor input input' (λ bytes.
-      (length bytes ≤ most_input) × ((output' ≡ output) ⊎ (IsWhole bytes input' × WritesPart bytes output output')))
-  -- at most one byte more than the longest input is read
-  pub bound : GaveFor input input' (λ bytes. length bytes ≤ most_input + 1)
   -- another answer than Ok and WriteFault is told by its whole line
   pub told : answer ≢ status.Ok → answer ≢ status.WriteFault
       → Took complaints.taken complaints'.taken (complaint answer)

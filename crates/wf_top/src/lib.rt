@@ -2,7 +2,6 @@
 #![tactic(auto)]
 
 mod complaint;
-mod play;
 mod program;
 mod status;
 mod words;

@@ -1,30 +1,35 @@
-ghost use Rattle.std.specs.Prelude.{◌≡◌, Ok, List, ℕ};
+ghost use Rattle.std.specs.Prelude.{◌≡◌, ◌≤◌, Ok, IfOk, List, ℕ};
+ghost use Rattle.wf_play.specs.Plays.{IsPlay};
+ghost use Rattle.wf_print.specs.Text.{HasText};
+ghost use Rattle.wf_script.specs.Generated.{generated};
 ghost use Rattle.wf_script.specs.Scenarios.{scenario_of};
 ghost use Rattle.wf_script.specs.Valid.{IsValid};
-ghost use Rattle.wf_top.specs.Program.{Answers, IsOutcome, IsVerdict};
+ghost use Rattle.wf_top.specs.Program.{Answers, IsOutcome, IsPlayed, IsSummed, IsVerdict};
 ghost use Rattle.wf_top.specs.Streams.{source_of, sink_of};
 ghost use Rattle.wf_top.specs.Words as spec;
 ghost use Rattle.wf_top.specs.Words.{texts};
 
 use crate::complaint::tell;
-use crate::play::play_all;
 use crate::status::Status;
-use crate::words::is_play;
+use crate::words::{Subcommand, subcommand_of};
 use std::alloc::Global;
 use std::sync::Wait;
 use std::thread::Threads;
 use wf_link::{ReadStop, Sink, Source, read_whole};
-use wf_print::{Failure, write_play};
-use wf_script::Scenario;
+use wf_play::{Played, play_scripted};
+use wf_print::{Failure, write_play, write_summary};
+use wf_script::{Scenario, generate};
 use wf_text::OutOfMemory;
 
 /// The longest input that is read, in bytes.
 const MOST_INPUT: usize = 4194304;
 
-/// The program, from its words to its status. The words are tested first; then the input is read
-/// whole, read as a scenario, played, and the play's text is written to the output. A status other
-/// than `Ok` is told by one line on the complaints; where that line cannot be written the answer is
-/// `WriteFault`.
+/// The program, from its words to its status. The words are tested first. With `play` the input is then
+/// read whole, read as a scenario, and played, each document on a thread of its own where one can be made,
+/// and the text of the play is written to the output. With `gen` and a number of documents, from 1 to 64,
+/// the input is left unread, the generated scenario of so many documents is played, and the summary of the
+/// play is written. A status other than `Ok` is told by one line on the complaints; where that line cannot
+/// be written the answer is `WriteFault`.
 ///
 /// `Usage` exactly where the words are not accepted, and then nothing is read or written. `Scenario`
 /// exactly where the input is no scenario, with the first refused place. `ReadFault` only where the
@@ -46,8 +51,7 @@ pub fn fetchplay<R: Threads + Wait + Sync, S: Source, K: Sink, E: Sink>(
     tell(verdict, complaints)
 }
 
-// The verdict on the words and the input, with the play written to the output.
-#[tactic(auto, using(crate::proofs::ProgramLemmas::whole_cause))]
+// The verdict on the words and the input, with what was asked for written to the output.
 fn verdict<R: Threads + Wait + Sync, S: Source, K: Sink>(
     rt: &R,
     alloc: Global,
@@ -55,13 +59,28 @@ fn verdict<R: Threads + Wait + Sync, S: Source, K: Sink>(
     input: &mut S,
     output: &mut K,
 ) -> Status
-    ensures { IsVerdict (spec.is_play (texts words.now))
+    ensures { IsVerdict (spec.subcommand_of (texts words.now))
         (source_of S.left S.faults input.old) (source_of S.left S.faults input.new)
         (sink_of K.taken K.faults K.zeros output.old) (sink_of K.taken K.faults K.zeros output.new) result }
 {
-    if !is_play(words) {
-        return Status::Usage;
+    match subcommand_of(words) {
+        None => Status::Usage,
+        Some(Subcommand::Play) => play_input(rt, alloc, input, output),
+        Some(Subcommand::Gen(count)) => play_generated(rt, alloc, count, output),
     }
+}
+
+// Reads the input whole, and plays the scenario that it is.
+#[tactic(auto, using(crate::proofs::ProgramLemmas::whole_cause))]
+fn play_input<R: Threads + Wait + Sync, S: Source, K: Sink>(
+    rt: &R,
+    alloc: Global,
+    input: &mut S,
+    output: &mut K,
+) -> Status
+    ensures { IsPlayed IsPlay (source_of S.left S.faults input.old) (source_of S.left S.faults input.new)
+        (sink_of K.taken K.faults K.zeros output.old) (sink_of K.taken K.faults K.zeros output.new) result }
+{
     match read_whole(alloc, input, MOST_INPUT) {
         Err(ReadStop::Fault) => Status::ReadFault,
         Err(ReadStop::TooLong) => Status::InputTooLong,
@@ -77,7 +96,7 @@ fn play_bytes<R: Threads + Wait + Sync, K: Sink>(
     bytes: &[u8],
     output: &mut K,
 ) -> Status
-    ensures { IsOutcome bytes.now (sink_of K.taken K.faults K.zeros output.old)
+    ensures { IsOutcome IsPlay bytes.now (sink_of K.taken K.faults K.zeros output.old)
         (sink_of K.taken K.faults K.zeros output.new) result }
 {
     match Scenario::read(alloc, bytes) {
@@ -96,14 +115,51 @@ fn play<R: Threads + Wait + Sync, K: Sink>(
 ) -> Status
     requires { IsValid scenario.now }
     ensures { (bytes : List ℕ) → scenario_of bytes ≡ Ok scenario.entry.now
-        → IsOutcome bytes (sink_of K.taken K.faults K.zeros output.old)
+        → IsOutcome IsPlay bytes (sink_of K.taken K.faults K.zeros output.old)
         (sink_of K.taken K.faults K.zeros output.new) result }
 {
-    let played = match play_all(rt, alloc, scenario) {
+    let played = match play_scripted(rt, alloc, scenario) {
         Err(OutOfMemory) => return Status::OutOfMemory,
         Ok(played) => played,
     };
     match write_play(alloc, &played.transcripts, &played.history, output) {
+        Ok(()) => Status::Ok,
+        Err(Failure::OutOfMemory) => Status::OutOfMemory,
+        Err(Failure::Fault) => Status::WriteFault,
+        Err(Failure::TookNothing) => Status::WriteFault,
+    }
+}
+
+// The play of the generated scenario of so many documents.
+fn generated_play<R: Threads + Wait + Sync>(
+    rt: &R,
+    alloc: Global,
+    count: u32,
+) -> Result<Played, OutOfMemory>
+    requires { (1 ≤ count) × (count ≤ 64) }
+    ensures played { IfOk result (λ played. IsPlay (generated count) played.transcripts played.history) }
+    ensures has_text { IfOk result (λ played. HasText played.transcripts) }
+{
+    let scenario = generate(alloc, count)?;
+    play_scripted(rt, alloc, &scenario)
+}
+
+// Plays the generated scenario of so many documents and writes the summary of the play.
+fn play_generated<R: Threads + Wait + Sync, K: Sink>(
+    rt: &R,
+    alloc: Global,
+    count: u32,
+    output: &mut K,
+) -> Status
+    requires { (1 ≤ count) × (count ≤ 64) }
+    ensures { IsSummed count (sink_of K.taken K.faults K.zeros output.old)
+        (sink_of K.taken K.faults K.zeros output.new) result }
+{
+    let played = match generated_play(rt, alloc, count) {
+        Err(OutOfMemory) => return Status::OutOfMemory,
+        Ok(played) => played,
+    };
+    match write_summary(alloc, count, &played.transcripts, &played.history, output) {
         Ok(()) => Status::Ok,
         Err(Failure::OutOfMemory) => Status::OutOfMemory,
         Err(Failure::Fault) => Status::WriteFault,

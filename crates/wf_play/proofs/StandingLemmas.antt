@@ -19,7 +19,7 @@ use Rattle.wf_wire.specs.Wires.{over_link}
 use Rattle.wf_wire.proofs.LawLemmas.{exchange-alike}
 use Rattle.wf_player.specs.Playing.{Ran}
 use Rattle.wf_drive.specs.Worlds.{Answers, Outside, Settles, World}
-use Rattle.wf_top.specs.Plays.{by_rules}
+use Rattle.wf_play.specs.Plays.{by_rules}
 
 -- the servers as a link has them
 abbrev pub by_bytes : Answering (List Server)

@@ -1,0 +1,4 @@
+pub mod Links
+pub mod Passes
+pub mod Plays
+pub mod Private

@@ -1,0 +1,51 @@
+// The seats of the documents: each has a pass of the shared book, and a link.
+ghost use Rattle.std.specs.Prelude.{◌≡◌, ◌≤◌, ◌<◌, ◌++◌, [], length, map, vec_capacity, vec_len, OnOk};
+ghost use Rattle.wf_play.specs.Links.{AreOpened};
+
+use std::alloc::Global;
+use wf_link::Links;
+use wf_player::Seating;
+use wf_script::Scenario;
+use wf_text::OutOfMemory;
+use wf_turn::TurnPass;
+
+// Makes the link of each document, in order, and puts it beside the document's pass.
+pub(crate) fn seat_all<N: Links>(
+    alloc: Global,
+    scenario: &Scenario,
+    passes: Vec<TurnPass>,
+    links: &mut N,
+    seats: &mut Vec<Seating<N::Link, TurnPass>>,
+) -> Result<(), OutOfMemory>
+    requires none { seats.old.items ≡ [] }
+    requires room { vec_len passes ≤ vec_capacity seats.old }
+    requires few { vec_len passes ≤ 128 }
+    ensures passes { OnOk result (map (λ s. s.pass) seats.new.items ≡ passes.items) }
+    ensures opened { OnOk result (AreOpened (N.opening links.old) (map (λ s. s.link) seats.new.items)) }
+    ensures few { length seats.new.items ≤ vec_len passes }
+{
+    let mut number = 0u32;
+    for pass in passes {
+        let link = links.make(alloc, number, &scenario.routes)?;
+        seats.push_reserved(Seating { pass, link });
+        number += 1;
+    }
+    Ok(())
+}
+
+// Takes the links back, in order of documents, and leaves the passes.
+pub(crate) fn unseat<N: Links>(
+    seats: Vec<Seating<N::Link, TurnPass>>,
+    links: &mut N,
+    passes: &mut Vec<TurnPass>,
+)
+    requires room { vec_len seats + vec_len passes.old ≤ vec_capacity passes.old }
+    ensures passes { passes.new.items ≡ passes.old.items ++ map (λ s. s.pass) seats.items }
+    ensures room { vec_capacity passes.new ≡ vec_capacity passes.old }
+{
+    for seating in seats {
+        let Seating { pass, link } = seating;
+        passes.push_reserved(pass);
+        links.take_back(link);
+    }
+}

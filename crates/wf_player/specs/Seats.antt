@@ -1,0 +1,58 @@
+-- What a play does to the seat of each document: its pass of the shared book, and its link (this project's own; each
+-- document fetches by itself, Fetch, section 4, and the book alone is shared).
+use Rattle.std.specs.Prelude.{◌≡◌, ◌≢◌, ℕ, ◌+◌, ◌≤◌, List, [], ◌∷◌, length, map, Option}
+use Rattle.std.specs.List.{All, range_with_len}
+use Rattle.wf_book.specs.declared.book.Book.{Book}
+use Rattle.wf_book.specs.declared.entry.Entry.{Entry}
+use Rattle.wf_print.specs.declared.events.Ending.TheVariants.{Memory}
+use Rattle.wf_print.specs.declared.events.Transcript.{Transcript}
+use Rattle.wf_run.specs.Runs.{document_client, document_run}
+use Rattle.wf_script.specs.declared.types.Document.{Document}
+use Rattle.wf_script.specs.declared.types.Scenario.{Scenario}
+use Rattle.wf_wire.specs.Exchanges.{Answering}
+use Rattle.wf_drive.specs.Worlds.{Outside, outside}
+use Rattle.wf_player.specs.Playing.{Came}
+use Rattle.wf_player.specs.declared.seating.Seating.{Seating}
+
+-- What is seen of a seat: the document that its pass is for, the book that its share was opened with, and what is
+-- outside of the document.
+pub record Seat (State : Type 0) : Type 0 where
+  pub document : ℕ
+  pub opening : Book
+  pub outside : Outside State
+
+abbrev pub seat_of : {P L State : Type 0} → (P → ℕ) → (P → Book) → (P → List Entry) → (P → ℕ) → (L → Option State)
+    → (L → ℕ) → Seating L P → Seat State
+seat_of document opening own calls state faults seating = record {
+  document = document seating.pass;
+  opening = opening seating.pass;
+  outside = outside own calls state faults seating.pass seating.link;
+}
+
+-- one seat for each document, in their order, each with calls enough for a whole script
+pub record AreSeated {State : Type 0} (documents : List Document) (seats : List (Seat State)) : Type 0 where
+  pub each : map (λ seat. seat.document) seats ≡ range_with_len 0 (length documents)
+  pub calls : All (λ seat. 129024 ≤ seat.outside.left) seats
+
+-- The document of this number was played on a seat, whose pass is for it: its transcript is what its run comes to in
+-- the seat's world.
+pub record IsPlayed {State : Type 0} (by : Answering State) (scenario : Scenario) (base number : ℕ)
+    (document : Document) (old new : Seat State) (transcript : Transcript) : Type 0 where
+  pub number_is : transcript.document ≡ number
+  pub key_is : transcript.ending ≢ Memory → transcript.key ≡ (document_client document).key
+  pub came : Came by scenario.body_limit number (document_run scenario.cookies base document) old.outside
+      transcript.events transcript.ending transcript.clock new.outside
+  pub few : old.outside.left ≤ new.outside.left + 129024
+  pub document_is : new.document ≡ number
+  pub opening_is : new.opening ≡ old.opening
+
+-- each document was played on its seat, from this number on
+pub data ArePlayed {State : Type 0} (by : Answering State) (scenario : Scenario) (base : ℕ)
+    : ℕ → List Document → List (Seat State) → List (Seat State) → List Transcript → Type 0 where
+  none : {number : ℕ} → ArePlayed by scenario base number [] [] [] []
+  one_more : {number : ℕ} {document : Document} {old new : Seat State} {transcript : Transcript}
+      {documents : List Document} {olds news : List (Seat State)} {transcripts : List Transcript}
+      → IsPlayed by scenario base number document old new transcript
+      → ArePlayed by scenario base (number + 1) documents olds news transcripts
+      → ArePlayed by scenario base number (document ∷ documents) (old ∷ olds) (new ∷ news)
+      (transcript ∷ transcripts)

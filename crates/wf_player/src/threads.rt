@@ -1,0 +1,178 @@
+// Documents on threads, by fork and join.
+ghost use Rattle.std.specs.Prelude.{◌≡◌, ℕ, ◌≤◌, ◌<◌, ◌^◌, [], length, map, slice_index_or, vec_capacity, vec_len, IfOk, OnErr};
+ghost use Rattle.std.specs.List.{All, range_with_len};
+ghost use Rattle.wf_script.specs.Valid.{IsValid};
+ghost use Rattle.wf_wire.specs.Wires.{over_link};
+ghost use Rattle.wf_player.specs.Seats.{ArePlayed, AreSeated, seat_of};
+ghost use Rattle.wf_player.specs.Private.Rows.{CanPlay, RowPlayed, seatings_of, transcripts_of};
+
+use crate::document::drive;
+use crate::seating::{Row, Seating};
+use std::alloc::Global;
+use std::mem;
+use std::sync::Wait;
+use std::thread;
+use std::thread::Threads;
+use wf_book::Share;
+use wf_link::Link;
+use wf_print::{Ending, Transcript, Transcripts};
+use wf_script::Scenario;
+use wf_text::{Bytes, Items, OutOfMemory};
+
+// A document, in its row.
+fn play_row<R: Threads + Wait + Sync, S: Share, L: Link>(
+    rt: &R,
+    alloc: Global,
+    scenario: &Scenario,
+    number: u32,
+    base: u64,
+    share: &S,
+    row: &mut Row<L, S::Pass>,
+)
+    requires scenario { IsValid scenario.now }
+    requires base { base ≤ 2 ^ 40 }
+    requires row { CanPlay (S.belongs share.now) (seat_of S.document S.opening S.own S.left L.state L.faults) scenario.now number row.old }
+    ensures { RowPlayed (S.belongs share.now) (seat_of S.document S.opening S.own S.left L.state L.faults)
+        (over_link L.answer L.next) scenario.entry.now base number row.old row.new }
+{
+    let seat = &mut row.seating;
+    row.transcript = drive(
+        rt,
+        alloc,
+        scenario,
+        number,
+        base,
+        share,
+        &mut seat.pass,
+        &mut seat.link,
+    );
+}
+
+// The documents in their rows, each in a thread of its own where one can be made.
+fn play_rows<R: Threads + Wait + Sync, S: Share + Sync, L: Link + Send>(
+    rt: &R,
+    alloc: Global,
+    scenario: &Scenario,
+    base: u64,
+    share: &S,
+    rows: &mut [Row<L, S::Pass>],
+)
+where
+    S::Pass: Send,
+    requires scenario { IsValid scenario.now }
+    requires base { base ≤ 2 ^ 40 }
+    requires rows { (i : ℕ) (d : _) → i < length rows.old
+        → CanPlay (S.belongs share.now) (seat_of S.document S.opening S.own S.left L.state L.faults) scenario.now i
+        (slice_index_or rows.old i d) }
+    ensures { (i : ℕ) (d : _) → i < length rows.old
+        → RowPlayed (S.belongs share.now) (seat_of S.document S.opening S.own S.left L.state L.faults)
+        (over_link L.answer L.next) scenario.entry.now base i (slice_index_or rows.old i d) (slice_index_or rows.new i d) }
+{
+    let threads = rows.len();
+    if threads == 0 {
+        return;
+    }
+    thread::for_each_mut(
+        rt,
+        rows,
+        threads,
+        &|number: usize, row: &mut Row<L, S::Pass>|
+            requires { IsValid scenario.now × (base ≤ 2 ^ 40) × CanPlay (S.belongs share.now)
+                (seat_of S.document S.opening S.own S.left L.state L.faults) scenario.now number row.now }
+            ensures { RowPlayed (S.belongs share.entry.now) (seat_of S.document S.opening S.own S.left L.state L.faults)
+                (over_link L.answer L.next) scenario.entry.now base number row.entry.now row.exit.now }
+        { play_row(rt, alloc, scenario, number as u32, base, share, row) },
+    );
+}
+
+// Moves the seats into rows, in order. Where memory is refused they are as they were.
+fn to_rows<L: Drop, P: Drop>(
+    alloc: Global,
+    seats: &mut Vec<Seating<L, P>>,
+) -> Result<Vec<Row<L, P>>, OutOfMemory>
+    ensures ok { IfOk result (λ rows. (seatings_of rows.items ≡ seats.old.items) × (seats.new.items ≡ [])
+        × (vec_len rows ≤ vec_capacity seats.new)) }
+    ensures err { OnErr result (seats.new.items ≡ seats.old.items) }
+{
+    let mut rows = Vec::with_capacity(alloc, seats.len())?;
+    let back = Vec::with_capacity(alloc, seats.len())?;
+    for seating in mem::replace(seats, back) {
+        let transcript = Transcript {
+            document: 0,
+            key: Bytes::new(alloc),
+            events: Items::new(alloc),
+            ending: Ending::Memory,
+            clock: 0,
+        };
+        rows.push_reserved(Row {
+            seating,
+            transcript,
+        });
+    }
+    Ok(rows)
+}
+
+// Moves the seats back, and the transcripts out, in order.
+fn from_rows<L: Drop, P: Drop>(
+    rows: Vec<Row<L, P>>,
+    seats: &mut Vec<Seating<L, P>>,
+    transcripts: &mut Vec<Transcript>,
+)
+    requires empty { (seats.old.items ≡ []) × (transcripts.old.items ≡ []) }
+    requires room { (vec_len rows ≤ vec_capacity seats.old) × (vec_len rows ≤ vec_capacity transcripts.old) }
+    ensures seats { seats.new.items ≡ seatings_of rows.items }
+    ensures transcripts { transcripts.new.items ≡ transcripts_of rows.items }
+{
+    for row in rows {
+        seats.push_reserved(row.seating);
+        transcripts.push_reserved(row.transcript);
+    }
+}
+
+// The transcripts as a list of them.
+fn listed(alloc: Global, transcripts: Vec<Transcript>) -> Result<Transcripts, OutOfMemory>
+    ensures { IfOk result (λ list. list ≡ transcripts.items) }
+{
+    let mut list = Transcripts::new(alloc);
+    for transcript in transcripts {
+        list.push(transcript)?;
+    }
+    Ok(list)
+}
+
+/// Plays the documents of a scenario, each on its own seat and in a thread of its own where one can be
+/// made, from a time in seconds on, which is at most 2^40. There is one seat for each document, in their
+/// order, whose pass is for the document of that number and has 129,024 calls left.
+///
+/// Each document's transcript stands in its place, and is what `drive` promises of one. Where memory is
+/// refused to a document it ends with the ending `Memory`; the others go on. `OutOfMemory` where memory
+/// was refused to what surrounds them: the passes are then still those of the same documents and of this
+/// share, and the calls that were made stand.
+pub fn play_all<R: Threads + Wait + Sync, S: Share + Sync, L: Link + Send + Drop>(
+    rt: &R,
+    alloc: Global,
+    scenario: &Scenario,
+    base: u64,
+    share: &S,
+    seats: &mut Vec<Seating<L, S::Pass>>,
+) -> Result<Transcripts, OutOfMemory>
+where
+    S::Pass: Send + Drop,
+    requires scenario { IsValid scenario.now }
+    requires base { base ≤ 2 ^ 40 }
+    requires seats { AreSeated scenario.now.documents
+        (map (seat_of S.document S.opening S.own S.left L.state L.faults) seats.old.items) }
+    requires belong { All (λ s. S.belongs share.now s.pass) seats.old.items }
+    ensures played { IfOk result (λ transcripts. ArePlayed (over_link L.answer L.next) scenario.entry.now base 0
+        scenario.entry.now.documents (map (seat_of S.document S.opening S.own S.left L.state L.faults) seats.old.items)
+        (map (seat_of S.document S.opening S.own S.left L.state L.faults) seats.new.items) transcripts) }
+    ensures belong { All (λ s. S.belongs share.now s.pass) seats.new.items }
+    ensures documents { map (λ s. S.document s.pass) seats.new.items
+        ≡ range_with_len 0 (length scenario.entry.now.documents) }
+{
+    let mut transcripts = Vec::with_capacity(alloc, seats.len())?;
+    let mut rows = to_rows(alloc, seats)?;
+    play_rows(rt, alloc, scenario, base, share, rows.as_mut_slice());
+    from_rows(rows, seats, &mut transcripts);
+    listed(alloc, transcripts)
+}
