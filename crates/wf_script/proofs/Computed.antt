@@ -1,10 +1,12 @@
--- The scenario of a text, computed on examples by the definitions alone.
+-- The scenario of a text, and the one that is generated, computed on examples by the definitions alone.
 use Rattle.std.proofs.Common.{◌≡◌, ℕ, Bool, true, false, List, [], ◌∷◌, ◌++◌, codes, refl, Ok, Err, Some, None, Result}
+use Rattle.std.specs.Prelude.{replicate}
+use Rattle.std.specs.List.{concat}
 use Rattle.std.specs.Str.{is_utf8, chars}
 use Rattle.url.proofs.OnLiterals.{url_on_literals}
 use Rattle.serde_json.proofs.OnLiterals.{serde_json_on_literals}
 use Rattle.url.specs.declared.host.Host.TheVariants.{Domain}
-use Rattle.url.specs.Parts.{Parts}
+use Rattle.url.specs.Parts.{Parts, serialize}
 use Rattle.wf_csp_text.specs.declared.policy.Policy.{Policy}
 use Rattle.wf_types.specs.declared.init.Init.{Init}
 use Rattle.wf_types.specs.declared.mode.Credentials.TheVariants as credentials
@@ -15,6 +17,7 @@ use Rattle.wf_commands.specs.Scripts.{fetch, wait, no_steps, step}
 use Rattle.wf_script.specs.declared.types.Scenario.{Scenario}
 use Rattle.wf_script.specs.declared.types.Place.{Place}
 use Rattle.wf_script.specs.declared.types.Server.{Server}
+use Rattle.wf_script.specs.Generated.{address_text, address, generated}
 use Rattle.wf_script.specs.Scenarios.{scenario_of}
 use Rattle.wf_script.specs.Servers.{answer, answer_bytes}
 
@@ -32,6 +35,19 @@ pub computes-places : (scenario_of (codes "{\"format\":") ≡ refused (codes "js
     × (scenario_of (codes "{\"format\":1,\"documents\":[0,0]}") ≡ refused (codes "/documents/0"))
 unfolding url_on_literals serde_json_on_literals is_utf8 chars
 computes-places = (refl, refl, refl, refl, refl, refl)
+
+-- a list of so many numbers and one more
+abbrev zeros : ℕ → List ℕ
+zeros n = codes "[0" ++ (concat (replicate n (codes ",0")) ++ codes "]")
+
+-- 64 documents may stand in the first format and 128 in the second one; a longer list is refused before its items
+pub computes-places-of-lists : (scenario_of (codes "{\"format\":1,\"documents\":" ++ zeros 64 ++ codes "}")
+    ≡ refused (codes "/documents"))
+    × (scenario_of (codes "{\"format\":1,\"documents\":" ++ zeros 63 ++ codes "}") ≡ refused (codes "/documents/0"))
+    × (scenario_of (codes "{\"format\":2,\"documents\":" ++ zeros 64 ++ codes "}") ≡ refused (codes "/documents/0"))
+    × (scenario_of (codes "{\"format\":2,\"documents\":" ++ zeros 128 ++ codes "}") ≡ refused (codes "/documents"))
+unfolding url_on_literals serde_json_on_literals is_utf8 chars
+computes-places-of-lists = (refl, refl, refl, refl)
 
 abbrev page : Parts
 page = record {
@@ -140,6 +156,56 @@ pub computes-hosts : scenario_of
     })
 unfolding url_on_literals serde_json_on_literals is_utf8 chars
 computes-hosts = refl
+
+-- a route to any text, and the places of those that are refused; they are read before the piece
+pub computes-routes : (scenario_of
+    (with_keys (codes "\"routes\":[[\"http://a.test\",\"127.0.0.1:80\"],[\"https://a.test:8443\",\"${\"]]"))
+    ≡ Ok (record {
+      now = 0;
+      hosts = [];
+      cookies = [];
+      servers = [];
+      routes = record { origin = codes "http://a.test"; address = codes "127.0.0.1:80" }
+          ∷ record { origin = codes "https://a.test:8443"; address = codes "${" } ∷ [];
+      piece = 4096;
+      documents = [];
+      body_limit = 262144;
+    }))
+    × (scenario_of (with_keys (codes "\"piece\":0,\"routes\":[[\"http://a.test/\",\"\"]]"))
+    ≡ refused (codes "/routes/0/0"))
+    × (scenario_of (with_keys (codes "\"routes\":[[\"http://a.test\",1]]")) ≡ refused (codes "/routes/0/1"))
+    × (scenario_of (with_keys (codes "\"routes\":[[\"http://a.test\"]]")) ≡ refused (codes "/routes/0"))
+unfolding url_on_literals serde_json_on_literals is_utf8 chars
+computes-routes = (refl, refl, refl, refl)
+
+-- two documents, in order
+pub computes-two : scenario_of
+    (codes "{\"format\":1,\"documents\":[{\"url\":\"https://a.test/\",\"script\":[]},"
+    ++ codes "{\"url\":\"https://a.test:444/\",\"script\":[{\"wait\":2}]}]}")
+    ≡ Ok (record {
+      now = 0;
+      hosts = [];
+      cookies = [];
+      servers = [];
+      routes = [];
+      piece = 4096;
+      documents = record {
+        url = page;
+        top = page;
+        policy = policy.StrictOriginWhenCrossOrigin;
+        policies = [];
+        script = no_steps;
+      } ∷ record {
+        url = record page { port = Some 444 };
+        top = record page { port = Some 444 };
+        policy = policy.StrictOriginWhenCrossOrigin;
+        policies = [];
+        script = step (wait 2) no_steps;
+      } ∷ [];
+      body_limit = 262144;
+    })
+unfolding url_on_literals serde_json_on_literals is_utf8 chars
+computes-two = refl
 
 -- two headers and a body
 pub computes-answer_bytes : answer_bytes 200 (record { name = codes "A"; value = codes "1" }
@@ -283,3 +349,22 @@ pub computes-formats : (scenario_of (of_document (codes "\"format\":2") (codes "
     × (scenario_of (of_document (codes "\"format\":3") []) ≡ refused (codes "/format"))
 unfolding url_on_literals serde_json_on_literals is_utf8 chars
 computes-formats = (refl, refl, refl, refl, refl, refl, refl, refl, refl)
+
+-- the generated scenario of one document is what this text is read as
+pub computes-generated : scenario_of
+    (codes "{\"format\":1,\"servers\":[{\"origin\":\"http://api.test\",\"rules\":["
+    ++ codes "{\"method\":\"OPTIONS\",\"status\":200,\"headers\":[[\"Access-Control-Allow-Origin\",\"*\"],"
+    ++ codes "[\"Access-Control-Allow-Methods\",\"PUT\"]]},"
+    ++ codes "{\"status\":200,\"headers\":[[\"Access-Control-Allow-Origin\",\"*\"]]}]}],"
+    ++ codes "\"documents\":[{\"url\":\"http://d0.test/\",\"script\":[{\"repeat\":200,\"do\":"
+    ++ codes "[{\"fetch\":{\"url\":\"http://api.test/x\",\"method\":\"PUT\"}},{\"wait\":1}]}]}]}")
+    ≡ Ok (generated 1)
+unfolding url_on_literals serde_json_on_literals is_utf8 chars
+computes-generated = refl
+
+-- the URLs of its documents as they are printed
+pub computes-addresses : (serialize (address 0) ≡ codes "http://d0.test/")
+    × (serialize (address 63) ≡ codes "http://d63.test/")
+    × (address_text 63 ≡ codes "http://d63.test/")
+unfolding url_on_literals
+computes-addresses = (refl, refl, refl)

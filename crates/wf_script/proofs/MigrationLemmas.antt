@@ -4,7 +4,7 @@ use Rattle.std.proofs.Common.{Option, Some, None, Result, Ok, Err, refl, ap, sym
 use Rattle.std.specs.Prelude.{codes, bytes_eq, false, nat_le, option_and_then, IsTrue}
 use Rattle.std.proofs.lemmas.Bool.{leb-true, le-leb}
 use Rattle.serde_json.proofs.Views.{get_member-put, get_member-put_other}
-use Rattle.serde_json.specs.Data.{Data, Items, number, unsigned, object, Members, put}
+use Rattle.serde_json.specs.Data.{Data, number, unsigned, object, Members, put}
 use Rattle.serde_json.specs.Find.{get, as_array, as_object}
 use Rattle.url.specs.Parts.{Parts}
 use Rattle.wf_form.specs.Reading.{Read, present, given, under, found_or, number_of, required, optional, count, each_from}

@@ -1,8 +1,6 @@
 // A scenario that is generated: documents with keys of their own, which ask one server for the same.
-ghost use Rattle.std.specs.Prelude.{◌≡◌, ◌≤◌, ◌<◌, ℕ, Some, None, IfOk, map};
+ghost use Rattle.std.specs.Prelude.{◌≡◌, ◌≤◌, ◌<◌, IfOk, map};
 ghost use Rattle.std.specs.List.{range_with_len};
-ghost use Rattle.wf_commands.specs.Commands.{step_of};
-ghost use Rattle.wf_types.specs.Urls.{url_of_text};
 ghost use Rattle.wf_script.specs.Generated as spec;
 ghost use Rattle.wf_script.specs.Valid.{IsValid};
 
@@ -158,7 +156,6 @@ pub fn generate(alloc: Global, n: u32) -> Result<Scenario, OutOfMemory>
     requires few { n ≤ 64 }
     ensures value { IfOk result (λ scenario. scenario ≡ spec.generated n) }
     ensures valid { IfOk result IsValid }
-    ensures addresses { (i : ℕ) → i < n → url_of_text None (Some (spec.address_text i)) ≡ Some (spec.address i) }
 {
     let mut servers = Servers::new(alloc);
     servers.push(api_server(alloc)?)?;

@@ -1,4 +1,7 @@
+ghost use Rattle.std.specs.Prelude.{◌≡◌, ◌<◌, ℕ, Some, None};
 ghost use Rattle.serde_json.specs.Data.{Members};
+ghost use Rattle.wf_types.specs.Urls.{url_of_text};
+ghost use Rattle.wf_script.specs.Generated.{address, address_text};
 ghost use Rattle.wf_script.specs.Migration.{IsMigratedAlike};
 ghost use Rattle.wf_script.specs.declared.types.Scenario.{Scenario};
 
@@ -6,4 +9,10 @@ ghost use Rattle.wf_script.specs.declared.types.Scenario.{Scenario};
 /// the number 2 and it has the key `body_limit` with 262,144, whatever else it holds.
 pub fn law_migrated()
     ensures { (members : Members) (scenario : Scenario) → IsMigratedAlike members scenario }
+{}
+
+/// The URL of each document that is generated is the one that the text `http://dI.test/` gives by
+/// itself (URL Standard, section 4.4).
+pub fn law_addresses()
+    ensures { (i : ℕ) → i < 64 → url_of_text None (Some (address_text i)) ≡ Some (address i) }
 {}

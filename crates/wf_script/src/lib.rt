@@ -19,7 +19,7 @@ mod types;
 mod urls;
 
 pub use generated::generate;
-pub use laws::law_migrated;
+pub use laws::{law_addresses, law_migrated};
 pub use origins::read_origin;
 pub use types::{
     Document, Documents, Hosts, KnownHost, Place, Rule, Rules, Scenario, Server, Servers,
