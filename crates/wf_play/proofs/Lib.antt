@@ -1,3 +1,4 @@
 pub mod Computed
+pub mod PassLemmas
 pub mod PlayLemmas
 pub mod StandingLemmas

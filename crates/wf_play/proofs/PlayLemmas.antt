@@ -1,16 +1,20 @@
 -- What was played on seats, and the history of a closed book, are a play.
 use Rattle.std.proofs.Common.{◌≡◌, ◌≢◌, ℕ, suc, ◌+◌, ◌-◌, ◌<◌, ◌≤◌, List, [], ◌∷◌, ◌++◌, length, map, Option, Some}
-use Rattle.std.proofs.Common.{refl, ap, sym, subst, ◌∙◌, arith, drop, drop-cons, get_or, add-one, inl, inr}
+use Rattle.std.proofs.Common.{refl, ap, sym, subst, ◌∙◌, arith, drop, drop-cons, get_or, add-one, ◌⊎◌, inl, inr, zero}
+use Rattle.std.proofs.Common.{Bool, true, false, cond, eqb, eq-eqb}
 use Rattle.std.specs.Prelude.{◌==◌, slice_get}
 use Rattle.std.specs.List.{All, AllByRecursion, range_with_len, count_by, sum_by}
-use Rattle.std.proofs.lemmas.List.Elements.{All-nil, All-cons, All-head, All-tail}
+use Rattle.std.proofs.lemmas.Bool.Decides.{eqb_tells}
+use Rattle.std.proofs.lemmas.List.Elements.{All-nil, All-cons, All-head, All-tail, All-map, recursion_from_All}
+use Rattle.std.proofs.lemmas.List.Sums.{sum_by-cons}
+use Rattle.atomic_table.specs.Seated.{TableId}
 use lib.ListN.{get_elem?}
 use mathlib.Core.Option.{some}
 use Rattle.wf_book.specs.declared.book.Book.{Book}
 use Rattle.wf_book.specs.declared.entry.Entry.{Entry}
 use Rattle.wf_book.specs.declared.op.Op.TheVariants.{Note}
 use Rattle.wf_book.specs.Book.{after, empty}
-use Rattle.wf_book.specs.Entries.{Legal, entries_of}
+use Rattle.wf_book.specs.Entries.{Legal, book_after, entries_of}
 use Rattle.wf_print.specs.declared.events.Ending.{Ending}
 use Rattle.wf_print.specs.declared.events.Ending.TheVariants as ending
 use Rattle.wf_print.specs.declared.events.Event.{Event}
@@ -27,7 +31,18 @@ use Rattle.wf_drive.proofs.AskLemmas.{outside-is}
 use Rattle.wf_player.specs.Playing.{Came, Ran}
 use Rattle.wf_player.specs.Seats.{ArePlayed, IsPlayed, Seat}
 use Rattle.wf_player.proofs.CallLemmas.{trace-calls}
-use Rattle.wf_play.specs.Plays.{AreTranscripts, HasTurnsFrom, IsTranscript, RunsOver, Way, outside_on, with_hosts}
+use Rattle.wf_player.specs.declared.seating.Seating.{Seating}
+use Rattle.wf_turn.specs.Counts.{one, times}
+use Rattle.wf_turn.specs.Passes.{IsOneHistory, IsWhole, calls_of, is_of, made_of, opening_of, own_of}
+use Rattle.wf_turn.specs.declared.pass.TurnPass.{TurnPass}
+use Rattle.wf_turn.proofs.Count.{turns-are-places}
+use Rattle.wf_turn.proofs.Whole.{whole_of}
+use Rattle.wf_play.proofs.PassLemmas.{times-range}
+use Rattle.wf_play.specs.Links.{IsPlayOverLinks, way_of}
+use Rattle.wf_play.specs.Passes.{ArePasses, IsNew}
+use Rattle.wf_play.specs.Plays.{AreTranscripts, HasTurnsFrom, IsTranscript, RunsOver, Way, opening_book, outside_on}
+use Rattle.wf_play.specs.Plays.{with_hosts}
+use Rattle.wf_play.specs.Private.Seated.{IsSeatedPlay, links_in, passes_in, seat_seen}
 
 -- ---- the book
 
@@ -65,7 +80,7 @@ abbrev pub seat_way : {State : Type 0} → Seat State → Way State
 seat_way seat = record { state = seat.outside.state; faults = seat.outside.faults }
 
 -- on a seat whose pass has made no call, the calls made are the pass's own
-pub own-calls : {State : Type 0} (by : Answering State) (scenario : Scenario) (base number : ℕ) (document : Document)
+own-calls : {State : Type 0} (by : Answering State) (scenario : Scenario) (base number : ℕ) (document : Document)
     (old new : Seat State) (transcript : Transcript) → transcript.ending ≢ ending.Memory
     → IsPlayed by scenario base number document old new transcript → old.outside.own ≡ []
     → old.outside.left ≡ new.outside.left + length new.outside.own
@@ -113,11 +128,11 @@ transcript-of by scenario base history number document old new transcript told i
 -- ---- all documents
 
 -- a seat whose pass has made no call
-pub record IsFresh {State : Type 0} (seat : Seat State) : Type 0 where
+record IsFresh {State : Type 0} (seat : Seat State) : Type 0 where
   pub own_is : seat.outside.own ≡ []
   pub left_is : seat.outside.left ≡ 4294967295
 
-pub transcripts-of : {State : Type 0} (by : Answering State) (scenario : Scenario) (base : ℕ) (history : List Entry)
+transcripts-of : {State : Type 0} (by : Answering State) (scenario : Scenario) (base : ℕ) (history : List Entry)
     {number : ℕ} {documents : List Document} {olds news : List (Seat State)} {transcripts : List Transcript}
     → ArePlayed by scenario base number documents olds news transcripts → HasText transcripts → All IsFresh olds
     → All (λ (seat : Seat State). entries_of seat.document history ≡ seat.outside.own) news
@@ -135,11 +150,11 @@ transcripts-of {State} by scenario base history {number}
     (All-tail Own new news own))
 
 -- every seat's calls are its pass's own: as many were made as entries are there
-pub record HasCalled {State : Type 0} (seat : Seat State) : Type 0 where
+record HasCalled {State : Type 0} (seat : Seat State) : Type 0 where
   pub calls : seat.outside.left + length seat.outside.own ≡ 4294967295
   pub few : 4294838271 ≤ seat.outside.left
 
-pub called-of : {State : Type 0} (by : Answering State) (scenario : Scenario) (base : ℕ)
+called-of : {State : Type 0} (by : Answering State) (scenario : Scenario) (base : ℕ)
     {number : ℕ} {documents : List Document} {olds news : List (Seat State)} {transcripts : List Transcript}
     → ArePlayed by scenario base number documents olds news transcripts → HasText transcripts → All IsFresh olds
     → All HasCalled news
@@ -154,7 +169,7 @@ called-of by scenario base {number}
     (called-of by scenario base more (All-tail Told transcript transcripts text) (All-tail IsFresh old olds fresh))
 
 -- the seats are those of the documents from a number on
-pub documents-of : {State : Type 0} (by : Answering State) (scenario : Scenario) (base : ℕ)
+documents-of : {State : Type 0} (by : Answering State) (scenario : Scenario) (base : ℕ)
     {number : ℕ} {documents : List Document} {olds news : List (Seat State)} {transcripts : List Transcript}
     → ArePlayed by scenario base number documents olds news transcripts
     → map (λ (seat : Seat State). seat.document) news ≡ range_with_len number (length documents)
@@ -167,10 +182,167 @@ documents-of {State} by scenario base {number}
 -- ---- turns
 
 -- where entry i has turn i, the turns are those from 0 on
-pub turns-from : (turn : ℕ) (history : List Entry)
+turns-from : (turn : ℕ) (history : List Entry)
     → ((i : ℕ) (e : Entry) → get_elem? history i ≡ some e → e.turn ≡ turn + i) → HasTurnsFrom turn history
 turns-from turn [] each = tt
 turns-from turn (e ∷ es) each = (
   omega (arith, each 0 e refl),
   turns-from (turn + 1) es (λ i x at. omega (arith, each (suc i) x at)),
 )
+
+-- ---- lists
+
+unmap : {X Y : Type 0} (P : X → Type 0) (f : Y → X) (ys : List Y) → All P (map f ys) → All (λ y. P (f y)) ys
+unmap P f [] a = All-nil (λ y. P (f y))
+unmap P f (y ∷ ys) a = All-cons (λ y. P (f y)) y ys (All-head P (f y) (map f ys) a)
+    (unmap P f ys (All-tail P (f y) (map f ys) a))
+
+map-map : {X Y Z : Type 0} (f : X → Y) (g : Y → Z) (xs : List X) → map g (map f xs) ≡ map (λ x. g (f x)) xs
+map-map f g [] = refl
+map-map {Z = Z} f g (x ∷ xs) = ap (λ (l : List Z). g (f x) ∷ l) (map-map f g xs)
+
+-- ---- passes
+
+-- how many passes are of a document is how often it stands among theirs
+count-times : (d : ℕ) (passes : List TurnPass)
+    → count_by (is_of d) passes ≡ times d (map (λ (p : TurnPass). p.document) passes)
+count-times d [] = refl
+count-times d (p ∷ ps) =
+    sum_by-cons (λ (q : TurnPass). cond (is_of d q) 1 0) p ps
+    ∙ ap (λ (n : ℕ). one (p.document == d) + n) (count-times d ps)
+
+-- the documents' passes are not the first one
+others-apart : (count from : ℕ) (passes : List TurnPass) → from + count ≤ 4294967295
+    → map (λ (p : TurnPass). p.document) passes ≡ range_with_len from count
+    → All (λ (p : TurnPass). p.document ≢ 4294967295) passes
+others-apart count from [] few is = All-nil (λ (p : TurnPass). p.document ≢ 4294967295)
+others-apart zero from (p ∷ ps) few is = cc
+others-apart (suc count) from (p ∷ ps) few is =
+    let here : p.document ≡ from = cc in
+    let rest : map (λ (q : TurnPass). q.document) ps ≡ range_with_len (from + 1) count = cc in
+    All-cons (λ (q : TurnPass). q.document ≢ 4294967295) p ps (λ same. omega (arith, here, same, few))
+    (others-apart count (from + 1) ps (omega (arith, few)) rest)
+
+-- the first pass, and those of the documents, are all passes of the book
+pub whole-passes : (id : TableId) (opening : Book) (count : ℕ) (first : TurnPass) (passes back : List TurnPass)
+    → ArePasses id opening count first passes → count ≤ 128
+    → All (λ (p : TurnPass). p.seat.table_id ≡ id) back
+    → map (λ (p : TurnPass). p.document) back ≡ range_with_len 0 count → IsWhole id (first ∷ back)
+whole-passes id opening count first passes back are few belong documents =
+    let Apart : TurnPass → Type 0 = λ p. p.document ≢ 4294967295 in
+    let apart = others-apart count 0 back (omega (arith, few)) documents in
+    whole_of id first back are.first_is.belongs are.first_is.document_is (λ k d lt. (belong k d lt, apart k d lt))
+    (λ d made. omega (
+      arith,
+      made,
+      are.made d,
+      ap (times d) documents,
+      count-times d back,
+    ))
+
+-- ---- the history
+
+-- where a document has no entry, no entry is its
+none-of : (d : ℕ) (history : List Entry) → entries_of d history ≡ []
+    → AllByRecursion (λ (e : Entry). e.document ≢ d) history
+none-of d [] is = tt
+none-of d (e ∷ es) is = elim (eqb_tells e.document d) [
+  | inl same ↦
+      let there : e ∷ entries_of d es ≡ [] =
+      sym (ap (λ (b : Bool). cond b (e ∷ entries_of d es) (entries_of d es)) same.0) ∙ is in absurd (taken there)
+  | inr apart ↦ (
+      apart.1,
+      none-of d es (sym (ap (λ (b : Bool). cond b (e ∷ entries_of d es) (entries_of d es)) apart.0) ∙ is),
+    )
+]
+  where
+    taken : (e ∷ entries_of d es ≡ []) → ⊥
+    taken h = cc
+
+-- an entry that is not the first pass's names a document
+named-below : (count : ℕ) (first : TurnPass) (back : List TurnPass) (history : List Entry)
+    → first.document ≡ 4294967295 → map (λ (p : TurnPass). p.document) back ≡ range_with_len 0 count
+    → AllByRecursion (λ (e : Entry). 0 < count_by (is_of e.document) (first ∷ back)) history
+    → AllByRecursion (λ (e : Entry). e.document ≢ 4294967295) history
+    → AllByRecursion (λ (e : Entry). e.document < count) history
+named-below count first back [] is documents named apart = tt
+named-below count first back (e ∷ es) is documents named apart = (
+  below named.0 (eqb_tells first.document e.document),
+  named-below count first back es is documents named.1 apart.1,
+)
+  where
+    below : 0 < count_by (is_of e.document) (first ∷ back)
+        → ((first.document == e.document) ≡ true) × (first.document ≡ e.document)
+        ⊎ ((first.document == e.document) ≡ false) × (first.document ≢ e.document) → e.document < count
+    below some (inl same) = absurd (apart.0 (sym same.1 ∙ is))
+    below some (inr other) =
+        let there : 0 < times e.document (range_with_len 0 count) = omega (
+          arith,
+          some,
+          sum_by-cons (λ (q : TurnPass). cond (is_of e.document q) 1 0) first back,
+          ap one other.0,
+          count-times e.document back,
+          ap (times e.document) documents,
+        ) in
+        (times-range e.document 0 count there).1
+
+-- ---- the whole
+
+-- what was played on the seats, with the history of the closed book, is a play
+pub closed-play : {L State : Type 0} (by : Answering State) (state : L → Option State) (faults : L → ℕ)
+    (opening : ℕ → Option L) (id : TableId) (scenario : Scenario) (base : ℕ) (first : TurnPass)
+    (passes : List TurnPass) (back : List (Seating L TurnPass)) (transcripts : List Transcript) (book : Book)
+    (history : List Entry) → ArePasses id (opening_book scenario) (length scenario.documents) first passes
+    → IsSeatedPlay by state faults opening id scenario base passes back transcripts
+    → IsOneHistory (first ∷ passes_in back) book history
+    → IsPlayOverLinks by state faults opening scenario base transcripts history
+closed-play {L} {State} by state faults opening id scenario base first passes back transcripts book history are
+    seated one =
+    let seen : Seating L TurnPass → Seat State = seat_seen state faults in
+    let count = length scenario.documents in
+    let Own : TurnPass → Type 0 = λ p. entries_of p.document history ≡ own_of p in
+    let Legals : TurnPass → Type 0 =
+    λ p. p.document ≡ 4294967295 → Legal (opening_of p) history × (book ≡ book_after (opening_of p) history) in
+    let All_called : TurnPass → Type 0 = λ p. calls_of p ≡ length (own_of p) in
+    let new : All (IsNew id (opening_book scenario)) (map (λ (s : Seating L TurnPass). s.pass) seated.made) =
+    subst (All (IsNew id (opening_book scenario))) (sym seated.passes_are) are.new in
+    let fresh : All IsFresh (map seen seated.made) = All-map IsFresh seen seated.made
+    (λ k d lt. let n = unmap (IsNew id (opening_book scenario)) (λ (s : Seating L TurnPass). s.pass) seated.made new k d lt
+    in record { own_is = n.own_is; left_is = n.left_is }) in
+    let called : All (λ (s : Seating L TurnPass). HasCalled (seen s)) back =
+    unmap HasCalled seen back (called-of by scenario base seated.played seated.has_text fresh) in
+    let own : All Own (passes_in back) = All-tail Own first (passes_in back) one.own in
+    let documents : map (λ (p : TurnPass). p.document) (passes_in back) ≡ range_with_len 0 count =
+    map-map (λ (s : Seating L TurnPass). s.pass) (λ (p : TurnPass). p.document) back
+    ∙ sym (map-map seen (λ (s : Seat State). s.document) back) ∙ documents-of by scenario base seated.played in
+    let legal = All-head Legals first (passes_in back) one.legal are.first_is.document_is in
+    let nothing : entries_of 4294967295 history ≡ [] =
+    subst (λ (d : ℕ). entries_of d history ≡ own_of first) are.first_is.document_is
+    (All-head Own first (passes_in back) one.own) ∙ are.first_is.own_is in
+    let calls : All All_called (first ∷ passes_in back) = All-cons All_called first (passes_in back)
+    (omega (arith, are.first_is.left_is, ap length are.first_is.own_is))
+    (All-map All_called (λ (s : Seating L TurnPass). s.pass) back
+    (λ k d lt. let c = called k d lt in omega (arith, c.calls, c.few))) in
+    let some : 0 < count_by (is_of 4294967295) (first ∷ passes_in back) = omega (
+      arith,
+      sum_by-cons (λ (q : TurnPass). cond (is_of 4294967295 q) 1 0) first (passes_in back),
+      ap one (eq-eqb first.document 4294967295 are.first_is.document_is),
+    ) in
+    record {
+      made = links_in seated.made;
+      back = links_in back;
+      opened = seated.opened;
+      play = record {
+        legal = subst (λ (b : Book). Legal b history) are.first_is.opening_is legal.0;
+        turns = turns-from 0 history (turns-are-places (first ∷ passes_in back) book history one some calls);
+        named = named-below count first (passes_in back) history are.first_is.document_is documents
+            (recursion_from_All (λ (e : Entry). 0 < count_by (is_of e.document) (first ∷ passes_in back)) history one.named)
+            (none-of 4294967295 history nothing);
+        runs = rw (map-map (λ (s : Seating L TurnPass). s.link) (way_of state faults) seated.made,
+            map-map (λ (s : Seating L TurnPass). s.link) (way_of state faults) back)
+            (rw (← map-map seen seat_way seated.made, ← map-map seen seat_way back)
+            (transcripts-of by scenario base history seated.played seated.has_text fresh
+            (All-map (λ (s : Seat State). entries_of s.document history ≡ s.outside.own) seen back
+            (unmap Own (λ (s : Seating L TurnPass). s.pass) back own))));
+      };
+    }

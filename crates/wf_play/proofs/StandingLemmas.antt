@@ -1,25 +1,35 @@
 -- Scripted servers as what answers a document's requests: by the bytes of a request, as the link has them, and by its
 -- method and its target.
-use Rattle.std.proofs.Common.{◌≡◌, ℕ, List, refl, ap, ◌∙◌, Option, Some, None}
-use Rattle.std.specs.Prelude.{option_map}
+use Rattle.std.proofs.Common.{◌≡◌, ℕ, zero, suc, ◌<◌, List, [], ◌∷◌, length, map, get_or, refl, ap, sym, subst, ◌∙◌, arith}
+use Rattle.std.proofs.Common.{Option, Some, None}
+use Rattle.std.specs.Prelude.{option_map, slice_get}
+use Rattle.std.specs.List.{All}
+use Rattle.std.proofs.lemmas.List.Elements.{All-head, All-tail, All-map}
 use Rattle.wf_act.specs.declared.act.Act.{Act}
 use Rattle.wf_act.specs.declared.act.Act.TheVariants.{Ask, Send, ReadHead, ReadBody, Tell}
 use Rattle.wf_act.specs.declared.act.Input.{Input}
+use Rattle.wf_book.specs.declared.entry.Entry.{Entry}
+use Rattle.wf_book.specs.Entries.{entries_of}
 use Rattle.wf_print.specs.declared.events.Ending.{Ending}
 use Rattle.wf_print.specs.declared.events.Event.{Event}
 use Rattle.wf_print.specs.declared.events.Event.TheVariants as event
+use Rattle.wf_print.specs.declared.events.Transcript.{Transcript}
 use Rattle.wf_run.specs.Play.{Play}
+use Rattle.wf_run.specs.Runs.{document_run}
 use Rattle.wf_run.specs.Traces.{PlayTrace, stop, shown, stepped}
 use Rattle.wf_run.proofs.PlayLemmas.{play-map}
+use Rattle.wf_script.specs.declared.types.Document.{Document}
+use Rattle.wf_script.specs.declared.types.Scenario.{Scenario}
 use Rattle.wf_script.specs.declared.types.Server.{Server}
-use Rattle.wf_sim.specs.Sim.{answer_to}
+use Rattle.wf_sim.specs.Sim.{SimState, answer_to, fault_count}
 use Rattle.wf_sim.proofs.SimLemmas.{answers-by_parts}
 use Rattle.wf_wire.specs.Exchanges.{Answering, Exchange}
 use Rattle.wf_wire.specs.Wires.{over_link}
 use Rattle.wf_wire.proofs.LawLemmas.{exchange-alike}
 use Rattle.wf_player.specs.Playing.{Ran}
 use Rattle.wf_drive.specs.Worlds.{Answers, Outside, Settles, World}
-use Rattle.wf_play.specs.Plays.{by_rules}
+use Rattle.wf_play.specs.Links.{IsPlayOverLinks, way_of}
+use Rattle.wf_play.specs.Plays.{AreTranscripts, IsPlay, RunsOver, Way, by_rules, outside_on}
 
 -- the servers as a link has them
 abbrev pub by_bytes : Answering (List Server)
@@ -102,3 +112,83 @@ trace-state limit document {a = a} (shown {mid = mid} one is x) =
     trace-state limit document x ∙ event-state a one mid is
 trace-state limit document {a = a} (stepped {mid = mid} request first after input is fit x) =
     trace-state limit document x ∙ act-state limit document a first input mid is
+
+-- ---- the whole
+
+-- what a link to the servers tells
+abbrev servers_way : Scenario → Way (List Server)
+servers_way scenario = record { state = Some scenario.servers; faults = 0 }
+
+-- such a link tells the same at the end of a run
+way-behind : (limit document : ℕ) (old new : Way (List Server)) (entries : List Entry) (whole : Play)
+    (events : List Event) (ending : Ending) (clock : ℕ) (servers : List Server) → old.state ≡ Some servers
+    → new.faults ≡ 0 → RunsOver by_bytes limit document old new entries whole events ending clock
+    → new ≡ record { state = Some servers; faults = 0 }
+way-behind limit document old new entries whole events ending clock servers is never run =
+    way-is new (record { state = Some servers; faults = 0 })
+    (sym (ap (λ (o : Outside (List Server)). o.state) run.ran.to)
+    ∙ trace-state limit document run.ran.trace ∙ ap (λ (o : Outside (List Server)). o.state) run.ran.from ∙ is) never
+  where
+    way-is : (a b : Way (List Server)) → a.state ≡ b.state → a.faults ≡ b.faults → a ≡ b
+    way-is a b s f = rw (s, f) refl
+
+transcripts-by-rules : (scenario : Scenario) (base : ℕ) (history : List Entry) {number : ℕ}
+    {documents : List Document} {olds news : List (Way (List Server))} {transcripts : List Transcript}
+    → AreTranscripts by_bytes scenario base history number documents olds news transcripts
+    → All (λ (w : Way (List Server)). w ≡ servers_way scenario) olds
+    → All (λ (w : Way (List Server)). w.faults ≡ 0) news
+    → AreTranscripts by_rules scenario base history number documents
+    (map (λ (d : Document). servers_way scenario) documents) (map (λ (d : Document). servers_way scenario) documents)
+    transcripts
+transcripts-by-rules scenario base history AreTranscripts.none opened never = AreTranscripts.none
+transcripts-by-rules scenario base history {number} (AreTranscripts.one_more {document = document} {old = old}
+    {new = new} {transcript = transcript} {olds = olds} {news = news} is more) opened never =
+    let Opened : Way (List Server) → Type 0 = λ w. w ≡ servers_way scenario in
+    let Never : Way (List Server) → Type 0 = λ w. w.faults ≡ 0 in
+    let whole = document_run scenario.cookies base document in
+    let first = All-head Opened old olds opened in
+    let last = way-behind scenario.body_limit number old new (entries_of number history) whole transcript.events
+    transcript.ending transcript.clock scenario.servers (ap (λ (w : Way (List Server)). w.state) first)
+    (All-head Never new news never) is.run_is in
+    AreTranscripts.one_more (record {
+      document_is = is.document_is;
+      key_is = is.key_is;
+      run_is = record {
+        before = is.run_is.before;
+        behind = is.run_is.behind;
+        ran = ran-by-rules scenario.body_limit number whole (outside_on (servers_way scenario) [] is.run_is.before)
+            transcript.events transcript.ending transcript.clock
+            (outside_on (servers_way scenario) (entries_of number history) is.run_is.behind)
+            (subst (λ (w : Way (List Server)). Ran by_bytes scenario.body_limit number whole
+            (outside_on (servers_way scenario) [] is.run_is.before) transcript.events transcript.ending transcript.clock
+            (outside_on w (entries_of number history) is.run_is.behind)) last
+            (subst (λ (w : Way (List Server)). Ran by_bytes scenario.body_limit number whole
+            (outside_on w [] is.run_is.before) transcript.events transcript.ending transcript.clock
+            (outside_on new (entries_of number history) is.run_is.behind)) first is.run_is.ran));
+      };
+    })
+    (transcripts-by-rules scenario base history more (All-tail Opened old olds opened) (All-tail Never new news never))
+
+-- a play over links to the scenario's servers is one over the servers
+pub scripted-play : (scenario : Scenario) (transcripts : List Transcript) (history : List Entry) (link : SimState)
+    → link.servers ≡ scenario.servers
+    → IsPlayOverLinks by_bytes (λ (l : SimState). Some l.servers) (λ (l : SimState). fault_count) (λ k. Some link) scenario
+    scenario.now transcripts history → IsPlay scenario transcripts history
+scripted-play scenario transcripts history link servers x =
+    let way : SimState → Way (List Server) = way_of (λ (l : SimState). Some l.servers) (λ (l : SimState). fault_count) in
+    record {
+      legal = x.play.legal;
+      turns = x.play.turns;
+      named = x.play.named;
+      runs = transcripts-by-rules scenario scenario.now history x.play.runs
+          (All-map (λ (w : Way (List Server)). w ≡ servers_way scenario) way x.made
+          (λ k d lt. let told : get_or x.made k d ≡ link = x.opened k (get_or x.made k d) (read x.made k d lt) in
+          ap way told ∙ ap (λ (s : List Server). record { state = Some s; faults = 0 }) servers))
+          (All-map (λ (w : Way (List Server)). w.faults ≡ 0) way x.back (λ k d lt. refl));
+    }
+  where
+    read : (links : List SimState) (k : ℕ) (d : SimState) → k < length links
+        → slice_get links k ≡ Some (get_or links k d)
+    read [] k d lt = absurd (omega arith)
+    read (l ∷ ls) zero d lt = refl
+    read (l ∷ ls) (suc k) d lt = read ls k d (omega arith)

@@ -1,19 +1,25 @@
 -- What the program's account of its answer says of each status.
 use Rattle.std.proofs.Common.{◌≡◌, ◌≢◌, ℕ, ◌+◌, ◌≤◌, ◌<◌, ◌⊎◌, inl, inr, List, [], ◌++◌, length}
 use Rattle.std.proofs.Common.{Option, Some, None, Result, Ok, Err, refl, ap, sym, subst, ◌∙◌, arith, length-append}
+use Rattle.std.specs.Prelude.{OnErr, OnOk}
 use Rattle.std.proofs.lemmas.List.{append-nil}
-use Rattle.wf_link.specs.Sinks.{Took}
+use Rattle.wf_link.specs.Counts.{Rose}
+use Rattle.wf_link.specs.Sinks.{Took, TookPart}
 use Rattle.wf_link.specs.Sources.{Gave, IsAtEnd}
 use Rattle.wf_script.specs.declared.types.Place.{Place}
 use Rattle.wf_script.specs.declared.types.Scenario.{Scenario}
 use Rattle.wf_script.specs.Scenarios.{scenario_of}
 use Rattle.wf_book.specs.declared.entry.Entry.{Entry}
 use Rattle.wf_print.specs.declared.events.Transcript.{Transcript}
+use Rattle.wf_print.specs.declared.failure.Failure.{Failure}
+use Rattle.wf_print.specs.declared.failure.Failure.TheVariants as failure
+use Rattle.wf_print.specs.Summary.{summary_text}
+use Rattle.wf_print.specs.Text.{play_text}
 use Rattle.wf_play.specs.Plays.{IsPlay}
 use Rattle.wf_top.specs.Program.{most_input, IsWhole, WritesPlay, IsCause, IsPlayed, IsVerdict, IsComplained, IsTold}
 use Rattle.wf_top.specs.Program.{IsOutcome, IsAnswer, IsExcused, IsExcusedRead, IsSummed, WritesSummary}
-use Rattle.wf_top.specs.Program.{WritesSummaryPart, GaveFor, AnswersInput, AnswersCount, Answers}
-use Rattle.wf_top.specs.Statuses.{complaint}
+use Rattle.wf_top.specs.Program.{GeneratedPlay, PlayOf, WritesSummaryPart, GaveFor, AnswersInput, AnswersCount, Answers}
+use Rattle.wf_top.specs.Statuses.{complaint, written_status}
 use Rattle.wf_top.specs.Streams.{Source, Sink, Failed}
 use Rattle.wf_top.specs.Words.{subcommand_of}
 use Rattle.wf_top.specs.declared.status.Status.{Status}
@@ -328,6 +334,40 @@ module _ (count : ℕ) where
 
       same : {other : Status} → answer ≡ other → (other ≡ status.WriteFault → ⊥) → verdict ≡ answer
       same is apart = told-same c c' verdict answer t (λ h. apart (sym is ∙ h))
+
+-- ---- what was written
+
+-- what the bytes of a scenario come to, by what came of writing the text of its play
+pub play-outcome : (bytes : List ℕ) (of : PlayOf IsPlay bytes) (output output' : Sink)
+    (written : Result (Unit {0}) Failure)
+    → OnOk written (Took output.taken output'.taken (play_text of.transcripts of.history))
+    → OnErr written (TookPart output.taken output'.taken (play_text of.transcripts of.history))
+    → (written ≡ Err failure.Fault → Rose output.faults output'.faults)
+    → (written ≡ Err failure.TookNothing → Rose output.zeros output'.zeros)
+    → IsOutcome IsPlay bytes output output' (written_status written)
+play-outcome bytes of output output' (Ok u) took part fault nothing = record { of = of; took = took }
+play-outcome bytes of output output' (Err failure.OutOfMemory) took part fault nothing =
+    inr (record { of = of; took = part })
+play-outcome bytes of output output' (Err failure.Fault) took part fault nothing =
+    (record { of = of; took = part }, inl (fault refl))
+play-outcome bytes of output output' (Err failure.TookNothing) took part fault nothing =
+    (record { of = of; took = part }, inr (nothing refl))
+
+-- the same of a summary
+pub summary-outcome : (count : ℕ) (of : GeneratedPlay count) (output output' : Sink)
+    (written : Result (Unit {0}) Failure)
+    → OnOk written (Took output.taken output'.taken (summary_text count of.transcripts of.history))
+    → OnErr written (TookPart output.taken output'.taken (summary_text count of.transcripts of.history))
+    → (written ≡ Err failure.Fault → Rose output.faults output'.faults)
+    → (written ≡ Err failure.TookNothing → Rose output.zeros output'.zeros)
+    → IsSummed count output output' (written_status written)
+summary-outcome count of output output' (Ok u) took part fault nothing = record { of = of; took = took }
+summary-outcome count of output output' (Err failure.OutOfMemory) took part fault nothing =
+    inr (record { of = of; took = part })
+summary-outcome count of output output' (Err failure.Fault) took part fault nothing =
+    (record { of = of; took = part }, inl (fault refl))
+summary-outcome count of output output' (Err failure.TookNothing) took part fault nothing =
+    (record { of = of; took = part }, inr (nothing refl))
 
 -- ---- the verdict
 

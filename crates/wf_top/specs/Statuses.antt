@@ -1,5 +1,7 @@
 -- The statuses: their numbers, and the line that each writes to the complaints.
-use Rattle.std.specs.Prelude.{ℕ, List, [], ◌++◌, codes}
+use Rattle.std.specs.Prelude.{ℕ, List, [], ◌++◌, codes, Result, Ok, Err}
+use Rattle.wf_print.specs.declared.failure.Failure.{Failure}
+use Rattle.wf_print.specs.declared.failure.Failure.TheVariants as failure
 use Rattle.wf_top.specs.declared.status.Status.{Status}
 use Rattle.wf_top.specs.declared.status.Status.TheVariants as status
 
@@ -26,3 +28,10 @@ complaint status.ReadFault = codes "fetchplay: reading failed\n"
 complaint status.WriteFault = codes "fetchplay: writing failed\n"
 complaint status.OutOfMemory = codes "fetchplay: out of memory\n"
 complaint status.InputTooLong = codes "fetchplay: input longer than 4194304 bytes\n"
+
+-- the status of a play by what came of writing its text
+abbrev pub written_status : Result (Unit {0}) Failure → Status
+written_status (Ok written) = status.Ok
+written_status (Err failure.OutOfMemory) = status.OutOfMemory
+written_status (Err failure.Fault) = status.WriteFault
+written_status (Err failure.TookNothing) = status.WriteFault

@@ -5,6 +5,7 @@ ghost use Rattle.wf_script.specs.Generated.{generated};
 ghost use Rattle.wf_script.specs.Scenarios.{scenario_of};
 ghost use Rattle.wf_script.specs.Valid.{IsValid};
 ghost use Rattle.wf_top.specs.Program.{Answers, IsOutcome, IsPlayed, IsSummed, IsVerdict};
+ghost use Rattle.wf_top.specs.Statuses.{written_status};
 ghost use Rattle.wf_top.specs.Streams.{source_of, sink_of};
 ghost use Rattle.wf_top.specs.Words as spec;
 ghost use Rattle.wf_top.specs.Words.{texts};
@@ -106,6 +107,18 @@ fn play_bytes<R: Threads + Wait + Sync, K: Sink>(
     }
 }
 
+// The verdict by what came of writing.
+fn status_of(written: Result<(), Failure>) -> Status
+    ensures { result ≡ written_status written }
+{
+    match written {
+        Ok(()) => Status::Ok,
+        Err(Failure::OutOfMemory) => Status::OutOfMemory,
+        Err(Failure::Fault) => Status::WriteFault,
+        Err(Failure::TookNothing) => Status::WriteFault,
+    }
+}
+
 // Plays a scenario and writes the text of the play.
 fn play<R: Threads + Wait + Sync, K: Sink>(
     rt: &R,
@@ -122,12 +135,8 @@ fn play<R: Threads + Wait + Sync, K: Sink>(
         Err(OutOfMemory) => return Status::OutOfMemory,
         Ok(played) => played,
     };
-    match write_play(alloc, &played.transcripts, &played.history, output) {
-        Ok(()) => Status::Ok,
-        Err(Failure::OutOfMemory) => Status::OutOfMemory,
-        Err(Failure::Fault) => Status::WriteFault,
-        Err(Failure::TookNothing) => Status::WriteFault,
-    }
+    let written = write_play(alloc, &played.transcripts, &played.history, output);
+    status_of(written)
 }
 
 // The play of the generated scenario of so many documents.
@@ -159,10 +168,12 @@ fn play_generated<R: Threads + Wait + Sync, K: Sink>(
         Err(OutOfMemory) => return Status::OutOfMemory,
         Ok(played) => played,
     };
-    match write_summary(alloc, count, &played.transcripts, &played.history, output) {
-        Ok(()) => Status::Ok,
-        Err(Failure::OutOfMemory) => Status::OutOfMemory,
-        Err(Failure::Fault) => Status::WriteFault,
-        Err(Failure::TookNothing) => Status::WriteFault,
-    }
+    let written = write_summary(
+        alloc,
+        count,
+        &played.transcripts,
+        &played.history,
+        output,
+    );
+    status_of(written)
 }

@@ -1,56 +1,15 @@
-use Rattle.std.proofs.Common.{inl, inr}
+use Rattle.wf_top.specs.Streams.{sink_of}
+use Rattle.wf_top.proofs.ProgramLemmas.{play-outcome}
 use Rattle.wf_top.proofs.program.play.Goals as goal
 
-pub returns-in-Ok-write_play : goal.returns-in-Ok-write_play
-returns-in-Ok-write_play g c = λ bytes read. record {
-  of = record {
-    scenario = c.args.scenario.now;
-    read = read;
-    transcripts = c.in-Ok.played.transcripts;
-    history = c.in-Ok.played.history;
-    play = c.in-Ok.ensures.played;
-  };
-  took = c.in-Ok-write_play.ensures.ok;
-}
-
-pub returns-in-Err-OutOfMemory : goal.returns-in-Err-OutOfMemory
-returns-in-Err-OutOfMemory g c = λ bytes read. inr (record {
-  of = record {
-    scenario = c.args.scenario.now;
-    read = read;
-    transcripts = c.in-Ok.played.transcripts;
-    history = c.in-Ok.played.history;
-    play = c.in-Ok.ensures.played;
-  };
-  took = c.in-Err-OutOfMemory.ensures.err;
-})
-
-pub returns-in-Err-Fault : goal.returns-in-Err-Fault
-returns-in-Err-Fault g c = λ bytes read. (
-  record {
-    of = record {
-      scenario = c.args.scenario.now;
-      read = read;
-      transcripts = c.in-Ok.played.transcripts;
-      history = c.in-Ok.played.history;
-      play = c.in-Ok.ensures.played;
-    };
-    took = c.in-Err-Fault.ensures.err;
-  },
-  inl (c.in-Err-Fault.ensures.fault (cc (c.in-Err-Fault.field-0-is))),
-)
-
 pub returns : goal.returns
-returns g c = λ bytes read. (
-  record {
-    of = record {
-      scenario = c.args.scenario.now;
-      read = read;
-      transcripts = c.in-Ok.played.transcripts;
-      history = c.in-Ok.played.history;
-      play = c.in-Ok.ensures.played;
-    };
-    took = c.in-Err-TookNothing.ensures.err;
-  },
-  inr (c.in-Err-TookNothing.ensures.nothing (cc (c.in-Err-TookNothing.field-0-is))),
-)
+returns g c = λ bytes read. rw c.status_of.ensures (play-outcome bytes (record {
+  scenario = c.args.scenario.now;
+  read = read;
+  transcripts = c.in-Ok.played.transcripts;
+  history = c.in-Ok.played.history;
+  play = c.in-Ok.ensures.played;
+}) (sink_of g.K.Sink.taken g.K.Sink.faults g.K.Sink.zeros c.args.output.now)
+    (sink_of g.K.Sink.taken g.K.Sink.faults g.K.Sink.zeros c.write_play-written.new.output) c.write_play-written.result
+    c.write_play-written.ensures.ok c.write_play-written.ensures.err c.write_play-written.ensures.fault
+    c.write_play-written.ensures.nothing)

@@ -1,0 +1,5 @@
+use Rattle.std.proofs.Common.{◌≡◌}
+use Rattle.wf_player.proofs.threads.listed.Given as goal
+
+abbrev pub invariant-loop-transcript : goal.invariant-loop-transcript
+invariant-loop-transcript l = l.list ≡ l.yielded
