@@ -4,8 +4,10 @@
 #![tactic(auto)]
 
 mod failed;
+mod joint;
 mod play;
 mod row;
+mod shared;
 mod show;
 
 use crate::failed::Failed;

@@ -7,8 +7,24 @@
 //     pieces          it is played with answers in pieces of 1, 7 and 65,536 bytes, one after another
 //     tail            only the number of bytes written and the last four lines are printed, as far as their
 //                     first 64 characters
+//     shared          of a play of several documents the history is printed by documents, without turns, and how
+//                     many entries it has
+//     joint           only whether the history is one that two documents under one page may have: `joint.rt`
 use crate::failed::Failed;
 use std::alloc::{AllocError, Global};
+
+/// What is printed of the output.
+#[derive(Clone, Copy, Debug, PartialEq, Eq)]
+pub(crate) enum Shows {
+    /// All of it.
+    Whole,
+    /// Its length, and the fronts of its last lines.
+    Tail,
+    /// The documents, and the history by documents.
+    Shared,
+    /// Whether it is a play of two documents under one page.
+    Joint,
+}
 
 /// A row as it is written.
 #[derive(Drop)]
@@ -18,7 +34,7 @@ pub(crate) struct Row<'a> {
     pub(crate) writes: Vec<u64>,
     pub(crate) zeros: Vec<u64>,
     pub(crate) complaints: Vec<u64>,
-    pub(crate) tail: bool,
+    pub(crate) shows: Shows,
     times: Option<usize>,
     pieces: bool,
     scenario: &'a str,
@@ -69,7 +85,7 @@ impl<'a> Row<'a> {
             writes: Vec::new(alloc),
             zeros: Vec::new(alloc),
             complaints: Vec::new(alloc),
-            tail: false,
+            shows: Shows::Whole,
             times: None,
             pieces: false,
             scenario,
@@ -92,7 +108,9 @@ impl<'a> Row<'a> {
     fn note_name(&mut self, name: &str) -> Result<(), Failed> {
         match name {
             "pieces" => self.pieces = true,
-            "tail" => self.tail = true,
+            "tail" => self.shows = Shows::Tail,
+            "shared" => self.shows = Shows::Shared,
+            "joint" => self.shows = Shows::Joint,
             _ => return Err(Failed),
         }
         Ok(())

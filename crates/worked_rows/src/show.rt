@@ -1,6 +1,8 @@
 use crate::failed::Failed;
 use crate::play::Ran;
-use crate::row::Row;
+use crate::joint::show_joint;
+use crate::row::{Row, Shows};
+use crate::shared::show_shared;
 
 /// How many lines are printed of a row with `tail`.
 const TAIL: usize = 4;
@@ -35,13 +37,14 @@ fn show_tail<R: Print>(rt: &R, text: &str) -> Result<(), Failed> {
 }
 
 // Prints what a row came to.
-pub(crate) fn show<R: Print>(rt: &R, row: &Row<'_>, ran: &Ran) -> Result<(), Failed> {
+pub(crate) fn show<R: Print + AllocGlobal>(rt: &R, row: &Row<'_>, ran: &Ran) -> Result<(), Failed> {
     println!(rt; "status {}", ran.status)?;
     let output = text_of(ran.output.as_slice())?;
-    if row.tail {
-        show_tail(rt, output)?;
-    } else {
-        print!(rt; "{output}")?;
+    match row.shows {
+        Shows::Whole => print!(rt; "{output}")?,
+        Shows::Tail => show_tail(rt, output)?,
+        Shows::Shared => show_shared(rt, output)?,
+        Shows::Joint => show_joint(rt, output)?,
     }
     let complaints = text_of(ran.complaints.as_slice())?;
     if !complaints.is_empty() {
