@@ -24,5 +24,7 @@ pub use memory_sink::MemorySink;
 pub use memory_source::MemorySource;
 pub use sink::{Sink, WriteFault, write_whole};
 pub use source::{Failed, ReadStop, Source, read_whole};
-pub use standard::{ReaderSource, StandardError, StandardInput, StandardOutput, WriterSink};
+pub use standard::{
+    ReaderSource, StandardError, StandardInput, StandardOutput, SystemClock, WriterSink,
+};
 pub use target::{Ask, Route, Routes, Target};

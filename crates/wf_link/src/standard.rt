@@ -1,9 +1,11 @@
 ghost use Rattle.std.specs.Prelude.{◌≡◌, None};
 
+use crate::clock::Clock;
 use crate::sink::Sink;
 use crate::source::{Failed, Source};
 use std::io::{Read, Stderr, Stdin, Stdout, Write};
 use std::marker::Model;
+use std::time;
 
 /// A source over a reader, seen as the count of its faults. It tells no content.
 #[derive(Drop)]
@@ -102,6 +104,32 @@ impl<W: Write> Sink for WriterSink<W> {
                 self.faults = self.faults.saturating_add(1);
                 Err(Failed)
             }
+        }
+    }
+}
+
+/// The clock of the system. It tells no answer ahead.
+#[derive(Drop)]
+pub struct SystemClock<R: time::Clock> {
+    system: R,
+}
+
+impl<R: time::Clock> SystemClock<R> {
+    /// A clock over that of the system.
+    pub fn new(system: R) -> SystemClock<R> {
+        SystemClock { system }
+    }
+}
+
+impl<R: time::Clock> Clock for SystemClock<R> {
+    ghost next = { λ _. None };
+
+    /// The whole seconds since 1970 began, or 0 where the system's clock cannot be read or stands
+    /// before then.
+    fn now(&mut self) -> u64 {
+        match self.system.since_1970() {
+            Ok(since_1970) => since_1970.as_secs(),
+            Err(_) => 0,
         }
     }
 }
