@@ -21,6 +21,7 @@ use Rattle.wf_print.specs.declared.events.Ending.TheVariants.{Finished, Fetches,
 use Rattle.wf_print.specs.declared.events.Event.TheVariants as event
 use Rattle.wf_print.specs.declared.events.Transcript.{Transcript}
 use Rattle.wf_print.specs.Escapes.{escaped}
+use Rattle.wf_print.specs.Summary.{summary_text}
 use Rattle.wf_print.specs.Text.{play_text, transcript_text}
 
 abbrev header : List ℕ → List ℕ → Header
@@ -246,6 +247,18 @@ history_printed : play_text [] history
     ++ codes "12 3 learn http://a.test http://a.test other 5 PUT () http://b.test/x at 0: done\ndone\n"
 unfolding digits
 history_printed = refl
+
+-- the summary of a play of all these documents
+summarized : summary_text 8 (transcript ∷ other_answers ∷ other_ends ∷ calls ∷ []) history
+    ≡ codes "gen 8\ndocuments 4\nfetches 1\nrequests 3\ncalls 2\nresponses 4\nerrors 2\n"
+unfolding digits
+summarized = refl
+
+-- the summary of a play without documents
+none_summarized : summary_text 64 [] []
+    ≡ codes "gen 64\ndocuments 0\nfetches 0\nrequests 0\ncalls 0\nresponses 0\nerrors 0\n"
+unfolding digits
+none_summarized = refl
 
 -- a play without documents
 no_documents : play_text [] [] ≡ codes "fetchplay 1\nhistory\ndone\n"

@@ -3,4 +3,5 @@ pub mod Escapes
 pub mod Failures
 pub mod Lengths
 pub mod Private
+pub mod Summary
 pub mod Text

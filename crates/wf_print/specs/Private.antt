@@ -1,3 +1,4 @@
+pub mod Kinds
 pub mod LengthLaws
 pub mod Longer
 pub mod Writes

@@ -10,8 +10,10 @@ mod length;
 mod lines;
 mod output;
 mod play;
+mod summary;
 
 pub use events::{Ending, Event, Events, Transcript, Transcripts};
 pub use failure::Failure;
 pub use length::event_len;
 pub use play::{has_text, write_play};
+pub use summary::write_summary;

@@ -57,7 +57,7 @@ fn text_of(alloc: Global, transcript: &Transcript) -> Result<Bytes, OutOfMemory>
 }
 
 // Writes a text whole.
-fn put<K: Sink>(sink: &mut K, text: &[u8]) -> Result<(), Failure>
+pub(crate) fn put<K: Sink>(sink: &mut K, text: &[u8]) -> Result<(), Failure>
     ensures { Writes K.taken K.faults K.zeros sink.old sink.new text.now result }
 {
     write_whole(sink, text)?;

@@ -1,0 +1,136 @@
+ghost use Rattle.std.specs.Prelude.{◌≡◌, ◌≤◌, ◌++◌, codes, length, filter, Err, IfOk, OnOk, OnErr};
+ghost use Rattle.wf_link.specs.Counts.{Rose};
+ghost use Rattle.wf_link.specs.Sinks.{Took, TookPart};
+ghost use Rattle.wf_print.specs.Private.Kinds.{is_of};
+ghost use Rattle.wf_print.specs.Private.Writes.{Writes};
+ghost use Rattle.wf_print.specs.Summary as spec;
+ghost use Rattle.wf_print.specs.Text.{HasText, line};
+
+use crate::events::{Event, Transcript, Transcripts};
+use crate::failure::Failure;
+use crate::lines::add_number;
+use crate::play::put;
+use itoa::Integer;
+use std::alloc::Global;
+use wf_book::{Entry, History};
+use wf_link::Sink;
+use wf_text::{Bytes, OutOfMemory};
+use wf_types::Outcome;
+
+// A kind of events that are counted.
+#[derive(Clone, Copy)]
+enum Kind {
+    Fetch,
+    Request,
+    Response,
+    Error,
+}
+
+impl Kind {
+    // Whether the event is of this kind.
+    fn is_of(self, event: &Event) -> bool
+        ensures { result ≡ is_of self event.now }
+    {
+        match (self, event) {
+            (Kind::Fetch, Event::Fetch(_)) => true,
+            (Kind::Request, Event::Sent(_)) => true,
+            (Kind::Response, Event::Result(Outcome::Answer(_))) => true,
+            (Kind::Error, Event::Result(Outcome::Error(_))) => true,
+            _ => false,
+        }
+    }
+}
+
+// How many events of a document are of the kind.
+fn count_in(events: &[Event], kind: Kind) -> usize
+    ensures { result ≡ length (filter (is_of kind) events.now) }
+{
+    events.iter().filter(|event| kind.is_of(event)).count()
+}
+
+// How many events of all documents are of the kind. There are fewer than 2^64 documents, and each has
+// fewer than 2^64 events, so the sum fits.
+fn count(transcripts: &[Transcript], kind: Kind) -> u128
+    ensures { result ≡ spec.event_count (is_of kind) transcripts.now }
+{
+    let mut count = 0;
+    for transcript in transcripts {
+        count += count_in(transcript.events.as_slice(), kind) as u128;
+    }
+    count
+}
+
+// Adds a line of the summary.
+fn add_count<I: Integer>(text: &mut Bytes, label: &[u8], count: I) -> Result<(), OutOfMemory>
+    ensures { OnOk result (text.new ≡ text.old ++ line (label.now ++ codes " " ++ I.text count)) }
+{
+    text.append(label)?;
+    text.append(b" ")?;
+    add_number(text, count)?;
+    text.append(b"\n")
+}
+
+// The text of the summary.
+fn text_of(
+    alloc: Global,
+    n: u32,
+    transcripts: &[Transcript],
+    history: &[Entry],
+) -> Result<Bytes, OutOfMemory>
+    ensures { IfOk result (λ text. text ≡ spec.summary_text n transcripts.now history.now) }
+{
+    let mut text = Bytes::new(alloc);
+    add_count(&mut text, b"gen", n)?;
+    add_count(&mut text, b"documents", transcripts.len())?;
+    add_count(&mut text, b"fetches", count(transcripts, Kind::Fetch))?;
+    add_count(&mut text, b"requests", count(transcripts, Kind::Request))?;
+    add_count(&mut text, b"calls", history.len())?;
+    add_count(&mut text, b"responses", count(transcripts, Kind::Response))?;
+    add_count(&mut text, b"errors", count(transcripts, Kind::Error))?;
+    Ok(text)
+}
+
+// Makes the text of the summary and writes it.
+fn put_summary<K: Sink>(
+    alloc: Global,
+    n: u32,
+    transcripts: &[Transcript],
+    history: &[Entry],
+    sink: &mut K,
+) -> Result<(), Failure>
+    ensures { Writes K.taken K.faults K.zeros sink.old sink.new (spec.summary_text n transcripts.now history.now) result }
+{
+    let text = text_of(alloc, n, transcripts, history)?;
+    put(sink, text.as_slice())
+}
+
+/// Writes the summary of the play of `n` generated documents, seven lines: `n`, how many documents the
+/// play has, how many fetches started, how many requests were sent, how many calls the history of the
+/// shared book has, and how many fetches came to a response and to a network error. The counts are over
+/// all documents, and exact.
+///
+/// After a failure the sink has taken a first part of the text: `Fault` where the sink failed,
+/// `TookNothing` where it took nothing of a piece that was not empty, and `OutOfMemory` where memory was
+/// refused.
+pub fn write_summary<K: Sink>(
+    alloc: Global,
+    n: u32,
+    transcripts: &Transcripts,
+    history: &History,
+    sink: &mut K,
+) -> Result<(), Failure>
+    requires { HasText transcripts.now }
+
+    ensures ok { OnOk result
+        (Took (K.taken sink.old) (K.taken sink.new) (spec.summary_text n transcripts.now history.now)) }
+    ensures err { OnErr result
+        (TookPart (K.taken sink.old) (K.taken sink.new) (spec.summary_text n transcripts.now history.now)) }
+
+    // The counts of the sink never fall, and tell the cause of a failure.
+    ensures faults { K.faults sink.old ≤ K.faults sink.new }
+    ensures zeros { K.zeros sink.old ≤ K.zeros sink.new }
+    ensures fault { result ≡ Err Failure.Fault → Rose (K.faults sink.old) (K.faults sink.new) }
+    ensures nothing { result ≡ Err Failure.TookNothing → Rose (K.zeros sink.old) (K.zeros sink.new) }
+{
+    put_summary(alloc, n, transcripts.as_slice(), history.as_slice(), sink)
+}
