@@ -1,0 +1,138 @@
+ghost use Rattle.std.specs.Prelude.{◌≡◌, ◌≤◌, [], false, None, Ok, IsErr, IsNone};
+ghost use Rattle.std.specs.Io.{ReadsAtMost};
+ghost use Rattle.wf_link.specs.Counts.{HasCause, one_more};
+ghost use Rattle.wf_tcp.specs.Routes.{address_of};
+ghost use Rattle.wf_tcp.specs.TcpLink.{after_ask, after_receive};
+
+use crate::routes::address_of;
+use std::io::{Read, Write};
+use std::marker::Model;
+use std::net::{Net, TcpStream};
+use std::str;
+use wf_link::{Failed, Link, Route, Routes, Target};
+
+/// A link over TCP. Each request is sent on a connection of its own, to the address of the first route
+/// of its target's origin. It tells nothing of what a peer sends.
+#[derive(Drop)]
+pub struct TcpLink<R: Net> {
+    network: R,
+    routes: Routes,
+    stream: Option<R::Stream>,
+    faults: u64,
+}
+
+impl<R: Net> Model for TcpLink<R> {
+    ghost use Rattle.std.specs.Prelude.{is_some};
+    ghost use Rattle.wf_tcp.specs.TcpLink.{TcpLinkState};
+
+    ghost Value = { TcpLinkState };
+
+    ghost view = { λ link. record {
+      routes = link.routes;
+      is_open = is_some link.stream;
+      faults = link.faults;
+    } };
+}
+
+// A connection to the address of the origin's first route, on which the request was sent: one write
+// where the system takes it whole. None where the origin has no route, where its address names no
+// place, where nobody listens there, and where the write failed.
+fn send<R: Net>(network: &R, routes: &[Route], origin: &[u8], request: &[u8]) -> Option<R::Stream>
+    ensures { IsNone (address_of routes.now origin.now) → IsNone result }
+{
+    let address = str::from_utf8(address_of(routes, origin)?).ok()?;
+    let mut stream = TcpStream::connect(network, address).ok()?;
+    stream.write_all(request).ok()?;
+    Some(stream)
+}
+
+impl<R: Net> TcpLink<R> {
+    // A link by these routes, with no connection yet.
+    pub(crate) fn new(network: R, routes: Routes) -> TcpLink<R>
+        ensures { result ≡ record { routes = routes; is_open = false; faults = 0 } }
+    {
+        TcpLink {
+            network,
+            routes,
+            stream: None,
+            faults: 0,
+        }
+    }
+
+    /// How often it failed.
+    pub fn faults(&self) -> u64
+        ensures { result ≡ self.now.faults }
+    {
+        self.faults
+    }
+
+    // A failure, which is counted.
+    fn fail(&mut self) -> Failed
+        ensures counted { self.new ≡ record self.old { faults = one_more self.old.faults } }
+        ensures later { self.old.faults ≤ self.new.faults }
+    {
+        self.faults = self.faults.saturating_add(1);
+        Failed
+    }
+}
+
+impl<R: Net> Link for TcpLink<R> {
+    ghost State = { Unit {0} };
+
+    ghost state = { λ _. None };
+
+    ghost left = { λ _. None };
+
+    ghost answer = { λ _ _ _. [] };
+
+    ghost next = { λ state _ _. state };
+
+    ghost asks = { λ _. None };
+
+    ghost faults = { λ link. link.faults };
+
+    /// Closes the connection of the ask before it, opens one to the address of the first route of the
+    /// target's origin, and writes the request. It fails where the origin has no route, where its
+    /// address names no place or nobody listens there, and where the write failed or memory was
+    /// refused to the system's calls; no connection is open then.
+    fn ask(&mut self, target: &Target, request: &[u8]) -> Result<(), Failed>
+        ensures cause { HasCause self.old.faults self.new.faults result }
+        ensures unrouted { IsNone (address_of self.old.routes target.now.origin) → IsErr result }
+        ensures after { self.new ≡ after_ask self.old result }
+    {
+        self.hang_up();
+        let routes = self.routes.as_slice();
+        match send(&self.network, routes, target.origin.as_slice(), request) {
+            Some(stream) => {
+                self.stream = Some(stream);
+                Ok(())
+            }
+            None => Err(self.fail()),
+        }
+    }
+
+    /// Receives what has come of the answer, once some of it has, straight into the buffer: 0 bytes
+    /// where the peer has closed the connection, or where none is open. It fails where the read does.
+    fn recv(&mut self, buf: &mut [u8]) -> Result<usize, Failed>
+        ensures count { ReadsAtMost result buf.new }
+        ensures cause { HasCause self.old.faults self.new.faults result }
+        ensures closed { self.old.is_open ≡ false → result ≡ Ok 0 }
+        ensures after { self.new ≡ after_receive self.old result }
+    {
+        let Some(stream) = &mut self.stream else {
+            return Ok(0);
+        };
+        match stream.read(buf) {
+            Ok(count) => Ok(count),
+            Err(_) => Err(self.fail()),
+        }
+    }
+
+    /// Closes the connection.
+    fn hang_up(&mut self)
+        ensures faults { self.new.faults ≡ self.old.faults }
+        ensures after { self.new ≡ record self.old { is_open = false } }
+    {
+        self.stream = None;
+    }
+}

@@ -1,0 +1,75 @@
+ghost use Rattle.std.specs.Prelude.{◌≡◌, false, IfOk, None};
+ghost use Rattle.wf_link.specs.Counts.{grown_by};
+
+use crate::link::TcpLink;
+use crate::routes::copy_of;
+use std::alloc::Global;
+use std::marker::Model;
+use std::net::Net;
+use wf_link::{Links, Routes};
+use wf_text::OutOfMemory;
+
+/// Links over TCP, seen as how often those taken back had failed. It tells nothing of the links.
+#[derive(Drop)]
+pub struct TcpLinks<R: Net> {
+    network: R,
+    faults: u64,
+}
+
+impl<R: Net> Model for TcpLinks<R> {
+    ghost use Rattle.std.specs.Prelude.{ℕ};
+
+    ghost Value = { ℕ };
+
+    ghost view = { λ links. links.faults };
+}
+
+impl<R: Net> TcpLinks<R> {
+    /// Links over this network, with their count at 0.
+    pub fn new(network: R) -> TcpLinks<R>
+        ensures { result ≡ 0 }
+    {
+        TcpLinks { network, faults: 0 }
+    }
+
+    /// How often the links taken back had failed.
+    pub fn faults(&self) -> u64
+        ensures { result ≡ self.now }
+    {
+        self.faults
+    }
+}
+
+impl<R: Net + Copy + Send> Links for TcpLinks<R>
+where
+    R::Stream: Send,
+{
+    type Link = TcpLink<R>;
+
+    ghost opening = { λ _ _. None };
+
+    ghost lent = { λ _. None };
+
+    ghost faults = { λ links. links };
+
+    /// A link with a copy of the routes, whatever document it is for, or `OutOfMemory`. It is not
+    /// connected yet.
+    fn make(
+        &mut self,
+        alloc: Global,
+        _document: u32,
+        routes: &Routes,
+    ) -> Result<TcpLink<R>, OutOfMemory>
+        ensures made { IfOk result (λ link. link ≡ record { routes = routes.now; is_open = false; faults = 0 }) }
+        ensures unchanged { self.new ≡ self.old }
+    {
+        Ok(TcpLink::new(self.network, copy_of(alloc, routes)?))
+    }
+
+    /// Counts the faults of the link, and closes its connection.
+    fn take_back(&mut self, link: TcpLink<R>)
+        ensures { self.new ≡ grown_by self.old link.faults }
+    {
+        self.faults = self.faults.saturating_add(link.faults());
+    }
+}

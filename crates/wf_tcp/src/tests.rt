@@ -1,0 +1,116 @@
+use super::*;
+use std::alloc::Global;
+use std::io::{Read, Write};
+use std::net::TcpListener;
+use std::test::Fail;
+use std::{io, thread};
+use wf_link::{Clock, Link, Links, Route, Routes, SystemClock, Target};
+use wf_text::{Bytes, OutOfMemory};
+
+const REQUEST: &[u8] = b"GET / HTTP/1.1\r\nHost: a.test\r\nConnection: close\r\n\r\n";
+
+const ANSWER: &[u8] = b"HTTP/1.1 200 OK\r\nContent-Length: 2\r\n\r\nhi";
+
+// Takes one connection, reads a request, and answers it. Whether it was the request.
+fn serve(listener: &TcpListener) -> io::Result<bool> {
+    let (mut stream, _) = listener.accept()?;
+    let mut request = [0; REQUEST.len()];
+    stream.read_exact(&mut request)?;
+    stream.write_all(ANSWER)?;
+    Ok(request.as_slice() == REQUEST)
+}
+
+// The routes of two servers: one listens at the address, and the other's address names no place.
+fn routes_to(alloc: Global, address: &[u8]) -> Result<Routes, OutOfMemory> {
+    let mut routes = Routes::new(alloc);
+    routes.push(Route {
+        origin: Bytes::of(alloc, b"http://a.test")?,
+        address: Bytes::of(alloc, address)?,
+    })?;
+    routes.push(Route {
+        origin: Bytes::of(alloc, b"http://b.test")?,
+        address: Bytes::of(alloc, b"nowhere")?,
+    })?;
+    Ok(routes)
+}
+
+fn target(alloc: Global, origin: &[u8]) -> Result<Target, OutOfMemory> {
+    Ok(Target {
+        origin: Bytes::of(alloc, origin)?,
+    })
+}
+
+// The link of the first document.
+fn first_link<N: Links>(
+    alloc: Global,
+    links: &mut N,
+    routes: &Routes,
+) -> Result<N::Link, OutOfMemory> {
+    links.make(alloc, 0, routes)
+}
+
+// All that is received, to the end.
+fn received<L: Link>(alloc: Global, link: &mut L) -> Result<Bytes, Fail> {
+    let mut text = Bytes::new(alloc);
+    let mut buffer = [0; 16];
+    for _ in 0..64 {
+        let count = link.recv(&mut buffer)?;
+        if count == 0 {
+            break;
+        }
+        text.append(&buffer[..count])?;
+    }
+    Ok(text)
+}
+
+#[test]
+fn exchanges(rt: HostRuntime) -> Result<(), Fail> {
+    let alloc = rt.alloc();
+    let listener = TcpListener::bind(&rt, "127.0.0.1:0")?;
+    let address = format!(in alloc; "{}", listener.local_addr()?)?;
+    let routes = routes_to(alloc, address.as_bytes())?;
+    let mut links = TcpLinks::new(rt);
+    let mut link = first_link(alloc, &mut links, &routes)?;
+    let server = thread::spawn(&rt, move || serve(&listener).unwrap_or(false))?;
+    link.ask(&target(alloc, b"http://a.test")?, REQUEST)?;
+    let answer = received(alloc, &mut link)?;
+    assert!(rt; server.join(&rt));
+    assert_eq!(rt; answer.as_slice(), ANSWER);
+    assert_eq!(rt; link.faults(), 0);
+    // Nobody listens there any more.
+    assert!(rt;
+        link.ask(&target(alloc, b"http://a.test")?, REQUEST)
+            .is_err()
+    );
+    assert!(rt;
+        link.ask(&target(alloc, b"http://b.test")?, REQUEST)
+            .is_err()
+    );
+    links.take_back(link);
+    assert_eq!(rt; links.faults(), 2);
+    Ok(())
+}
+
+#[test]
+fn fails_without_a_route(rt: HostRuntime) -> Result<(), Fail> {
+    let alloc = rt.alloc();
+    let mut links = TcpLinks::new(rt);
+    let mut link = first_link(alloc, &mut links, &Routes::new(alloc))?;
+    assert!(rt;
+        link.ask(&target(alloc, b"http://a.test")?, REQUEST)
+            .is_err()
+    );
+    assert_eq!(rt; link.faults(), 1);
+    assert_eq!(rt; link.recv(&mut [0; 8]).ok(), Some(0));
+    Ok(())
+}
+
+fn time<C: Clock>(clock: &mut C) -> u64 {
+    clock.now()
+}
+
+#[test]
+fn tells_the_time(rt: HostRuntime) {
+    let now = time(&mut SystemClock::new(rt));
+    assert!(rt; now > 1_700_000_000, "{now}");
+}
