@@ -2,7 +2,7 @@
 use Rattle.std.proofs.Common.{◌≡◌, ◌≢◌, ℕ, zero, suc, ◌+◌, ◌-◌, ◌≤◌, ◌<◌, List, [], ◌∷◌, Option, Some, None, true, false}
 use Rattle.std.proofs.Common.{refl, ap, sym, subst, ◌∙◌, arith, add-one, drop, drop-cons, cond, get_or, length, Bool}
 use Rattle.std.proofs.Common.{Result, Ok, Err, OnErr}
-use Rattle.std.specs.Prelude.{nat_le, nat_lt, is_some, max, IfOk}
+use Rattle.std.specs.Prelude.{nat_le, nat_lt, is_some, IfOk}
 use Rattle.std.proofs.lemmas.List.{append-nil, drop_all}
 use Rattle.wf_text.specs.declared.memory.OutOfMemory.{OutOfMemory}
 use Rattle.wf_commands.specs.declared.command.Command.{Command}
@@ -14,16 +14,16 @@ use Rattle.wf_commands.specs.Scripts as script
 use Rattle.wf_commands.specs.Valid.{AreValid, IsValidStep}
 use Rattle.wf_print.specs.declared.events.Ending.{Ending}
 use Rattle.wf_print.specs.declared.events.Ending.TheVariants.{Commands, Fetches, Memory, Text}
-use Rattle.wf_run.specs.Play.{Play, over}
+use Rattle.wf_run.specs.Play.{over}
 use Rattle.wf_run.specs.Runs.{Next, Progress, Setting, chosen, command_started, last_of, limit_before, own_limit, repeated}
 use Rattle.wf_run.specs.Runs.{script_run, started, text_length, unless_limit, waited}
 use Rattle.wf_run.specs.Traces.{stop}
 use Rattle.wf_run.specs.Results.{holds}
 use Rattle.wf_wire.specs.Exchanges.{Answering}
 use Rattle.wf_drive.specs.Worlds.{World}
-use Rattle.wf_drive.proofs.AskLemmas.{on-err, on-err-map}
+use Rattle.wf_drive.proofs.AskLemmas.{on-err}
 use Rattle.wf_running.specs.Parts.{Cut, CutShort, Played, PlayedTo, Standing, standing_of}
-use Rattle.wf_running.proofs.PartLemmas.{cut-here, cut-inside, played-cut, played-inside, played-none, played-then}
+use Rattle.wf_running.proofs.PartLemmas.{cut-inside, played-cut, played-inside, played-none, played-then}
 
 -- ---- answers
 

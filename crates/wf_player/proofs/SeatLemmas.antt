@@ -1,7 +1,7 @@
 -- Seats in rows: each row is ready for its document, and what was played in the rows was played on the seats.
 use Rattle.std.proofs.Common.{◌≡◌, ℕ, zero, suc, ◌+◌, ◌<◌, ◌≤◌, List, [], ◌∷◌, ◌++◌, length, get_or, take, drop, map}
-use Rattle.std.proofs.Common.{ap, refl, sym, subst, ◌∙◌, arith, Some}
-use Rattle.std.specs.Prelude.{slice_get}
+use Rattle.std.proofs.Common.{ap, refl, sym, subst, ◌∙◌, arith, Some, Result, Ok, Err}
+use Rattle.std.specs.Prelude.{slice_get, IfOk}
 use Rattle.std.specs.List.{All, range_with_len}
 use Rattle.std.proofs.lemmas.List.{append-nil, get_or-map, length-map, take_all}
 use Rattle.std.proofs.lemmas.List.Elements.{All-map}
@@ -21,6 +21,12 @@ pub written : {X : Type 0} (n : ℕ) (xs ys : List X) → length xs ≡ length y
     → take n (xs ++ drop (length xs) ys) ≡ xs
 written n xs ys e d = ap (λ l. take n (xs ++ l)) (drop_of_length-le ys {i = length xs} (omega arith))
     ∙ (ap (take n) (append-nil xs) ∙ take_all n xs (omega arith))
+
+-- what is known of a list that was made holds of what it is equal to
+pub made-list : {X E : Type 0} (P : List X → Type 0) (made : Result (List X) E) (items : List X)
+    → IfOk made (λ list. list ≡ items) → P items → IfOk made P
+made-list P (Ok list) items is p = subst P (sym is) p
+made-list P (Err error) items is p = tt
 
 module _ {L P State : Type 0} (belongs : P → Type 0) (seen : Seating L P → Seat State) where
   -- the row at an index is ready for the document of that number
@@ -51,9 +57,12 @@ module _ {L P State : Type 0} (belongs : P → Type 0) (seen : Seating L P → S
             sym (ap (λ (s : Seat State). s.document) seat_is)
             ∙ sym (get_or-map (λ (s : Seat State). s.document) (map seen seats) i (seen d.seating) 0
             (omega (arith, length-map seats seen)))
-            ∙ ap (λ (l : List ℕ). get_or l i 0) seated.each ∙ get_or-range_with_len 0 n i 0 (omega (arith, many));
+            ∙ ap (λ (l : List ℕ). get_or l i 0) seated.each ∙ get_or-range_with_len 0 n i 0 (omega (arith, many)) ∙ zero_before i;
         calls = subst Calls seat_is (seated.calls i (seen d.seating) (omega (arith, length-map seats seen)));
       }
+    where
+      zero_before : (m : ℕ) → 0 + m ≡ m
+      zero_before m = omega arith
 
   -- what was played in the rows was played on their seats
   played-from : (by : Answering State) (scenario : Scenario) (base number : ℕ) (documents : List Document)
@@ -69,11 +78,15 @@ module _ {L P State : Type 0} (belongs : P → Type 0) (seen : Seating L P → S
   played-from by scenario base number (d ∷ ds) [] news many same each = absurd (omega (arith, many))
   played-from by scenario base number (d ∷ ds) (o ∷ os) [] many same each = absurd (omega (arith, same))
   played-from by scenario base number (d ∷ ds) (o ∷ os) (n ∷ ns) many same each =
-      ArePlayed.one_more (each zero d o n (omega arith) refl)
+      ArePlayed.one_more (subst (λ (k : ℕ). IsPlayed by scenario base k d (seen o.seating) (seen n.seating) n.transcript)
+      (zero_behind number) (each zero d o n (omega arith) refl))
       (played-from by scenario base (number + 1) ds os ns (omega (arith, many)) (omega (arith, same))
       (λ i one a b within at. subst (λ (k : ℕ). IsPlayed by scenario base k one (seen (get_or os i a).seating)
       (seen (get_or ns i b).seating) (get_or ns i b).transcript) (next number i) (each (suc i) one a b (omega arith) at)))
     where
+      zero_behind : (m : ℕ) → m + 0 ≡ m
+      zero_behind m = omega arith
+
       next : (m i : ℕ) → m + suc i ≡ m + 1 + i
       next m i = omega arith
 
@@ -93,9 +106,14 @@ module _ {L P State : Type 0} (belongs : P → Type 0) (seen : Seating L P → S
       sym counted ∙ length-map (map seen before) (λ (s : Seat State). s.document) ∙ length-map before seen
       ∙ ap length (sym is_before) ∙ length-map olds (λ (r : Row L P). r.seating) in
       rw (← is_before, is_after, is_transcripts) (played-from by scenario base 0 scenario.documents olds news many same
-      (λ i one a b within at. subst (λ (r : Row L P). IsPlayed by scenario base i one (seen (get_or olds i a).seating)
-      (seen r.seating) r.transcript) (any news i a b (omega (arith, same))) ((each i a within).played one at)))
+      (λ i one a b within at. subst (λ (k : ℕ). IsPlayed by scenario base k one (seen (get_or olds i a).seating)
+      (seen (get_or news i b).seating) (get_or news i b).transcript) (sym (zero_before i))
+      (subst (λ (r : Row L P). IsPlayed by scenario base i one (seen (get_or olds i a).seating)
+      (seen r.seating) r.transcript) (any news i a b (omega (arith, same))) ((each i a within).played one at))))
     where
+      zero_before : (m : ℕ) → 0 + m ≡ m
+      zero_before m = omega arith
+
       any : (rows : List (Row L P)) (i : ℕ) (a b : Row L P) → i < length rows → get_or rows i a ≡ get_or rows i b
       any [] i a b within = absurd (omega arith)
       any (r ∷ rs) zero a b within = refl
@@ -117,7 +135,7 @@ documents-played : {State : Type 0} (by : Answering State) (scenario : Scenario)
     → ArePlayed by scenario base number documents olds news transcripts
     → map (λ (s : Seat State). s.document) news ≡ range_with_len number (length documents)
 documents-played by scenario base ArePlayed.none = refl
-documents-played {State} by scenario base {number} (ArePlayed.one_more {documents = documents} {new = new} {news = news} is more) =
+documents-played {State} by scenario base {number} (ArePlayed.one_more {new = new} {documents = documents} {news = news} is more) =
     ap (λ (d : ℕ). d ∷ map (λ (s : Seat State). s.document) news) is.document_is
     ∙ ap (λ (l : List ℕ). number ∷ l) (documents-played by scenario base more)
 

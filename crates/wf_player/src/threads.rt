@@ -9,10 +9,9 @@ ghost use Rattle.wf_player.specs.Private.Rows.{CanPlay, RowPlayed, seatings_of, 
 use crate::document::drive;
 use crate::seating::{Row, Seating};
 use std::alloc::Global;
-use std::mem;
 use std::sync::Wait;
-use std::thread;
 use std::thread::Threads;
+use std::{mem, thread};
 use wf_book::Share;
 use wf_link::Link;
 use wf_print::{Ending, Transcript, Transcripts};

@@ -1,5 +1,5 @@
 use Rattle.std.proofs.Common.{◌≡◌, ℕ, ◌+◌, ◌≤◌, length, map, vec_capacity, vec_len}
-use Rattle.std_alloc.specs.Vec.Iter.{into_iter_len}
+use Rattle.std.specs.Vec.Iter.{into_iter_len}
 use Rattle.wf_play.specs.Links.{AreOpened}
 use Rattle.wf_play.proofs.seats.seat_all.Given as goal
 

@@ -1,5 +1,5 @@
 use Rattle.std.proofs.Common.{◌≡◌, ◌+◌, ◌≤◌, ◌++◌, length, map, vec_capacity, vec_len}
-use Rattle.std_alloc.specs.Vec.Iter.{into_iter_len}
+use Rattle.std.specs.Vec.Iter.{into_iter_len}
 use Rattle.wf_play.proofs.seats.unseat.Given as goal
 
 -- the passes of the seats so far are back

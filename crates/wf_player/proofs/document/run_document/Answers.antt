@@ -1,4 +1,4 @@
-use Rattle.std.proofs.Common.{◌≢◌, ap, refl, subst, sym, ◌∙◌}
+use Rattle.std.proofs.Common.{◌≢◌, ap, refl, subst, sym}
 use Rattle.wf_print.specs.declared.events.Ending.{Ending}
 use Rattle.wf_print.specs.declared.events.Ending.TheVariants.{Memory}
 use Rattle.wf_run.specs.Runs.{Progress, setting}

@@ -1,12 +1,70 @@
-use Rattle.std.proofs.Common.{◌≡◌, ◌∙◌, ap, length, sym}
+use Rattle.std.proofs.Common.{◌≡◌, ◌∙◌, List, ap, length, map, sym}
+use Rattle.wf_print.specs.declared.events.Transcript.{Transcript}
 use Rattle.wf_player.specs.Private.Rows.{seatings_of, transcripts_of}
-use Rattle.wf_player.specs.Seats.{seat_of}
+use Rattle.wf_player.specs.Seats.{ArePlayed, seat_of}
 use Rattle.wf_wire.specs.Wires.{over_link}
-use Rattle.wf_player.proofs.SeatLemmas.{belong-back, documents-after, documents-before, played-back, ready, written}
+use Rattle.wf_player.proofs.SeatLemmas.{belong-back, documents-after, documents-before, made-list, played-back, ready}
+use Rattle.wf_player.proofs.SeatLemmas.{written}
 use Rattle.wf_player.proofs.threads.play_all.Goals as goal
+
+pub returns-in_err-transcripts-clause-documents : goal.returns-in_err-transcripts-clause-documents
+returns-in_err-transcripts-clause-documents g c =
+    documents-before (seat_of g.S.Share.document g.S.Share.opening g.S.Share.own g.S.Share.left g.L.Link.state g.L.Link.faults)
+    c.args.scenario.now c.args.seats.now.items c.requires.seats
+
+pub returns-in_err-rows-clause-documents : goal.returns-in_err-rows-clause-documents
+returns-in_err-rows-clause-documents g c =
+    rw c.in_err-rows.ensures.err (documents-before
+    (seat_of g.S.Share.document g.S.Share.opening g.S.Share.own g.S.Share.left g.L.Link.state g.L.Link.faults)
+    c.args.scenario.now c.args.seats.now.items c.requires.seats)
 
 pub play_rows-requires-clause-rows : goal.play_rows-requires-clause-rows
 play_rows-requires-clause-rows g c κs within =
     let seen = seat_of g.S.Share.document g.S.Share.opening g.S.Share.own g.S.Share.left g.L.Link.state g.L.Link.faults in
-    λ i d lt. rw c.as_mut_slice.ensures.value (ready (g.S.Share.belongs c.args.share.now) seen c.args.scenario.now
-    c.in_ok-rows.rows.items c.args.seats.now.items c.in_ok-rows.ensures.ok.0 c.requires.seats c.requires.belong i d lt)
+    rw c.as_mut_slice.ensures.value (ready (g.S.Share.belongs c.args.share.now) seen c.args.scenario.now
+    c.in_ok-rows.rows.items c.args.seats.now.items c.in_ok-rows.ensures.ok.0 c.requires.seats c.requires.belong)
+
+pub returns-clause-played : goal.returns-clause-played
+returns-clause-played g c =
+    let seen = seat_of g.S.Share.document g.S.Share.opening g.S.Share.own g.S.Share.left g.L.Link.state g.L.Link.faults in
+    let belongs = g.S.Share.belongs c.args.share.now in
+    let by = over_link g.L.Link.answer g.L.Link.next in
+    let w = c.as_mut_slice.ensures in let f = c.from_rows.ensures in
+    let long = ap length (sym w.value) ∙ w.len in
+    let kept : length c.play_rows.new.rows ≡ length c.in_ok-rows.rows.items = c.play_rows.auto.rows ∙ ap length w.value in
+    let same = written c.in_ok-rows.rows.len c.play_rows.new.rows c.in_ok-rows.rows.items kept long in
+    made-list (λ (l : List Transcript). ArePlayed by c.args.scenario.now c.args.base 0 c.args.scenario.now.documents
+    (map seen c.args.seats.now.items) (map seen c.from_rows.new.seats.items) l) c.listed.result
+    c.from_rows.new.transcripts.items c.listed.ensures
+    (played-back belongs seen by c.args.scenario.now c.args.base c.in_ok-rows.rows.items c.play_rows.new.rows
+    c.args.seats.now.items c.from_rows.new.seats.items c.from_rows.new.transcripts.items c.in_ok-rows.ensures.ok.0
+    (f.seats ∙ ap seatings_of same) (f.transcripts ∙ ap transcripts_of same) kept c.requires.seats
+    (λ i d lt. rw (← w.value) (c.play_rows.ensures i d (rw w.value lt))))
+
+pub returns-clause-belong : goal.returns-clause-belong
+returns-clause-belong g c =
+    let seen = seat_of g.S.Share.document g.S.Share.opening g.S.Share.own g.S.Share.left g.L.Link.state g.L.Link.faults in
+    let belongs = g.S.Share.belongs c.args.share.now in
+    let by = over_link g.L.Link.answer g.L.Link.next in
+    let w = c.as_mut_slice.ensures in let f = c.from_rows.ensures in
+    let long = ap length (sym w.value) ∙ w.len in
+    let kept : length c.play_rows.new.rows ≡ length c.in_ok-rows.rows.items = c.play_rows.auto.rows ∙ ap length w.value in
+    let same = written c.in_ok-rows.rows.len c.play_rows.new.rows c.in_ok-rows.rows.items kept long in
+    rw (f.seats ∙ ap seatings_of same) (belong-back belongs seen by c.args.scenario.now c.args.base
+    c.in_ok-rows.rows.items c.play_rows.new.rows kept (λ i d lt. rw (← w.value) (c.play_rows.ensures i d (rw w.value lt))))
+
+pub returns-clause-documents : goal.returns-clause-documents
+returns-clause-documents g c =
+    let seen = seat_of g.S.Share.document g.S.Share.opening g.S.Share.own g.S.Share.left g.L.Link.state g.L.Link.faults in
+    let belongs = g.S.Share.belongs c.args.share.now in
+    let by = over_link g.L.Link.answer g.L.Link.next in
+    let w = c.as_mut_slice.ensures in let f = c.from_rows.ensures in
+    let long = ap length (sym w.value) ∙ w.len in
+    let kept : length c.play_rows.new.rows ≡ length c.in_ok-rows.rows.items = c.play_rows.auto.rows ∙ ap length w.value in
+    let same = written c.in_ok-rows.rows.len c.play_rows.new.rows c.in_ok-rows.rows.items kept long in
+    documents-after seen by c.args.scenario.now c.args.base c.args.seats.now.items c.from_rows.new.seats.items
+    c.from_rows.new.transcripts.items
+    (played-back belongs seen by c.args.scenario.now c.args.base c.in_ok-rows.rows.items c.play_rows.new.rows
+    c.args.seats.now.items c.from_rows.new.seats.items c.from_rows.new.transcripts.items c.in_ok-rows.ensures.ok.0
+    (f.seats ∙ ap seatings_of same) (f.transcripts ∙ ap transcripts_of same) kept c.requires.seats
+    (λ i d lt. rw (← w.value) (c.play_rows.ensures i d (rw w.value lt))))
