@@ -1,6 +1,6 @@
 -- Passes and links, one after another.
 use Rattle.std.proofs.Common.{◌≡◌, ℕ, zero, suc, ◌+◌, ◌<◌, ◌≤◌, List, [], ◌∷◌, ◌++◌, length, map, get_or, Option, Some}
-use Rattle.std.proofs.Common.{refl, ap, sym, subst, ◌∙◌, arith, inl, inr, Bool, true, false, cond}
+use Rattle.std.proofs.Common.{refl, ap, sym, subst, ◌∙◌, arith, ◌⊎◌, inl, inr, Bool, true, false, cond}
 use Rattle.std.specs.Prelude.{◌==◌, slice_get}
 use Rattle.std.specs.List.{range_with_len}
 use Rattle.std.proofs.lemmas.Bool.Decides.{eqb_tells}
@@ -50,20 +50,31 @@ pub made-more : (count : ℕ) (made made' : List ℕ) → ((d : ℕ) → times d
     → made' ≡ count ∷ made → (d : ℕ) → times d made' ≡ times d (range_with_len 0 (count + 1))
 made-more count made made' is more d =
     ap (times d) more ∙ ap (λ (n : ℕ). one (count == d) + n) (is d)
-    ∙ sym (times-snoc d (range_with_len 0 count) count) ∙ sym (ap (times d) (range-more 0 count count refl))
+    ∙ sym (times-snoc d (range_with_len 0 count) count) ∙ sym (ap (times d) (range-more 0 count count (zero_before count)))
+  where
+    zero_before : (n : ℕ) → 0 + n ≡ n
+    zero_before n = omega arith
 
 -- a link more, where the next one was to be made
 pub opened-more : {L : Type 0} (first later : ℕ → Option L) (links : List L) (link : L)
     → AreOpened first links → ((k : ℕ) → later k ≡ first (k + length links)) → IsTold (later 0) link
     → AreOpened first (links ++ link ∷ [])
-opened-more {L} first later links link opened shifted told k other at =
-    place links k at (λ inside. opened k other inside)
-    (λ last. subst (λ (o : Option L). IsTold o other) (shifted 0 ∙ ap first last.0)
-    (subst (λ (l : L). IsTold (later 0) l) last.1 told))
+opened-more {L} first later links link opened shifted told k other at = elim (place links k at) [
+  | inl inside ↦ opened k other inside
+  | inr last ↦
+      subst (λ (o : Option L). IsTold o other) (shifted 0 ∙ ap first (zero_before (length links) ∙ last.0))
+      (subst (λ (l : L). IsTold (later 0) l) last.1 told)
+]
   where
-    place : (ls : List L) (i : ℕ) → slice_get (ls ++ link ∷ []) i ≡ Some other → {Goal : Type 0}
-        → (slice_get ls i ≡ Some other → Goal) → ((0 + length ls ≡ i) × (link ≡ other) → Goal) → Goal
-    place [] zero found yes no = no (refl, cc)
-    place [] (suc i) found yes no = cc
-    place (x ∷ xs) zero found yes no = yes found
-    place (x ∷ xs) (suc i) found yes no = place xs i found yes (λ last. no (ap suc last.0, last.1))
+    zero_before : (n : ℕ) → 0 + n ≡ n
+    zero_before n = omega arith
+
+    place : (ls : List L) (i : ℕ) → slice_get (ls ++ link ∷ []) i ≡ Some other
+        → (slice_get ls i ≡ Some other) ⊎ ((length ls ≡ i) × (link ≡ other))
+    place [] zero found = inr (refl, cc)
+    place [] (suc i) found = cc
+    place (x ∷ xs) zero found = inl found
+    place (x ∷ xs) (suc i) found = elim (place xs i found) [
+      | inl inside ↦ inl inside
+      | inr last ↦ inr (ap suc last.0, last.1)
+    ]

@@ -84,7 +84,7 @@ own-calls : {State : Type 0} (by : Answering State) (scenario : Scenario) (base 
     (old new : Seat State) (transcript : Transcript) → transcript.ending ≢ ending.Memory
     → IsPlayed by scenario base number document old new transcript → old.outside.own ≡ []
     → old.outside.left ≡ new.outside.left + length new.outside.own
-own-calls by scenario base number document old new transcript told is none =
+own-calls {State} by scenario base number document old new transcript told is none =
     let ran = ran-of by scenario.body_limit number (document_run scenario.cookies base document) old.outside
     transcript.events transcript.ending transcript.clock new.outside told is.came in
     let made = trace-calls by scenario.body_limit number ran.trace in
@@ -105,7 +105,7 @@ transcript-of : {State : Type 0} (by : Answering State) (scenario : Scenario) (b
     → transcript.ending ≢ ending.Memory → IsPlayed by scenario base number document old new transcript
     → old.outside.own ≡ [] → entries_of number history ≡ new.outside.own
     → IsTranscript by scenario base history number document (seat_way old) (seat_way new) transcript
-transcript-of by scenario base history number document old new transcript told is none own =
+transcript-of {State} by scenario base history number document old new transcript told is none own =
     let ran = ran-of by scenario.body_limit number (document_run scenario.cookies base document) old.outside
     transcript.events transcript.ending transcript.clock new.outside told is.came in
     record {
@@ -175,7 +175,7 @@ documents-of : {State : Type 0} (by : Answering State) (scenario : Scenario) (ba
     → map (λ (seat : Seat State). seat.document) news ≡ range_with_len number (length documents)
 documents-of by scenario base ArePlayed.none = refl
 documents-of {State} by scenario base {number}
-    (ArePlayed.one_more {documents = documents} {new = new} {news = news} is more) =
+    (ArePlayed.one_more {new = new} {documents = documents} {news = news} is more) =
     ap (λ (d : ℕ). d ∷ map (λ (seat : Seat State). seat.document) news) is.document_is
     ∙ ap (λ (l : List ℕ). number ∷ l) (documents-of by scenario base more)
 
@@ -192,12 +192,12 @@ turns-from turn (e ∷ es) each = (
 
 -- ---- lists
 
-unmap : {X Y : Type 0} (P : X → Type 0) (f : Y → X) (ys : List Y) → All P (map f ys) → All (λ y. P (f y)) ys
+pub unmap : {X Y : Type 0} (P : X → Type 0) (f : Y → X) (ys : List Y) → All P (map f ys) → All (λ y. P (f y)) ys
 unmap P f [] a = All-nil (λ y. P (f y))
 unmap P f (y ∷ ys) a = All-cons (λ y. P (f y)) y ys (All-head P (f y) (map f ys) a)
     (unmap P f ys (All-tail P (f y) (map f ys) a))
 
-map-map : {X Y Z : Type 0} (f : X → Y) (g : Y → Z) (xs : List X) → map g (map f xs) ≡ map (λ x. g (f x)) xs
+pub map-map : {X Y Z : Type 0} (f : X → Y) (g : Y → Z) (xs : List X) → map g (map f xs) ≡ map (λ x. g (f x)) xs
 map-map f g [] = refl
 map-map {Z = Z} f g (x ∷ xs) = ap (λ (l : List Z). g (f x) ∷ l) (map-map f g xs)
 
@@ -274,17 +274,17 @@ named-below count first back (e ∷ es) is documents named apart = (
     below : 0 < count_by (is_of e.document) (first ∷ back)
         → ((first.document == e.document) ≡ true) × (first.document ≡ e.document)
         ⊎ ((first.document == e.document) ≡ false) × (first.document ≢ e.document) → e.document < count
-    below some (inl same) = absurd (apart.0 (sym same.1 ∙ is))
-    below some (inr other) =
-        let there : 0 < times e.document (range_with_len 0 count) = omega (
+    below there (inl same) = absurd (apart.0 (sym same.1 ∙ is))
+    below there (inr other) =
+        let stands : 0 < times e.document (range_with_len 0 count) = omega (
           arith,
-          some,
+          there,
           sum_by-cons (λ (q : TurnPass). cond (is_of e.document q) 1 0) first back,
           ap one other.0,
           count-times e.document back,
           ap (times e.document) documents,
         ) in
-        (times-range e.document 0 count there).1
+        omega (arith, (times-range e.document 0 count stands).1)
 
 -- ---- the whole
 
@@ -323,7 +323,7 @@ closed-play {L} {State} by state faults opening id scenario base first passes ba
     (omega (arith, are.first_is.left_is, ap length are.first_is.own_is))
     (All-map All_called (λ (s : Seating L TurnPass). s.pass) back
     (λ k d lt. let c = called k d lt in omega (arith, c.calls, c.few))) in
-    let some : 0 < count_by (is_of 4294967295) (first ∷ passes_in back) = omega (
+    let present : 0 < count_by (is_of 4294967295) (first ∷ passes_in back) = omega (
       arith,
       sum_by-cons (λ (q : TurnPass). cond (is_of 4294967295 q) 1 0) first (passes_in back),
       ap one (eq-eqb first.document 4294967295 are.first_is.document_is),
@@ -334,7 +334,7 @@ closed-play {L} {State} by state faults opening id scenario base first passes ba
       opened = seated.opened;
       play = record {
         legal = subst (λ (b : Book). Legal b history) are.first_is.opening_is legal.0;
-        turns = turns-from 0 history (turns-are-places (first ∷ passes_in back) book history one some calls);
+        turns = turns-from 0 history (turns-are-places (first ∷ passes_in back) book history one present calls);
         named = named-below count first (passes_in back) history are.first_is.document_is documents
             (recursion_from_All (λ (e : Entry). 0 < count_by (is_of e.document) (first ∷ passes_in back)) history one.named)
             (none-of 4294967295 history nothing);

@@ -1,5 +1,5 @@
 // The seats of the documents: each has a pass of the shared book, and a link.
-ghost use Rattle.std.specs.Prelude.{◌≡◌, ◌≤◌, ◌<◌, ◌++◌, [], length, map, vec_capacity, vec_len, OnOk};
+ghost use Rattle.std.specs.Prelude.{◌≡◌, ◌≤◌, ◌+◌, ◌++◌, [], length, map, vec_capacity, vec_len, OnOk};
 ghost use Rattle.wf_play.specs.Links.{AreOpened};
 
 use std::alloc::Global;

@@ -1,0 +1,49 @@
+use Rattle.std.proofs.Common.{◌≡◌, ℕ, ◌≤◌, List, ◌∙◌, ap, arith, length, map, subst, sym}
+use Rattle.std.specs.List.{All, range_with_len}
+use Rattle.std.proofs.lemmas.List.{length-map}
+use Rattle.std.proofs.lemmas.List.FromFn.{length-range_with_len}
+use Rattle.wf_turn.specs.declared.pass.TurnPass.{TurnPass}
+use Rattle.wf_play.proofs.SeatedLemmas.{as-many, belong-at, belong-passes, ready-seats}
+use Rattle.wf_play.proofs.play.play_seated.Goals as goal
+
+pub seat_all-requires-clause-few : goal.seat_all-requires-clause-few
+seat_all-requires-clause-few g c κs within =
+    let many = as-many (λ (p : TurnPass). p.document) c.args.passes.items (length c.args.scenario.now.documents) c.requires.documents in
+    omega (arith, many, c.args.passes.ok.0, c.requires.valid.few_documents)
+
+pub returns-in_err-seat_all-clause-few : goal.returns-in_err-seat_all-clause-few
+returns-in_err-seat_all-clause-few g c =
+    let many = as-many (λ (p : TurnPass). p.document) c.args.passes.items (length c.args.scenario.now.documents) c.requires.documents in
+    omega (arith, many, c.args.passes.ok.0, c.in_err-seat_all.ensures.few)
+
+pub play_all-requires-clause-seats : goal.play_all-requires-clause-seats
+play_all-requires-clause-seats g c κs within =
+    ready-seats g.N.Link.Link.state g.N.Link.Link.faults c.args.book.now.table.shared.table_id c.args.scenario.now
+    c.args.passes.items c.seat_all.new.seats.items c.requires.passes c.requires.documents c.in_ok-seat_all.ensures.passes
+
+pub play_all-requires-clause-belong : goal.play_all-requires-clause-belong
+play_all-requires-clause-belong g c κs within =
+    belong-at c.args.book.now.table.shared.table_id c.args.scenario.now
+    c.args.passes.items c.seat_all.new.seats.items c.requires.passes c.in_ok-seat_all.ensures.passes
+
+pub returns-in_err-transcripts-clause-few : goal.returns-in_err-transcripts-clause-few
+returns-in_err-transcripts-clause-few g c =
+    omega (arith, as-many (λ s. s.pass.document) c.play_all.new.seats.items (length c.args.scenario.now.documents) c.in_err-transcripts.ensures.documents)
+
+pub returns-then-has_text-clause-played : goal.returns-then-has_text-clause-played
+returns-then-has_text-clause-played g c = record {
+  made = c.seat_all.new.seats.items;
+  passes_are = c.in_ok-seat_all.ensures.passes;
+  opened = c.in_ok-seat_all.ensures.opened;
+  played = c.in_ok-transcripts.ensures.played;
+  belong = belong-passes c.args.book.now.table.shared.table_id c.play_all.new.seats.items c.in_ok-transcripts.ensures.belong;
+  has_text = c.has_text.ensures.0 c.if-has_text.true;
+}
+
+pub returns-then-has_text-clause-few : goal.returns-then-has_text-clause-few
+returns-then-has_text-clause-few g c =
+    omega (arith, as-many (λ s. s.pass.document) c.play_all.new.seats.items (length c.args.scenario.now.documents) c.in_ok-transcripts.ensures.documents)
+
+pub returns-else-has_text-clause-few : goal.returns-else-has_text-clause-few
+returns-else-has_text-clause-few g c =
+    omega (arith, as-many (λ s. s.pass.document) c.play_all.new.seats.items (length c.args.scenario.now.documents) c.in_ok-transcripts.ensures.documents)

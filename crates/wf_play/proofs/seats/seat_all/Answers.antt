@@ -1,0 +1,33 @@
+use Rattle.std.proofs.Common.{◌≡◌, ℕ, ◌+◌, List, [], ◌∷◌, ◌++◌, ◌∙◌, ap, arith, length, length-append, map, subst, sym}
+use Rattle.std.proofs.lemmas.List.{length-map, map_push}
+use Rattle.wf_player.specs.declared.seating.Seating.{Seating}
+use Rattle.wf_turn.specs.declared.pass.TurnPass.{TurnPass}
+use Rattle.wf_play.specs.Links.{AreOpened}
+use Rattle.wf_play.proofs.PassLemmas.{opened-more}
+use Rattle.wf_play.proofs.seats.seat_all.Goals as goal
+
+pub loop-pass-preserved : goal.loop-pass-preserved
+loop-pass-preserved g c =
+    let i = c.loop-pass.invariant in
+    let e = c.in_ok-link.ensures in
+    let p = c.push_reserved.ensures in
+    let link = c.in_ok-link.link in
+    let seats = c.loop-pass.seats.items in
+    let links = map (λ s. s.link) seats in
+    let opening = g.N.Links.opening c.args.links.now in
+    let pushed = ap (map (λ s. s.link)) p.items ∙ map_push (λ s. s.link) seats (record { pass = c.in-Some.pass; link = link }) in
+    record {
+      passes = ap (map (λ s. s.pass)) p.items ∙ map_push (λ s. s.pass) seats (record { pass = c.in-Some.pass; link = link })
+          ∙ ap (λ l. l ++ c.in-Some.pass ∷ []) i.passes;
+      opened = rw pushed (opened-more opening (g.N.Links.opening c.loop-pass.links) links link i.opened i.later e.told);
+      later = λ k. e.later k ∙ i.later (k + 1) ∙ ap opening (further k (length links)
+          (length (map (λ s. s.link) c.push_reserved.new.self.items))
+          (ap length pushed ∙ length-append links (link ∷ [])));
+      count = omega (arith, p.len, i.count, length-append c.loop-pass.yielded (c.in-Some.pass ∷ []));
+      number = omega (arith, i.number, length-append c.loop-pass.yielded (c.in-Some.pass ∷ []));
+      left = omega (arith, i.left, c.in-Some.ensures.steps.1, length-append c.loop-pass.yielded (c.in-Some.pass ∷ []));
+      room = omega (arith, p.capacity, i.room);
+    }
+  where
+    further : (k n m : ℕ) → m ≡ n + 1 → k + 1 + n ≡ k + m
+    further k n m is = omega (arith, is)
