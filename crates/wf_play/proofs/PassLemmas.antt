@@ -38,8 +38,11 @@ times-snoc d (y ∷ ys) x = omega (arith, times-snoc d ys x)
 -- the next document has no pass yet
 pub fresh : (count : ℕ) (made : List ℕ) → ((d : ℕ) → times d made ≡ times d (range_with_len 0 count))
     → times count made ≡ 0
-fresh count made is = none (times count made) (λ some. omega (arith, (times-range count 0 count
-    (omega (arith, some, is count))).1))
+fresh count made is = none (times count made) (λ some. omega (
+  arith,
+  (times-range count 0 count
+      (omega (arith, some, is count))).1,
+))
   where
     none : (n : ℕ) → (0 < n → ⊥) → n ≡ 0
     none zero not_some = refl

@@ -251,9 +251,9 @@ none-of d (e ∷ es) is = elim (eqb_tells e.document d) [
       let there : e ∷ entries_of d es ≡ [] =
       sym (ap (λ (b : Bool). cond b (e ∷ entries_of d es) (entries_of d es)) same.0) ∙ is in absurd (taken there)
   | inr apart ↦ (
-      apart.1,
-      none-of d es (sym (ap (λ (b : Bool). cond b (e ∷ entries_of d es) (entries_of d es)) apart.0) ∙ is),
-    )
+    apart.1,
+    none-of d es (sym (ap (λ (b : Bool). cond b (e ∷ entries_of d es) (entries_of d es)) apart.0) ∙ is),
+  )
 ]
   where
     taken : (e ∷ entries_of d es ≡ []) → ⊥
@@ -288,16 +288,43 @@ named-below count first back (e ∷ es) is documents named apart = (
 
 -- ---- the whole
 
+-- the passes of the seats are still those of the documents
+seated-documents : {L State : Type 0} (by : Answering State) (state : L → Option State) (faults : L → ℕ)
+    (opening : ℕ → Option L) (id : TableId) (scenario : Scenario) (base : ℕ) (passes : List TurnPass)
+    (back : List (Seating L TurnPass)) (transcripts : List Transcript)
+    → IsSeatedPlay by state faults opening id scenario base passes back transcripts
+    → map (λ (p : TurnPass). p.document) (passes_in back) ≡ range_with_len 0 (length scenario.documents)
+seated-documents {L} {State} by state faults opening id scenario base passes back transcripts seated =
+    map-map (λ (s : Seating L TurnPass). s.pass) (λ (p : TurnPass). p.document) back
+    ∙ sym (map-map (seat_seen state faults) (λ (s : Seat State). s.document) back)
+    ∙ documents-of by scenario base seated.played
+
+-- with the first pass they are all passes of the book
+pub seated-whole : {L State : Type 0} (by : Answering State) (state : L → Option State) (faults : L → ℕ)
+    (opening : ℕ → Option L) (id : TableId) (scenario : Scenario) (base : ℕ) (first : TurnPass)
+    (passes : List TurnPass) (back : List (Seating L TurnPass)) (transcripts : List Transcript)
+    (all : List TurnPass) → ArePasses id (opening_book scenario) (length scenario.documents) first passes
+    → length scenario.documents ≤ 128
+    → IsSeatedPlay by state faults opening id scenario base passes back transcripts
+    → all ≡ first ∷ passes_in back → IsWhole id all
+seated-whole by state faults opening id scenario base first passes back transcripts all are few seated same =
+    subst (IsWhole id) (sym same) (whole-passes id (opening_book scenario) (length scenario.documents) first passes
+    (passes_in back) are few seated.belong
+    (seated-documents by state faults opening id scenario base passes back transcripts seated))
+
 -- what was played on the seats, with the history of the closed book, is a play
 pub closed-play : {L State : Type 0} (by : Answering State) (state : L → Option State) (faults : L → ℕ)
     (opening : ℕ → Option L) (id : TableId) (scenario : Scenario) (base : ℕ) (first : TurnPass)
     (passes : List TurnPass) (back : List (Seating L TurnPass)) (transcripts : List Transcript) (book : Book)
-    (history : List Entry) → ArePasses id (opening_book scenario) (length scenario.documents) first passes
+    (history : List Entry) (all : List TurnPass)
+    → ArePasses id (opening_book scenario) (length scenario.documents) first passes
     → IsSeatedPlay by state faults opening id scenario base passes back transcripts
-    → IsOneHistory (first ∷ passes_in back) book history
+    → all ≡ first ∷ passes_in back → IsOneHistory all book history
     → IsPlayOverLinks by state faults opening scenario base transcripts history
-closed-play {L} {State} by state faults opening id scenario base first passes back transcripts book history are
-    seated one =
+closed-play {L} {State} by state faults opening id scenario base first passes back transcripts book history all are
+    seated same whole =
+    let closed : IsOneHistory (first ∷ passes_in back) book history =
+    subst (λ (l : List TurnPass). IsOneHistory l book history) same whole in
     let seen : Seating L TurnPass → Seat State = seat_seen state faults in
     let count = length scenario.documents in
     let Own : TurnPass → Type 0 = λ p. entries_of p.document history ≡ own_of p in
@@ -311,14 +338,12 @@ closed-play {L} {State} by state faults opening id scenario base first passes ba
     in record { own_is = n.own_is; left_is = n.left_is }) in
     let called : All (λ (s : Seating L TurnPass). HasCalled (seen s)) back =
     unmap HasCalled seen back (called-of by scenario base seated.played seated.has_text fresh) in
-    let own : All Own (passes_in back) = All-tail Own first (passes_in back) one.own in
-    let documents : map (λ (p : TurnPass). p.document) (passes_in back) ≡ range_with_len 0 count =
-    map-map (λ (s : Seating L TurnPass). s.pass) (λ (p : TurnPass). p.document) back
-    ∙ sym (map-map seen (λ (s : Seat State). s.document) back) ∙ documents-of by scenario base seated.played in
-    let legal = All-head Legals first (passes_in back) one.legal are.first_is.document_is in
+    let own : All Own (passes_in back) = All-tail Own first (passes_in back) closed.own in
+    let documents = seated-documents by state faults opening id scenario base passes back transcripts seated in
+    let legal = All-head Legals first (passes_in back) closed.legal are.first_is.document_is in
     let nothing : entries_of 4294967295 history ≡ [] =
     subst (λ (d : ℕ). entries_of d history ≡ own_of first) are.first_is.document_is
-    (All-head Own first (passes_in back) one.own) ∙ are.first_is.own_is in
+    (All-head Own first (passes_in back) closed.own) ∙ are.first_is.own_is in
     let calls : All All_called (first ∷ passes_in back) = All-cons All_called first (passes_in back)
     (omega (arith, are.first_is.left_is, ap length are.first_is.own_is))
     (All-map All_called (λ (s : Seating L TurnPass). s.pass) back
@@ -334,15 +359,21 @@ closed-play {L} {State} by state faults opening id scenario base first passes ba
       opened = seated.opened;
       play = record {
         legal = subst (λ (b : Book). Legal b history) are.first_is.opening_is legal.0;
-        turns = turns-from 0 history (turns-are-places (first ∷ passes_in back) book history one present calls);
+        turns = turns-from 0 history (λ i e at. turns-are-places (first ∷ passes_in back) book history closed present calls i e at
+            ∙ sym (zero_before i));
         named = named-below count first (passes_in back) history are.first_is.document_is documents
-            (recursion_from_All (λ (e : Entry). 0 < count_by (is_of e.document) (first ∷ passes_in back)) history one.named)
+            (recursion_from_All (λ (e : Entry). 0 < count_by (is_of e.document) (first ∷ passes_in back)) history closed.named)
             (none-of 4294967295 history nothing);
-        runs = rw (map-map (λ (s : Seating L TurnPass). s.link) (way_of state faults) seated.made,
-            map-map (λ (s : Seating L TurnPass). s.link) (way_of state faults) back)
+        runs = rw (
+          map-map (λ (s : Seating L TurnPass). s.link) (way_of state faults) seated.made,
+          map-map (λ (s : Seating L TurnPass). s.link) (way_of state faults) back,
+        )
             (rw (← map-map seen seat_way seated.made, ← map-map seen seat_way back)
             (transcripts-of by scenario base history seated.played seated.has_text fresh
             (All-map (λ (s : Seat State). entries_of s.document history ≡ s.outside.own) seen back
             (unmap Own (λ (s : Seating L TurnPass). s.pass) back own))));
       };
     }
+  where
+    zero_before : (n : ℕ) → 0 + n ≡ n
+    zero_before n = omega arith

@@ -1,8 +1,8 @@
 -- Scripted servers as what answers a document's requests: by the bytes of a request, as the link has them, and by its
 -- method and its target.
 use Rattle.std.proofs.Common.{◌≡◌, ℕ, zero, suc, ◌<◌, List, [], ◌∷◌, length, map, get_or, refl, ap, sym, subst, ◌∙◌, arith}
-use Rattle.std.proofs.Common.{Option, Some, None}
-use Rattle.std.specs.Prelude.{option_map, slice_get}
+use Rattle.std.proofs.Common.{Option, Some, None, Result, Ok, Err}
+use Rattle.std.specs.Prelude.{option_map, slice_get, IfOk}
 use Rattle.std.specs.List.{All}
 use Rattle.std.proofs.lemmas.List.Elements.{All-head, All-tail, All-map}
 use Rattle.wf_act.specs.declared.act.Act.{Act}
@@ -192,3 +192,8 @@ scripted-play scenario transcripts history link servers x =
     read [] k d lt = absurd (omega arith)
     read (l ∷ ls) zero d lt = refl
     read (l ∷ ls) (suc k) d lt = read ls k d (omega arith)
+
+pub if-ok-map : {T E : Type 0} (P Q : T → Type 0) (result : Result T E) → ((x : T) → P x → Q x) → IfOk result P
+    → IfOk result Q
+if-ok-map P Q (Ok x) f p = f x p
+if-ok-map P Q (Err e) f p = tt

@@ -168,12 +168,6 @@ fn play_generated<R: Threads + Wait + Sync, K: Sink>(
         Err(OutOfMemory) => return Status::OutOfMemory,
         Ok(played) => played,
     };
-    let written = write_summary(
-        alloc,
-        count,
-        &played.transcripts,
-        &played.history,
-        output,
-    );
+    let written = write_summary(alloc, count, &played.transcripts, &played.history, output);
     status_of(written)
 }

@@ -38,7 +38,11 @@ fn asked_before(calls: &[Called<'_>]) -> usize {
 pub(crate) fn show_joint<R: Print + AllocGlobal>(rt: &R, output: &str) -> Result<(), Failed> {
     let (_, history) = parts_of(output)?;
     let calls = calls_in(rt, history)?;
-    let expected = if asked_before(calls.as_slice()) == 2 { 12 } else { 11 };
+    let expected = if asked_before(calls.as_slice()) == 2 {
+        12
+    } else {
+        11
+    };
     if calls.len() == expected && calls.iter().all(|called| is_of_key(called.call)) {
         println!(rt; "joint as it should be")?;
     } else {

@@ -1,6 +1,6 @@
 use crate::failed::Failed;
-use crate::play::Ran;
 use crate::joint::show_joint;
+use crate::play::Ran;
 use crate::row::{Row, Shows};
 use crate::shared::show_shared;
 

@@ -9,7 +9,8 @@ use wf_link::{Failed, Link, Links, Routes, Target};
 use wf_text::OutOfMemory;
 
 /// What each link answers.
-const ANSWER: &[u8] = b"HTTP/1.1 200 OK\r\nContent-Length: 2\r\nAccess-Control-Allow-Origin: *\r\n\r\nhi";
+const ANSWER: &[u8] =
+    b"HTTP/1.1 200 OK\r\nContent-Length: 2\r\nAccess-Control-Allow-Origin: *\r\n\r\nhi";
 
 /// How often a link looks whether the other one was asked, before it fails.
 const LOOKS: u32 = 1_000_000_000;
@@ -122,7 +123,11 @@ impl<'a> Links for GateLinks<'a> {
         _routes: &Routes,
     ) -> Result<GateLink<'a>, OutOfMemory> {
         let Asked { first, second } = self.asked;
-        let (mine, other) = if document == 0 { (first, second) } else { (second, first) };
+        let (mine, other) = if document == 0 {
+            (first, second)
+        } else {
+            (second, first)
+        };
         Ok(GateLink {
             mine,
             other,
