@@ -10,6 +10,6 @@ returns g c = λ bytes read. rw c.status_of.ensures (play-outcome bytes (record 
   history = c.in-Ok.played.history;
   play = c.in-Ok.ensures.played;
 }) (sink_of g.K.Sink.taken g.K.Sink.faults g.K.Sink.zeros c.args.output.now)
-    (sink_of g.K.Sink.taken g.K.Sink.faults g.K.Sink.zeros c.write_play-written.new.output) c.write_play-written.result
+    (sink_of g.K.Sink.taken g.K.Sink.faults g.K.Sink.zeros c.write_play-written.new.sink) c.write_play-written.result
     c.write_play-written.ensures.ok c.write_play-written.ensures.err c.write_play-written.ensures.fault
     c.write_play-written.ensures.nothing)

@@ -8,6 +8,6 @@ returns g c = rw c.status_of.ensures (summary-outcome c.args.count (record {
   history = c.in-Ok.played.history;
   play = c.in-Ok.ensures.played;
 }) (sink_of g.K.Sink.taken g.K.Sink.faults g.K.Sink.zeros c.args.output.now)
-    (sink_of g.K.Sink.taken g.K.Sink.faults g.K.Sink.zeros c.write_summary-written.new.output)
+    (sink_of g.K.Sink.taken g.K.Sink.faults g.K.Sink.zeros c.write_summary-written.new.sink)
     c.write_summary-written.result c.write_summary-written.ensures.ok c.write_summary-written.ensures.err
     c.write_summary-written.ensures.fault c.write_summary-written.ensures.nothing)
