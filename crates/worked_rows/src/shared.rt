@@ -9,7 +9,7 @@ pub(crate) struct Called<'a> {
 }
 
 // What a line of the history says, without its turn.
-fn called(line: &str) -> Result<Called<'_>, Failed> {
+fn call_in(line: &str) -> Result<Called<'_>, Failed> {
     let Some((_, rest)) = line.split_once(' ') else {
         return Err(Failed);
     };
@@ -37,7 +37,7 @@ pub(crate) fn calls_in<'a, R: AllocGlobal>(
 ) -> Result<Vec<Called<'a>>, Failed> {
     let mut calls = Vec::new(rt.alloc());
     for line in history.lines() {
-        calls.push(called(line)?)?;
+        calls.push(call_in(line)?)?;
     }
     Ok(calls)
 }
