@@ -11,7 +11,7 @@ use Rattle.wf_script.specs.declared.types.Scenario.{Scenario}
 use Rattle.wf_turn.specs.Passes.{left_of}
 use Rattle.wf_turn.specs.declared.pass.TurnPass.{TurnPass}
 use Rattle.wf_play.specs.Passes.{IsNew}
-use Rattle.wf_play.specs.Plays.{opening_book}
+use Rattle.wf_iso.specs.Plays.{opening_book}
 use Rattle.wf_play.specs.Private.Seated.{passes_in, seat_seen}
 use Rattle.wf_play.proofs.PlayLemmas.{map-map, unmap}
 

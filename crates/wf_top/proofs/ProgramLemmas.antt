@@ -15,7 +15,7 @@ use Rattle.wf_print.specs.declared.failure.Failure.{Failure}
 use Rattle.wf_print.specs.declared.failure.Failure.TheVariants as failure
 use Rattle.wf_print.specs.Summary.{summary_text}
 use Rattle.wf_print.specs.Text.{play_text}
-use Rattle.wf_play.specs.Plays.{IsPlay}
+use Rattle.wf_iso.specs.Plays.{IsPlay}
 use Rattle.wf_top.specs.Program.{most_input, IsWhole, WritesPlay, IsCause, IsPlayed, IsVerdict, IsComplained, IsTold}
 use Rattle.wf_top.specs.Program.{IsOutcome, IsAnswer, IsExcused, IsExcusedRead, IsSummed, WritesSummary}
 use Rattle.wf_top.specs.Program.{GeneratedPlay, PlayOf, WritesSummaryPart, GaveFor, AnswersInput, AnswersCount, Answers}

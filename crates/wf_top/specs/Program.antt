@@ -12,7 +12,7 @@ use Rattle.wf_script.specs.declared.types.Place.{Place}
 use Rattle.wf_script.specs.declared.types.Scenario.{Scenario}
 use Rattle.wf_script.specs.Generated.{generated}
 use Rattle.wf_script.specs.Scenarios.{scenario_of}
-use Rattle.wf_play.specs.Plays.{IsPlay}
+use Rattle.wf_iso.specs.Plays.{IsPlay}
 use Rattle.wf_top.specs.Statuses.{complaint}
 use Rattle.wf_top.specs.Streams.{Source, Sink, Failed}
 use Rattle.wf_top.specs.Words.{subcommand_of}

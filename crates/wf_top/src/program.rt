@@ -1,5 +1,5 @@
 ghost use Rattle.std.specs.Prelude.{◌≡◌, ◌≤◌, Ok, IfOk, List, ℕ};
-ghost use Rattle.wf_play.specs.Plays.{IsPlay};
+ghost use Rattle.wf_iso.specs.Plays.{IsPlay};
 ghost use Rattle.wf_print.specs.Text.{HasText};
 ghost use Rattle.wf_script.specs.Generated.{generated};
 ghost use Rattle.wf_script.specs.Scenarios.{scenario_of};

@@ -6,7 +6,7 @@ use Rattle.wf_turn.specs.Passes.{opening_of}
 use Rattle.wf_turn.specs.declared.pass.TurnPass.{TurnPass}
 use Rattle.wf_wire.specs.Wires.{over_link}
 use Rattle.wf_play.specs.Passes.{ArePasses}
-use Rattle.wf_play.specs.Plays.{with_hosts}
+use Rattle.wf_iso.specs.Plays.{with_hosts}
 use Rattle.wf_play.specs.Private.Seated.{passes_in}
 use Rattle.wf_play.proofs.PlayLemmas.{closed-play, seated-whole}
 use Rattle.wf_play.proofs.SeatedLemmas.{as-many}

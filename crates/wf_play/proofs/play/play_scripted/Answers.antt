@@ -1,7 +1,7 @@
 use Rattle.std.proofs.Common.{◌≡◌, Some, ap}
 use Rattle.wf_sim.specs.Sim.{SimState, fault_count}
 use Rattle.wf_play.specs.Links.{IsPlayOverLinks}
-use Rattle.wf_play.specs.Plays.{IsPlay}
+use Rattle.wf_iso.specs.Plays.{IsPlay}
 use Rattle.wf_play.specs.declared.play.Played.{Played}
 use Rattle.wf_play.proofs.StandingLemmas.{by_bytes, if-ok-map, scripted-play}
 use Rattle.wf_play.proofs.play.play_scripted.Goals as goal
