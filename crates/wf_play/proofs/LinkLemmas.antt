@@ -87,10 +87,9 @@ faults-one faults first mid last links link so_far next =
 -- ---- what makes links
 
 -- nothing was made
-pub none-taken : {L : Type 0} (faults : L → ℕ) (most : ℕ) (maker : Maker L) → HasTakenBack faults most maker maker
-none-taken {L} faults most maker = record {
+pub none-taken : {L : Type 0} (faults : L → ℕ) (maker : Maker L) → HasTakenBack faults maker maker
+none-taken {L} faults maker = record {
   back = [];
-  few = omega arith;
   took = record { lent = same maker.lent; counted = refl };
 }
   where

@@ -1,5 +1,5 @@
 -- A play over the links that are made for its documents, in their order, and that are taken back in the same order.
-use Rattle.std.specs.Prelude.{◌≡◌, ℕ, ◌≤◌, List, [], ◌∷◌, ◌++◌, length, map, slice_get, Option, Some, None}
+use Rattle.std.specs.Prelude.{◌≡◌, ℕ, List, [], ◌∷◌, ◌++◌, map, slice_get, Option, Some, None}
 use Rattle.wf_book.specs.declared.entry.Entry.{Entry}
 use Rattle.wf_link.specs.Counts.{grown_by}
 use Rattle.wf_link.specs.Links.{IsTold, Lent}
@@ -47,10 +47,9 @@ pub record TookBack {L : Type 0} (faults : L → ℕ) (old new : Maker L) (links
   pub lent : AreBack old.lent new.lent links
   pub counted : new.faults ≡ grown_by_all old.faults (map faults links)
 
--- Each link that was made was taken back; there were so many at most.
-pub record HasTakenBack {L : Type 0} (faults : L → ℕ) (most : ℕ) (old new : Maker L) : Type 0 where
+-- Each link that was made was taken back.
+pub record HasTakenBack {L : Type 0} (faults : L → ℕ) (old new : Maker L) : Type 0 where
   pub back : List L
-  pub few : length back ≤ most
   pub took : TookBack faults old new back
 
 -- ---- the play

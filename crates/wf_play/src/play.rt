@@ -85,7 +85,7 @@ pub fn play_over<R: Threads + Wait + Sync, N: Links>(
     ensures played { IfOk result (λ played. IsPlayOverLinks (over_link N.Link.answer N.Link.next) N.Link.state N.Link.faults
         (maker_of N.opening N.lent N.faults links.old) (maker_of N.opening N.lent N.faults links.new)
         scenario.entry.now base played.transcripts played.history) }
-    ensures refused { OnErr result (HasTakenBack N.Link.faults (length scenario.entry.now.documents)
+    ensures refused { OnErr result (HasTakenBack N.Link.faults
         (maker_of N.opening N.lent N.faults links.old) (maker_of N.opening N.lent N.faults links.new)) }
     ensures has_text { IfOk result (λ played. HasText played.transcripts) }
 {
