@@ -1,7 +1,7 @@
 -- Laws of documents' runs, over every tape and every history: a run depends on the replies of the shared book and on
 -- what the document may learn of the answers alone; and the replies on what was done under the document's key, and
 -- noted of known hosts, alone (this project's own definition).
-use Rattle.std.specs.Prelude.{◌≡◌, ◌≤◌, ◌^◌, ℕ, true, List, Option, Some}
+use Rattle.std.specs.Prelude.{◌≡◌, ◌≤◌, ◌^◌, ℕ, true, List, Some}
 use Rattle.std.specs.List.{AllByRecursion}
 use Rattle.wf_act.specs.declared.act.Input.{Input}
 use Rattle.wf_book.specs.declared.book.Book.{Book}

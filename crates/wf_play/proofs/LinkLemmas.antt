@@ -1,13 +1,16 @@
 -- Links that are out, and that are taken back one after another.
-use Rattle.std.proofs.Common.{◌≡◌, ℕ, ◌+◌, ◌-◌, ◌≤◌, ◌<◌, List, [], ◌∷◌, ◌++◌, length, map, Option, Some, None}
+use Rattle.std.proofs.Common.{◌≡◌, ℕ, ◌+◌, ◌-◌, List, [], ◌∷◌, ◌++◌, length, map, Option, Some, None}
 use Rattle.std.proofs.Common.{refl, ap, sym, subst, ◌∙◌, arith, append_assoc, length-append}
-use Rattle.std.proofs.lemmas.List.{append-nil, map_push}
+use Rattle.std.proofs.lemmas.List.{append-nil, length-map, map_push}
 use Rattle.std.specs.Prelude.{option_map}
 use Rattle.wf_link.specs.Counts.{grown_by}
 use Rattle.wf_link.specs.Links.{Lent, TookBack, one_back, one_out}
 use Rattle.wf_play.specs.Links.{AreBack, grown_by_all}
 use Rattle.wf_play.specs.Links.{TookBack as TookAll, Maker, HasTakenBack}
 use Rattle.wf_play.specs.Private.Lendings.{AreTaken, out_more}
+use Rattle.wf_play.specs.Private.Seated.{links_in}
+use Rattle.wf_player.specs.declared.seating.Seating.{Seating}
+use Rattle.wf_turn.specs.declared.pass.TurnPass.{TurnPass}
 
 lent-is : {L : Type 0} (back back' : List L) (out out' : ℕ) → back ≡ back' → out ≡ out'
     → (let a : Lent L = record { back = back; out = out } in let b : Lent L = record { back = back'; out = out' } in a ≡ b)
@@ -34,20 +37,25 @@ out-one {L} first mid last count more is next one =
         ap (λ (l : Lent L). let o : Option (Lent L) = Some l in o)
         (lent-is lent.back lent.back (lent.out + count + 1) (lent.out + (count + 1)) refl (omega arith))
 
+-- as many by another count
+pub out-many : {L : Type 0} (first last : Option (Lent L)) (count more : ℕ) → last ≡ option_map (out_more count) first
+    → more ≡ count → last ≡ option_map (out_more more) first
+out-many {L} first last count more is same = is ∙ ap (λ (n : ℕ). option_map (out_more n) first) (sym same)
+
 -- ---- back
 
 -- none
-pub taken-none : {L : Type 0} (lent : Option (Lent L)) → AreTaken lent lent []
-taken-none None = tt
-taken-none {L} (Some lent) few =
+pub taken_none : {L : Type 0} (lent : Option (Lent L)) → AreTaken lent lent []
+taken_none None = tt
+taken_none {L} (Some lent) = λ few.
     ap (λ (l : Lent L). let o : Option (Lent L) = Some l in o)
     (lent-is lent.back (lent.back ++ []) lent.out (lent.out - 0) (sym (append-nil lent.back)) (omega arith))
 
 -- one more
-pub taken-one : {L : Type 0} (first mid last : Option (Lent L)) (links : List L) (link : L) → AreTaken first mid links
+pub taken_one : {L : Type 0} (first mid last : Option (Lent L)) (links : List L) (link : L) → AreTaken first mid links
     → TookBack mid last link → AreTaken first last (links ++ link ∷ [])
-taken-one None mid last links link so_far next = tt
-taken-one {L} (Some lent) mid last links link so_far next few =
+taken_one None mid last links link so_far next = tt
+taken_one {L} (Some lent) mid last links link so_far next = λ few.
     let many : length (links ++ link ∷ []) ≡ length links + 1 = length-append links (link ∷ []) in
     let before : Lent L = record { back = lent.back ++ links; out = lent.out - length links } in
     let was : mid ≡ Some before = so_far (omega (arith, few, many)) in
@@ -77,10 +85,10 @@ grown-one first [] more = refl
 grown-one first (count ∷ counts) more = grown-one (grown_by first count) counts more
 
 -- the faults of a link more
-pub faults-one : {L : Type 0} (faults : L → ℕ) (first mid last : ℕ) (links : List L) (link : L)
+pub faults_one : {L : Type 0} (faults : L → ℕ) (first mid last : ℕ) (links : List L) (link : L)
     → mid ≡ grown_by_all first (map faults links) → last ≡ grown_by mid (faults link)
     → last ≡ grown_by_all first (map faults (links ++ link ∷ []))
-faults-one faults first mid last links link so_far next =
+faults_one faults first mid last links link so_far next =
     next ∙ ap (λ (n : ℕ). grown_by n (faults link)) so_far ∙ grown-one first (map faults links) (faults link)
     ∙ ap (grown_by_all first) (sym (map_push faults links link))
 
@@ -108,3 +116,12 @@ took-all faults old mid new links count out same many taken counted = record {
   lent = all-back old.lent mid.lent new.lent links count out taken many;
   counted = counted ∙ ap (λ (n : ℕ). grown_by_all n (map faults links)) same;
 }
+
+-- the links of seats, all of which were out
+pub took-seats : {L : Type 0} (faults : L → ℕ) (old mid new : Maker L) (seats : List (Seating L TurnPass))
+    → mid.lent ≡ option_map (out_more (length seats)) old.lent → mid.faults ≡ old.faults
+    → AreTaken mid.lent new.lent (links_in seats) → new.faults ≡ grown_by_all mid.faults (map faults (links_in seats))
+    → TookAll faults old new (links_in seats)
+took-seats {L} faults old mid new seats out same taken counted =
+    took-all faults old mid new (links_in seats) (length seats) out same
+    (length-map seats (λ (s : Seating L TurnPass). s.link)) taken counted

@@ -1,9 +1,9 @@
 -- What was played on seats, and the history of a closed book, are a play.
-use Rattle.std.proofs.Common.{◌≡◌, ◌≢◌, ℕ, suc, ◌+◌, ◌-◌, ◌<◌, ◌≤◌, List, [], ◌∷◌, ◌++◌, length, map, Option, Some}
+use Rattle.std.proofs.Common.{◌≡◌, ◌≢◌, ℕ, suc, ◌+◌, ◌<◌, ◌≤◌, List, [], ◌∷◌, ◌++◌, length, map, Option}
 use Rattle.std.proofs.Common.{refl, ap, sym, subst, ◌∙◌, arith, drop, drop-cons, get_or, add-one, ◌⊎◌, inl, inr, zero}
-use Rattle.std.proofs.Common.{Bool, true, false, cond, eqb, eq-eqb}
-use Rattle.std.specs.Prelude.{◌==◌, slice_get}
-use Rattle.std.specs.List.{All, AllByRecursion, range_with_len, count_by, sum_by}
+use Rattle.std.proofs.Common.{Bool, true, false, cond, eq-eqb}
+use Rattle.std.specs.Prelude.{◌==◌}
+use Rattle.std.specs.List.{All, AllByRecursion, range_with_len, count_by}
 use Rattle.std.proofs.lemmas.Bool.Decides.{eqb_tells}
 use Rattle.std.proofs.lemmas.List.Elements.{All-nil, All-cons, All-head, All-tail, All-map, recursion_from_All}
 use Rattle.std.proofs.lemmas.List.Sums.{sum_by-cons}
@@ -21,7 +21,7 @@ use Rattle.wf_print.specs.declared.events.Event.{Event}
 use Rattle.wf_print.specs.declared.events.Transcript.{Transcript}
 use Rattle.wf_print.specs.Text.{HasText}
 use Rattle.wf_run.specs.Play.{Play}
-use Rattle.wf_run.specs.Runs.{document_client, document_run}
+use Rattle.wf_run.specs.Runs.{document_run}
 use Rattle.wf_script.specs.declared.types.Document.{Document}
 use Rattle.wf_script.specs.declared.types.KnownHost.{KnownHost}
 use Rattle.wf_script.specs.declared.types.Scenario.{Scenario}
@@ -33,14 +33,14 @@ use Rattle.wf_player.specs.Seats.{ArePlayed, IsPlayed, Seat}
 use Rattle.wf_player.proofs.CallLemmas.{trace-calls}
 use Rattle.wf_player.specs.declared.seating.Seating.{Seating}
 use Rattle.wf_turn.specs.Counts.{one, times}
-use Rattle.wf_turn.specs.Passes.{IsOneHistory, IsWhole, calls_of, is_of, made_of, opening_of, own_of}
+use Rattle.wf_turn.specs.Passes.{IsOneHistory, IsWhole, calls_of, is_of, opening_of, own_of}
 use Rattle.wf_turn.specs.declared.pass.TurnPass.{TurnPass}
 use Rattle.wf_turn.proofs.Count.{turns-are-places}
 use Rattle.wf_turn.proofs.Whole.{whole_of}
 use Rattle.wf_play.proofs.PassLemmas.{times-range}
 use Rattle.wf_play.specs.Links.{IsPlayOverLinks, Maker, TookBack, way_of}
 use Rattle.wf_play.specs.Passes.{ArePasses, IsNew}
-use Rattle.wf_iso.specs.Plays.{AreTranscripts, HasTurnsFrom, IsTranscript, RunsOver, Way, opening_book, outside_on}
+use Rattle.wf_iso.specs.Plays.{AreTranscripts, HasTurnsFrom, IsTranscript, Way, opening_book, outside_on}
 use Rattle.wf_iso.specs.Plays.{with_hosts}
 use Rattle.wf_play.specs.Private.Seated.{IsSeatedPlay, links_in, passes_in, seat_seen}
 
