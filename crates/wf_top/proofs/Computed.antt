@@ -1,5 +1,5 @@
 -- The words computed on worked examples.
-use Rattle.std.proofs.Common.{◌≡◌, ℕ, refl, List, [], ◌∷◌, codes, Some, None}
+use Rattle.std.proofs.Common.{◌≡◌, refl, [], ◌∷◌, codes, Some, None}
 use Rattle.wf_top.specs.Words.{subcommand_of}
 use Rattle.wf_top.specs.declared.words.Subcommand.TheVariants.{Gen, Net, Play}
 

@@ -132,7 +132,7 @@ module _ (Plays : Scenario → List Transcript → List Entry → Type 0) where
       cause : (v : Status) → IsWhyNone u.bytes input input' v → IsCause Plays u.bytes input input' output output v
       cause status.Ok why = absurd why
       cause status.Usage why = absurd why
-      cause (status.Scenario place) why = (why.0, why.1, refl)
+      cause (status.Scenario place) why = (why.0, (why.1, refl))
       cause status.ReadFault why = (why.0, why.1, refl)
       cause status.WriteFault why = absurd why
       cause status.OutOfMemory why = (why, inl refl)
@@ -163,7 +163,6 @@ module _ (Plays : Scenario → List Transcript → List Entry → Type 0) where
 
       cause : (v : Status) → IsWritten transcripts history output output' v
           → IsCause Plays r.bytes input input' output output' v
-      unfolding of
       cause status.Ok w = (r.whole, record { of = of; took = w })
       cause status.Usage w = absurd w
       cause (status.Scenario place) w = absurd w

@@ -1,7 +1,7 @@
 -- What the program answers to its words: its verdict by the words and the bytes of the input, what it has written
 -- then, and what it tells the complaints. What a play is, and that in it each document sends and sees what it would
 -- alone, wf_iso's definitions say.
-use Rattle.std.specs.Prelude.{◌≡◌, ◌≢◌, ℕ, ◌+◌, ◌^◌, ◌≤◌, ◌<◌, ◌⊎◌, min, List, length, map, Option, Some, None, Ok, Err}
+use Rattle.std.specs.Prelude.{◌≡◌, ◌≢◌, ℕ, ◌+◌, ◌≤◌, ◌<◌, ◌⊎◌, min, List, length, map, Option, Some, None, Ok, Err}
 use Rattle.wf_book.specs.declared.entry.Entry.{Entry}
 use Rattle.wf_link.specs.Counts.{Rose}
 use Rattle.wf_link.specs.Sinks.{Took, TookPart}
@@ -248,9 +248,9 @@ pub record AnswersCount (count : ℕ) (input input' : Source) (output output' co
 -- What the program promises of its answer. The first field says all; the others are what it says of each
 -- status.
 pub record Answers {L State : Type 0} (by : Answering State) (state : L → Option State) (faults : L → ℕ)
-    (words : List (List ℕ)) (input input' : Source) (output output' complaints complaints' : Sink) (net net' : Net L)
+    (words : List (List ℕ)) (input input' : Source) (output output' complaints complaints' : Sink) (outer outer' : Net L)
     (answer : Status) : Type 0 where
-  pub is_answer : IsAnswer by state faults words input input' output output' complaints complaints' net net' answer
+  pub is_answer : IsAnswer by state faults words input input' output output' complaints complaints' outer outer' answer
   -- Usage only where the words are not accepted, and there always, unless the complaints failed
   pub usage : answer ≡ status.Usage → subcommand_of words ≡ None
   pub not_accepted : subcommand_of words ≡ None
@@ -259,13 +259,13 @@ pub record Answers {L State : Type 0} (by : Answering State) (state : L → Opti
   pub play : subcommand_of words ≡ Some Play
       → AnswersInput IsScripted input input' output output' complaints complaints' answer
   pub net : subcommand_of words ≡ Some Over
-      → AnswersInput (IsLinked by state faults net net') input input' output output' complaints complaints' answer
+      → AnswersInput (IsLinked by state faults outer outer') input input' output output' complaints complaints' answer
   pub gen : (count : ℕ) → subcommand_of words ≡ Some (Gen count)
       → AnswersCount count input input' output output' complaints complaints' answer
   -- with other words than `net` links and clock are left as they were, and with `net` each link that was made was
   -- taken back
-  pub kept : subcommand_of words ≢ Some Over → net' ≡ net
-  pub back : subcommand_of words ≡ Some Over → HasTakenBack faults net.links net'.links
+  pub kept : subcommand_of words ≢ Some Over → outer' ≡ outer
+  pub back : subcommand_of words ≡ Some Over → HasTakenBack faults outer.links outer'.links
   -- WriteFault only where a sink failed or took nothing
   pub write_fault : answer ≡ status.WriteFault → Failed output output' ⊎ Failed complaints complaints'
   -- another answer than Ok and WriteFault is told by its whole line

@@ -13,12 +13,7 @@ const ROOM: usize = 1_048_576;
 
 // A sink that takes all.
 fn sink(alloc: Global) -> Result<MemorySink, Failed> {
-    Ok(MemorySink::new(
-        alloc,
-        ROOM,
-        Vec::new(alloc),
-        Vec::new(alloc),
-    )?)
+    Ok(MemorySink::new(alloc, ROOM, Vec::new(alloc), Vec::new(alloc))?)
 }
 
 // The clock and the scenario of a row.

@@ -27,12 +27,7 @@ const SCENARIO: &[u8] = b"{\"format\":1,\"documents\":[\
 
 // A sink that takes all.
 fn sink(alloc: Global) -> Result<MemorySink, Failed> {
-    Ok(MemorySink::new(
-        alloc,
-        ROOM,
-        Vec::new(alloc),
-        Vec::new(alloc),
-    )?)
+    Ok(MemorySink::new(alloc, ROOM, Vec::new(alloc), Vec::new(alloc))?)
 }
 
 // Prints the text of the documents, up to the history, and how many calls the history has.
