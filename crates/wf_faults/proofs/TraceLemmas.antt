@@ -1,5 +1,5 @@
 -- The count of a link rises with each fault of a run.
-use Rattle.std.proofs.Common.{◌≡◌, ℕ, ◌+◌, ◌-◌, ◌^◌, ◌≤◌, Bool, true, false, refl, ap, sym, ◌∙◌, arith}
+use Rattle.std.proofs.Common.{◌≡◌, ℕ, ◌+◌, ◌-◌, ◌^◌, ◌≤◌, Bool, true, false, refl, ap, sym, subst, ◌∙◌, arith}
 use Rattle.std.proofs.Common.{List, [], ◌∷◌, ◌++◌}
 use Rattle.std.specs.Prelude.{min}
 use Rattle.wf_act.specs.declared.act.Act.{Act}
@@ -20,7 +20,7 @@ use Rattle.wf_drive.specs.Worlds.{Answers, Outside, Settles, World}
 use Rattle.wf_player.specs.Playing.{Began, Came, Ran}
 use Rattle.wf_types.specs.declared.response.Outcome.{Outcome}
 use Rattle.wf_faults.specs.Failures.{tells_fault}
-use Rattle.wf_faults.specs.Laws.{FaultsCounted, FaultsCountedShort, ToldCounted}
+use Rattle.wf_faults.specs.Laws.{AreShown, FaultsCounted, FaultsCountedShort, RanShown, ToldCounted}
 use Rattle.wf_faults.specs.Numbers.{faults_of, one_where, outcomes_that}
 use Rattle.wf_faults.proofs.NumberLemmas.{faults-shown}
 
@@ -101,6 +101,11 @@ faults-counted_short State by limit document whole old events new began =
     rw (sym from) (omega (arith, counted, began.left.later))
 
 -- ---- what a document is told
+
+pub ran-shown : (State : Type 0) → RanShown State
+ran-shown State by limit number cookies base document old events ending clock new ran =
+    subst (AreShown (faults_of (document_run cookies base document) ran.tape)) ran.runs
+    (faults-shown cookies base document ran.tape)
 
 told-append : (is : Outcome → Bool) (one two : List Event)
     → outcomes_that is (one ++ two) ≡ outcomes_that is one + outcomes_that is two

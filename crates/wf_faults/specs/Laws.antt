@@ -1,6 +1,6 @@
 -- Laws of documents' runs: where the failures of a link show, and that there are at most as many as the link counted
 -- (this project's own definition).
-use Rattle.std.specs.Prelude.{ℕ, ◌+◌, ◌≤◌, List, None}
+use Rattle.std.specs.Prelude.{ℕ, ◌+◌, ◌≤◌, List, Some, None}
 use Rattle.wf_act.specs.declared.act.Input.{Input}
 use Rattle.wf_types.specs.declared.client.Cookie.{Cookie}
 use Rattle.wf_link.specs.Counts.{grown_by}
@@ -34,6 +34,15 @@ abbrev pub FaultsShown : Type 0
 FaultsShown =
     (cookies : List Cookie) (base : ℕ) (document : Document) (tape : List Input)
     → let whole = document_run cookies base document in AreShown (faults_of whole tape) (run_play whole tape)
+
+-- of a document's run over a link, with what it has shown to its end
+abbrev pub RanShown : Type 0 → Type 0
+RanShown State =
+    (by : Answering State) (limit number : ℕ) (cookies : List Cookie) (base : ℕ) (document : Document)
+    (old : Outside State) (events : List Event) (ending : Ending) (clock : ℕ) (new : Outside State)
+    → (ran : Ran by limit number (document_run cookies base document) old events ending clock new)
+    → AreShown (faults_of (document_run cookies base document) ran.tape)
+    (record { events = events; ending = Some (ending, clock) })
 
 -- the count of a link rises by as many as a run has faults, at least
 abbrev pub FaultsCounted : Type 0 → Type 0
