@@ -1,0 +1,4 @@
+pub mod FetchLemmas
+pub mod NumberLemmas
+pub mod RunLemmas
+pub mod TraceLemmas

@@ -1,0 +1,150 @@
+-- The count of a link rises with each fault of a run.
+use Rattle.std.proofs.Common.{◌≡◌, ℕ, ◌+◌, ◌-◌, ◌^◌, ◌≤◌, Bool, true, false, refl, ap, sym, subst, ◌∙◌, arith}
+use Rattle.std.proofs.Common.{List, [], ◌∷◌, ◌++◌}
+use Rattle.std.specs.Prelude.{min}
+use Rattle.wf_act.specs.declared.act.Act.{Act}
+use Rattle.wf_act.specs.declared.act.Act.TheVariants.{Ask, Send, ReadHead, ReadBody, Tell}
+use Rattle.wf_act.specs.declared.act.Input.{Input}
+use Rattle.wf_link.specs.Counts.{grown_by}
+use Rattle.wf_wire.specs.Exchanges.{Answering, Exchange, IsCaused, is_fault}
+use Rattle.wf_types.specs.declared.client.Cookie.{Cookie}
+use Rattle.wf_print.specs.declared.events.Ending.{Ending}
+use Rattle.wf_print.specs.declared.events.Ending.TheVariants as ending
+use Rattle.wf_print.specs.declared.events.Event.{Event}
+use Rattle.wf_print.specs.declared.events.Event.TheVariants as event
+use Rattle.wf_script.specs.declared.types.Document.{Document}
+use Rattle.wf_run.specs.Play.{Play, PlayRun, emit, over, run_play, step}
+use Rattle.wf_run.specs.Runs.{document_run}
+use Rattle.wf_run.specs.Traces.{PlayTrace, shown, stepped, stop}
+use Rattle.wf_drive.specs.Worlds.{Answers, Outside, Settles, World}
+use Rattle.wf_player.specs.Playing.{Began, Came, Ran}
+use Rattle.wf_types.specs.declared.response.Outcome.{Outcome}
+use Rattle.wf_faults.specs.Failures.{tells_fault}
+use Rattle.wf_faults.specs.Laws.{AreShown, FaultsCounted, FaultsCountedShort, RanShown, ToldCounted}
+use Rattle.wf_faults.specs.Numbers.{faults_of, one_where, outcomes_that}
+use Rattle.wf_faults.proofs.NumberLemmas.{faults-shown}
+
+-- ---- counts
+
+min-rises : (most a mid more b : ℕ) → min (a + 1) most ≤ mid → min (mid + more) most ≤ b
+    → min (a + (1 + more)) most ≤ b
+min-rises most a mid more b rose le = omega (arith, rose, le)
+
+min-later : (most a mid more b : ℕ) → a ≤ mid → min (mid + more) most ≤ b → min (a + more) most ≤ b
+min-later most a mid more b later le = omega (arith, later, le)
+
+min-fewer : (most a fewer more b : ℕ) → fewer ≤ more → min (a + more) most ≤ b → min (a + fewer) most ≤ b
+min-fewer most a fewer more b few le = omega (arith, few, le)
+
+min-none : (most a : ℕ) → min (a + 0) most ≤ a
+min-none most a = omega arith
+
+-- an input that is a fault raises the count
+count-input : (input : Input) (a mid more b : ℕ) (is : Bool) → is_fault input ≡ is → IsCaused input a mid
+    → grown_by mid more ≤ b → grown_by a (one_where is + more) ≤ b
+count-input input a mid more b true is caused le = min-rises (2 ^ 64 - 1) a mid more b (caused.rose is) le
+count-input input a mid more b false is caused le =
+    min-later (2 ^ 64 - 1) a mid (0 + more) b caused.later (min-fewer (2 ^ 64 - 1) mid (0 + more) more b (omega arith) le)
+
+-- what is no fault has its cause
+quiet-caused : (input : Input) (a b : ℕ) → is_fault input ≡ false → b ≡ a → IsCaused input a b
+quiet-caused input a b quiet same = record {
+  later = omega (arith, same);
+  rose = λ fault. let untrue : false ≡ true = sym quiet ∙ fault in let bad : ⊥ = cc untrue in absurd bad;
+}
+
+-- ---- traces
+
+no-faults : (play : Play) → faults_of play [] ≡ 0
+no-faults (over ending clock) = refl
+no-faults (emit one rest) = no-faults rest
+no-faults (step request first after) = refl
+
+module _ {State : Type 0} (by : Answering State) (limit document : ℕ) where
+  act-caused : (a b : World State) (first : Act) (input : Input) → Answers by limit document a first input b
+      → IsCaused input a.exchange.faults b.exchange.faults
+  act-caused a b (Ask op) input is =
+      quiet-caused input a.exchange.faults b.exchange.faults (rw is.asked.input_is refl)
+      (ap (λ (e : Exchange State). e.faults) is.exchange_is)
+  act-caused a b (Send hop) input is = is.1.exchanged.caused
+  act-caused a b ReadHead input is = is.exchanged.caused
+  act-caused a b ReadBody input is = is.exchanged.caused
+  act-caused a b (Tell violation) input is =
+      quiet-caused input a.exchange.faults b.exchange.faults (rw is.0 refl)
+      (ap (λ (w : World State). w.exchange.faults) is.1)
+
+  event-faults : (a b : World State) (one : Event) → Settles one a b → b.exchange.faults ≡ a.exchange.faults
+  event-faults a b (event.Result came) is = ap (λ (o : Outside State). o.faults) is.outside_is
+  event-faults a b (event.LoadFailed error) is = ap (λ (o : Outside State). o.faults) is.outside_is
+  event-faults a b one is = ap (λ (w : World State). w.exchange.faults) is
+
+  counts : {p q : Play} {a b : World State} {t : List Input} {e : List Event}
+      → PlayTrace (Answers by limit document) Settles p a t e q b
+      → grown_by a.exchange.faults (faults_of p t) ≤ b.exchange.faults
+  counts {p = p} {a = a} stop = rw (no-faults p) (min-none (2 ^ 64 - 1) a.exchange.faults)
+  counts {a = a} {b = b} (shown {q = rest} {mid = mid} {tape = tape} one is x) =
+      rw (sym (event-faults a mid one is)) (counts x)
+  counts {a = a} {b = b} (stepped {mid = mid} {tape = tape} request first after input is fit x) =
+      rw fit
+      (count-input input a.exchange.faults mid.exchange.faults (faults_of (after input) tape) b.exchange.faults
+      (is_fault input) refl (act-caused a mid first input is) (counts x))
+
+pub faults-counted : (State : Type 0) → FaultsCounted State
+faults-counted State by limit document whole old events ending clock new ran =
+    rw (sym (ap (λ (o : Outside State). o.faults) ran.from), sym (ap (λ (o : Outside State). o.faults) ran.to))
+    (counts by limit document ran.trace)
+
+pub faults-counted_short : (State : Type 0) → FaultsCountedShort State
+faults-counted_short State by limit document whole old events new began =
+    let counted = counts by limit document began.trace in
+    let from = ap (λ (o : Outside State). o.faults) began.from in
+    rw (sym from) (omega (arith, counted, began.left.later))
+
+-- ---- what a document is told
+
+pub ran-shown : (State : Type 0) → RanShown State
+ran-shown State by limit number cookies base document old events ending clock new ran =
+    subst (AreShown (faults_of (document_run cookies base document) ran.tape)) ran.runs
+    (faults-shown cookies base document ran.tape)
+
+told-append : (is : Outcome → Bool) (one two : List Event)
+    → outcomes_that is (one ++ two) ≡ outcomes_that is one + outcomes_that is two
+told-append is [] two = omega arith
+told-append is (first ∷ one) two = omega (arith, told-append is one two)
+
+module _ {State : Type 0} (by : Answering State) (limit number : ℕ) (cookies : List Cookie) (base : ℕ)
+    (document : Document) (old : Outside State) (events : List Event) (new : Outside State) where
+  abbrev whole : Play
+  whole = document_run cookies base document
+
+  told-ran : (ending : Ending) (clock : ℕ) → Ran by limit number whole old events ending clock new
+      → grown_by old.faults (outcomes_that tells_fault events) ≤ new.faults
+  told-ran ending clock ran =
+      let shown = (faults-shown cookies base document ran.tape).none_more in
+      let events_are : (run_play whole ran.tape).events ≡ events = ap (λ (r : PlayRun). r.events) ran.runs in
+      min-fewer (2 ^ 64 - 1) old.faults (outcomes_that tells_fault events) (faults_of whole ran.tape) new.faults
+      (omega (arith, shown, ap (outcomes_that tells_fault) events_are))
+      (faults-counted State by limit number whole old events ending clock new ran)
+
+  told-began : Began by limit number whole old events new
+      → grown_by old.faults (outcomes_that tells_fault events) ≤ new.faults
+  told-began began =
+      let shown = (faults-shown cookies base document began.tape).none_more in
+      let rest = began.missed ++ (run_play began.place []).events in
+      min-fewer (2 ^ 64 - 1) old.faults (outcomes_that tells_fault events) (faults_of whole began.tape) new.faults
+      (omega (
+        arith,
+        shown,
+        ap (outcomes_that tells_fault) began.runs,
+        told-append tells_fault events rest,
+      ))
+      (faults-counted_short State by limit number whole old events new began)
+
+  told-counted : (ending : Ending) (clock : ℕ) → Came by limit number whole old events ending clock new
+      → grown_by old.faults (outcomes_that tells_fault events) ≤ new.faults
+  told-counted ending.Memory clock came = told-began came
+  told-counted ending clock came = told-ran ending clock came
+
+pub told : (State : Type 0) → ToldCounted State
+told State by limit number cookies base document old events ending clock new came =
+    told-counted by limit number cookies base document old events new ending clock came

@@ -1,0 +1,4 @@
+pub mod Failures
+pub mod Laws
+pub mod Numbers
+pub mod Places

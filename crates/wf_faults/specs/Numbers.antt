@@ -1,0 +1,37 @@
+-- How often the link fails in a document's run, and how many of its outcomes tell so (this project's own definition).
+use Rattle.std.specs.Prelude.{ℕ, ◌+◌, Bool, List, [], ◌∷◌, Option, Some, None, if◌then◌else◌}
+use Rattle.wf_types.specs.declared.response.Outcome.{Outcome}
+use Rattle.wf_act.specs.declared.act.Input.{Input}
+use Rattle.wf_act.specs.Process.{fits}
+use Rattle.wf_wire.specs.Exchanges.{is_fault}
+use Rattle.wf_print.specs.declared.events.Ending.{Ending}
+use Rattle.wf_print.specs.declared.events.Event.{Event}
+use Rattle.wf_run.specs.Play.{Play, emit, over, step}
+use Rattle.wf_faults.specs.Places.{outcome_of}
+
+-- one where it is so, else none
+abbrev pub one_where : Bool → ℕ
+one_where is = if is then 1 else 0
+
+-- how many inputs of a tape that a run takes tell that the link failed
+abbrev pub faults_of : Play → List Input → ℕ
+faults_of (over ending clock) tape = 0
+faults_of (emit shown rest) tape = faults_of rest tape
+faults_of (step request first after) [] = 0
+faults_of (step request first after) (input ∷ tape) =
+    if fits first input then one_where (is_fault input) + faults_of (after input) tape else 0
+
+-- one where there is an outcome that is so
+abbrev pub one_if : (Outcome → Bool) → Option Outcome → ℕ
+one_if is None = 0
+one_if is (Some came) = one_where (is came)
+
+-- how many of the outcomes that events show are so
+abbrev pub outcomes_that : (Outcome → Bool) → List Event → ℕ
+outcomes_that is [] = 0
+outcomes_that is (shown ∷ events) = one_if is (outcome_of shown) + outcomes_that is events
+
+-- how many failures may have come that no outcome shows yet: one, unless the run is over
+abbrev pub unshown : Option (Ending × ℕ) → ℕ
+unshown None = 1
+unshown (Some ending) = 0
