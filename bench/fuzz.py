@@ -5,11 +5,13 @@
     bench/fuzz.py [--seed N] --show scenario|answer NUMBER
 
 It makes 20,000 scenarios and 20,000 answers by mutation of those in examples/, by a seed, so that a run can be
-repeated; --show prints the input of one of them. Each is played on its own. An answer is played three times, in small
-pieces, in pieces of 4,096 bytes and in pieces of 65,536, and must look the same to the script each time. Wanted of each play: status 0 with an output
+repeated; --show prints the input of one of them. Each is played on its own. Wanted of each play: status 0 with an output
 that ends in the line `done` and no complaint, or status 2 with no output and the one line `fetchplay: scenario refused
-at PLACE`; at most 2 seconds (where it took longer it is played again alone, on a machine that is busy) and 64 MB. FETCHPLAY
-is the path of the program, where it is not to be built.
+at PLACE`; at most 2 seconds (where it took longer, on a machine that is busy, it is played once again) and 64 MB.
+Looked at besides: a scenario is refused at `json` exactly where Python reads no JSON tree that is 127 deep at most; an
+answer comes to the same in small pieces, in pieces of 4,096 bytes and of 65,536; and of an answer to a fetch of the own
+origin the script sees what bench/answers.py reads from it. FETCHPLAY is the path of the program, where it is not to be
+built.
 """
 import argparse
 import json
@@ -22,6 +24,8 @@ import signal
 import subprocess
 import sys
 import time
+
+from answers import seen
 
 HERE = os.path.dirname(os.path.abspath(__file__))
 EXAMPLES = os.path.join(HERE, '..', 'examples')
@@ -212,8 +216,8 @@ def bad_scenario(seed, number):
     return mutate_tree(rng, rng.choice(TREES))
 
 
-SCRIPTS = [
-    ('https://a.test/', {'url': '/', 'mode': 'same-origin', 'referrer': 'none'}),
+OWN = ('https://a.test/', {'url': '/', 'mode': 'same-origin', 'referrer': 'none'})
+SCRIPTS = [OWN] * 5 + [
     ('https://b.test/', {'url': 'https://a.test/'}),
     ('https://b.test/', {'url': 'https://a.test/', 'mode': 'no-cors'}),
     ('https://b.test/', {'url': 'https://a.test/x', 'method': 'PUT', 'credentials': 'include'}),
@@ -246,6 +250,62 @@ def odd_answer(seed, number):
 
 def in_pieces(scenario, size):
     return json.dumps(dict(scenario, piece=size), ensure_ascii=False).encode()
+
+
+# --- what is known of a play beforehand
+
+def texts_of(tree):
+    level = [tree]
+    while level:
+        one = level.pop()
+        if isinstance(one, str):
+            yield one
+        elif isinstance(one, float):
+            yield '' if abs(one) != float('inf') else '\ud800'
+        elif isinstance(one, list):
+            level.extend(one)
+        elif isinstance(one, dict):
+            level.extend(one.keys())
+            level.extend(one.values())
+
+
+def no_constant(name):
+    raise ValueError(name)
+
+
+def every_pair(pairs):
+    """An object as a list of all its pairs, equal keys too."""
+    return [[key, value] for key, value in pairs]
+
+
+def is_tree(text):
+    """Whether a text is a JSON tree, 127 deep at most, with no half of a surrogate pair and no number out of range."""
+    try:
+        decoded = text.decode('utf-8')
+        if decoded.startswith('\ufeff'):
+            return False
+        every = json.loads(decoded, parse_constant=no_constant, object_pairs_hook=every_pair)
+    except (ValueError, RecursionError):
+        return False
+    return nesting(decoded) <= 127 and not any('\ud800' <= c <= '\udfff' for one in texts_of(every) for c in one)
+
+
+def nesting(text):
+    """How deep brackets stand inside each other in a JSON text."""
+    depth = most = 0
+    for bracket in re.findall(r'"(?:[^"\\]|\\.)*"|[\[\]{}]', text):
+        if bracket in '[{':
+            depth += 1
+            most = max(most, depth)
+        elif bracket in ']}':
+            depth -= 1
+    return most
+
+
+def first_result(output):
+    """The lines of the first result of a play."""
+    found = re.search(rb'^result .*\n(?:  .*\n)*', output, re.MULTILINE)
+    return found[0] if found else b''
 
 
 # --- plays
@@ -323,6 +383,7 @@ def kinds_of(ran):
 class Counts:
     def __init__(self):
         self.plays = 0
+        self.checked = 0
         self.statuses = {}
         self.kinds = {}
         self.seconds = 0.0
@@ -340,6 +401,7 @@ class Counts:
 
     def add(self, other):
         self.plays += other.plays
+        self.checked += other.checked
         for mine, theirs in ((self.statuses, other.statuses), (self.kinds, other.kinds)):
             for key, count in theirs.items():
                 mine[key] = mine.get(key, 0) + count
@@ -356,7 +418,11 @@ def worker(job):
     for number in range(first, last):
         name = '%s %d' % (kind, number)
         if kind == 'scenario':
-            counts.note(name, *judged(program, bad_scenario(seed, number)))
+            text = bad_scenario(seed, number)
+            ran, wrong = judged(program, text)
+            if (ran[0] == 2 and b' at json\n' in ran[2]) == is_tree(text):
+                wrong.append('refused at json where it is a tree, or the other way round: %r' % ran[2][:80])
+            counts.note(name, ran, wrong)
             continue
         scenario, size = odd_answer(seed, number)
         outputs = []
@@ -366,6 +432,15 @@ def worker(job):
             outputs.append(ran[:3])
         if any(output != outputs[0] for output in outputs):
             counts.wrong.append('%s: not the same in pieces of %d, 4096 and 65536' % (name, size))
+        document = scenario['documents'][0]
+        if (document['url'], document['script'][0].get('fetch')) == OWN:
+            raw = scenario['servers'][0]['rules'][0]['raw'].encode()
+            expected = seen(raw, b'https://a.test/', scenario['body_limit'])
+            if expected is not None:
+                counts.checked += 1
+                if first_result(outputs[0][1]) != expected:
+                    counts.wrong.append('%s: the script sees %r and not %r' % (
+                        name, first_result(outputs[0][1])[:200], expected[:200]))
     return counts
 
 
@@ -381,6 +456,8 @@ def fuzz(program, seed, kind, count, jobs):
     print('%d %ss, %d plays: %s; at most %.2f s and %.1f MB; %d wrong; %d s in all' % (
         count, kind, counts.plays, statuses, counts.seconds, counts.kilobytes / 1024, len(counts.wrong),
         time.monotonic() - start))
+    if counts.checked:
+        print('  %d of them read by other code too' % counts.checked)
     print('  %d kinds, the most frequent: %s' % (len(counts.kinds), ', '.join(
         '%s %d' % (key.decode(), number) for key, number in sorted(counts.kinds.items(), key=lambda one: -one[1])[:24])))
     for wrong in counts.wrong[:20]:

@@ -7,6 +7,9 @@ from concurrent.futures import ThreadPoolExecutor
 program, shim, work, jobs = sys.argv[1], sys.argv[2], sys.argv[3], int(sys.argv[4])
 rows = os.path.join(os.path.dirname(os.path.abspath(__file__)), '..', 'crates', 'worked_rows')
 COMPLAINT = b'fetchplay: out of memory\n'
+# Without memory for its words, which are its first requests, the program has none, before anything is read.
+MOST_WORDS = 32
+USAGE = b'fetchplay: usage: fetchplay play | net | gen N\n'
 problems = []
 
 
@@ -81,13 +84,15 @@ def is_shared(stored):
     return is_text, is_front
 
 
-def judge(name, ran, is_text, is_front):
+def judge(name, ran, is_text, is_front, number=0):
     """What a run came to: its status, and 'part' where the output has a part of the text."""
     status, output, complaints, asked, refused = ran
     if status == 0 and is_text(output) and complaints == b'':
         return '0'
     if status == 5 and is_front(output) and complaints == COMPLAINT:
         return '5 part' if output else '5'
+    if status == 1 and output == b'' and complaints == USAGE and number <= MOST_WORDS:
+        return '1'
     problems.append('%s: status %d, %d bytes of output, complaints %r' % (name, status, len(output), complaints[:200]))
     return 'else'
 
@@ -97,11 +102,12 @@ def tried(name, words, text, numbers, later, is_text, is_front):
     came, unseen = {}, 0
     with ThreadPoolExecutor(jobs) as pool:
         for number, ran in zip(numbers, pool.map(lambda n: run(words, text, n, later), numbers)):
-            kind = judge('%s, number %d' % (name, number), ran, is_text, is_front)
+            kind = judge('%s, number %d' % (name, number), ran, is_text, is_front, number)
             came[kind] = came.get(kind, 0) + 1
             unseen += ran[4] == 0
-    print('%s: %d runs: status 0 with its text %d, status 5 with no output %d, with a part of the text %d, else %d%s' % (
-        name, len(numbers), came.get('0', 0), came.get('5', 0), came.get('5 part', 0), came.get('else', 0),
+    print('%s: %d runs: status 0 with its text %d, status 5 with no output %d, with a part of the text %d, '
+          'status 1 without words %d, else %d%s' % (
+        name, len(numbers), came.get('0', 0), came.get('5', 0), came.get('5 part', 0), came.get('1', 0), came.get('else', 0),
         '; in %d of them no request had that number' % unseen if unseen else ''))
     sys.stdout.flush()
 
