@@ -108,6 +108,7 @@ ANSWER_BITS = [
     b'X-Content-Type-Options: nosniff\r\n', b'Content-Type: */*, text/css\r\n', b'Set-Cookie: a=b\r\n', b'Referrer-Policy: no-referrer\r\n',
     b'a' * 4096, b'a' * 65536, b'A: b\r\n' * 129, b'1\r\na\r\n' * 500, b'\r\n' * 300, b'HTTP/1.1 100 \r\n\r\n' * 100,
 ]
+LINES = [bit[:-2] for bit in ANSWER_BITS if bit.endswith(b'\r\n') and b': ' in bit and bit.count(b'\n') == 1]
 VALUES = [
     None, True, False, 0, 1, -1, 2, 1.0, 1e300, 65535, 65536, 65537, 2 ** 32 - 1, 2 ** 32, 2 ** 48, 2 ** 64, '', ' ', 'a', 'x' * 9000,
     '\u0000', '\n', '\u00e9', '\ud83d\ude00', '${status}', '${', '$', 'https://a.test', 'https://a.test/', 'http://b.test/x?y#z', '//', 'ftp:',
@@ -230,10 +231,30 @@ SCRIPTS = [OWN] * 5 + [
 ]
 
 
+def with_lines(rng, raw, few):
+    """An answer with other header lines, or with one line that is changed, and with another body."""
+    head, end, body = raw.partition(b'\r\n\r\n')
+    lines = head.split(b'\r\n')
+    for _ in range(rng.choice([0, 1, 1, 2, 3])):
+        lines.insert(rng.randrange(1, len(lines) + 1), rng.choice(LINES))
+    if few:
+        place = rng.randrange(len(lines))
+        lines[place] = mutate_bytes(rng, lines[place], ANSWER_BITS, LINES)
+    if rng.randrange(3):
+        body = mutate_bytes(rng, rng.choice([body, b'2\r\nhi\r\n0\r\n\r\n', b'a\r\n0123456789\r\n0\r\nT: v\r\n\r\n', b'hello']),
+                            ANSWER_BITS, ANSWERS)
+    return rng.choice([b'\r\n', b'\r\n', b'\r\n', b'\n']).join(lines) + end + body
+
+
 def odd_answer(seed, number):
     """The parts of a scenario whose server gives an answer by mutation of one, and a small size of its pieces."""
     rng = rng_of(seed, 'answer', number)
-    raw = mutate_bytes(rng, rng.choice(ANSWERS), ANSWER_BITS, ANSWERS)
+    raw = rng.choice(ANSWERS)
+    kind = rng.randrange(3)
+    if kind == 0:
+        raw = mutate_bytes(rng, raw, ANSWER_BITS, ANSWERS)
+    else:
+        raw = with_lines(rng, raw, kind == 2)
     url, init = rng.choice(SCRIPTS)
     command = {'load': init} if 'kind' in init else {'fetch': init}
     # What came is put into the next request, which the same answer is given to.
