@@ -6,7 +6,7 @@ use Rattle.wf_script.specs.Servers.{answer, answer_bytes}
 use Rattle.wf_script.specs.declared.types.KnownHost.{KnownHost}
 use Rattle.wf_script.specs.declared.types.Server.{Server}
 use Rattle.wf_run.proofs.Computed.{hop}
-use Rattle.wf_play.specs.Plays.{with_hosts}
+use Rattle.wf_iso.specs.Plays.{with_hosts}
 
 -- a server that answers PUT by 201 and all else by 200 with the body `hi`
 abbrev servers : List Server

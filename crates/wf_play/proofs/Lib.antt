@@ -1,4 +1,5 @@
 pub mod Computed
+pub mod LinkLemmas
 pub mod PassLemmas
 pub mod PlayLemmas
 pub mod SeatedLemmas

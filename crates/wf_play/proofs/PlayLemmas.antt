@@ -1,9 +1,9 @@
 -- What was played on seats, and the history of a closed book, are a play.
-use Rattle.std.proofs.Common.{◌≡◌, ◌≢◌, ℕ, suc, ◌+◌, ◌-◌, ◌<◌, ◌≤◌, List, [], ◌∷◌, ◌++◌, length, map, Option, Some}
+use Rattle.std.proofs.Common.{◌≡◌, ◌≢◌, ℕ, suc, ◌+◌, ◌<◌, ◌≤◌, List, [], ◌∷◌, ◌++◌, length, map, Option}
 use Rattle.std.proofs.Common.{refl, ap, sym, subst, ◌∙◌, arith, drop, drop-cons, get_or, add-one, ◌⊎◌, inl, inr, zero}
-use Rattle.std.proofs.Common.{Bool, true, false, cond, eqb, eq-eqb}
-use Rattle.std.specs.Prelude.{◌==◌, slice_get}
-use Rattle.std.specs.List.{All, AllByRecursion, range_with_len, count_by, sum_by}
+use Rattle.std.proofs.Common.{Bool, true, false, cond, eq-eqb}
+use Rattle.std.specs.Prelude.{◌==◌}
+use Rattle.std.specs.List.{All, AllByRecursion, range_with_len, count_by}
 use Rattle.std.proofs.lemmas.Bool.Decides.{eqb_tells}
 use Rattle.std.proofs.lemmas.List.Elements.{All-nil, All-cons, All-head, All-tail, All-map, recursion_from_All}
 use Rattle.std.proofs.lemmas.List.Sums.{sum_by-cons}
@@ -21,7 +21,7 @@ use Rattle.wf_print.specs.declared.events.Event.{Event}
 use Rattle.wf_print.specs.declared.events.Transcript.{Transcript}
 use Rattle.wf_print.specs.Text.{HasText}
 use Rattle.wf_run.specs.Play.{Play}
-use Rattle.wf_run.specs.Runs.{document_client, document_run}
+use Rattle.wf_run.specs.Runs.{document_run}
 use Rattle.wf_script.specs.declared.types.Document.{Document}
 use Rattle.wf_script.specs.declared.types.KnownHost.{KnownHost}
 use Rattle.wf_script.specs.declared.types.Scenario.{Scenario}
@@ -33,15 +33,15 @@ use Rattle.wf_player.specs.Seats.{ArePlayed, IsPlayed, Seat}
 use Rattle.wf_player.proofs.CallLemmas.{trace-calls}
 use Rattle.wf_player.specs.declared.seating.Seating.{Seating}
 use Rattle.wf_turn.specs.Counts.{one, times}
-use Rattle.wf_turn.specs.Passes.{IsOneHistory, IsWhole, calls_of, is_of, made_of, opening_of, own_of}
+use Rattle.wf_turn.specs.Passes.{IsOneHistory, IsWhole, calls_of, is_of, opening_of, own_of}
 use Rattle.wf_turn.specs.declared.pass.TurnPass.{TurnPass}
 use Rattle.wf_turn.proofs.Count.{turns-are-places}
 use Rattle.wf_turn.proofs.Whole.{whole_of}
 use Rattle.wf_play.proofs.PassLemmas.{times-range}
-use Rattle.wf_play.specs.Links.{IsPlayOverLinks, way_of}
+use Rattle.wf_play.specs.Links.{IsPlayOverLinks, Maker, TookBack, way_of}
 use Rattle.wf_play.specs.Passes.{ArePasses, IsNew}
-use Rattle.wf_play.specs.Plays.{AreTranscripts, HasTurnsFrom, IsTranscript, RunsOver, Way, opening_book, outside_on}
-use Rattle.wf_play.specs.Plays.{with_hosts}
+use Rattle.wf_iso.specs.Plays.{AreTranscripts, HasTurnsFrom, IsTranscript, Way, opening_book, outside_on}
+use Rattle.wf_iso.specs.Plays.{with_hosts}
 use Rattle.wf_play.specs.Private.Seated.{IsSeatedPlay, links_in, passes_in, seat_seen}
 
 -- ---- the book
@@ -314,15 +314,15 @@ seated-whole by state faults opening id scenario base first passes back transcri
 
 -- what was played on the seats, with the history of the closed book, is a play
 pub closed-play : {L State : Type 0} (by : Answering State) (state : L → Option State) (faults : L → ℕ)
-    (opening : ℕ → Option L) (id : TableId) (scenario : Scenario) (base : ℕ) (first : TurnPass)
+    (old new : Maker L) (id : TableId) (scenario : Scenario) (base : ℕ) (first : TurnPass)
     (passes : List TurnPass) (back : List (Seating L TurnPass)) (transcripts : List Transcript) (book : Book)
     (history : List Entry) (all : List TurnPass)
     → ArePasses id (opening_book scenario) (length scenario.documents) first passes
-    → IsSeatedPlay by state faults opening id scenario base passes back transcripts
-    → all ≡ first ∷ passes_in back → IsOneHistory all book history
-    → IsPlayOverLinks by state faults opening scenario base transcripts history
-closed-play {L} {State} by state faults opening id scenario base first passes back transcripts book history all are
-    seated same whole =
+    → IsSeatedPlay by state faults old.opening id scenario base passes back transcripts
+    → TookBack faults old new (links_in back) → all ≡ first ∷ passes_in back → IsOneHistory all book history
+    → IsPlayOverLinks by state faults old new scenario base transcripts history
+closed-play {L} {State} by state faults old new id scenario base first passes back transcripts book history all are
+    seated took same whole =
     let closed : IsOneHistory (first ∷ passes_in back) book history =
     subst (λ (l : List TurnPass). IsOneHistory l book history) same whole in
     let seen : Seating L TurnPass → Seat State = seat_seen state faults in
@@ -331,15 +331,15 @@ closed-play {L} {State} by state faults opening id scenario base first passes ba
     let Legals : TurnPass → Type 0 =
     λ p. p.document ≡ 4294967295 → Legal (opening_of p) history × (book ≡ book_after (opening_of p) history) in
     let All_called : TurnPass → Type 0 = λ p. calls_of p ≡ length (own_of p) in
-    let new : All (IsNew id (opening_book scenario)) (map (λ (s : Seating L TurnPass). s.pass) seated.made) =
+    let made : All (IsNew id (opening_book scenario)) (map (λ (s : Seating L TurnPass). s.pass) seated.made) =
     subst (All (IsNew id (opening_book scenario))) (sym seated.passes_are) are.new in
     let fresh : All IsFresh (map seen seated.made) = All-map IsFresh seen seated.made
-    (λ k d lt. let n = unmap (IsNew id (opening_book scenario)) (λ (s : Seating L TurnPass). s.pass) seated.made new k d lt
+    (λ k d lt. let n = unmap (IsNew id (opening_book scenario)) (λ (s : Seating L TurnPass). s.pass) seated.made made k d lt
     in record { own_is = n.own_is; left_is = n.left_is }) in
     let called : All (λ (s : Seating L TurnPass). HasCalled (seen s)) back =
     unmap HasCalled seen back (called-of by scenario base seated.played seated.has_text fresh) in
     let own : All Own (passes_in back) = All-tail Own first (passes_in back) closed.own in
-    let documents = seated-documents by state faults opening id scenario base passes back transcripts seated in
+    let documents = seated-documents by state faults old.opening id scenario base passes back transcripts seated in
     let legal = All-head Legals first (passes_in back) closed.legal are.first_is.document_is in
     let nothing : entries_of 4294967295 history ≡ [] =
     subst (λ (d : ℕ). entries_of d history ≡ own_of first) are.first_is.document_is
@@ -357,6 +357,7 @@ closed-play {L} {State} by state faults opening id scenario base first passes ba
       made = links_in seated.made;
       back = links_in back;
       opened = seated.opened;
+      took = took;
       play = record {
         legal = subst (λ (b : Book). Legal b history) are.first_is.opening_is legal.0;
         turns = turns-from 0 history (λ i e at. turns-are-places (first ∷ passes_in back) book history closed present calls i e at

@@ -1,5 +1,5 @@
 -- Documents that are seated, each with a new pass.
-use Rattle.std.proofs.Common.{◌≡◌, ℕ, ◌≤◌, List, [], ◌∷◌, ◌∙◌, ap, arith, length, map, Option, refl, subst, sym}
+use Rattle.std.proofs.Common.{◌≡◌, ℕ, ◌≤◌, List, ◌∙◌, ap, arith, length, map, Option, subst, sym}
 use Rattle.std.specs.List.{All, range_with_len}
 use Rattle.std.proofs.lemmas.List.{length-map}
 use Rattle.std.proofs.lemmas.List.Elements.{All-map}
@@ -8,10 +8,9 @@ use Rattle.atomic_table.specs.Seated.{TableId}
 use Rattle.wf_player.specs.Seats.{AreSeated, Seat}
 use Rattle.wf_player.specs.declared.seating.Seating.{Seating}
 use Rattle.wf_script.specs.declared.types.Scenario.{Scenario}
-use Rattle.wf_turn.specs.Passes.{left_of}
 use Rattle.wf_turn.specs.declared.pass.TurnPass.{TurnPass}
 use Rattle.wf_play.specs.Passes.{IsNew}
-use Rattle.wf_play.specs.Plays.{opening_book}
+use Rattle.wf_iso.specs.Plays.{opening_book}
 use Rattle.wf_play.specs.Private.Seated.{passes_in, seat_seen}
 use Rattle.wf_play.proofs.PlayLemmas.{map-map, unmap}
 
@@ -20,6 +19,14 @@ pub as-many : {X : Type 0} (number : X → ℕ) (items : List X) (count : ℕ)
     → map number items ≡ range_with_len 0 count → length items ≡ count
 as-many number items count is =
     sym (length-map items number) ∙ ap length is ∙ length-range_with_len 0 count
+
+-- as many seats as documents, where they have these passes
+pub as-seated : {L : Type 0} (passes : List TurnPass) (seats : List (Seating L TurnPass)) (count : ℕ)
+    → passes_in seats ≡ passes → map (λ (p : TurnPass). p.document) passes ≡ range_with_len 0 count
+    → length seats ≡ count
+as-seated {L} passes seats count are documents =
+    sym (length-map seats (λ (s : Seating L TurnPass). s.pass)) ∙ ap length are
+    ∙ as-many (λ (p : TurnPass). p.document) passes count documents
 
 module _ {L State : Type 0} (state : L → Option State) (faults : L → ℕ) (id : TableId) (scenario : Scenario)
     (passes : List TurnPass) (seats : List (Seating L TurnPass)) where

@@ -28,8 +28,9 @@ use Rattle.wf_wire.specs.Wires.{over_link}
 use Rattle.wf_wire.proofs.LawLemmas.{exchange-alike}
 use Rattle.wf_player.specs.Playing.{Ran}
 use Rattle.wf_drive.specs.Worlds.{Answers, Outside, Settles, World}
-use Rattle.wf_play.specs.Links.{IsPlayOverLinks, way_of}
-use Rattle.wf_play.specs.Plays.{AreTranscripts, IsPlay, RunsOver, Way, by_rules, outside_on}
+use Rattle.wf_link.specs.Links.{IsTold}
+use Rattle.wf_play.specs.Links.{IsPlayOverLinks, Maker, way_of}
+use Rattle.wf_iso.specs.Plays.{AreTranscripts, IsPlay, RunsOver, Way, by_rules, outside_on}
 
 -- the servers as a link has them
 abbrev pub by_bytes : Answering (List Server)
@@ -171,10 +172,10 @@ transcripts-by-rules scenario base history {number} (AreTranscripts.one_more {do
 
 -- a play over links to the scenario's servers is one over the servers
 pub scripted-play : (scenario : Scenario) (transcripts : List Transcript) (history : List Entry) (link : SimState)
-    → link.servers ≡ scenario.servers
-    → IsPlayOverLinks by_bytes (λ (l : SimState). Some l.servers) (λ (l : SimState). fault_count) (λ k. Some link) scenario
+    (old new : Maker SimState) → link.servers ≡ scenario.servers → ((k : ℕ) → old.opening k ≡ Some link)
+    → IsPlayOverLinks by_bytes (λ (l : SimState). Some l.servers) (λ (l : SimState). fault_count) old new scenario
     scenario.now transcripts history → IsPlay scenario transcripts history
-scripted-play scenario transcripts history link servers x =
+scripted-play scenario transcripts history link old new servers opens x =
     let way : SimState → Way (List Server) = way_of (λ (l : SimState). Some l.servers) (λ (l : SimState). fault_count) in
     record {
       legal = x.play.legal;
@@ -182,7 +183,9 @@ scripted-play scenario transcripts history link servers x =
       named = x.play.named;
       runs = transcripts-by-rules scenario scenario.now history x.play.runs
           (All-map (λ (w : Way (List Server)). w ≡ servers_way scenario) way x.made
-          (λ k d lt. let told : get_or x.made k d ≡ link = x.opened k (get_or x.made k d) (read x.made k d lt) in
+          (λ k d lt. let told : get_or x.made k d ≡ link =
+          subst (λ (o : Option SimState). IsTold o (get_or x.made k d)) (opens k)
+          (x.opened k (get_or x.made k d) (read x.made k d lt)) in
           ap way told ∙ ap (λ (s : List Server). record { state = Some s; faults = 0 }) servers))
           (All-map (λ (w : Way (List Server)). w.faults ≡ 0) way x.back (λ k d lt. refl));
     }

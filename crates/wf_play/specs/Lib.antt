@@ -1,4 +1,3 @@
 pub mod Links
 pub mod Passes
-pub mod Plays
 pub mod Private

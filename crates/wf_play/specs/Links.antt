@@ -1,26 +1,66 @@
--- A play over the links that are made for its documents, in their order.
-use Rattle.std.specs.Prelude.{◌≡◌, ℕ, List, map, slice_get, Option, Some}
+-- A play over the links that are made for its documents, in their order, and that are taken back in the same order.
+use Rattle.std.specs.Prelude.{◌≡◌, ℕ, List, [], ◌∷◌, ◌++◌, map, slice_get, Option, Some, None}
 use Rattle.wf_book.specs.declared.entry.Entry.{Entry}
-use Rattle.wf_link.specs.Links.{IsTold}
+use Rattle.wf_link.specs.Counts.{grown_by}
+use Rattle.wf_link.specs.Links.{IsTold, Lent}
 use Rattle.wf_print.specs.declared.events.Transcript.{Transcript}
 use Rattle.wf_script.specs.declared.types.Scenario.{Scenario}
 use Rattle.wf_wire.specs.Exchanges.{Answering}
-use Rattle.wf_play.specs.Plays.{IsPlayOver, Way}
+use Rattle.wf_iso.specs.Plays.{IsPlayOver, Way}
 
 -- what is told of a link
 abbrev pub way_of : {L State : Type 0} → (L → Option State) → (L → ℕ) → L → Way State
 way_of state faults link = record { state = state link; faults = faults link }
 
+-- What is told of what makes the links: the link that it makes next, at 0, the one after it, at 1, and so on; those that
+-- it took back, and how many more are out; and how often those had failed.
+pub record Maker (L : Type 0) : Type 0 where
+  pub opening : ℕ → Option L
+  pub lent : Option (Lent L)
+  pub faults : ℕ
+
+-- what makes links, as it tells
+abbrev pub maker_of : {N L : Type 0} → (N → ℕ → Option L) → (N → Option (Lent L)) → (N → ℕ) → N → Maker L
+maker_of opening lent faults links =
+    record { opening = opening links; lent = lent links; faults = faults links }
+
+-- ---- links that are made
+
 -- the links are those that were to be made, where told: the first at 0, and so on
 abbrev pub AreOpened : {L : Type 0} → (ℕ → Option L) → List L → Type 0
 AreOpened {L} opening links = (k : ℕ) (link : L) → slice_get links k ≡ Some link → IsTold (opening k) link
 
--- a play over links as they were made for the documents and as they came back
+-- ---- links that are taken back
+
+-- these were taken back, in this order, where told, and as many are out as before
+abbrev pub AreBack : {L : Type 0} → Option (Lent L) → Option (Lent L) → List L → Type 0
+AreBack None new links = Unit {0}
+AreBack (Some old) new links = new ≡ Some (record { back = old.back ++ links; out = old.out })
+
+-- a count that has grown by each of these
+abbrev pub grown_by_all : ℕ → List ℕ → ℕ
+grown_by_all count [] = count
+grown_by_all count (more ∷ rest) = grown_by_all (grown_by count more) rest
+
+-- These links were made and taken back, in this order, and their faults were counted.
+pub record TookBack {L : Type 0} (faults : L → ℕ) (old new : Maker L) (links : List L) : Type 0 where
+  pub lent : AreBack old.lent new.lent links
+  pub counted : new.faults ≡ grown_by_all old.faults (map faults links)
+
+-- Each link that was made was taken back.
+pub record HasTakenBack {L : Type 0} (faults : L → ℕ) (old new : Maker L) : Type 0 where
+  pub back : List L
+  pub took : TookBack faults old new back
+
+-- ---- the play
+
+-- A play over links as they were made for the documents, one for each, and as they were taken back.
 pub record IsPlayOverLinks {L State : Type 0} (by : Answering State) (state : L → Option State) (faults : L → ℕ)
-    (opening : ℕ → Option L) (scenario : Scenario) (base : ℕ) (transcripts : List Transcript)
-    (history : List Entry) : Type 0 where
+    (old new : Maker L) (scenario : Scenario) (base : ℕ) (transcripts : List Transcript) (history : List Entry)
+    : Type 0 where
   pub made : List L
   pub back : List L
-  pub opened : AreOpened opening made
+  pub opened : AreOpened old.opening made
+  pub took : TookBack faults old new back
   pub play : IsPlayOver by scenario base (map (way_of state faults) made) (map (way_of state faults) back)
       transcripts history

@@ -1,5 +1,5 @@
 -- Passes of the shared book for the documents of a play.
-use Rattle.std.specs.Prelude.{◌≡◌, ◌≢◌, ℕ, ◌<◌, ◌≤◌, List, [], map}
+use Rattle.std.specs.Prelude.{◌≡◌, ℕ, List, [], map}
 use Rattle.std.specs.List.{All, range_with_len}
 use Rattle.wf_book.specs.declared.book.Book.{Book}
 use Rattle.wf_turn.specs.Counts.{times}

@@ -1,2 +1,3 @@
 -- What the crate's private contracts alone cite: seats that are played.
 pub mod Seated
+pub mod Lendings

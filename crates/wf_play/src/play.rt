@@ -1,12 +1,13 @@
 // A play: the book is opened, the documents are seated and played, and the book is closed.
-ghost use Rattle.std.specs.Prelude.{◌≡◌, ◌≤◌, ◌^◌, [], length, map, vec_capacity, vec_len, IfOk};
+ghost use Rattle.std.specs.Prelude.{◌≡◌, ◌≤◌, ◌^◌, [], length, map, option_map, vec_capacity, vec_len, IfOk, OnErr};
 ghost use Rattle.wf_print.specs.Text.{HasText};
 ghost use Rattle.wf_script.specs.Valid.{IsValid};
 ghost use Rattle.wf_turn.specs.Passes.{IsOneHistory, opening_of};
 ghost use Rattle.wf_wire.specs.Wires.{over_link};
-ghost use Rattle.wf_play.specs.Links.{IsPlayOverLinks};
+ghost use Rattle.wf_play.specs.Links.{HasTakenBack, IsPlayOverLinks, maker_of};
 ghost use Rattle.wf_play.specs.Passes.{IsNew};
-ghost use Rattle.wf_play.specs.Plays.{IsPlay, opening_book};
+ghost use Rattle.wf_iso.specs.Plays.{IsPlay, opening_book};
+ghost use Rattle.wf_play.specs.Private.Lendings.{out_more};
 ghost use Rattle.wf_play.specs.Private.Seated.{IsSeatedPlay};
 ghost use Rattle.std.specs.List.{All, range_with_len};
 
@@ -53,6 +54,8 @@ fn play_seated<R: Threads + Wait + Sync, N: Links>(
         N.Link.faults (N.opening links.old) book.now.table.shared.table_id scenario.entry.now base passes.items
         seats.new.items transcripts) }
     ensures few { length seats.new.items ≤ length scenario.entry.now.documents }
+    ensures out { N.lent links.new ≡ option_map (out_more (length seats.new.items)) (N.lent links.old) }
+    ensures faults { N.faults links.new ≡ N.faults links.old }
 {
     seat_all(alloc, scenario, passes, links, seats)?;
     let transcripts = play_all(rt, alloc, scenario, base, book, seats)?;
@@ -69,7 +72,7 @@ fn play_seated<R: Threads + Wait + Sync, N: Links>(
 /// order, also where memory was refused.
 ///
 /// `OutOfMemory` where memory was refused, to a document or to what surrounds them, or where no link could
-/// be made.
+/// be made; then the links that were made were taken back.
 pub fn play_over<R: Threads + Wait + Sync, N: Links>(
     rt: &R,
     alloc: Global,
@@ -80,7 +83,10 @@ pub fn play_over<R: Threads + Wait + Sync, N: Links>(
     requires valid { IsValid scenario.now }
     requires base { base ≤ 2 ^ 40 }
     ensures played { IfOk result (λ played. IsPlayOverLinks (over_link N.Link.answer N.Link.next) N.Link.state N.Link.faults
-        (N.opening links.old) scenario.entry.now base played.transcripts played.history) }
+        (maker_of N.opening N.lent N.faults links.old) (maker_of N.opening N.lent N.faults links.new)
+        scenario.entry.now base played.transcripts played.history) }
+    ensures refused { OnErr result (HasTakenBack N.Link.faults
+        (maker_of N.opening N.lent N.faults links.old) (maker_of N.opening N.lent N.faults links.new)) }
     ensures has_text { IfOk result (λ played. HasText played.transcripts) }
 {
     let opening = opened(alloc, scenario.hosts.as_slice())?;

@@ -1,6 +1,8 @@
 // The seats of the documents: each has a pass of the shared book, and a link.
-ghost use Rattle.std.specs.Prelude.{◌≡◌, ◌≤◌, ◌+◌, ◌++◌, [], length, map, vec_capacity, vec_len, OnOk};
-ghost use Rattle.wf_play.specs.Links.{AreOpened};
+ghost use Rattle.std.specs.Prelude.{◌≡◌, ◌≤◌, ◌+◌, ◌++◌, [], length, map, option_map, vec_capacity, vec_len, OnOk};
+ghost use Rattle.wf_play.specs.Links.{AreOpened, grown_by_all};
+ghost use Rattle.wf_play.specs.Private.Lendings.{AreTaken, out_more};
+ghost use Rattle.wf_play.specs.Private.Seated.{links_in};
 
 use std::alloc::Global;
 use wf_link::Links;
@@ -23,6 +25,8 @@ pub(crate) fn seat_all<N: Links>(
     ensures passes { OnOk result (map (λ s. s.pass) seats.new.items ≡ passes.items) }
     ensures opened { OnOk result (AreOpened (N.opening links.old) (map (λ s. s.link) seats.new.items)) }
     ensures few { length seats.new.items ≤ vec_len passes }
+    ensures out { N.lent links.new ≡ option_map (out_more (length seats.new.items)) (N.lent links.old) }
+    ensures faults { N.faults links.new ≡ N.faults links.old }
 {
     let mut number = 0u32;
     for pass in passes {
@@ -42,6 +46,8 @@ pub(crate) fn unseat<N: Links>(
     requires room { vec_len seats + vec_len passes.old ≤ vec_capacity passes.old }
     ensures passes { passes.new.items ≡ passes.old.items ++ map (λ s. s.pass) seats.items }
     ensures room { vec_capacity passes.new ≡ vec_capacity passes.old }
+    ensures back { AreTaken (N.lent links.old) (N.lent links.new) (links_in seats.items) }
+    ensures faults { N.faults links.new ≡ grown_by_all (N.faults links.old) (map N.Link.faults (links_in seats.items)) }
 {
     for seating in seats {
         let Seating { pass, link } = seating;

@@ -328,29 +328,3 @@ module _ {State : Type 0} (by : Answering State) (limit document : ℕ) (lent : 
       (standing_of a new)
   command-waited seconds a old new is =
       rw is (record { tape = []; made = []; added = sym (append-nil old.shown); trace = λ next. stop })
-
--- ---- limits
-
-cond-told : (many long : Bool) → cond many (Some Fetches) (cond long (Some Text) None) ≢ Some Memory
-cond-told true long = λ bad. absurd (cc)
-cond-told false true = λ bad. absurd (cc)
-cond-told false false = λ bad. absurd (cc)
-
-own-told : (one : Step) (progress : Progress) → own_limit one progress ≢ Some Memory
-own-told (script.fetch init) progress =
-    cond-told (nat_le 1024 progress.fetches) (nat_lt 8388608 (text_length progress.shown))
-own-told (script.load init) progress =
-    cond-told (nat_le 1024 progress.fetches) (nat_lt 8388608 (text_length progress.shown))
-own-told (script.wait seconds) progress = λ bad. absurd (cc)
-own-told (script.repeat times part) progress = λ bad. absurd (cc)
-own-told (script.choose test part other) progress = λ bad. absurd (cc)
-
-commands-told : (all : Bool) (own : Option Ending) → own ≢ Some Memory → cond all (Some Commands) own ≢ Some Memory
-commands-told true own told = λ bad. absurd (cc)
-commands-told false own told = told
-
--- no limit is want of memory
-pub limit-told : (one : Step) (progress : Progress) (reached : Option Ending) → reached ≡ limit_before one progress
-    → reached ≢ Some Memory
-limit-told one progress reached is = λ bad. commands-told (nat_le 16384 progress.commands) (own_limit one progress)
-    (own-told one progress) (sym is ∙ bad)

@@ -143,8 +143,9 @@ fn listed(alloc: Global, transcripts: Vec<Transcript>) -> Result<Transcripts, Ou
 /// made, from a time in seconds on, which is at most 2^40. There is one seat for each document, in their
 /// order, whose pass is for the document of that number and has 129,024 calls left.
 ///
-/// Each document's transcript stands in its place, and is what `drive` promises of one. Where memory is
-/// refused to a document it ends with the ending `Memory`; the others go on. `OutOfMemory` where memory
+/// Each document's transcript stands in its place, and with its seat before and behind the play it is that
+/// of a run as `drive` has one. Where memory is refused to a document it ends with the ending `Memory`; the
+/// others go on. `OutOfMemory` where memory
 /// was refused to what surrounds them: the passes are then still those of the same documents and of this
 /// share, and the calls that were made stand.
 pub fn play_all<R: Threads + Wait + Sync, S: Share + Sync, L: Link + Send + Drop>(

@@ -15,17 +15,21 @@ use Rattle.wf_print.specs.declared.failure.Failure.{Failure}
 use Rattle.wf_print.specs.declared.failure.Failure.TheVariants as failure
 use Rattle.wf_print.specs.Summary.{summary_text}
 use Rattle.wf_print.specs.Text.{play_text}
-use Rattle.wf_play.specs.Plays.{IsPlay}
+use Rattle.wf_wire.specs.Exchanges.{Answering}
+use Rattle.wf_play.specs.Links.{HasTakenBack}
+use Rattle.wf_play.proofs.LinkLemmas.{none-taken}
+use Rattle.wf_top.specs.Private.Steps.{IsRead, IsUnread, IsWhyNone, IsWritten}
 use Rattle.wf_top.specs.Program.{most_input, IsWhole, WritesPlay, IsCause, IsPlayed, IsVerdict, IsComplained, IsTold}
-use Rattle.wf_top.specs.Program.{IsOutcome, IsAnswer, IsExcused, IsExcusedRead, IsSummed, WritesSummary}
+use Rattle.wf_top.specs.Program.{AreLeft, IsAnswer, IsExcused, IsExcusedRead, IsLinked, IsScripted, IsSummed}
+use Rattle.wf_top.specs.Program.{WritesSummary}
 use Rattle.wf_top.specs.Program.{GeneratedPlay, PlayOf, WritesSummaryPart, GaveFor, AnswersInput, AnswersCount, Answers}
 use Rattle.wf_top.specs.Statuses.{complaint, written_status}
-use Rattle.wf_top.specs.Streams.{Source, Sink, Failed}
+use Rattle.wf_top.specs.Streams.{Source, Sink, Net, Failed}
 use Rattle.wf_top.specs.Words.{subcommand_of}
 use Rattle.wf_top.specs.declared.status.Status.{Status}
 use Rattle.wf_top.specs.declared.status.Status.TheVariants as status
 use Rattle.wf_top.specs.declared.words.Subcommand.{Subcommand}
-use Rattle.wf_top.specs.declared.words.Subcommand.TheVariants.{Gen, Play}
+use Rattle.wf_top.specs.declared.words.Subcommand.TheVariants.{Gen, Net as Over, Play}
 
 -- ---- what was told
 
@@ -119,18 +123,53 @@ module _ (Plays : Scenario → List Transcript → List Entry → Type 0) where
   bound-at input input' output output' bytes status.OutOfMemory c = omega (arith, c.0)
   bound-at input input' output output' bytes status.InputTooLong c = omega (arith, c.0)
 
-  -- what the bytes of the whole input come to is the cause
-  pub whole_cause : (bytes : List ℕ) (input input' : Source) (output output' : Sink) (verdict : Status)
-      → IsWhole bytes input' → IsOutcome Plays bytes output output' verdict
-      → IsCause Plays bytes input input' output output' verdict
-  whole_cause bytes input input' output output' status.Ok whole o = (whole, o)
-  whole_cause bytes input input' output output' status.Usage whole o = absurd o
-  whole_cause bytes input input' output output' (status.Scenario place) whole o = (whole, o)
-  whole_cause bytes input input' output output' status.ReadFault whole o = absurd o
-  whole_cause bytes input input' output output' status.WriteFault whole o = (whole, o)
-  whole_cause bytes input input' output output' status.OutOfMemory whole o =
-      (whole.short, elim o [ inl same ↦ inl same | inr part ↦ inr (whole, part) ])
-  whole_cause bytes input input' output output' status.InputTooLong whole o = absurd o
+  -- an input of which no scenario was read
+  pub unread-played : (input input' : Source) (output : Sink) (verdict : Status) → IsUnread input input' verdict
+      → IsPlayed Plays input input' output output verdict
+  unread-played input input' output verdict u =
+      record { bytes = u.bytes; gave = u.gave; cause = cause verdict u.why }
+    where
+      cause : (v : Status) → IsWhyNone u.bytes input input' v → IsCause Plays u.bytes input input' output output v
+      cause status.Ok why = absurd why
+      cause status.Usage why = absurd why
+      cause (status.Scenario place) why = (why.0, (why.1, refl))
+      cause status.ReadFault why = (why.0, why.1, refl)
+      cause status.WriteFault why = absurd why
+      cause status.OutOfMemory why = (why, inl refl)
+      cause status.InputTooLong why = (why, refl)
+
+  -- a scenario that could not be played
+  pub refused-played : (input input' : Source) (output : Sink) (scenario : Scenario) → IsRead input input' scenario
+      → IsPlayed Plays input input' output output status.OutOfMemory
+  refused-played input input' output scenario r =
+      record { bytes = r.bytes; gave = r.gave; cause = (r.whole.short, inl refl) }
+
+  -- a scenario that was played, and the text of its play written
+  pub written-played : (input input' : Source) (output output' : Sink) (scenario : Scenario)
+      (transcripts : List Transcript) (history : List Entry) (verdict : Status) → IsRead input input' scenario
+      → Plays scenario transcripts history → IsWritten transcripts history output output' verdict
+      → IsPlayed Plays input input' output output' verdict
+  written-played input input' output output' scenario transcripts history verdict r play w =
+      record { bytes = r.bytes; gave = r.gave; cause = cause verdict w }
+    where
+      of : PlayOf Plays r.bytes
+      of = record {
+        scenario = scenario;
+        read = r.read;
+        transcripts = transcripts;
+        history = history;
+        play = play;
+      }
+
+      cause : (v : Status) → IsWritten transcripts history output output' v
+          → IsCause Plays r.bytes input input' output output' v
+      cause status.Ok w = (r.whole, record { of = of; took = w })
+      cause status.Usage w = absurd w
+      cause (status.Scenario place) w = absurd w
+      cause status.ReadFault w = absurd w
+      cause status.WriteFault w = (r.whole, (record { of = of; took = w.0 }, w.1))
+      cause status.OutOfMemory w = (r.whole.short, inr (r.whole, record { of = of; took = w }))
+      cause status.InputTooLong w = absurd w
 
   -- ---- exactly where
 
@@ -337,23 +376,21 @@ module _ (count : ℕ) where
 
 -- ---- what was written
 
--- what the bytes of a scenario come to, by what came of writing the text of its play
-pub play-outcome : (bytes : List ℕ) (of : PlayOf IsPlay bytes) (output output' : Sink)
+-- the verdict by what came of writing the text of a play
+pub text-written : (transcripts : List Transcript) (history : List Entry) (output output' : Sink)
     (written : Result (Unit {0}) Failure)
-    → OnOk written (Took output.taken output'.taken (play_text of.transcripts of.history))
-    → OnErr written (TookPart output.taken output'.taken (play_text of.transcripts of.history))
+    → OnOk written (Took output.taken output'.taken (play_text transcripts history))
+    → OnErr written (TookPart output.taken output'.taken (play_text transcripts history))
     → (written ≡ Err failure.Fault → Rose output.faults output'.faults)
     → (written ≡ Err failure.TookNothing → Rose output.zeros output'.zeros)
-    → IsOutcome IsPlay bytes output output' (written_status written)
-play-outcome bytes of output output' (Ok u) took part fault nothing = record { of = of; took = took }
-play-outcome bytes of output output' (Err failure.OutOfMemory) took part fault nothing =
-    inr (record { of = of; took = part })
-play-outcome bytes of output output' (Err failure.Fault) took part fault nothing =
-    (record { of = of; took = part }, inl (fault refl))
-play-outcome bytes of output output' (Err failure.TookNothing) took part fault nothing =
-    (record { of = of; took = part }, inr (nothing refl))
+    → IsWritten transcripts history output output' (written_status written)
+text-written transcripts history output output' (Ok u) took part fault nothing = took
+text-written transcripts history output output' (Err failure.OutOfMemory) took part fault nothing = part
+text-written transcripts history output output' (Err failure.Fault) took part fault nothing = (part, inl (fault refl))
+text-written transcripts history output output' (Err failure.TookNothing) took part fault nothing =
+    (part, inr (nothing refl))
 
--- the same of a summary
+-- the verdict by what came of writing a summary
 pub summary-outcome : (count : ℕ) (of : GeneratedPlay count) (output output' : Sink)
     (written : Result (Unit {0}) Failure)
     → OnOk written (Took output.taken output'.taken (summary_text count of.transcripts of.history))
@@ -369,68 +406,139 @@ summary-outcome count of output output' (Err failure.Fault) took part fault noth
 summary-outcome count of output output' (Err failure.TookNothing) took part fault nothing =
     (record { of = of; took = part }, inr (nothing refl))
 
+-- ---- links and clock
+
+-- links that are as they were, or whose play was one, were all taken back
+pub left-played : {L State : Type 0} (by : Answering State) (state : L → Option State) (faults : L → ℕ)
+    (net net' : Net L) (transcripts : List Transcript) (history : List Entry) (output output' : Sink)
+    (verdict : Status) → IsWritten transcripts history output output' verdict
+    → HasTakenBack faults net.links net'.links → AreLeft by state faults net net' verdict
+left-played by state faults net net' transcripts history output output' status.Ok w back = back
+left-played by state faults net net' transcripts history output output' status.Usage w back = absurd w
+left-played by state faults net net' transcripts history output output' (status.Scenario place) w back = absurd w
+left-played by state faults net net' transcripts history output output' status.ReadFault w back = absurd w
+left-played by state faults net net' transcripts history output output' status.WriteFault w back = back
+left-played by state faults net net' transcripts history output output' status.OutOfMemory w back = back
+left-played by state faults net net' transcripts history output output' status.InputTooLong w back = absurd w
+
+-- where no scenario was read they are as they were
+pub left-unread : {L State : Type 0} (by : Answering State) (state : L → Option State) (faults : L → ℕ) (net : Net L)
+    (input input' : Source) (verdict : Status) → IsUnread input input' verdict → AreLeft by state faults net net verdict
+left-unread by state faults net input input' verdict u = left verdict u.why
+  where
+    left : (v : Status) → IsWhyNone u.bytes input input' v → AreLeft by state faults net net v
+    left status.Ok why = absurd why
+    left status.Usage why = absurd why
+    left (status.Scenario place) why = refl
+    left status.ReadFault why = refl
+    left status.WriteFault why = absurd why
+    left status.OutOfMemory why = none-taken faults net.links
+    left status.InputTooLong why = refl
+
+left-back : {L State : Type 0} (by : Answering State) (state : L → Option State) (faults : L → ℕ) (net net' : Net L)
+    (verdict : Status) → AreLeft by state faults net net' verdict → HasTakenBack faults net.links net'.links
+left-back {L} by state faults net net' verdict left = back verdict left
+  where
+    same : net' ≡ net → HasTakenBack faults net.links net'.links
+    same is = subst (λ (n : Net L). HasTakenBack faults net.links n.links) (sym is) (none-taken faults net.links)
+
+    back : (v : Status) → AreLeft by state faults net net' v → HasTakenBack faults net.links net'.links
+    back status.Ok left = left
+    back status.WriteFault left = left
+    back status.OutOfMemory left = left
+    back status.Usage left = same left
+    back (status.Scenario place) left = same left
+    back status.ReadFault left = same left
+    back status.InputTooLong left = same left
+
 -- ---- the verdict
 
-play-verdict : (asked : Option Subcommand) (input input' : Source) (output output' : Sink) (verdict : Status)
-    → asked ≡ Some Play → IsVerdict asked input input' output output' verdict
-    → IsPlayed IsPlay input input' output output' verdict
-play-verdict asked input input' output output' verdict is v =
-    subst (λ (a : Option Subcommand). IsVerdict a input input' output output' verdict) is v
+module _ {L State : Type 0} (by : Answering State) (state : L → Option State) (faults : L → ℕ) (net net' : Net L) where
+  -- the verdict by other words that are equal
+  verdict-at : (asked other : Option Subcommand) (input input' : Source) (output output' : Sink) (verdict : Status)
+      → asked ≡ other → IsVerdict by state faults net net' asked input input' output output' verdict
+      → IsVerdict by state faults net net' other input input' output output' verdict
+  verdict-at asked other input input' output output' verdict is v =
+      subst (λ (a : Option Subcommand). IsVerdict by state faults net net' a input input' output output' verdict) is v
 
-gen-verdict : (asked : Option Subcommand) (count : ℕ) (input input' : Source) (output output' : Sink)
-    (verdict : Status) → asked ≡ Some (Gen count) → IsVerdict asked input input' output output' verdict
-    → (input' ≡ input) × IsSummed count output output' verdict
-gen-verdict asked count input input' output output' verdict is v =
-    subst (λ (a : Option Subcommand). IsVerdict a input input' output output' verdict) is v
+  usage-of : (asked : Option Subcommand) (input input' : Source) (output output' : Sink) (verdict : Status)
+      → asked ≡ None → IsVerdict by state faults net net' asked input input' output output' verdict
+      → verdict ≡ status.Usage
+  usage-of asked input input' output output' verdict is v =
+      (verdict-at asked None input input' output output' verdict is v).0
 
-usage-of : (asked : Option Subcommand) (input input' : Source) (output output' : Sink) (verdict : Status)
-    → asked ≡ None → IsVerdict asked input input' output output' verdict → verdict ≡ status.Usage
-usage-of asked input input' output output' verdict is v =
-    let n : (verdict ≡ status.Usage) × (input' ≡ input) × (output' ≡ output) =
-    subst (λ (a : Option Subcommand). IsVerdict a input input' output output' verdict) is v in n.0
+  not_accepted-of : (asked : Option Subcommand) (input input' : Source) (output output' : Sink) (verdict : Status)
+      → verdict ≡ status.Usage → IsVerdict by state faults net net' asked input input' output output' verdict
+      → asked ≡ None
+  not_accepted-of None input input' output output' verdict is v = refl
+  not_accepted-of (Some Play) input input' output output' verdict is v =
+      absurd (input-usage IsScripted input input' output output' verdict v.0 is)
+  not_accepted-of (Some Over) input input' output output' verdict is v =
+      absurd (input-usage (IsLinked by state faults net net') input input' output output' verdict v.0 is)
+  not_accepted-of (Some (Gen count)) input input' output output' verdict is v =
+      absurd (summed-usage count output output' verdict v.0 is)
 
-not_accepted-of : (asked : Option Subcommand) (input input' : Source) (output output' : Sink) (verdict : Status)
-    → verdict ≡ status.Usage → IsVerdict asked input input' output output' verdict → asked ≡ None
-not_accepted-of None input input' output output' verdict is v = refl
-not_accepted-of (Some Play) input input' output output' verdict is v =
-    absurd (input-usage IsPlay input input' output output' verdict v is)
-not_accepted-of (Some (Gen count)) input input' output output' verdict is v =
-    absurd (summed-usage count output output' verdict v.1 is)
+  verdict-write : (asked : Option Subcommand) (input input' : Source) (output output' : Sink) (verdict : Status)
+      → verdict ≡ status.WriteFault → IsVerdict by state faults net net' asked input input' output output' verdict
+      → Failed output output'
+  verdict-write None input input' output output' verdict is v = absurd (other (sym v.0 ∙ is))
+    where
+      other : status.Usage ≡ status.WriteFault → ⊥
+      other h = cc
+  verdict-write (Some Play) input input' output output' verdict is v =
+      input-write IsScripted input input' output output' verdict v.0 is
+  verdict-write (Some Over) input input' output output' verdict is v =
+      input-write (IsLinked by state faults net net') input input' output output' verdict v.0 is
+  verdict-write (Some (Gen count)) input input' output output' verdict is v =
+      summed-write count output output' verdict v.0 is
 
-verdict-write : (asked : Option Subcommand) (input input' : Source) (output output' : Sink) (verdict : Status)
-    → verdict ≡ status.WriteFault → IsVerdict asked input input' output output' verdict → Failed output output'
-verdict-write None input input' output output' verdict is v = absurd (other (sym v.0 ∙ is))
-  where
-    other : status.Usage ≡ status.WriteFault → ⊥
-    other h = cc
-verdict-write (Some Play) input input' output output' verdict is v =
-    input-write IsPlay input input' output output' verdict v is
-verdict-write (Some (Gen count)) input input' output output' verdict is v =
-    summed-write count output output' verdict v.1 is
+  kept-of : (asked : Option Subcommand) (input input' : Source) (output output' : Sink) (verdict : Status)
+      → IsVerdict by state faults net net' asked input input' output output' verdict → asked ≢ Some Over → net' ≡ net
+  kept-of None input input' output output' verdict v other = v.3
+  kept-of (Some Play) input input' output output' verdict v other = v.1
+  kept-of (Some Over) input input' output output' verdict v other = absurd (other refl)
+  kept-of (Some (Gen count)) input input' output output' verdict v other = v.2
 
 -- ---- the whole
 
 -- the account of an answer says what the program promises
-pub answers : (words : List (List ℕ)) (input input' : Source) (output output' c c' : Sink) (answer : Status)
-    → IsAnswer words input input' output output' c c' answer → Answers words input input' output output' c c' answer
-answers words input input' output output' c c' answer a =
+pub answers : {L State : Type 0} (by : Answering State) (state : L → Option State) (faults : L → ℕ)
+    (words : List (List ℕ)) (input input' : Source) (output output' c c' : Sink) (net net' : Net L) (answer : Status)
+    → IsAnswer by state faults words input input' output output' c c' net net' answer
+    → Answers by state faults words input input' output output' c c' net net' answer
+answers by state faults words input input' output output' c c' net net' answer a =
     let asked = subcommand_of words in
     let told = told-answer c c' a.verdict answer a.is_told in
     record {
       is_answer = a;
-      usage = λ is. not_accepted-of asked input input' output output' a.verdict
+      usage = λ is. not_accepted-of by state faults net net' asked input input' output output' a.verdict
           (told-same c c' a.verdict answer a.is_told (λ h. usage_write (sym is ∙ h)) ∙ is) a.is_verdict;
       not_accepted = λ no_words. elim told [
-        | inl e ↦ inl (e ∙ usage-of asked input input' output output' a.verdict no_words a.is_verdict)
+        | inl e ↦ inl (e ∙ usage-of by state faults net net' asked input input' output output' a.verdict no_words
+            a.is_verdict)
         | inr x ↦ inr x
       ];
-      play = λ is. input-answers IsPlay input input' output output' c c' a.verdict answer
-          (play-verdict asked input input' output output' a.verdict is a.is_verdict) a.is_told;
+      play = λ is.
+          let v = verdict-at by state faults net net' asked (Some Play) input input' output output' a.verdict is
+          a.is_verdict in
+          input-answers IsScripted input input' output output' c c' a.verdict answer v.0 a.is_told;
+      net = λ is.
+          let v = verdict-at by state faults net net' asked (Some Over) input input' output output' a.verdict is
+          a.is_verdict in
+          input-answers (IsLinked by state faults net net') input input' output output' c c' a.verdict answer v.0
+          a.is_told;
       gen = λ count is.
-          let v = gen-verdict asked count input input' output output' a.verdict is a.is_verdict in
-          count-answers count input input' output output' c c' a.verdict answer v.0 v.1 a.is_told;
+          let v = verdict-at by state faults net net' asked (Some (Gen count)) input input' output output' a.verdict is
+          a.is_verdict in
+          count-answers count input input' output output' c c' a.verdict answer v.1 v.0 a.is_told;
+      kept = kept-of by state faults net net' asked input input' output output' a.verdict a.is_verdict;
+      back = λ is.
+          let v = verdict-at by state faults net net' asked (Some Over) input input' output output' a.verdict is
+          a.is_verdict in
+          left-back by state faults net net' a.verdict v.1;
       write_fault = λ is. elim told [
-        | inl e ↦ inl (verdict-write asked input input' output output' a.verdict (sym e ∙ is) a.is_verdict)
+        | inl e ↦ inl (verdict-write by state faults net net' asked input input' output output' a.verdict (sym e ∙ is)
+            a.is_verdict)
         | inr x ↦ inr x.1
       ];
       told = told-line c c' a.verdict answer a.is_told;

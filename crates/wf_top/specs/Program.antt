@@ -1,6 +1,7 @@
 -- What the program answers to its words: its verdict by the words and the bytes of the input, what it has written
--- then, and what it tells the complaints. A play is one as wf_play's definition has it.
-use Rattle.std.specs.Prelude.{◌≡◌, ◌≢◌, ℕ, ◌+◌, ◌≤◌, ◌<◌, ◌⊎◌, List, length, Option, Some, None, Ok, Err}
+-- then, and what it tells the complaints. What a play is, and that in it each document sends and sees what it would
+-- alone, wf_iso's definitions say.
+use Rattle.std.specs.Prelude.{◌≡◌, ◌≢◌, ℕ, ◌+◌, ◌≤◌, ◌<◌, ◌⊎◌, min, List, length, map, Option, Some, None, Ok, Err}
 use Rattle.wf_book.specs.declared.entry.Entry.{Entry}
 use Rattle.wf_link.specs.Counts.{Rose}
 use Rattle.wf_link.specs.Sinks.{Took, TookPart}
@@ -12,14 +13,17 @@ use Rattle.wf_script.specs.declared.types.Place.{Place}
 use Rattle.wf_script.specs.declared.types.Scenario.{Scenario}
 use Rattle.wf_script.specs.Generated.{generated}
 use Rattle.wf_script.specs.Scenarios.{scenario_of}
-use Rattle.wf_play.specs.Plays.{IsPlay}
+use Rattle.wf_wire.specs.Exchanges.{Answering}
+use Rattle.wf_iso.specs.Isolated.{AreAlone, IsIsolated}
+use Rattle.wf_iso.specs.Plays.{IsPlay, by_rules, ways_to_servers}
+use Rattle.wf_play.specs.Links.{HasTakenBack, IsPlayOverLinks, way_of}
 use Rattle.wf_top.specs.Statuses.{complaint}
-use Rattle.wf_top.specs.Streams.{Source, Sink, Failed}
+use Rattle.wf_top.specs.Streams.{Source, Sink, Net, Failed}
 use Rattle.wf_top.specs.Words.{subcommand_of}
 use Rattle.wf_top.specs.declared.status.Status.{Status}
 use Rattle.wf_top.specs.declared.status.Status.TheVariants as status
 use Rattle.wf_top.specs.declared.words.Subcommand.{Subcommand}
-use Rattle.wf_top.specs.declared.words.Subcommand.TheVariants.{Gen, Play}
+use Rattle.wf_top.specs.declared.words.Subcommand.TheVariants.{Gen, Net as Over, Play}
 
 -- the longest input, in bytes
 abbrev pub most_input : ℕ
@@ -29,6 +33,41 @@ most_input = 4194304
 pub record IsWhole (bytes : List ℕ) (new : Source) : Type 0 where
   pub end : IsAtEnd new.left
   pub short : length bytes ≤ most_input
+
+-- ---- plays
+
+-- a play of the scenario over its own servers, in which what each document sends and sees is what it would alone
+abbrev pub IsScripted : Scenario → List Transcript → List Entry → Type 0
+IsScripted scenario transcripts history =
+    IsIsolated by_rules scenario scenario.now (ways_to_servers scenario) (ways_to_servers scenario) transcripts history
+
+-- the latest time at which a play over links begins, in seconds
+abbrev pub most_base : ℕ
+most_base = 1099511627776
+
+-- the time at which it begins: the clock's answer, where told, if that is not too late
+abbrev pub IsBase : Option ℕ → ℕ → Type 0
+IsBase None base = base ≤ most_base
+IsBase (Some time) base = base ≡ min time most_base
+
+-- Over links:
+module _ {L State : Type 0} (by : Answering State) (state : L → Option State) (faults : L → ℕ) (old new : Net L) where
+  -- A play of the scenario over the links that are made for its documents, from the clock's time on, in which what each
+  -- document sends and sees is what it would alone.
+  pub record IsLinked (scenario : Scenario) (transcripts : List Transcript) (history : List Entry) : Type 0 where
+    pub base : ℕ
+    pub base_is : IsBase old.time base
+    pub over : IsPlayOverLinks by state faults old.links new.links scenario base transcripts history
+    pub alone : AreAlone by scenario base history 0 scenario.documents (map (way_of state faults) over.made)
+        (map (way_of state faults) over.back) transcripts
+
+  -- what is left of the links and the clock: as they were, where nothing was played; else each link that was made was
+  -- taken back
+  abbrev pub AreLeft : Status → Type 0
+  AreLeft status.Ok = HasTakenBack faults old.links new.links
+  AreLeft status.WriteFault = HasTakenBack faults old.links new.links
+  AreLeft status.OutOfMemory = HasTakenBack faults old.links new.links
+  AreLeft verdict = new ≡ old
 
 -- ---- a scenario that is read
 
@@ -110,14 +149,20 @@ IsSummed count output output' status.InputTooLong = ⊥
 
 -- ---- the whole
 
--- The verdict, by what the words ask for: Usage exactly where they are not accepted, and then nothing was read or
--- written; with `gen` nothing was read.
-abbrev pub IsVerdict : Option Subcommand → Source → Source → Sink → Sink → Status → Type 0
-IsVerdict None input input' output output' verdict =
-    (verdict ≡ status.Usage) × (input' ≡ input) × (output' ≡ output)
-IsVerdict (Some Play) input input' output output' verdict = IsPlayed IsPlay input input' output output' verdict
-IsVerdict (Some (Gen count)) input input' output output' verdict =
-    (input' ≡ input) × IsSummed count output output' verdict
+-- By what answers over the links, what a link tells of itself, and the links and the clock at first and at last:
+module _ {L State : Type 0} (by : Answering State) (state : L → Option State) (faults : L → ℕ) (net net' : Net L) where
+  -- The verdict, by what the words ask for: Usage exactly where they are not accepted, and then nothing was read or
+  -- written; with `gen` nothing was read. With `net` alone links and the clock are used.
+  abbrev pub IsVerdict : Option Subcommand → Source → Source → Sink → Sink → Status → Type 0
+  IsVerdict None input input' output output' verdict =
+      (verdict ≡ status.Usage) × (input' ≡ input) × (output' ≡ output) × (net' ≡ net)
+  IsVerdict (Some Play) input input' output output' verdict =
+      IsPlayed IsScripted input input' output output' verdict × (net' ≡ net)
+  IsVerdict (Some Over) input input' output output' verdict =
+      IsPlayed (IsLinked by state faults net net') input input' output output' verdict
+      × AreLeft by state faults net net' verdict
+  IsVerdict (Some (Gen count)) input input' output output' verdict =
+      IsSummed count output output' verdict × (input' ≡ input) × (net' ≡ net)
 
 -- the complaints have taken the verdict's line and the program answers it; or a part of the line, since
 -- they failed, and it answers WriteFault
@@ -131,11 +176,12 @@ abbrev pub IsTold : Sink → Sink → Status → Status → Type 0
 IsTold old new status.Ok answer = (answer ≡ status.Ok) × (new ≡ old)
 IsTold old new verdict answer = IsComplained old new verdict answer
 
--- how the program came to its answer: it came to a verdict first, and told it then
-pub record IsAnswer (words : List (List ℕ)) (input input' : Source) (output output' complaints complaints' : Sink)
+-- How the program came to its answer: it came to a verdict first, and told it then.
+pub record IsAnswer {L State : Type 0} (by : Answering State) (state : L → Option State) (faults : L → ℕ)
+    (words : List (List ℕ)) (input input' : Source) (output output' complaints complaints' : Sink) (net net' : Net L)
     (answer : Status) : Type 0 where
   pub verdict : Status
-  pub is_verdict : IsVerdict (subcommand_of words) input input' output output' verdict
+  pub is_verdict : IsVerdict by state faults net net' (subcommand_of words) input input' output output' verdict
   pub is_told : IsTold complaints complaints' verdict answer
 
 -- the other answers that a play without a fault of its scenario can have: memory was refused, or the complaints or
@@ -201,18 +247,25 @@ pub record AnswersCount (count : ℕ) (input input' : Source) (output output' co
 
 -- What the program promises of its answer. The first field says all; the others are what it says of each
 -- status.
-pub record Answers (words : List (List ℕ)) (input input' : Source) (output output' complaints complaints' : Sink)
+pub record Answers {L State : Type 0} (by : Answering State) (state : L → Option State) (faults : L → ℕ)
+    (words : List (List ℕ)) (input input' : Source) (output output' complaints complaints' : Sink) (outer outer' : Net L)
     (answer : Status) : Type 0 where
-  pub is_answer : IsAnswer words input input' output output' complaints complaints' answer
+  pub is_answer : IsAnswer by state faults words input input' output output' complaints complaints' outer outer' answer
   -- Usage only where the words are not accepted, and there always, unless the complaints failed
   pub usage : answer ≡ status.Usage → subcommand_of words ≡ None
   pub not_accepted : subcommand_of words ≡ None
       → (answer ≡ status.Usage) ⊎ ((answer ≡ status.WriteFault) × Failed complaints complaints')
   -- what the accepted words ask for
   pub play : subcommand_of words ≡ Some Play
-      → AnswersInput IsPlay input input' output output' complaints complaints' answer
+      → AnswersInput IsScripted input input' output output' complaints complaints' answer
+  pub net : subcommand_of words ≡ Some Over
+      → AnswersInput (IsLinked by state faults outer outer') input input' output output' complaints complaints' answer
   pub gen : (count : ℕ) → subcommand_of words ≡ Some (Gen count)
       → AnswersCount count input input' output output' complaints complaints' answer
+  -- with other words than `net` links and clock are left as they were, and with `net` each link that was made was
+  -- taken back
+  pub kept : subcommand_of words ≢ Some Over → outer' ≡ outer
+  pub back : subcommand_of words ≡ Some Over → HasTakenBack faults outer.links outer'.links
   -- WriteFault only where a sink failed or took nothing
   pub write_fault : answer ≡ status.WriteFault → Failed output output' ⊎ Failed complaints complaints'
   -- another answer than Ok and WriteFault is told by its whole line

@@ -1,6 +1,7 @@
--- What contracts see of the program's streams at one moment.
+-- What contracts see of the program's streams, links and clock at one moment.
 use Rattle.std.specs.Prelude.{ℕ, List, Option, ◌⊎◌}
 use Rattle.wf_link.specs.Counts.{Rose}
+use Rattle.wf_play.specs.Links.{Maker}
 
 -- a source: the bytes left, where it tells, and its count of faults
 pub record Source : Type 0 where
@@ -22,3 +23,11 @@ sink_of taken faults zeros stream = record { taken = taken stream; faults = faul
 -- a sink failed, or took nothing
 abbrev pub Failed : Sink → Sink → Type 0
 Failed old new = Rose old.faults new.faults ⊎ Rose old.zeros new.zeros
+
+-- what plays over links use besides: what makes the links, and the clock's next answer, where it tells
+pub record Net (L : Type 0) : Type 0 where
+  pub links : Maker L
+  pub time : Option ℕ
+
+abbrev pub net_of : {C L : Type 0} → Maker L → (C → Option ℕ) → C → Net L
+net_of links next clock = record { links = links; time = next clock }

@@ -5,7 +5,7 @@ use Rattle.std.specs.Global.{Global}
 use Rattle.std.specs.Str.Parse.{digits_value}
 use Rattle.wf_text.specs.Digits.{is_digits}
 use Rattle.wf_top.specs.declared.words.Subcommand.{Subcommand}
-use Rattle.wf_top.specs.declared.words.Subcommand.TheVariants.{Gen, Play}
+use Rattle.wf_top.specs.declared.words.Subcommand.TheVariants.{Gen, Net, Play}
 
 -- the texts of the words
 abbrev pub texts : List (String Global) → List (List ℕ)
@@ -27,11 +27,13 @@ count_of text = if is_count text then Some (digits_value 10 text) else None
 -- the number is one of those
 abbrev pub IsBounded : Subcommand → Type 0
 IsBounded Play = Unit {0}
+IsBounded Net = Unit {0}
 IsBounded (Gen count) = (1 ≤ count) × (count ≤ 64)
 
--- what the words ask for, where they are accepted: `play`, or `gen` and a number of documents
+-- what the words ask for, where they are accepted: `play`, `net`, or `gen` and a number of documents
 abbrev pub subcommand_of : List (List ℕ) → Option Subcommand
 subcommand_of [] = None
-subcommand_of (word ∷ []) = if bytes_eq word (codes "play") then Some Play else None
+subcommand_of (word ∷ []) =
+    if bytes_eq word (codes "play") then Some Play else if bytes_eq word (codes "net") then Some Net else None
 subcommand_of (word ∷ count ∷ []) = if bytes_eq word (codes "gen") then option_map Gen (count_of count) else None
 subcommand_of (word ∷ count ∷ other ∷ words) = None

@@ -1,12 +1,14 @@
-ghost use Rattle.std.specs.Prelude.{◌≡◌, ◌≤◌, Ok, IfOk, List, ℕ};
-ghost use Rattle.wf_play.specs.Plays.{IsPlay};
+ghost use Rattle.std.specs.Prelude.{◌≡◌, ◌≤◌, Ok, IfErr, IfOk};
+ghost use Rattle.wf_iso.specs.Plays.{IsPlay};
+ghost use Rattle.wf_play.specs.Links.{maker_of};
 ghost use Rattle.wf_print.specs.Text.{HasText};
 ghost use Rattle.wf_script.specs.Generated.{generated};
-ghost use Rattle.wf_script.specs.Scenarios.{scenario_of};
 ghost use Rattle.wf_script.specs.Valid.{IsValid};
-ghost use Rattle.wf_top.specs.Program.{Answers, IsOutcome, IsPlayed, IsSummed, IsVerdict};
+ghost use Rattle.wf_wire.specs.Wires.{over_link};
+ghost use Rattle.wf_top.specs.Private.Steps.{IsRead, IsUnread, IsWritten};
+ghost use Rattle.wf_top.specs.Program.{Answers, AreLeft, IsBase, IsLinked, IsPlayed, IsScripted, IsSummed, IsVerdict};
 ghost use Rattle.wf_top.specs.Statuses.{written_status};
-ghost use Rattle.wf_top.specs.Streams.{source_of, sink_of};
+ghost use Rattle.wf_top.specs.Streams.{net_of, source_of, sink_of};
 ghost use Rattle.wf_top.specs.Words as spec;
 ghost use Rattle.wf_top.specs.Words.{texts};
 
@@ -16,94 +18,158 @@ use crate::words::{Subcommand, subcommand_of};
 use std::alloc::Global;
 use std::sync::Wait;
 use std::thread::Threads;
-use wf_link::{ReadStop, Sink, Source, read_whole};
-use wf_play::{Played, play_scripted};
+use wf_iso::law_isolated;
+use wf_link::{Clock, Links, ReadStop, Sink, Source, read_whole};
+use wf_play::{Played, play_over, play_scripted};
 use wf_print::{Failure, write_play, write_summary};
 use wf_script::{Scenario, generate};
+use wf_sim::SimLink;
 use wf_text::OutOfMemory;
 
 /// The longest input that is read, in bytes.
 const MOST_INPUT: usize = 4194304;
 
+/// The latest time at which a play over links begins, in seconds.
+const MOST_BASE: u64 = 1_099_511_627_776;
+
 /// The program, from its words to its status. The words are tested first. With `play` the input is then
-/// read whole, read as a scenario, and played, each document on a thread of its own where one can be made,
-/// and the text of the play is written to the output. With `gen` and a number of documents, from 1 to 64,
-/// the input is left unread, the generated scenario of so many documents is played, and the summary of the
-/// play is written. A status other than `Ok` is told by one line on the complaints; where that line cannot
-/// be written the answer is `WriteFault`.
+/// read whole, read as a scenario, and played over the scenario's own servers, each document on a thread
+/// of its own where one can be made, and the text of the play is written to the output. `net` does the
+/// same over the links that are made for the documents, by the scenario's routes, from the clock's time
+/// on, which is asked once, or from 1,099,511,627,776 seconds on, if that is earlier. With `gen` and a
+/// number of documents, from 1 to 64, the input is left unread, the generated scenario of so many
+/// documents is played, and the summary of the play is written. A status other than `Ok` is told by one
+/// line on the complaints; where that line cannot be written the answer is `WriteFault`.
 ///
 /// `Usage` exactly where the words are not accepted, and then nothing is read or written. `Scenario`
 /// exactly where the input is no scenario, with the first refused place. `ReadFault` only where the
 /// input failed, `WriteFault` only where the output or the complaints failed or took nothing.
-/// `InputTooLong` exactly where byte 4,194,305 was read. `OutOfMemory` where memory was refused.
-pub fn fetchplay<R: Threads + Wait + Sync, S: Source, K: Sink, E: Sink>(
+/// `InputTooLong` exactly where byte 4,194,305 was read. `OutOfMemory` where memory was refused, or no
+/// link could be made. What a link does never changes the status. Links and clock are used with `net`
+/// alone; each link that was made is taken back.
+pub fn fetchplay<R: Threads + Wait + Sync, S: Source, K: Sink, E: Sink, N: Links, C: Clock>(
     rt: &R,
     alloc: Global,
     words: &[String],
     input: &mut S,
     output: &mut K,
     complaints: &mut E,
+    links: &mut N,
+    clock: &mut C,
 ) -> Status
-    ensures { Answers (texts words.now) (source_of S.left S.faults input.old) (source_of S.left S.faults input.new)
+    ensures { Answers (over_link N.Link.answer N.Link.next) N.Link.state N.Link.faults (texts words.now)
+        (source_of S.left S.faults input.old) (source_of S.left S.faults input.new)
         (sink_of K.taken K.faults K.zeros output.old) (sink_of K.taken K.faults K.zeros output.new)
-        (sink_of E.taken E.faults E.zeros complaints.old) (sink_of E.taken E.faults E.zeros complaints.new) result }
+        (sink_of E.taken E.faults E.zeros complaints.old) (sink_of E.taken E.faults E.zeros complaints.new)
+        (net_of (maker_of N.opening N.lent N.faults links.old) C.next clock.old)
+        (net_of (maker_of N.opening N.lent N.faults links.new) C.next clock.new) result }
 {
-    let verdict = verdict(rt, alloc, words, input, output);
+    let verdict = verdict(rt, alloc, words, input, output, links, clock);
     tell(verdict, complaints)
 }
 
 // The verdict on the words and the input, with what was asked for written to the output.
-fn verdict<R: Threads + Wait + Sync, S: Source, K: Sink>(
+fn verdict<R: Threads + Wait + Sync, S: Source, K: Sink, N: Links, C: Clock>(
     rt: &R,
     alloc: Global,
     words: &[String],
     input: &mut S,
     output: &mut K,
+    links: &mut N,
+    clock: &mut C,
 ) -> Status
-    ensures { IsVerdict (spec.subcommand_of (texts words.now))
+    ensures { IsVerdict (over_link N.Link.answer N.Link.next) N.Link.state N.Link.faults
+        (net_of (maker_of N.opening N.lent N.faults links.old) C.next clock.old)
+        (net_of (maker_of N.opening N.lent N.faults links.new) C.next clock.new)
+        (spec.subcommand_of (texts words.now))
         (source_of S.left S.faults input.old) (source_of S.left S.faults input.new)
         (sink_of K.taken K.faults K.zeros output.old) (sink_of K.taken K.faults K.zeros output.new) result }
 {
     match subcommand_of(words) {
         None => Status::Usage,
-        Some(Subcommand::Play) => play_input(rt, alloc, input, output),
+        Some(Subcommand::Play) => play_scenario(rt, alloc, input, output),
+        Some(Subcommand::Net) => play_linked(rt, alloc, input, output, links, clock),
         Some(Subcommand::Gen(count)) => play_generated(rt, alloc, count, output),
     }
 }
 
-// Reads the input whole, and plays the scenario that it is.
-#[tactic(auto, using(crate::proofs::ProgramLemmas::whole_cause))]
-fn play_input<R: Threads + Wait + Sync, S: Source, K: Sink>(
+// The scenario that the whole input is, or else the verdict on the input.
+fn scenario_in<S: Source>(alloc: Global, input: &mut S) -> Result<Scenario, Status>
+    ensures valid { IfOk result IsValid }
+    ensures read { IfOk result (λ scenario. IsRead (source_of S.left S.faults input.old)
+        (source_of S.left S.faults input.new) scenario) }
+    ensures unread { IfErr result (IsUnread (source_of S.left S.faults input.old)
+        (source_of S.left S.faults input.new)) }
+{
+    let text = match read_whole(alloc, input, MOST_INPUT) {
+        Err(ReadStop::Fault) => return Err(Status::ReadFault),
+        Err(ReadStop::TooLong) => return Err(Status::InputTooLong),
+        Err(ReadStop::OutOfMemory) => return Err(Status::OutOfMemory),
+        Ok(text) => text,
+    };
+    match Scenario::read(alloc, text.as_slice()) {
+        Err(OutOfMemory) => Err(Status::OutOfMemory),
+        Ok(Err(place)) => Err(Status::Scenario(place)),
+        Ok(Ok(scenario)) => Ok(scenario),
+    }
+}
+
+// Plays the scenario that the input is over its own servers.
+fn play_scenario<R: Threads + Wait + Sync, S: Source, K: Sink>(
     rt: &R,
     alloc: Global,
     input: &mut S,
     output: &mut K,
 ) -> Status
-    ensures { IsPlayed IsPlay (source_of S.left S.faults input.old) (source_of S.left S.faults input.new)
+    ensures { IsPlayed IsScripted (source_of S.left S.faults input.old) (source_of S.left S.faults input.new)
         (sink_of K.taken K.faults K.zeros output.old) (sink_of K.taken K.faults K.zeros output.new) result }
 {
-    match read_whole(alloc, input, MOST_INPUT) {
-        Err(ReadStop::Fault) => Status::ReadFault,
-        Err(ReadStop::TooLong) => Status::InputTooLong,
-        Err(ReadStop::OutOfMemory) => Status::OutOfMemory,
-        Ok(text) => play_bytes(rt, alloc, text.as_slice(), output),
+    law_isolated::<SimLink>();
+    let scenario = match scenario_in(alloc, input) {
+        Err(verdict) => return verdict,
+        Ok(scenario) => scenario,
+    };
+    match play_scripted(rt, alloc, &scenario) {
+        Err(OutOfMemory) => Status::OutOfMemory,
+        Ok(played) => write_text(alloc, &played, output),
     }
 }
 
-// What the bytes of the whole input come to.
-fn play_bytes<R: Threads + Wait + Sync, K: Sink>(
+// The time at which a play over links begins.
+fn base_of<C: Clock>(clock: &mut C) -> u64
+    ensures base { IsBase (C.next clock.old) result }
+    ensures early { result ≤ MOST_BASE }
+{
+    clock.now().min(MOST_BASE)
+}
+
+// Plays the scenario that the input is over the links that are made for its documents.
+fn play_linked<R: Threads + Wait + Sync, S: Source, K: Sink, N: Links, C: Clock>(
     rt: &R,
     alloc: Global,
-    bytes: &[u8],
+    input: &mut S,
     output: &mut K,
+    links: &mut N,
+    clock: &mut C,
 ) -> Status
-    ensures { IsOutcome IsPlay bytes.now (sink_of K.taken K.faults K.zeros output.old)
-        (sink_of K.taken K.faults K.zeros output.new) result }
+    ensures played { IsPlayed (IsLinked (over_link N.Link.answer N.Link.next) N.Link.state N.Link.faults
+        (net_of (maker_of N.opening N.lent N.faults links.old) C.next clock.old)
+        (net_of (maker_of N.opening N.lent N.faults links.new) C.next clock.new))
+        (source_of S.left S.faults input.old) (source_of S.left S.faults input.new)
+        (sink_of K.taken K.faults K.zeros output.old) (sink_of K.taken K.faults K.zeros output.new) result }
+    ensures left { AreLeft (over_link N.Link.answer N.Link.next) N.Link.state N.Link.faults
+        (net_of (maker_of N.opening N.lent N.faults links.old) C.next clock.old)
+        (net_of (maker_of N.opening N.lent N.faults links.new) C.next clock.new) result }
 {
-    match Scenario::read(alloc, bytes) {
+    law_isolated::<N::Link>();
+    let scenario = match scenario_in(alloc, input) {
+        Err(verdict) => return verdict,
+        Ok(scenario) => scenario,
+    };
+    let base = base_of(clock);
+    match play_over(rt, alloc, &scenario, base, links) {
         Err(OutOfMemory) => Status::OutOfMemory,
-        Ok(Err(place)) => Status::Scenario(place),
-        Ok(Ok(scenario)) => play(rt, alloc, &scenario, output),
+        Ok(played) => write_text(alloc, &played, output),
     }
 }
 
@@ -119,22 +185,12 @@ fn status_of(written: Result<(), Failure>) -> Status
     }
 }
 
-// Plays a scenario and writes the text of the play.
-fn play<R: Threads + Wait + Sync, K: Sink>(
-    rt: &R,
-    alloc: Global,
-    scenario: &Scenario,
-    output: &mut K,
-) -> Status
-    requires { IsValid scenario.now }
-    ensures { (bytes : List ℕ) → scenario_of bytes ≡ Ok scenario.entry.now
-        → IsOutcome IsPlay bytes (sink_of K.taken K.faults K.zeros output.old)
+// Writes the text of a play.
+fn write_text<K: Sink>(alloc: Global, played: &Played, output: &mut K) -> Status
+    requires { HasText played.now.transcripts }
+    ensures { IsWritten played.now.transcripts played.now.history (sink_of K.taken K.faults K.zeros output.old)
         (sink_of K.taken K.faults K.zeros output.new) result }
 {
-    let played = match play_scripted(rt, alloc, scenario) {
-        Err(OutOfMemory) => return Status::OutOfMemory,
-        Ok(played) => played,
-    };
     let written = write_play(alloc, &played.transcripts, &played.history, output);
     status_of(written)
 }

@@ -9,6 +9,8 @@ use wf_text::parse_digits;
 pub(crate) enum Subcommand {
     /// The scenario of the input is played over its own servers.
     Play,
+    /// The scenario of the input is played over the links that are made for its documents.
+    Net,
     /// The generated scenario of so many documents is played, from 1 to 64.
     Gen(u32),
 }
@@ -33,6 +35,7 @@ pub(crate) fn subcommand_of(words: &[String]) -> Option<Subcommand>
 {
     match words {
         [word] if word.as_str() == "play" => Some(Subcommand::Play),
+        [word] if word.as_str() == "net" => Some(Subcommand::Net),
         [word, count] if word.as_str() == "gen" => {
             let count = count_of(count.as_bytes())?;
             Some(Subcommand::Gen(count))

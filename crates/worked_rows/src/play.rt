@@ -3,7 +3,7 @@ use crate::row::Row;
 use std::alloc::Global;
 use std::sync::Wait;
 use std::thread::Threads;
-use wf_link::{MemorySink, MemorySource};
+use wf_link::{FixedClock, MemoryLinks, MemorySink, MemorySource};
 use wf_text::{Bytes, OutOfMemory};
 use wf_top::fetchplay;
 
@@ -48,8 +48,17 @@ pub(crate) fn play<R: Threads + Wait + Sync + AllocGlobal>(
     let mut input = MemorySource::new(text, Vec::from_slice(alloc, row.reads.as_slice())?);
     let mut output = sink(alloc, row.writes.as_slice(), row.zeros.as_slice())?;
     let mut complaints = sink(alloc, row.complaints.as_slice(), &[])?;
-    let words = words.as_slice();
-    let status = fetchplay(rt, alloc, words, &mut input, &mut output, &mut complaints);
+    let mut links = MemoryLinks::new(alloc, Vec::new(alloc))?;
+    let status = fetchplay(
+        rt,
+        alloc,
+        words.as_slice(),
+        &mut input,
+        &mut output,
+        &mut complaints,
+        &mut links,
+        &mut FixedClock::new(0),
+    );
     Ok(Ran {
         status: status.number(),
         output: Bytes::of(alloc, output.taken())?,

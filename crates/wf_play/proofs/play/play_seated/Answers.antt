@@ -1,9 +1,7 @@
-use Rattle.std.proofs.Common.{◌≡◌, ℕ, ◌≤◌, List, ◌∙◌, ap, arith, length, map, subst, sym}
-use Rattle.std.specs.List.{All, range_with_len}
-use Rattle.std.proofs.lemmas.List.{length-map}
-use Rattle.std.proofs.lemmas.List.FromFn.{length-range_with_len}
+use Rattle.std.proofs.Common.{◌∙◌, arith, length, sym}
 use Rattle.wf_turn.specs.declared.pass.TurnPass.{TurnPass}
-use Rattle.wf_play.proofs.SeatedLemmas.{as-many, belong-at, belong-passes, ready-seats}
+use Rattle.wf_play.proofs.LinkLemmas.{out-many}
+use Rattle.wf_play.proofs.SeatedLemmas.{as-many, as-seated, belong-at, belong-passes, ready-seats}
 use Rattle.wf_play.proofs.play.play_seated.Goals as goal
 
 pub seat_all-requires-clause-few : goal.seat_all-requires-clause-few
@@ -47,3 +45,31 @@ returns-then-has_text-clause-few g c =
 pub returns-else-has_text-clause-few : goal.returns-else-has_text-clause-few
 returns-else-has_text-clause-few g c =
     omega (arith, as-many (λ s. s.pass.document) c.play_all.new.seats.items (length c.args.scenario.now.documents) c.in_ok-transcripts.ensures.documents)
+
+-- as many links are out as there are seats
+pub returns-in_err-transcripts-clause-out : goal.returns-in_err-transcripts-clause-out
+returns-in_err-transcripts-clause-out g c =
+    let count = length c.args.scenario.now.documents in
+    out-many (g.N.Links.lent c.args.links.now) (g.N.Links.lent c.seat_all.new.links) (length c.seat_all.new.seats.items)
+    (length c.play_all.new.seats.items) c.in_ok-seat_all.ensures.out
+    (as-many (λ s. s.pass.document) c.play_all.new.seats.items count c.in_err-transcripts.ensures.documents
+    ∙ sym (as-seated c.args.passes.items c.seat_all.new.seats.items count c.in_ok-seat_all.ensures.passes
+    c.requires.documents))
+
+pub returns-then-has_text-clause-out : goal.returns-then-has_text-clause-out
+returns-then-has_text-clause-out g c =
+    let count = length c.args.scenario.now.documents in
+    out-many (g.N.Links.lent c.args.links.now) (g.N.Links.lent c.seat_all.new.links) (length c.seat_all.new.seats.items)
+    (length c.play_all.new.seats.items) c.in_ok-seat_all.ensures.out
+    (as-many (λ s. s.pass.document) c.play_all.new.seats.items count c.in_ok-transcripts.ensures.documents
+    ∙ sym (as-seated c.args.passes.items c.seat_all.new.seats.items count c.in_ok-seat_all.ensures.passes
+    c.requires.documents))
+
+pub returns-else-has_text-clause-out : goal.returns-else-has_text-clause-out
+returns-else-has_text-clause-out g c =
+    let count = length c.args.scenario.now.documents in
+    out-many (g.N.Links.lent c.args.links.now) (g.N.Links.lent c.seat_all.new.links) (length c.seat_all.new.seats.items)
+    (length c.play_all.new.seats.items) c.in_ok-seat_all.ensures.out
+    (as-many (λ s. s.pass.document) c.play_all.new.seats.items count c.in_ok-transcripts.ensures.documents
+    ∙ sym (as-seated c.args.passes.items c.seat_all.new.seats.items count c.in_ok-seat_all.ensures.passes
+    c.requires.documents))

@@ -1,8 +1,6 @@
-use Rattle.std.proofs.Common.{◌≡◌, ℕ, ◌+◌, List, [], ◌∷◌, ◌++◌, ◌∙◌, ap, arith, length, length-append, map, subst, sym}
-use Rattle.std.proofs.lemmas.List.{length-map, map_push}
-use Rattle.wf_player.specs.declared.seating.Seating.{Seating}
-use Rattle.wf_turn.specs.declared.pass.TurnPass.{TurnPass}
-use Rattle.wf_play.specs.Links.{AreOpened}
+use Rattle.std.proofs.Common.{◌≡◌, ℕ, ◌+◌, [], ◌∷◌, ◌++◌, ◌∙◌, ap, arith, length, length-append, map}
+use Rattle.std.proofs.lemmas.List.{map_push}
+use Rattle.wf_play.proofs.LinkLemmas.{out-one}
 use Rattle.wf_play.proofs.PassLemmas.{opened-more}
 use Rattle.wf_play.proofs.seats.seat_all.Goals as goal
 
@@ -27,6 +25,10 @@ loop-pass-preserved g c =
       number = omega (arith, i.number, length-append c.loop-pass.yielded (c.in-Some.pass ∷ []));
       left = omega (arith, i.left, c.in-Some.ensures.steps.1, length-append c.loop-pass.yielded (c.in-Some.pass ∷ []));
       room = omega (arith, p.capacity, i.room);
+      out = out-one (g.N.Links.lent c.args.links.now) (g.N.Links.lent c.loop-pass.links)
+          (g.N.Links.lent c.make.new.self) (length seats) (length c.push_reserved.new.self.items) i.out e.lent
+          (ap length p.items ∙ length-append seats (record { pass = c.in-Some.pass; link = link } ∷ []));
+      faults = e.faults ∙ i.faults;
     }
   where
     further : (k n m : ℕ) → m ≡ n + 1 → k + 1 + n ≡ k + m

@@ -1,6 +1,7 @@
-use Rattle.std.proofs.Common.{◌≡◌, ℕ, ◌+◌, ◌≤◌, length, map, vec_capacity, vec_len}
+use Rattle.std.proofs.Common.{◌≡◌, ℕ, ◌+◌, ◌≤◌, length, map, option_map, vec_capacity, vec_len}
 use Rattle.std.specs.Vec.Iter.{into_iter_len}
 use Rattle.wf_play.specs.Links.{AreOpened}
+use Rattle.wf_play.specs.Private.Lendings.{out_more}
 use Rattle.wf_play.proofs.seats.seat_all.Given as goal
 
 -- the passes so far have their links
@@ -13,4 +14,6 @@ invariant-loop-pass g l = record {
   number : l.number ≡ length l.yielded;
   left : length l.yielded + into_iter_len l.pass-iterator ≡ vec_len l.fn.passes;
   room : vec_len l.fn.passes ≤ vec_capacity l.seats;
+  out : g.N.Links.lent l.links ≡ option_map (out_more (length l.seats.items)) (g.N.Links.lent l.initial.links);
+  faults : g.N.Links.faults l.links ≡ g.N.Links.faults l.initial.links;
 }

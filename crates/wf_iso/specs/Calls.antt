@@ -1,0 +1,36 @@
+-- The calls of the shared book that a document's run shows, and those that a history has of the document (this
+-- project's own definition).
+use Rattle.std.specs.Prelude.{ℕ, List, [], ◌∷◌, ◌++◌, map}
+use Rattle.wf_book.specs.declared.entry.Entry.{Entry}
+use Rattle.wf_book.specs.declared.op.Op.{Op}
+use Rattle.wf_book.specs.declared.op.Reply.{Reply}
+use Rattle.wf_book.specs.Entries.{entries_of}
+use Rattle.wf_print.specs.declared.events.Event.{Event}
+use Rattle.wf_print.specs.declared.events.Event.TheVariants as event
+
+-- An op that was done on the book, and what the book replied.
+pub record Made : Type 0 where
+  pub op : Op
+  pub reply : Reply
+
+-- the call that an event shows, where it shows one
+abbrev pub call_in : Event → List Made
+call_in (event.Call op reply) = record { op = op; reply = reply } ∷ []
+call_in _ = []
+
+-- the calls that events show, in order
+abbrev pub calls_in : List Event → List Made
+calls_in [] = []
+calls_in (shown ∷ events) = call_in shown ++ calls_in events
+
+-- the call of an entry
+abbrev pub call_of : Entry → Made
+call_of entry = record { op = entry.op; reply = entry.reply }
+
+-- the calls of entries
+abbrev pub calls_of : List Entry → List Made
+calls_of entries = map call_of entries
+
+-- the calls of a document in a history, in order
+abbrev pub document_calls : ℕ → List Entry → List Made
+document_calls document history = calls_of (entries_of document history)

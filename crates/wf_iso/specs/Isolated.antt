@@ -1,0 +1,56 @@
+-- Isolation in a play: what each document of it sends and sees is what it would alone, over what it may learn of the
+-- answers to its requests, what was learnt and cleared under its key, and what was noted of known hosts (this project's
+-- own definition).
+use Rattle.std.specs.Prelude.{◌≡◌, ℕ, ◌+◌, List, [], ◌∷◌, Some}
+use Rattle.wf_act.specs.declared.act.Input.{Input}
+use Rattle.wf_book.specs.declared.entry.Entry.{Entry}
+use Rattle.wf_print.specs.declared.events.Transcript.{Transcript}
+use Rattle.wf_script.specs.declared.types.Document.{Document}
+use Rattle.wf_script.specs.declared.types.Scenario.{Scenario}
+use Rattle.wf_run.specs.Play.{Play, PlayRun}
+use Rattle.wf_run.specs.Runs.{document_client, document_run}
+use Rattle.wf_wire.specs.Exchanges.{Answering}
+use Rattle.wf_iso.specs.Alone.{alone, pasts}
+use Rattle.wf_iso.specs.Plays.{IsPlayOver, IsTranscript, Way, opening_book}
+use Rattle.wf_iso.specs.Views.{views}
+
+-- what a transcript says of its document's run: the events, and the ending with the clock
+abbrev pub run_of : Transcript → PlayRun
+run_of transcript =
+    record { events = transcript.events; ending = Some (transcript.ending, transcript.clock) }
+
+-- the run of a scenario's document, from a time on
+abbrev pub run_in : Scenario → ℕ → Document → Play
+run_in scenario base document = document_run scenario.cookies base document
+
+-- what a scenario's document of this number would do alone: over what it may learn, with the pasts of its calls in the
+-- history
+abbrev pub alone_in : Scenario → ℕ → List Entry → ℕ → Document → List Input → PlayRun
+alone_in scenario base history number document learnt =
+    alone (opening_book scenario) (run_in scenario base document)
+    (pasts number (document_client document).key history) learnt
+
+-- The transcript is that of the document's run, over what its link answers and over its entries of the history, and it
+-- is what the document would do alone over the views of these answers.
+pub record IsAlone {State : Type 0} (by : Answering State) (scenario : Scenario) (base : ℕ) (history : List Entry)
+    (number : ℕ) (document : Document) (old new : Way State) (transcript : Transcript) : Type 0 where
+  pub is : IsTranscript by scenario base history number document old new transcript
+  pub alone_is : run_of transcript
+      ≡ alone_in scenario base history number document (views (run_in scenario base document) is.run_is.ran.tape)
+
+-- so it is of each transcript and its document, from this number on
+pub data AreAlone {State : Type 0} (by : Answering State) (scenario : Scenario) (base : ℕ) (history : List Entry)
+    : ℕ → List Document → List (Way State) → List (Way State) → List Transcript → Type 0 where
+  none : {number : ℕ} → AreAlone by scenario base history number [] [] [] []
+  one_more : {number : ℕ} {document : Document} {old new : Way State} {transcript : Transcript}
+      {documents : List Document} {olds news : List (Way State)} {transcripts : List Transcript}
+      → IsAlone by scenario base history number document old new transcript
+      → AreAlone by scenario base history (number + 1) documents olds news transcripts
+      → AreAlone by scenario base history number (document ∷ documents) (old ∷ olds) (new ∷ news)
+      (transcript ∷ transcripts)
+
+-- A play in which what each document sends and sees is what it would alone.
+pub record IsIsolated {State : Type 0} (by : Answering State) (scenario : Scenario) (base : ℕ)
+    (olds news : List (Way State)) (transcripts : List Transcript) (history : List Entry) : Type 0 where
+  pub play : IsPlayOver by scenario base olds news transcripts history
+  pub alone : AreAlone by scenario base history 0 scenario.documents olds news transcripts

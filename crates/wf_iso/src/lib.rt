@@ -1,0 +1,8 @@
+// What a play is, and that in one each document sends and sees what it would alone.
+#![tactic(auto)]
+
+mod laws;
+
+pub use laws::{
+    law_alone, law_apart, law_hidden, law_isolated, law_one_play, law_own_calls, law_two_worlds,
+};
