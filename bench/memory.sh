@@ -1,0 +1,13 @@
+#!/usr/bin/env bash
+# Refuses memory to the proved program, one request in each run, and looks at what it does: status 0 with the text of
+# the play, or status 5 with `fetchplay: out of memory` and nothing or a beginning of the text. A document that learns
+# by preflights is played with each of its requests for memory refused in turn, once that one alone and once each
+# later one too; two documents on threads with every 50th; `gen 64` with number 20,000, which a program that plays
+# nothing would not miss. FETCHPLAY is the path of the program, where it is not to be built, and JOBS how many runs
+# there are at once.
+set -eu
+source "$(dirname "${BASH_SOURCE[0]}")/common.bash"
+program=${FETCHPLAY:-}
+[ -n "$program" ] || build_fetchplay
+cc -O2 -shared -fPIC -o "$work/refuse.so" "$root/bench/refuse.c"
+python3 "$root/bench/memory.py" "$program" "$work/refuse.so" "$work" "${JOBS:-$(nproc)}"
