@@ -14,6 +14,7 @@ origin the script sees what bench/answers.py reads from it. FETCHPLAY is the pat
 built.
 """
 import argparse
+import copy
 import json
 import multiprocessing
 import os
@@ -175,7 +176,8 @@ def deep(rng, value):
 def mutate_tree(rng, tree):
     """A few changes to a scenario as a tree, as a text."""
     tree = json.loads(json.dumps(tree))
-    for _ in range(1 + int(rng.expovariate(0.7))):
+    is_deep = False
+    for _ in range(1 + int(rng.expovariate(0.5))):
         path = rng.choice(list(places(tree)))
         if not path:
             continue
@@ -189,19 +191,20 @@ def mutate_tree(rng, tree):
         elif kind == 1 and isinstance(parent, dict):
             parent[rng.choice(KEYS)] = parent.pop(key)
         elif kind == 2 and isinstance(parent, dict):
-            parent[rng.choice(KEYS)] = rng.choice(VALUES)
+            parent[rng.choice(KEYS)] = copy.deepcopy(rng.choice(VALUES))
         elif kind == 3 and isinstance(parent, list):
-            parent.insert(key, rng.choice(VALUES))
+            parent.insert(key, copy.deepcopy(rng.choice(VALUES)))
         elif kind == 4 and isinstance(parent, list):
-            parent[key:key] = [value] * rng.choice([1, 2, 64, 128])
-        elif kind == 5:
+            parent[key:key] = [copy.deepcopy(value) for _ in range(rng.choice([1, 2, 64, 128]))]
+        elif kind == 5 and not is_deep:
+            is_deep = True
             parent[key] = deep(rng, value)
         elif kind == 6 and isinstance(value, str):
             parent[key] = mutate_bytes(rng, value.encode('utf-8', 'surrogatepass'), SCENARIO_BITS, TEXTS).decode('latin-1')
         elif kind == 7 and isinstance(value, int):
             parent[key] = rng.choice([value + 1, value - 1, -value, value * 1000, value + 0.5, str(value)])
         else:
-            parent[key] = rng.choice(VALUES)
+            parent[key] = copy.deepcopy(rng.choice(VALUES))
     return json.dumps(tree, ensure_ascii=rng.randrange(2) == 0).encode('utf-8', 'surrogatepass')
 
 
@@ -340,20 +343,25 @@ def on_alarm(_signal, _frame):
 
 
 def play(program, text):
-    """Status (minus a signal), output, complaints, seconds, kilobytes at the peak."""
-    files = [os.memfd_create('fuzz') for _ in range(3)]
+    """Status (128 more than a signal that ended it), output, complaints, seconds, kilobytes at the peak.
+
+    GNU time stands in between, since the peak that the system tells of a process begins with that of its starter.
+    """
+    files = [os.memfd_create('fuzz') for _ in range(4)]
     try:
-        os.write(files[0], text) if text else None
-        os.lseek(files[0], 0, os.SEEK_SET)
+        if text:
+            os.write(files[0], text)
+            os.lseek(files[0], 0, os.SEEK_SET)
         start = time.monotonic()
         actions = [(os.POSIX_SPAWN_DUP2, file, number) for number, file in enumerate(files)]
-        process = os.posix_spawn(program, [program, 'play'], os.environ, file_actions=actions)
+        words = ['/usr/bin/time', '-q', '-f', '%M', '-o', '/dev/fd/3', program, 'play']
+        process = os.posix_spawn(words[0], words, os.environ, file_actions=actions, setsid=True)
         signal.setitimer(signal.ITIMER_REAL, 20)
         try:
-            _, state, usage = os.wait4(process, 0)
+            _, state = os.waitpid(process, 0)
         except Slow:
-            os.kill(process, signal.SIGKILL)
-            _, state, usage = os.wait4(process, 0)
+            os.killpg(process, signal.SIGKILL)
+            _, state = os.waitpid(process, 0)
         finally:
             signal.setitimer(signal.ITIMER_REAL, 0)
         seconds = time.monotonic() - start
@@ -362,7 +370,7 @@ def play(program, text):
             os.lseek(file, 0, os.SEEK_SET)
             with os.fdopen(os.dup(file), 'rb') as opened:
                 outputs.append(opened.read())
-        return os.waitstatus_to_exitcode(state), outputs[0], outputs[1], seconds, usage.ru_maxrss
+        return os.waitstatus_to_exitcode(state), outputs[0], outputs[1], seconds, int((outputs[2].split() or [b'0'])[-1])
     finally:
         for file in files:
             os.close(file)
