@@ -9,5 +9,6 @@ set -eu
 source "$(dirname "${BASH_SOURCE[0]}")/common.bash"
 program=${FETCHPLAY:-}
 [ -n "$program" ] || build_fetchplay
+turns=${WORKED_TURNS:-$(build_bench worked_turns && echo "$program")}
 cc -O2 -shared -fPIC -o "$work/refuse.so" "$root/bench/refuse.c"
-python3 "$root/bench/memory.py" "$program" "$work/refuse.so" "$work" "${JOBS:-$(nproc)}"
+python3 "$root/bench/memory.py" "$program" "$work/refuse.so" "$work" "${JOBS:-$(nproc)}" "$turns"
