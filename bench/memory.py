@@ -1,11 +1,13 @@
 # What bench/memory.sh runs: plays with refused memory, and what may come of them.
 import os
+import re
 import subprocess
 import sys
 from concurrent.futures import ThreadPoolExecutor
 
-program, shim, work, jobs = sys.argv[1], sys.argv[2], sys.argv[3], int(sys.argv[4])
-rows = os.path.join(os.path.dirname(os.path.abspath(__file__)), '..', 'crates', 'worked_rows')
+program, shim, work, jobs, threads_program = sys.argv[1], sys.argv[2], sys.argv[3], int(sys.argv[4]), sys.argv[5]
+crates = os.path.join(os.path.dirname(os.path.abspath(__file__)), '..', 'crates')
+rows = os.path.join(crates, 'worked_rows')
 COMPLAINT = b'fetchplay: out of memory\n'
 # Without memory for its words, which are its first requests, the program has none, before anything is read.
 MOST_WORDS = 32
@@ -24,9 +26,9 @@ def worked(title):
     return row.split(b'\t')[-1], stored + b'\n'
 
 
-def run(words, text, number, later):
+def run(words, text, number, later, program=program):
     """Status, output, complaints, and how many requests for memory there were and were refused."""
-    count = os.path.join(work, 'count.%s.%d.%d' % (words[0], number, later))
+    count = os.path.join(work, 'count.%s.%d.%d' % (''.join(words), number, later))
     environment = dict(os.environ, LD_PRELOAD=shim, REFUSE=str(number), REFUSE_LATER=str(later), REFUSE_COUNT=count)
     ran = subprocess.run([program] + words, input=text, capture_output=True, env=environment, timeout=60)
     try:
@@ -154,8 +156,37 @@ def generated():
     tried('gen 64, every 20,000th number', ['gen', '64'], b'', range(20000, asked + 1, 20000), 0, is_text, is_front)
 
 
+def calls():
+    """Two threads with 500 calls each on one book, every 50th number. A call that is refused is left out, and the rest made."""
+    with open(os.path.join(crates, 'worked_turns', 'stdout'), 'rb') as file:
+        stored = file.read()
+    status, output, complaints, asked, _ = run([], b'', 0, 0, threads_program)
+    if (status, output) != (0, stored):
+        problems.append('two threads, nothing refused: status %d' % status)
+    print('two threads: %s requests for memory' % asked)
+    for later, words in ((0, 'two threads, every 50th number'), (1, 'two threads, every 50th and all later ones')):
+        came = {}
+        numbers = range(50, asked + 1, 50)
+        with ThreadPoolExecutor(jobs) as pool:
+            for number, ran in zip(numbers, pool.map(lambda n: run([], b'', n, later, threads_program), numbers)):
+                found = re.search(rb'(?m)^(\d+) entries$', ran[1][ran[1].find(b'# two threads'):])
+                entries = int(found[1]) if found else None
+                told = re.sub(rb'(?m)(?<=^# two threads\n)\d+ entries$', b'1000 entries', ran[1])
+                if ran[0] == 0 and told == stored and entries <= 1000:
+                    kind = 'all answered' if entries == 1000 else 'some calls refused, the rest a legal history'
+                elif ran[0] == 1 and stored.startswith(told):
+                    kind = 'refused outside of the calls'
+                else:
+                    kind = 'else'
+                    problems.append('%s, number %d: status %d, output %r' % (words, number, ran[0], ran[1][-200:]))
+                came[kind] = came.get(kind, 0) + 1
+        print('%s: %d runs: %s' % (words, len(numbers), ', '.join('%s %d' % one for one in sorted(came.items()))))
+        sys.stdout.flush()
+
+
 document()
 threads()
+calls()
 generated()
 for problem in problems[:20]:
     print('PROBLEM: ' + problem)

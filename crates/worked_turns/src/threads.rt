@@ -15,8 +15,8 @@ use wf_turn::{TurnBook, TurnPass};
 /// How many calls a thread makes.
 const CALLS: u64 = 500;
 
-/// What was replied to a thread's calls.
-type Replies = Result<Vec<Reply>, OutOfMemory>;
+/// What was replied to a thread's calls: nothing to one that was refused memory.
+type Replies = Result<Vec<Option<Reply>>, OutOfMemory>;
 
 // A thread's call of this number.
 fn make_call<R: Threads + Wait + Sync>(
@@ -36,7 +36,7 @@ fn make_call<R: Threads + Wait + Sync>(
     book.call(rt, alloc, pass, numbered(alloc, number)?)
 }
 
-// A thread's calls.
+// A thread's calls. Behind one that is refused the others are made.
 fn make_calls<R: Threads + Wait + Sync>(
     rt: &R,
     alloc: Global,
@@ -48,9 +48,10 @@ fn make_calls<R: Threads + Wait + Sync>(
     ensures belongs { pass.new.seat.table_id ≡ pass.old.seat.table_id }
     ensures document { pass.new.document ≡ pass.old.document }
 {
-    let mut replies = Vec::new(alloc);
+    let mut replies = Vec::with_capacity(alloc, CALLS as usize)?;
     for number in 0..CALLS {
-        replies.push(make_call(rt, alloc, book, pass, number)?)?;
+        let reply = make_call(rt, alloc, book, pass, number).ok();
+        replies.push(reply)?;
     }
     Ok(replies)
 }
@@ -71,15 +72,27 @@ fn play_pass<R: Threads + Wait + Sync>(
     (pass, replies)
 }
 
-// Whether the entries of a document are a thread's ops, in order, with these replies.
-fn are_calls(entries: &[Entry], document: u32, replies: &[Reply]) -> bool {
-    let mut number = 0usize;
+// The first call from this number on that was answered, or how many calls there are.
+fn answered_from(replies: &[Option<Reply>], from: usize) -> usize {
+    for (number, reply) in replies.iter().enumerate() {
+        if number >= from && reply.is_some() {
+            return number;
+        }
+    }
+    replies.len()
+}
+
+// Whether the entries of a document are a thread's ops that were answered, in order, with these replies.
+fn are_calls(entries: &[Entry], document: u32, replies: &[Option<Reply>]) -> bool {
+    let mut number = answered_from(replies, 0);
     for entry in entries {
         if entry.document == document {
-            if !is_numbered(&entry.op, number as u64) || replies.get(number) != Some(&entry.reply) {
+            if !is_numbered(&entry.op, number as u64)
+                || replies.get(number) != Some(&Some(entry.reply))
+            {
                 return false;
             }
-            number = number.saturating_add(1);
+            number = answered_from(replies, number.saturating_add(1));
         }
     }
     number == 500 && replies.len() == 500
@@ -93,19 +106,19 @@ fn reply_to(alloc: Global, book: &mut Book, number: u64) -> Result<Reply, OutOfM
     book.apply(alloc, &op)
 }
 
-// When the op of an entry is done, where it is a thread's op and the entry has this turn.
+// When the op of an entry is done, where it is a thread's op and the entry has a turn of a call, this one or a later.
 fn time_at(turn: u64, entry: &Entry) -> Option<u64>
     ensures { IfSome result (λ time. time < 500) }
 {
     let time = time_of(&entry.op)?;
-    if time < CALLS && entry.turn == turn {
+    if time < CALLS && turn <= entry.turn && entry.turn < 2 * CALLS {
         Some(time)
     } else {
         None
     }
 }
 
-// Whether an entry has this turn and the reply that a book of one thread gives to its op.
+// Whether an entry has this turn or a later one and the reply that a book of one thread gives to its op.
 fn is_next(alloc: Global, book: &mut Book, turn: u64, entry: &Entry) -> Result<bool, OutOfMemory> {
     match time_at(turn, entry) {
         Some(time) => Ok(reply_to(alloc, book, time)? == entry.reply),
@@ -113,13 +126,16 @@ fn is_next(alloc: Global, book: &mut Book, turn: u64, entry: &Entry) -> Result<b
     }
 }
 
-// Whether entry i has turn i and the reply that a book of one thread gives to its op.
+// Whether turns rise and each entry has the reply that a book of one thread gives to its op. (So entry i of 1,000 has
+// turn i.)
 fn is_legal(alloc: Global, entries: &[Entry]) -> Result<bool, OutOfMemory> {
     let mut book = Book::new(alloc);
-    for (turn, entry) in entries.iter().enumerate() {
-        if !is_next(alloc, &mut book, turn as u64, entry)? {
+    let mut turn = 0u64;
+    for entry in entries {
+        if !is_next(alloc, &mut book, turn, entry)? {
             return Ok(false);
         }
+        turn = entry.turn.saturating_add(1);
     }
     Ok(true)
 }
