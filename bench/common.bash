@@ -10,8 +10,12 @@ counted() {
     sed -n 's/.*Collected : //p' "$work/log"
 }
 
-# Makes `program` the path of the proved program, built where it is not new.
+# Makes `program` the path of the proved program, built where it is not new; or FETCHPLAY, where that names one.
 build_fetchplay() {
+    if [ -n "${FETCHPLAY:-}" ]; then
+        program=$FETCHPLAY
+        return
+    fi
     program=$root/crates/fetchplay/out/fetchplay
     "$root/bin/fetchplay" play <"$root/examples/same-origin.json" >/dev/null
 }
