@@ -1,8 +1,8 @@
 -- The commands of a script.
-use Rattle.std.proofs.Common.{◌≡◌, ◌≢◌, ℕ, zero, suc, ◌+◌, ◌-◌, ◌≤◌, ◌<◌, List, [], ◌∷◌, Option, Some, None, true, false}
+use Rattle.std.proofs.Common.{◌≡◌, ℕ, zero, suc, ◌+◌, ◌-◌, ◌≤◌, ◌<◌, List, [], ◌∷◌, Option, Some, None, true, false}
 use Rattle.std.proofs.Common.{refl, ap, sym, subst, ◌∙◌, arith, add-one, drop, drop-cons, cond, get_or, length, Bool}
 use Rattle.std.proofs.Common.{Result, Ok, Err, OnErr}
-use Rattle.std.specs.Prelude.{nat_le, nat_lt, is_some, IfOk}
+use Rattle.std.specs.Prelude.{is_some, IfOk}
 use Rattle.std.proofs.lemmas.List.{append-nil, drop_all}
 use Rattle.wf_text.specs.declared.memory.OutOfMemory.{OutOfMemory}
 use Rattle.wf_commands.specs.declared.command.Command.{Command}
@@ -13,10 +13,9 @@ use Rattle.wf_commands.specs.Scripts.{Step, Steps}
 use Rattle.wf_commands.specs.Scripts as script
 use Rattle.wf_commands.specs.Valid.{AreValid, IsValidStep}
 use Rattle.wf_print.specs.declared.events.Ending.{Ending}
-use Rattle.wf_print.specs.declared.events.Ending.TheVariants.{Commands, Fetches, Memory, Text}
 use Rattle.wf_run.specs.Play.{over}
-use Rattle.wf_run.specs.Runs.{Next, Progress, Setting, chosen, command_started, last_of, limit_before, own_limit, repeated}
-use Rattle.wf_run.specs.Runs.{script_run, started, text_length, unless_limit, waited}
+use Rattle.wf_run.specs.Runs.{Next, Progress, Setting, chosen, command_started, last_of, limit_before, repeated}
+use Rattle.wf_run.specs.Runs.{script_run, started, unless_limit, waited}
 use Rattle.wf_run.specs.Traces.{stop}
 use Rattle.wf_run.specs.Results.{holds}
 use Rattle.wf_wire.specs.Exchanges.{Answering}

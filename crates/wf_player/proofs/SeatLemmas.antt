@@ -1,6 +1,6 @@
 -- Seats in rows: each row is ready for its document, and what was played in the rows was played on the seats.
 use Rattle.std.proofs.Common.{◌≡◌, ℕ, zero, suc, ◌+◌, ◌<◌, ◌≤◌, List, [], ◌∷◌, ◌++◌, length, get_or, take, drop, map}
-use Rattle.std.proofs.Common.{ap, refl, sym, subst, ◌∙◌, arith, Some, Result, Ok, Err}
+use Rattle.std.proofs.Common.{ap, refl, sym, subst, ◌∙◌, arith, inl, Some, Result, Ok, Err}
 use Rattle.std.specs.Prelude.{slice_get, IfOk}
 use Rattle.std.specs.List.{All, range_with_len}
 use Rattle.std.proofs.lemmas.List.{append-nil, get_or-map, length-map, take_all}
@@ -12,7 +12,7 @@ use Rattle.wf_script.specs.declared.types.Document.{Document}
 use Rattle.wf_script.specs.declared.types.Scenario.{Scenario}
 use Rattle.wf_wire.specs.Exchanges.{Answering}
 use Rattle.wf_player.specs.Private.Rows.{CanPlay, RowPlayed, seatings_of, transcripts_of}
-use Rattle.wf_player.specs.Seats.{ArePlayed, AreSeated, IsPlayed, Seat}
+use Rattle.wf_player.specs.Seats.{ArePlayed, AreRefused, AreSeated, IsPlayed, Seat}
 use Rattle.wf_player.specs.declared.seating.Row.{Row}
 use Rattle.wf_player.specs.declared.seating.Seating.{Seating}
 
@@ -157,3 +157,8 @@ module _ {L P State : Type 0} (seen : Seating L P → Seat State) where
       → map (λ (s : Seating L P). (seen s).document) after ≡ range_with_len 0 (length scenario.documents)
   documents-after by scenario base before after transcripts played =
       sym (map-map seen (λ (s : Seat State). s.document) after) ∙ documents-played by scenario base played
+
+-- where memory was refused and the seats are as they were, none was played
+pub none-played : {State : Type 0} (by : Answering State) (scenario : Scenario) (base : ℕ) (olds news : List (Seat State))
+    → news ≡ olds → AreRefused by scenario base olds news
+none-played by scenario base olds news same = inl same

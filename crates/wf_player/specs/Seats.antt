@@ -1,6 +1,6 @@
 -- What a play does to the seat of each document: its pass of the shared book, and its link (this project's own; each
 -- document fetches by itself, Fetch, section 4, and the book alone is shared).
-use Rattle.std.specs.Prelude.{◌≡◌, ◌≢◌, ℕ, ◌+◌, ◌≤◌, List, [], ◌∷◌, length, map, Option}
+use Rattle.std.specs.Prelude.{◌≡◌, ◌≢◌, ◌⊎◌, ℕ, ◌+◌, ◌≤◌, List, [], ◌∷◌, length, map, Option}
 use Rattle.std.specs.List.{All, range_with_len}
 use Rattle.wf_book.specs.declared.book.Book.{Book}
 use Rattle.wf_book.specs.declared.entry.Entry.{Entry}
@@ -56,3 +56,15 @@ pub data ArePlayed {State : Type 0} (by : Answering State) (scenario : Scenario)
       → ArePlayed by scenario base (number + 1) documents olds news transcripts
       → ArePlayed by scenario base number (document ∷ documents) (old ∷ olds) (new ∷ news)
       (transcript ∷ transcripts)
+
+-- Each document was played on its seat.
+pub record WerePlayed {State : Type 0} (by : Answering State) (scenario : Scenario) (base : ℕ)
+    (olds news : List (Seat State)) : Type 0 where
+  pub transcripts : List Transcript
+  pub played : ArePlayed by scenario base 0 scenario.documents olds news transcripts
+
+-- Memory was refused to what surrounds the documents: none was played, and the seats are as they were; or each was, and
+-- there was no room for the list of their transcripts.
+abbrev pub AreRefused : {State : Type 0} → Answering State → Scenario → ℕ → List (Seat State) → List (Seat State)
+    → Type 0
+AreRefused by scenario base olds news = (news ≡ olds) ⊎ WerePlayed by scenario base olds news

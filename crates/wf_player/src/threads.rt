@@ -3,7 +3,7 @@ ghost use Rattle.std.specs.Prelude.{◌≡◌, ℕ, ◌≤◌, ◌<◌, ◌^◌,
 ghost use Rattle.std.specs.List.{All, range_with_len};
 ghost use Rattle.wf_script.specs.Valid.{IsValid};
 ghost use Rattle.wf_wire.specs.Wires.{over_link};
-ghost use Rattle.wf_player.specs.Seats.{ArePlayed, AreSeated, seat_of};
+ghost use Rattle.wf_player.specs.Seats.{ArePlayed, AreRefused, AreSeated, seat_of};
 ghost use Rattle.wf_player.specs.Private.Rows.{CanPlay, RowPlayed, seatings_of, transcripts_of};
 
 use crate::document::drive;
@@ -145,9 +145,8 @@ fn listed(alloc: Global, transcripts: Vec<Transcript>) -> Result<Transcripts, Ou
 ///
 /// Each document's transcript stands in its place, and with its seat before and behind the play it is that
 /// of a run as `drive` has one. Where memory is refused to a document it ends with the ending `Memory`; the
-/// others go on. `OutOfMemory` where memory
-/// was refused to what surrounds them: the passes are then still those of the same documents and of this
-/// share, and the calls that were made stand.
+/// others go on. `OutOfMemory` where memory was refused to what surrounds them: then none was played and the
+/// seats are as they were, or each was played and the calls that were made stand.
 pub fn play_all<R: Threads + Wait + Sync, S: Share + Sync, L: Link + Send + Drop>(
     rt: &R,
     alloc: Global,
@@ -166,6 +165,9 @@ where
     ensures played { IfOk result (λ transcripts. ArePlayed (over_link L.answer L.next) scenario.entry.now base 0
         scenario.entry.now.documents (map (seat_of S.document S.opening S.own S.left L.state L.faults) seats.old.items)
         (map (seat_of S.document S.opening S.own S.left L.state L.faults) seats.new.items) transcripts) }
+    ensures refused { OnErr result (AreRefused (over_link L.answer L.next) scenario.entry.now base
+        (map (seat_of S.document S.opening S.own S.left L.state L.faults) seats.old.items)
+        (map (seat_of S.document S.opening S.own S.left L.state L.faults) seats.new.items)) }
     ensures belong { All (λ s. S.belongs share.now s.pass) seats.new.items }
     ensures documents { map (λ s. S.document s.pass) seats.new.items
         ≡ range_with_len 0 (length scenario.entry.now.documents) }

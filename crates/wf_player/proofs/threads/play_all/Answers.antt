@@ -1,10 +1,11 @@
-use Rattle.std.proofs.Common.{◌≡◌, ◌∙◌, List, ap, length, map, sym}
+use Rattle.std.proofs.Common.{◌≡◌, ◌∙◌, List, ap, inr, length, map, refl, sym}
 use Rattle.wf_print.specs.declared.events.Transcript.{Transcript}
 use Rattle.wf_player.specs.Private.Rows.{seatings_of, transcripts_of}
+use Rattle.wf_drive.proofs.AskLemmas.{on-err}
 use Rattle.wf_player.specs.Seats.{ArePlayed, seat_of}
 use Rattle.wf_wire.specs.Wires.{over_link}
 use Rattle.wf_player.proofs.SeatLemmas.{belong-back, documents-after, documents-before, made-list, played-back, ready}
-use Rattle.wf_player.proofs.SeatLemmas.{written}
+use Rattle.wf_player.proofs.SeatLemmas.{none-played, written}
 use Rattle.wf_player.proofs.threads.play_all.Goals as goal
 
 pub returns-in_err-transcripts-clause-documents : goal.returns-in_err-transcripts-clause-documents
@@ -40,6 +41,36 @@ returns-clause-played g c =
     c.args.seats.now.items c.from_rows.new.seats.items c.from_rows.new.transcripts.items c.in_ok-rows.ensures.ok.0
     (f.seats ∙ ap seatings_of same) (f.transcripts ∙ ap transcripts_of same) kept c.requires.seats
     (λ i d lt. rw (← w.value) (c.play_rows.ensures i d (rw w.value lt))))
+
+pub returns-in_err-rows-clause-refused : goal.returns-in_err-rows-clause-refused
+returns-in_err-rows-clause-refused g c =
+    let seen = seat_of g.S.Share.document g.S.Share.opening g.S.Share.own g.S.Share.left g.L.Link.state g.L.Link.faults in
+    on-err c.from_residual-in_err-rows.result (none-played (over_link g.L.Link.answer g.L.Link.next) c.args.scenario.now
+    c.args.base (map seen c.args.seats.now.items) (map seen c.to_rows.new.seats.items)
+    (ap (map seen) c.in_err-rows.ensures.err))
+
+pub returns-in_err-transcripts-clause-refused : goal.returns-in_err-transcripts-clause-refused
+returns-in_err-transcripts-clause-refused g c =
+    let seen = seat_of g.S.Share.document g.S.Share.opening g.S.Share.own g.S.Share.left g.L.Link.state g.L.Link.faults in
+    on-err c.from_residual.result (none-played (over_link g.L.Link.answer g.L.Link.next) c.args.scenario.now c.args.base
+    (map seen c.args.seats.now.items) (map seen c.args.seats.now.items) refl)
+
+pub returns-clause-refused : goal.returns-clause-refused
+returns-clause-refused g c =
+    let seen = seat_of g.S.Share.document g.S.Share.opening g.S.Share.own g.S.Share.left g.L.Link.state g.L.Link.faults in
+    let belongs = g.S.Share.belongs c.args.share.now in
+    let by = over_link g.L.Link.answer g.L.Link.next in
+    let w = c.as_mut_slice.ensures in let f = c.from_rows.ensures in
+    let long = ap length (sym w.value) ∙ w.len in
+    let kept : length c.play_rows.new.rows ≡ length c.in_ok-rows.rows.items = c.play_rows.auto.rows ∙ ap length w.value in
+    let same = written c.in_ok-rows.rows.len c.play_rows.new.rows c.in_ok-rows.rows.items kept long in
+    on-err c.listed.result (inr (record {
+      transcripts = c.from_rows.new.transcripts.items;
+      played = played-back belongs seen by c.args.scenario.now c.args.base c.in_ok-rows.rows.items c.play_rows.new.rows
+          c.args.seats.now.items c.from_rows.new.seats.items c.from_rows.new.transcripts.items c.in_ok-rows.ensures.ok.0
+          (f.seats ∙ ap seatings_of same) (f.transcripts ∙ ap transcripts_of same) kept c.requires.seats
+          (λ i d lt. rw (← w.value) (c.play_rows.ensures i d (rw w.value lt)));
+    }))
 
 pub returns-clause-belong : goal.returns-clause-belong
 returns-clause-belong g c =
