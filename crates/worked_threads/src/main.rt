@@ -1,19 +1,26 @@
-// Plays two documents, by the program's top call with the word `net`, over links that wait for each other: each gives its
-// answer only once the other document has sent its request. So both bodies come whole only where the documents run at
-// once, and no turn on the shared book is held during an exchange. What is printed is the status, the documents' text,
-// and how many calls the history has, since their order is free.
+// Plays two documents, by the program's top call with the word `net`, over links of its own, and prints the status, the
+// documents' text, and how many calls the history has, since their order is free.
+//
+// First over links that wait for each other: each gives its answer only once the other document has sent its request. So
+// both bodies come whole only where the documents run at once, and no turn on the shared book is held during an exchange.
+//
+// Then over links of which the second waits until the first document has sent its PUT, which its preflight has taught the
+// book before. So the second document's PUT is covered, and has no preflight of its own, only where they share the book.
 #![tactic(auto)]
 
 mod failed;
 mod gate;
+mod lesson;
 
 use crate::failed::Failed;
 use crate::gate::{Asked, GateLinks};
+use crate::lesson::LessonLinks;
 use std::alloc::Global;
 use std::process::ExitCode;
 use std::sync::Wait;
+use std::sync::atomic::AtomicBool;
 use std::thread::Threads;
-use wf_link::{FixedClock, MemorySink, MemorySource};
+use wf_link::{FixedClock, Links, MemorySink, MemorySource};
 use wf_text::Bytes;
 use wf_top::fetchplay;
 
@@ -24,6 +31,12 @@ const ROOM: usize = 65_536;
 const SCENARIO: &[u8] = b"{\"format\":1,\"documents\":[\
     {\"url\":\"http://a.test/\",\"script\":[{\"fetch\":{\"url\":\"http://b.test/\"}}]},\
     {\"url\":\"http://d.test/\",\"script\":[{\"fetch\":{\"url\":\"http://b.test/\"}}]}]}";
+
+/// Two documents with one key. Each sends the same PUT, the second behind a GET.
+const LESSON: &[u8] = b"{\"format\":1,\"documents\":[\
+    {\"url\":\"http://a.test/\",\"script\":[{\"fetch\":{\"url\":\"http://b.test/x\",\"method\":\"PUT\"}}]},\
+    {\"url\":\"http://a.test/\",\"script\":[{\"fetch\":{\"url\":\"http://b.test/\"}},\
+    {\"fetch\":{\"url\":\"http://b.test/x\",\"method\":\"PUT\"}}]}]}";
 
 // A sink that takes all.
 fn sink(alloc: Global) -> Result<MemorySink, Failed> {
@@ -40,14 +53,17 @@ fn show<R: Print>(rt: &R, text: &str) -> Result<(), Failed> {
     Ok(())
 }
 
-// Plays the documents over links that wait for each other.
-fn play<R: Threads + Wait + Sync + Print + AllocGlobal>(rt: &R) -> Result<(), Failed> {
+// Plays the documents of a scenario over links.
+fn play<R: Threads + Wait + Sync + Print + AllocGlobal, N: Links>(
+    rt: &R,
+    scenario: &[u8],
+    links: &mut N,
+) -> Result<(), Failed> {
     let alloc = rt.alloc();
     let mut words = Vec::new(alloc);
     words.push(String::from_str(alloc, "net")?)?;
-    let mut input = MemorySource::new(Bytes::of(alloc, SCENARIO)?, Vec::new(alloc));
+    let mut input = MemorySource::new(Bytes::of(alloc, scenario)?, Vec::new(alloc));
     let mut output = sink(alloc)?;
-    let asked = Asked::none();
     let status = fetchplay(
         rt,
         alloc,
@@ -55,7 +71,7 @@ fn play<R: Threads + Wait + Sync + Print + AllocGlobal>(rt: &R) -> Result<(), Fa
         &mut input,
         &mut output,
         &mut sink(alloc)?,
-        &mut GateLinks::new(&asked),
+        links,
         &mut FixedClock::new(0),
     );
     println!(rt; "status {}", status.number())?;
@@ -65,8 +81,17 @@ fn play<R: Threads + Wait + Sync + Print + AllocGlobal>(rt: &R) -> Result<(), Fa
     }
 }
 
+// Plays both.
+fn run<R: Threads + Wait + Sync + Print + AllocGlobal>(rt: &R) -> Result<(), Failed> {
+    let asked = Asked::none();
+    play(rt, SCENARIO, &mut GateLinks::new(&asked))?;
+    println!(rt; "")?;
+    let sent = AtomicBool::new(false);
+    play(rt, LESSON, &mut LessonLinks::new(&sent))
+}
+
 fn main(rt: HostRuntime) -> ExitCode {
-    match play(&rt) {
+    match run(&rt) {
         Ok(()) => ExitCode::SUCCESS,
         Err(_) => ExitCode::FAILURE,
     }
