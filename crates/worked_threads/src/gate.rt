@@ -12,41 +12,57 @@ use wf_text::OutOfMemory;
 const ANSWER: &[u8] =
     b"HTTP/1.1 200 OK\r\nContent-Length: 2\r\nAccess-Control-Allow-Origin: *\r\n\r\nhi";
 
-/// How often a link looks whether the other one was asked, before it fails.
+/// How often a link looks whether the others were asked, before it fails.
 const LOOKS: u32 = 1_000_000_000;
+
+/// How many documents there are at most.
+const MOST: usize = 5;
 
 /// Which documents have asked.
 #[derive(Drop)]
 pub(crate) struct Asked {
-    first: AtomicBool,
-    second: AtomicBool,
+    flags: [AtomicBool; MOST],
 }
 
 impl Asked {
-    // Neither of them.
+    // None of them.
     pub(crate) fn none() -> Asked {
         Asked {
-            first: AtomicBool::new(false),
-            second: AtomicBool::new(false),
+            flags: [
+                AtomicBool::new(false),
+                AtomicBool::new(false),
+                AtomicBool::new(false),
+                AtomicBool::new(false),
+                AtomicBool::new(false),
+            ],
         }
+    }
+
+    // Whether the first so many of them have asked.
+    fn have(&self, count: usize) -> bool {
+        self.flags
+            .iter()
+            .take(count)
+            .all(|flag| flag.load(Ordering::SeqCst))
     }
 }
 
-/// The link of one of two documents. It gives its answers only once the other's link was asked too, and
+/// The link of one of some documents. It gives its answers only once the links of all were asked, and
 /// fails where it waits too long.
 #[derive(Drop)]
 pub(crate) struct GateLink<'a> {
-    mine: &'a AtomicBool,
-    other: &'a AtomicBool,
+    asked: &'a Asked,
+    document: usize,
+    count: usize,
     left: &'a [u8],
     faults: u64,
 }
 
 impl<'a> GateLink<'a> {
-    // Whether the other link was asked, within so many looks.
+    // Whether the links of all were asked, within so many looks.
     fn is_open(&self) -> bool {
         for _ in 0..LOOKS {
-            if self.other.load(Ordering::SeqCst) {
+            if self.asked.have(self.count) {
                 return true;
             }
             thread::yield_now();
@@ -71,7 +87,9 @@ impl<'a> Link for GateLink<'a> {
     ghost faults = { λ link. link.faults };
 
     fn ask(&mut self, _target: &Target, _request: &[u8]) -> Result<(), Failed> {
-        self.mine.store(true, Ordering::SeqCst);
+        if let Some(flag) = self.asked.flags.get(self.document) {
+            flag.store(true, Ordering::SeqCst);
+        }
         self.left = ANSWER;
         Ok(())
     }
@@ -93,17 +111,22 @@ impl<'a> Link for GateLink<'a> {
     }
 }
 
-/// The links of two documents.
+/// The links of so many documents.
 #[derive(Drop)]
 pub(crate) struct GateLinks<'a> {
     asked: &'a Asked,
+    count: usize,
     faults: u64,
 }
 
 impl<'a> GateLinks<'a> {
-    // The links of documents of which these have asked.
-    pub(crate) fn new(asked: &'a Asked) -> GateLinks<'a> {
-        GateLinks { asked, faults: 0 }
+    // The links of so many documents, five at most, of which these have asked.
+    pub(crate) fn new(asked: &'a Asked, count: usize) -> GateLinks<'a> {
+        GateLinks {
+            asked,
+            count,
+            faults: 0,
+        }
     }
 }
 
@@ -122,15 +145,10 @@ impl<'a> Links for GateLinks<'a> {
         document: u32,
         _routes: &Routes,
     ) -> Result<GateLink<'a>, OutOfMemory> {
-        let Asked { first, second } = self.asked;
-        let (mine, other) = if document == 0 {
-            (first, second)
-        } else {
-            (second, first)
-        };
         Ok(GateLink {
-            mine,
-            other,
+            asked: self.asked,
+            document: document as usize,
+            count: self.count,
             left: &[],
             faults: 0,
         })

@@ -5,7 +5,7 @@ ghost use Rattle.wf_link.specs.Counts.{grown_by};
 use std::alloc::Global;
 use std::sync::atomic::{AtomicBool, Ordering};
 use std::thread;
-use wf_link::{Failed, Link, Links, Routes, Target};
+use wf_link::{Failed, Link, Links, Route, Routes, Target};
 use wf_text::OutOfMemory;
 
 /// What each link answers to a preflight.
@@ -15,6 +15,9 @@ const ALLOWED: &[u8] = b"HTTP/1.1 200 OK\r\nAccess-Control-Allow-Origin: *\r\n\
 /// What it answers to all else.
 const ANSWER: &[u8] =
     b"HTTP/1.1 200 OK\r\nContent-Length: 2\r\nAccess-Control-Allow-Origin: *\r\n\r\nhi";
+
+/// The address that a route of the scenario must name, so that a link is made.
+const ADDRESS: &[u8] = b"127.0.0.1:8080";
 
 /// How often the second link looks whether a PUT was sent, before it fails.
 const LOOKS: u32 = 1_000_000_000;
@@ -89,7 +92,7 @@ impl<'a> Link for LessonLink<'a> {
     }
 }
 
-/// The links of two documents.
+/// The links of two documents. They are made only where a route of the scenario names their address.
 #[derive(Drop)]
 pub(crate) struct LessonLinks<'a> {
     sent: &'a AtomicBool,
@@ -116,8 +119,12 @@ impl<'a> Links for LessonLinks<'a> {
         &mut self,
         _alloc: Global,
         document: u32,
-        _routes: &Routes,
+        routes: &Routes,
     ) -> Result<LessonLink<'a>, OutOfMemory> {
+        let is_there = |route: &Route| route.address.as_slice() == ADDRESS;
+        if !routes.as_slice().iter().any(is_there) {
+            return Err(OutOfMemory);
+        }
         Ok(LessonLink {
             sent: self.sent,
             waits: document != 0,

@@ -1,11 +1,13 @@
-// Plays two documents, by the program's top call with the word `net`, over links of its own, and prints the status, the
+// Plays documents, by the program's top call with the word `net`, over links of its own, and prints the status, the
 // documents' text, and how many calls the history has, since their order is free.
 //
-// First over links that wait for each other: each gives its answer only once the other document has sent its request. So
-// both bodies come whole only where the documents run at once, and no turn on the shared book is held during an exchange.
+// First over links that wait for each other: each gives its answer only once all documents have sent their requests. So
+// the bodies come whole only where the documents run at once, and no turn on the shared book is held during an exchange.
+// Two documents wait for each other so, and then five.
 //
 // Then over links of which the second waits until the first document has sent its PUT, which its preflight has taught the
 // book before. So the second document's PUT is covered, and has no preflight of its own, only where they share the book.
+// These links are made only where the scenario's routes reach what makes them.
 #![tactic(auto)]
 
 mod failed;
@@ -32,8 +34,17 @@ const SCENARIO: &[u8] = b"{\"format\":1,\"documents\":[\
     {\"url\":\"http://a.test/\",\"script\":[{\"fetch\":{\"url\":\"http://b.test/\"}}]},\
     {\"url\":\"http://d.test/\",\"script\":[{\"fetch\":{\"url\":\"http://b.test/\"}}]}]}";
 
+/// Five documents, each of which fetches the same page.
+const CROWD: &[u8] = b"{\"format\":1,\"documents\":[\
+    {\"url\":\"https://a.test/\",\"script\":[{\"fetch\":{\"url\":\"https://e.test/\"}}]},\
+    {\"url\":\"https://b.test/\",\"script\":[{\"fetch\":{\"url\":\"https://e.test/\"}}]},\
+    {\"url\":\"https://c.test/\",\"script\":[{\"fetch\":{\"url\":\"https://e.test/\"}}]},\
+    {\"url\":\"https://d.test/\",\"script\":[{\"fetch\":{\"url\":\"https://e.test/\"}}]},\
+    {\"url\":\"https://f.test/\",\"script\":[{\"fetch\":{\"url\":\"https://e.test/\"}}]}]}";
+
 /// Two documents with one key. Each sends the same PUT, the second behind a GET.
-const LESSON: &[u8] = b"{\"format\":1,\"documents\":[\
+const LESSON: &[u8] =
+    b"{\"format\":1,\"routes\":[[\"http://b.test\",\"127.0.0.1:8080\"]],\"documents\":[\
     {\"url\":\"http://a.test/\",\"script\":[{\"fetch\":{\"url\":\"http://b.test/x\",\"method\":\"PUT\"}}]},\
     {\"url\":\"http://a.test/\",\"script\":[{\"fetch\":{\"url\":\"http://b.test/\"}},\
     {\"fetch\":{\"url\":\"http://b.test/x\",\"method\":\"PUT\"}}]}]}";
@@ -81,10 +92,13 @@ fn play<R: Threads + Wait + Sync + Print + AllocGlobal, N: Links>(
     }
 }
 
-// Plays both.
+// Plays all of them.
 fn run<R: Threads + Wait + Sync + Print + AllocGlobal>(rt: &R) -> Result<(), Failed> {
     let asked = Asked::none();
-    play(rt, SCENARIO, &mut GateLinks::new(&asked))?;
+    play(rt, SCENARIO, &mut GateLinks::new(&asked, 2))?;
+    println!(rt; "")?;
+    let asked = Asked::none();
+    play(rt, CROWD, &mut GateLinks::new(&asked, 5))?;
     println!(rt; "")?;
     let sent = AtomicBool::new(false);
     play(rt, LESSON, &mut LessonLinks::new(&sent))
