@@ -95,17 +95,17 @@ faults_one faults first mid last links link so_far next =
 -- ---- what makes links
 
 -- nothing was made
-pub none-taken : {L : Type 0} (faults : L → ℕ) (maker : Maker L) → HasTakenBack faults maker maker
-none-taken {L} faults maker = record {
-  back = [];
-  took = record { lent = same maker.lent; counted = refl };
-}
+pub nothing-taken : {L : Type 0} (faults : L → ℕ) (maker : Maker L) → TookAll faults maker maker []
+nothing-taken {L} faults maker = record { lent = same maker.lent; counted = refl }
   where
     same : (lent : Option (Lent L)) → AreBack lent lent []
     same None = tt
     same (Some lent) =
         ap (λ (l : Lent L). let o : Option (Lent L) = Some l in o)
         (lent-is lent.back (lent.back ++ []) lent.out lent.out (sym (append-nil lent.back)) refl)
+
+pub none-taken : {L : Type 0} (faults : L → ℕ) (maker : Maker L) → HasTakenBack faults maker maker
+none-taken faults maker = record { back = []; took = nothing-taken faults maker }
 
 -- all that were made came back
 pub took-all : {L : Type 0} (faults : L → ℕ) (old mid new : Maker L) (links : List L) (count : ℕ)

@@ -6,6 +6,7 @@ use Rattle.wf_link.specs.Links.{IsTold, Lent}
 use Rattle.wf_print.specs.declared.events.Transcript.{Transcript}
 use Rattle.wf_script.specs.declared.types.Scenario.{Scenario}
 use Rattle.wf_wire.specs.Exchanges.{Answering}
+use Rattle.wf_player.specs.Seats.{AreRefused, Seat}
 use Rattle.wf_iso.specs.Plays.{IsPlayOver, Way}
 
 -- what is told of a link
@@ -64,3 +65,21 @@ pub record IsPlayOverLinks {L State : Type 0} (by : Answering State) (state : L 
   pub took : TookBack faults old new back
   pub play : IsPlayOver by scenario base (map (way_of state faults) made) (map (way_of state faults) back)
       transcripts history
+
+-- what is told of a seat's link
+abbrev pub way_of_seat : {State : Type 0} → Seat State → Way State
+way_of_seat seat = record { state = seat.outside.state; faults = seat.outside.faults }
+
+-- A play that was refused, over links as they were made for documents, and as they were taken back, in the same order: no
+-- document was played, and its seat is as it was; or each was, and its link is as its run has left it.
+pub record WasRefused {L State : Type 0} (by : Answering State) (state : L → Option State) (faults : L → ℕ)
+    (old new : Maker L) (scenario : Scenario) (base : ℕ) : Type 0 where
+  pub made : List L
+  pub back : List L
+  pub opened : AreOpened old.opening made
+  pub took : TookBack faults old new back
+  pub olds : List (Seat State)
+  pub news : List (Seat State)
+  pub from : map way_of_seat olds ≡ map (way_of state faults) made
+  pub to : map way_of_seat news ≡ map (way_of state faults) back
+  pub left : AreRefused by scenario base olds news

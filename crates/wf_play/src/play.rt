@@ -4,11 +4,11 @@ ghost use Rattle.wf_print.specs.Text.{HasText};
 ghost use Rattle.wf_script.specs.Valid.{IsValid};
 ghost use Rattle.wf_turn.specs.Passes.{IsOneHistory, opening_of};
 ghost use Rattle.wf_wire.specs.Wires.{over_link};
-ghost use Rattle.wf_play.specs.Links.{HasTakenBack, IsPlayOverLinks, maker_of};
+ghost use Rattle.wf_play.specs.Links.{IsPlayOverLinks, WasRefused, maker_of};
 ghost use Rattle.wf_play.specs.Passes.{IsNew};
 ghost use Rattle.wf_iso.specs.Plays.{IsPlay, opening_book};
 ghost use Rattle.wf_play.specs.Private.Lendings.{out_more};
-ghost use Rattle.wf_play.specs.Private.Seated.{IsSeatedPlay};
+ghost use Rattle.wf_play.specs.Private.Seated.{IsSeatedPlay, IsSeatedRefusal};
 ghost use Rattle.std.specs.List.{All, range_with_len};
 
 use crate::book::opened;
@@ -53,6 +53,8 @@ fn play_seated<R: Threads + Wait + Sync, N: Links>(
     ensures played { IfOk result (λ transcripts. IsSeatedPlay (over_link N.Link.answer N.Link.next) N.Link.state
         N.Link.faults (N.opening links.old) book.now.table.shared.table_id scenario.entry.now base passes.items
         seats.new.items transcripts) }
+    ensures refused { OnErr result (IsSeatedRefusal (over_link N.Link.answer N.Link.next) N.Link.state N.Link.faults
+        (N.opening links.old) scenario.entry.now base seats.new.items) }
     ensures few { length seats.new.items ≤ length scenario.entry.now.documents }
     ensures out { N.lent links.new ≡ option_map (out_more (length seats.new.items)) (N.lent links.old) }
     ensures faults { N.faults links.new ≡ N.faults links.old }
@@ -72,7 +74,8 @@ fn play_seated<R: Threads + Wait + Sync, N: Links>(
 /// order, also where memory was refused.
 ///
 /// `OutOfMemory` where memory was refused, to a document or to what surrounds them, or where no link could
-/// be made; then the links that were made were taken back.
+/// be made; then the links that were made were taken back in order of documents: as they were made, or, where
+/// the documents were played, as their runs have left them.
 pub fn play_over<R: Threads + Wait + Sync, N: Links>(
     rt: &R,
     alloc: Global,
@@ -85,8 +88,9 @@ pub fn play_over<R: Threads + Wait + Sync, N: Links>(
     ensures played { IfOk result (λ played. IsPlayOverLinks (over_link N.Link.answer N.Link.next) N.Link.state N.Link.faults
         (maker_of N.opening N.lent N.faults links.old) (maker_of N.opening N.lent N.faults links.new)
         scenario.entry.now base played.transcripts played.history) }
-    ensures refused { OnErr result (HasTakenBack N.Link.faults
-        (maker_of N.opening N.lent N.faults links.old) (maker_of N.opening N.lent N.faults links.new)) }
+    ensures refused { OnErr result (WasRefused (over_link N.Link.answer N.Link.next) N.Link.state N.Link.faults
+        (maker_of N.opening N.lent N.faults links.old) (maker_of N.opening N.lent N.faults links.new)
+        scenario.entry.now base) }
     ensures has_text { IfOk result (λ played. HasText played.transcripts) }
 {
     let opening = opened(alloc, scenario.hosts.as_slice())?;

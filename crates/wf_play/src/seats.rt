@@ -23,7 +23,7 @@ pub(crate) fn seat_all<N: Links>(
     requires room { vec_len passes ≤ vec_capacity seats.old }
     requires few { vec_len passes ≤ 128 }
     ensures passes { OnOk result (map (λ s. s.pass) seats.new.items ≡ passes.items) }
-    ensures opened { OnOk result (AreOpened (N.opening links.old) (map (λ s. s.link) seats.new.items)) }
+    ensures opened { AreOpened (N.opening links.old) (map (λ s. s.link) seats.new.items) }
     ensures few { length seats.new.items ≤ vec_len passes }
     ensures out { N.lent links.new ≡ option_map (out_more (length seats.new.items)) (N.lent links.old) }
     ensures faults { N.faults links.new ≡ N.faults links.old }

@@ -20,7 +20,7 @@ use Rattle.wf_play.specs.Links.{HasTakenBack}
 use Rattle.wf_play.proofs.LinkLemmas.{none-taken}
 use Rattle.wf_top.specs.Private.Steps.{IsRead, IsUnread, IsWhyNone, IsWritten}
 use Rattle.wf_top.specs.Program.{most_input, IsWhole, WritesPlay, IsCause, IsPlayed, IsVerdict, IsComplained, IsTold}
-use Rattle.wf_top.specs.Program.{AreLeft, IsAnswer, IsExcused, IsExcusedRead, IsLinked, IsScripted, IsSummed}
+use Rattle.wf_top.specs.Program.{AreLeft, HasPlayed, HasRefused, IsAnswer, IsExcused, IsExcusedRead, IsLinked, IsScripted, IsSummed}
 use Rattle.wf_top.specs.Program.{WritesSummary}
 use Rattle.wf_top.specs.Program.{GeneratedPlay, PlayOf, WritesSummaryPart, GaveFor, AnswersInput, AnswersCount, Answers}
 use Rattle.wf_top.specs.Statuses.{complaint, written_status}
@@ -408,18 +408,23 @@ summary-outcome count of output output' (Err failure.TookNothing) took part faul
 
 -- ---- links and clock
 
--- links that are as they were, or whose play was one, were all taken back
+-- they were played over
 pub left-played : {L State : Type 0} (by : Answering State) (state : L → Option State) (faults : L → ℕ)
     (net net' : Net L) (transcripts : List Transcript) (history : List Entry) (output output' : Sink)
     (verdict : Status) → IsWritten transcripts history output output' verdict
-    → HasTakenBack faults net.links net'.links → AreLeft by state faults net net' verdict
-left-played by state faults net net' transcripts history output output' status.Ok w back = back
-left-played by state faults net net' transcripts history output output' status.Usage w back = absurd w
-left-played by state faults net net' transcripts history output output' (status.Scenario place) w back = absurd w
-left-played by state faults net net' transcripts history output output' status.ReadFault w back = absurd w
-left-played by state faults net net' transcripts history output output' status.WriteFault w back = back
-left-played by state faults net net' transcripts history output output' status.OutOfMemory w back = back
-left-played by state faults net net' transcripts history output output' status.InputTooLong w back = absurd w
+    → HasPlayed by state faults net net' → AreLeft by state faults net net' verdict
+left-played by state faults net net' transcripts history output output' status.Ok w played = played
+left-played by state faults net net' transcripts history output output' status.Usage w played = absurd w
+left-played by state faults net net' transcripts history output output' (status.Scenario place) w played = absurd w
+left-played by state faults net net' transcripts history output output' status.ReadFault w played = absurd w
+left-played by state faults net net' transcripts history output output' status.WriteFault w played = played
+left-played by state faults net net' transcripts history output output' status.OutOfMemory w played = inr (inr played)
+left-played by state faults net net' transcripts history output output' status.InputTooLong w played = absurd w
+
+-- a play over them was refused
+pub left-refused : {L State : Type 0} (by : Answering State) (state : L → Option State) (faults : L → ℕ)
+    (net net' : Net L) → HasRefused by state faults net net' → AreLeft by state faults net net' status.OutOfMemory
+left-refused by state faults net net' refused = inr (inl refused)
 
 -- where no scenario was read they are as they were
 pub left-unread : {L State : Type 0} (by : Answering State) (state : L → Option State) (faults : L → ℕ) (net : Net L)
@@ -432,7 +437,7 @@ left-unread by state faults net input input' verdict u = left verdict u.why
     left (status.Scenario place) why = refl
     left status.ReadFault why = refl
     left status.WriteFault why = absurd why
-    left status.OutOfMemory why = none-taken faults net.links
+    left status.OutOfMemory why = inl refl
     left status.InputTooLong why = refl
 
 left-back : {L State : Type 0} (by : Answering State) (state : L → Option State) (faults : L → ℕ) (net net' : Net L)
@@ -442,10 +447,19 @@ left-back {L} by state faults net net' verdict left = back verdict left
     same : net' ≡ net → HasTakenBack faults net.links net'.links
     same is = subst (λ (n : Net L). HasTakenBack faults net.links n.links) (sym is) (none-taken faults net.links)
 
+    played : HasPlayed by state faults net net' → HasTakenBack faults net.links net'.links
+    played p = record { back = p.over.back; took = p.over.took }
+
     back : (v : Status) → AreLeft by state faults net net' v → HasTakenBack faults net.links net'.links
-    back status.Ok left = left
-    back status.WriteFault left = left
-    back status.OutOfMemory left = left
+    back status.Ok left = played left
+    back status.WriteFault left = played left
+    back status.OutOfMemory left = elim left [
+      | inl is ↦ same is
+      | inr other ↦ elim other [
+        | inl r ↦ record { back = r.refused.back; took = r.refused.took }
+        | inr p ↦ played p
+      ]
+    ]
     back status.Usage left = same left
     back (status.Scenario place) left = same left
     back status.ReadFault left = same left

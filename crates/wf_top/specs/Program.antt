@@ -16,7 +16,7 @@ use Rattle.wf_script.specs.Scenarios.{scenario_of}
 use Rattle.wf_wire.specs.Exchanges.{Answering}
 use Rattle.wf_iso.specs.Isolated.{AreAlone, IsIsolated}
 use Rattle.wf_iso.specs.Plays.{IsPlay, by_rules, ways_to_servers}
-use Rattle.wf_play.specs.Links.{HasTakenBack, IsPlayOverLinks, way_of}
+use Rattle.wf_play.specs.Links.{HasTakenBack, IsPlayOverLinks, WasRefused, way_of}
 use Rattle.wf_top.specs.Statuses.{complaint}
 use Rattle.wf_top.specs.Streams.{Source, Sink, Net, Failed}
 use Rattle.wf_top.specs.Words.{subcommand_of}
@@ -61,12 +61,27 @@ module _ {L State : Type 0} (by : Answering State) (state : L → Option State) 
     pub alone : AreAlone by scenario base history 0 scenario.documents (map (way_of state faults) over.made)
         (map (way_of state faults) over.back) transcripts
 
-  -- what is left of the links and the clock: as they were, where nothing was played; else each link that was made was
-  -- taken back
+  -- A play over them was refused for want of memory.
+  pub record HasRefused : Type 0 where
+    pub scenario : Scenario
+    pub base : ℕ
+    pub base_is : IsBase old.time base
+    pub refused : WasRefused by state faults old.links new.links scenario base
+
+  -- A scenario was played over them.
+  pub record HasPlayed : Type 0 where
+    pub scenario : Scenario
+    pub base : ℕ
+    pub base_is : IsBase old.time base
+    pub transcripts : List Transcript
+    pub history : List Entry
+    pub over : IsPlayOverLinks by state faults old.links new.links scenario base transcripts history
+
+  -- what is left of the links and the clock: as they were, where nothing was played; else the links were taken back
   abbrev pub AreLeft : Status → Type 0
-  AreLeft status.Ok = HasTakenBack faults old.links new.links
-  AreLeft status.WriteFault = HasTakenBack faults old.links new.links
-  AreLeft status.OutOfMemory = HasTakenBack faults old.links new.links
+  AreLeft status.Ok = HasPlayed
+  AreLeft status.WriteFault = HasPlayed
+  AreLeft status.OutOfMemory = (new ≡ old) ⊎ HasRefused ⊎ HasPlayed
   AreLeft verdict = new ≡ old
 
 -- ---- a scenario that is read

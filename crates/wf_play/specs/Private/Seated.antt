@@ -2,7 +2,7 @@
 use Rattle.std.specs.Prelude.{◌≡◌, ℕ, List, map, Option}
 use Rattle.std.specs.List.{All}
 use Rattle.atomic_table.specs.Seated.{TableId}
-use Rattle.wf_player.specs.Seats.{ArePlayed, Seat, seat_of}
+use Rattle.wf_player.specs.Seats.{ArePlayed, AreRefused, Seat, seat_of}
 use Rattle.wf_player.specs.declared.seating.Seating.{Seating}
 use Rattle.wf_print.specs.declared.events.Transcript.{Transcript}
 use Rattle.wf_print.specs.Text.{HasText}
@@ -34,3 +34,10 @@ pub record IsSeatedPlay {L State : Type 0} (by : Answering State) (state : L →
       (map (seat_seen state faults) back) transcripts
   pub belong : All (λ pass. pass.seat.table_id ≡ id) (passes_in back)
   pub has_text : HasText transcripts
+
+-- Seats were made of links as they were to be made, and none was played, or each was.
+pub record IsSeatedRefusal {L State : Type 0} (by : Answering State) (state : L → Option State) (faults : L → ℕ)
+    (opening : ℕ → Option L) (scenario : Scenario) (base : ℕ) (back : List (Seating L TurnPass)) : Type 0 where
+  pub made : List (Seating L TurnPass)
+  pub opened : AreOpened opening (links_in made)
+  pub left : AreRefused by scenario base (map (seat_seen state faults) made) (map (seat_seen state faults) back)

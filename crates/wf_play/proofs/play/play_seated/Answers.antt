@@ -1,6 +1,9 @@
 use Rattle.std.proofs.Common.{◌∙◌, arith, length, sym}
 use Rattle.wf_turn.specs.declared.pass.TurnPass.{TurnPass}
 use Rattle.wf_play.proofs.LinkLemmas.{out-many}
+use Rattle.wf_drive.proofs.AskLemmas.{on-err}
+use Rattle.wf_wire.specs.Wires.{over_link}
+use Rattle.wf_play.proofs.RefusedLemmas.{seated-none, seated-played, seated-refused}
 use Rattle.wf_play.proofs.SeatedLemmas.{as-many, as-seated, belong-at, belong-passes, ready-seats}
 use Rattle.wf_play.proofs.play.play_seated.Goals as goal
 
@@ -73,3 +76,24 @@ returns-else-has_text-clause-out g c =
     (as-many (λ s. s.pass.document) c.play_all.new.seats.items count c.in_ok-transcripts.ensures.documents
     ∙ sym (as-seated c.args.passes.items c.seat_all.new.seats.items count c.in_ok-seat_all.ensures.passes
     c.requires.documents))
+
+-- none was played, or each was
+pub returns-in_err-seat_all-clause-refused : goal.returns-in_err-seat_all-clause-refused
+returns-in_err-seat_all-clause-refused g c =
+    on-err c.from_residual.result (seated-none (over_link g.N.Link.Link.answer g.N.Link.Link.next)
+    g.N.Link.Link.state g.N.Link.Link.faults (g.N.Links.opening c.args.links.now) c.args.scenario.now c.args.base
+    c.seat_all.new.seats.items c.in_err-seat_all.ensures.opened)
+
+pub returns-in_err-transcripts-clause-refused : goal.returns-in_err-transcripts-clause-refused
+returns-in_err-transcripts-clause-refused g c =
+    on-err c.from_residual-in_err-transcripts.result (seated-refused (over_link g.N.Link.Link.answer g.N.Link.Link.next)
+    g.N.Link.Link.state g.N.Link.Link.faults (g.N.Links.opening c.args.links.now) c.args.scenario.now c.args.base
+    c.seat_all.new.seats.items c.play_all.new.seats.items c.in_ok-seat_all.ensures.opened
+    c.in_err-transcripts.ensures.refused)
+
+pub returns-else-has_text-clause-refused : goal.returns-else-has_text-clause-refused
+returns-else-has_text-clause-refused g c =
+    seated-played (over_link g.N.Link.Link.answer g.N.Link.Link.next)
+    g.N.Link.Link.state g.N.Link.Link.faults (g.N.Links.opening c.args.links.now) c.args.scenario.now c.args.base
+    c.seat_all.new.seats.items c.play_all.new.seats.items c.in_ok-transcripts.transcripts
+    c.in_ok-seat_all.ensures.opened c.in_ok-transcripts.ensures.played

@@ -3,7 +3,7 @@ use Rattle.wf_play.specs.Links.{maker_of, way_of}
 use Rattle.wf_top.specs.Program.{IsLinked}
 use Rattle.wf_top.specs.Streams.{net_of, sink_of, source_of}
 use Rattle.wf_wire.specs.Wires.{over_link}
-use Rattle.wf_top.proofs.ProgramLemmas.{written-played}
+use Rattle.wf_top.proofs.ProgramLemmas.{left-played, written-played}
 use Rattle.wf_top.proofs.program.play_linked.Goals as goal
 
 pub returns-clause-played : goal.returns-clause-played
@@ -31,3 +31,22 @@ returns-clause-played g c =
           played.transcripts played.history over.play).alone;
     })
     c.write_text.ensures
+
+pub returns-clause-left : goal.returns-clause-left
+returns-clause-left g c =
+    let played = c.in-Ok-play_over.played in
+    left-played (over_link g.N.Link.Link.answer g.N.Link.Link.next) g.N.Link.Link.state g.N.Link.Link.faults
+    (net_of (maker_of g.N.Links.opening g.N.Links.lent g.N.Links.faults c.args.links.now) g.C.Clock.next
+    c.args.clock.now)
+    (net_of (maker_of g.N.Links.opening g.N.Links.lent g.N.Links.faults c.play_over.new.links) g.C.Clock.next
+    c.base_of-base.new.clock) played.transcripts played.history
+    (sink_of g.K.Sink.taken g.K.Sink.faults g.K.Sink.zeros c.args.output.now)
+    (sink_of g.K.Sink.taken g.K.Sink.faults g.K.Sink.zeros c.write_text.new.output) c.write_text.result
+    c.write_text.ensures (record {
+      scenario = c.in-Ok.scenario;
+      base = c.base_of-base.result;
+      base_is = c.base_of-base.ensures.base;
+      transcripts = played.transcripts;
+      history = played.history;
+      over = c.in-Ok-play_over.ensures.played;
+    })
