@@ -45,6 +45,75 @@ fn tell_all<R: Print>(rt: &R, alloc: Global, links: &MemoryLinks) -> Result<(), 
     Ok(())
 }
 
+// The streams of a run.
+#[derive(Drop)]
+struct Streams {
+    input: MemorySource,
+    output: MemorySink,
+    complaints: MemorySink,
+}
+
+// The streams of a scenario.
+fn streams_of(alloc: Global, scenario: &str) -> Result<Streams, Failed> {
+    Ok(Streams {
+        input: MemorySource::new(Bytes::of(alloc, scenario.as_bytes())?, Vec::new(alloc)),
+        output: sink(alloc)?,
+        complaints: sink(alloc)?,
+    })
+}
+
+// The word `net`.
+fn words_of(alloc: Global) -> Result<Vec<String>, Failed> {
+    let mut words = Vec::new(alloc);
+    words.push(String::from_str(alloc, "net")?)?;
+    Ok(words)
+}
+
+// The number of the program's status.
+fn status_of<R: Threads + Wait + Sync>(
+    rt: &R,
+    alloc: Global,
+    words: &[String],
+    streams: &mut Streams,
+    links: &mut MemoryLinks,
+    clock: &mut FixedClock,
+) -> u8 {
+    fetchplay(
+        rt,
+        alloc,
+        words,
+        &mut streams.input,
+        &mut streams.output,
+        &mut streams.complaints,
+        links,
+        clock,
+    )
+    .number()
+}
+
+// Prints what a sink has taken.
+fn show_taken<R: Print>(rt: &R, sink: &MemorySink) -> Result<(), Failed> {
+    let Ok(text) = str::from_utf8(sink.taken()) else {
+        return Err(Failed);
+    };
+    print!(rt; "{text}")?;
+    Ok(())
+}
+
+// Prints what came of a run.
+fn show_all<R: Print>(
+    rt: &R,
+    alloc: Global,
+    status: u8,
+    streams: &Streams,
+    links: &MemoryLinks,
+) -> Result<(), Failed> {
+    println!(rt; "status {status}")?;
+    tell_all(rt, alloc, links)?;
+    show_taken(rt, &streams.complaints)?;
+    show_taken(rt, &streams.output)
+}
+
 // Plays a scenario by the program's top call with the word `net`, from this clock's time on, over these links.
 pub(crate) fn play_net<R: Threads + Wait + Sync + Print + AllocGlobal>(
     rt: &R,
@@ -53,29 +122,16 @@ pub(crate) fn play_net<R: Threads + Wait + Sync + Print + AllocGlobal>(
 ) -> Result<(), Failed> {
     let alloc = rt.alloc();
     let (mut clock, scenario) = clock_and_scenario(row)?;
-    let mut words = Vec::new(alloc);
-    words.push(String::from_str(alloc, "net")?)?;
-    let mut input = MemorySource::new(Bytes::of(alloc, scenario.as_bytes())?, Vec::new(alloc));
-    let mut output = sink(alloc)?;
-    let mut complaints = sink(alloc)?;
+    let words = words_of(alloc)?;
+    let mut streams = streams_of(alloc, scenario)?;
     let mut links = links_of(alloc, rows)?;
-    let status = fetchplay(
+    let status = status_of(
         rt,
         alloc,
         words.as_slice(),
-        &mut input,
-        &mut output,
-        &mut complaints,
+        &mut streams,
         &mut links,
         &mut clock,
     );
-    println!(rt; "status {}", status.number())?;
-    tell_all(rt, alloc, &links)?;
-    for text in [complaints.taken(), output.taken()] {
-        let Ok(text) = str::from_utf8(text) else {
-            return Err(Failed);
-        };
-        print!(rt; "{text}")?;
-    }
-    Ok(())
+    show_all(rt, alloc, status, &streams, &links)
 }

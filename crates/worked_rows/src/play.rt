@@ -36,6 +36,59 @@ fn words_of(alloc: Global, text: &str) -> Result<Vec<String>, Failed> {
     Ok(words)
 }
 
+// The streams of a run.
+#[derive(Drop)]
+struct Streams {
+    input: MemorySource,
+    output: MemorySink,
+    complaints: MemorySink,
+}
+
+// The input of a row: a scenario, of which some reads fail.
+fn input_of(alloc: Global, row: &Row<'_>, scenario: &str) -> Result<MemorySource, OutOfMemory> {
+    let text = Bytes::of(alloc, scenario.as_bytes())?;
+    Ok(MemorySource::new(text, Vec::from_slice(alloc, row.reads.as_slice())?))
+}
+
+// The streams of a row.
+fn streams_of(alloc: Global, row: &Row<'_>, scenario: &str) -> Result<Streams, OutOfMemory> {
+    Ok(Streams {
+        input: input_of(alloc, row, scenario)?,
+        output: sink(alloc, row.writes.as_slice(), row.zeros.as_slice())?,
+        complaints: sink(alloc, row.complaints.as_slice(), &[])?,
+    })
+}
+
+// The number of the program's status.
+fn status_of<R: Threads + Wait + Sync>(
+    rt: &R,
+    alloc: Global,
+    words: &[String],
+    streams: &mut Streams,
+    links: &mut MemoryLinks,
+) -> u8 {
+    fetchplay(
+        rt,
+        alloc,
+        words,
+        &mut streams.input,
+        &mut streams.output,
+        &mut streams.complaints,
+        links,
+        &mut FixedClock::new(0),
+    )
+    .number()
+}
+
+// What was written and complained.
+fn run_of(alloc: Global, status: u8, streams: &Streams) -> Result<Ran, Failed> {
+    Ok(Ran {
+        status,
+        output: Bytes::of(alloc, streams.output.taken())?,
+        complaints: Bytes::of(alloc, streams.complaints.taken())?,
+    })
+}
+
 // Plays a scenario of a row.
 pub(crate) fn play<R: Threads + Wait + Sync + AllocGlobal>(
     rt: &R,
@@ -44,24 +97,8 @@ pub(crate) fn play<R: Threads + Wait + Sync + AllocGlobal>(
 ) -> Result<Ran, Failed> {
     let alloc = rt.alloc();
     let words = words_of(alloc, row.words)?;
-    let text = Bytes::of(alloc, scenario.as_bytes())?;
-    let mut input = MemorySource::new(text, Vec::from_slice(alloc, row.reads.as_slice())?);
-    let mut output = sink(alloc, row.writes.as_slice(), row.zeros.as_slice())?;
-    let mut complaints = sink(alloc, row.complaints.as_slice(), &[])?;
+    let mut streams = streams_of(alloc, row, scenario)?;
     let mut links = MemoryLinks::new(alloc, Vec::new(alloc))?;
-    let status = fetchplay(
-        rt,
-        alloc,
-        words.as_slice(),
-        &mut input,
-        &mut output,
-        &mut complaints,
-        &mut links,
-        &mut FixedClock::new(0),
-    );
-    Ok(Ran {
-        status: status.number(),
-        output: Bytes::of(alloc, output.taken())?,
-        complaints: Bytes::of(alloc, complaints.taken())?,
-    })
+    let status = status_of(rt, alloc, words.as_slice(), &mut streams, &mut links);
+    run_of(alloc, status, &streams)
 }
