@@ -259,39 +259,36 @@ hosts-without host hosts are = record {
   few = omega (arith, without-length host hosts, are.few);
 }
 
--- with room; again and moved are the host as a call has it, and leaving what is told of the host that goes
-pub put-kept : (host again moved : List ℕ) (leaving : Option (List ℕ)) (sts : Sts) (now : ℕ)
-    (hosts new : List KnownHost) → (sts.age ≡ 0 → ⊥) → AreHosts hosts → again ≡ host → moved ≡ host
+-- with room; again is the host as a call has it, and leaving what is told of the host that goes
+pub put-kept : (host again : List ℕ) (leaving : Option (List ℕ)) (sts : Sts) (now : ℕ)
+    (hosts new : List KnownHost) → (sts.age ≡ 0 → ⊥) → AreHosts hosts → again ≡ host
     → leaving ≡ None → IsLeaving leaving again hosts
-    → new ≡ with_host (known_host moved sts.subdomains (now + sts.age)) hosts
+    → new ≡ with_host (known_host host sts.subdomains (now + sts.age)) hosts
     → (new ≡ noted host sts now hosts) × AreHosts new
-put-kept host again moved leaving sts now hosts new aged_some are a m none told put =
+put-kept host again leaving sts now hosts new aged_some are a none told put =
     let new_host = known_host host sts.subdomains (now + sts.age) in
     let room : IsLeaving None host hosts =
-    subst (λ h. IsLeaving None h hosts) a (subst (λ l. IsLeaving l again hosts) none told) in
-    let e : new ≡ with_host new_host hosts = put ∙ ap (λ h. with_host (known_host h sts.subdomains (now + sts.age))
-    hosts) m in (
-      e ∙ sym (noted-kept host sts now hosts (unequal sts.age 0 aged_some) room),
-      subst AreHosts (sym e) (record {
+    subst (λ h. IsLeaving None h hosts) a (subst (λ l. IsLeaving l again hosts) none told) in (
+      put ∙ sym (noted-kept host sts now hosts (unequal sts.age 0 aged_some) room),
+      subst AreHosts (sym put) (record {
         sorted = sorted-with new_host hosts are.sorted;
         few = kept-few host sts.subdomains (now + sts.age) hosts room;
       }),
     )
 
 -- and without; gone is the name as a call has it
-pub put-left : (host again moved name gone : List ℕ) (leaving : Option (List ℕ)) (sts : Sts) (now : ℕ)
-    (hosts put new : List KnownHost) → (sts.age ≡ 0 → ⊥) → AreHosts hosts → again ≡ host → moved ≡ host
+pub put-left : (host again name gone : List ℕ) (leaving : Option (List ℕ)) (sts : Sts) (now : ℕ)
+    (hosts put new : List KnownHost) → (sts.age ≡ 0 → ⊥) → AreHosts hosts → again ≡ host
     → gone ≡ name → leaving ≡ Some name → IsLeaving leaving again hosts
-    → put ≡ with_host (known_host moved sts.subdomains (now + sts.age)) hosts → new ≡ without gone put
+    → put ≡ with_host (known_host host sts.subdomains (now + sts.age)) hosts → new ≡ without gone put
     → (new ≡ noted host sts now hosts) × AreHosts new
-put-left host again moved name gone leaving sts now hosts put new aged_some are a m g some told e f =
+put-left host again name gone leaving sts now hosts put new aged_some are a g some told e f =
     let new_host = known_host host sts.subdomains (now + sts.age) in
     let going : IsLeaving (Some name) host hosts =
     subst (λ h. IsLeaving (Some name) h hosts) a (subst (λ l. IsLeaving l again hosts) some told) in
     let left = noted-left host name sts now hosts (unequal sts.age 0 aged_some) are.few going.0 going.1 going.2 in
     let same : new ≡ without name (with_host new_host hosts) =
-    f ∙ ap (λ n. without n put) g
-    ∙ ap (without name) (e ∙ ap (λ h. with_host (known_host h sts.subdomains (now + sts.age)) hosts) m) in (
+    f ∙ ap (λ n. without n put) g ∙ ap (without name) e in (
       same ∙ sym left.0,
       subst AreHosts (sym same) (record {
         sorted = sorted-kept (λ known. not (bytes_eq known.host name)) (with_host new_host hosts)

@@ -179,7 +179,7 @@ impl HstsList {
             until: now + sts.age,
         };
         let leaving = leaving_for(self.alloc, &self.index, host.as_slice())?;
-        self.index.put(self.alloc, host.into_vec(), term)?;
+        self.index.put(self.alloc, host, term)?;
         if let Some(name) = leaving {
             self.index.take_out(name.as_slice());
         }

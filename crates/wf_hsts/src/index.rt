@@ -5,7 +5,7 @@ ghost use Rattle.wf_hsts.specs.Private.Terms.{IsFirstToEnd, term_in};
 use std::alloc::Global;
 use std::collections::{BTreeMap, BTreeSet};
 use std::marker::Model;
-use wf_text::OutOfMemory;
+use wf_text::{Bytes, OutOfMemory};
 
 /// With or without subdomains, and until when a host is known.
 #[derive(Clone, Copy)]
@@ -83,16 +83,12 @@ impl Index {
     }
 
     // Gives a host a term, in the place of the one that it has.
-    pub(crate) fn put(
-        &mut self,
-        alloc: Global,
-        host: Vec<u8>,
-        term: Term,
-    ) -> Result<(), OutOfMemory>
+    pub(crate) fn put(&mut self, alloc: Global, host: Bytes, term: Term) -> Result<(), OutOfMemory>
         ensures ok { OnOk result
-            (self.new ≡ with_host (known_host host.items term.subdomains term.until) self.old) }
+            (self.new ≡ with_host (known_host host term.subdomains term.until) self.old) }
         ensures err { OnErr result (self.new ≡ self.old) }
     {
+        let host = host.into_vec()?;
         match self.term_of(host.as_slice()) {
             Some(old) => self.replace(alloc, host, old, term),
             None => self.add(alloc, host, term),

@@ -44,7 +44,7 @@ fn lowered_names(
     let mut names = Vec::new(alloc);
     for header in headers {
         if too_long || !is_safelisted_header(header) {
-            names.push(in_lower_case(alloc, header.name.as_slice())?.into_vec())?;
+            names.push(in_lower_case(alloc, header.name.as_slice())?.into_vec()?)?;
         }
     }
     Ok(names)

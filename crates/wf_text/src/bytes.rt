@@ -1,21 +1,39 @@
 ghost use Rattle.std.specs.Prelude.{◌≡◌, ◌==◌, ◌++◌, [], length, IfOk, OnOk, OnErr};
 
 use crate::memory::OutOfMemory;
+use crate::short::{SHORT, Short};
 use std::alloc::Global;
 use std::marker::Model;
 
-/// A text of any bytes, seen as the list of them.
+/// A text of any bytes, seen as the list of them. Up to 23 of them stand in the value itself, since most names and values
+/// of headers are that short: such a text takes no memory beside it.
 #[derive(Drop)]
 pub struct Bytes {
-    items: Vec<u8>,
+    // One of the two is empty.
+    short: Short,
+    long: Vec<u8>,
 }
 
 impl Model for Bytes {
-    ghost use Rattle.std.specs.Prelude.{ℕ, List};
+    ghost use Rattle.std.specs.Prelude.{ℕ, List, [], ◌++◌, ◌≡◌, ◌⊎◌};
 
     ghost Value = { List ℕ };
 
-    ghost view = { λ text. text.items.items };
+    ghost view = { λ text. text.short ++ text.long.items };
+
+    ghost invariant = { λ text. (text.short ≡ []) ⊎ (text.long.items ≡ []) };
+}
+
+// A text is moved often, so it stays small.
+const _: () = prove!(size_of::<Bytes>() == 48);
+
+// Two pieces, joined.
+fn joined(alloc: Global, front: &[u8], back: &[u8]) -> Result<Vec<u8>, OutOfMemory>
+    ensures { IfOk result (λ items. items.items ≡ front.now ++ back.now) }
+{
+    let mut items = Vec::from_slice(alloc, front)?;
+    items.extend_from_slice(back)?;
+    Ok(items)
 }
 
 impl Bytes {
@@ -23,66 +41,84 @@ impl Bytes {
     pub fn new(alloc: Global) -> Bytes
         ensures { result ≡ [] }
     {
-        Bytes {
-            items: Vec::new(alloc),
-        }
+        Bytes::from_vec(Vec::new(alloc))
     }
 
     /// A copy of the bytes.
     pub fn of(alloc: Global, from: &[u8]) -> Result<Bytes, OutOfMemory>
         ensures { IfOk result (λ text. text ≡ from.now) }
     {
-        let items = Vec::from_slice(alloc, from)?;
-        Ok(Bytes { items })
+        if from.len() <= SHORT {
+            Ok(Bytes {
+                short: Short::of(from),
+                long: Vec::new(alloc),
+            })
+        } else {
+            Ok(Bytes::from_vec(Vec::from_slice(alloc, from)?))
+        }
     }
 
     /// The bytes of a vector, which is not copied.
     pub fn from_vec(items: Vec<u8>) -> Bytes
         ensures { result ≡ items.items }
     {
-        Bytes { items }
+        Bytes {
+            short: Short::new(),
+            long: items,
+        }
     }
 
     /// The bytes.
     pub fn as_slice(&self) -> &[u8]
         ensures { result.now ≡ self.now }
     {
-        self.items.as_slice()
+        if self.long.is_empty() {
+            self.short.as_slice()
+        } else {
+            self.long.as_slice()
+        }
     }
 
-    /// The bytes as a vector, which is not copied.
-    pub fn into_vec(self) -> Vec<u8>
-        ensures { result.items ≡ self }
+    /// The bytes as a vector. Those that stand in the text itself are copied, and others are not.
+    pub fn into_vec(self) -> Result<Vec<u8>, OutOfMemory>
+        ensures { IfOk result (λ items. items.items ≡ self) }
     {
-        self.items
+        if self.short.is_empty() {
+            return Ok(self.long);
+        }
+        Ok(Vec::from_slice(*self.long.allocator(), self.short.as_slice())?)
     }
 
     /// How many bytes there are.
     pub fn len(&self) -> usize
         ensures { result ≡ length self.now }
     {
-        self.items.len()
+        self.as_slice().len()
     }
 
     /// Whether there are none.
     pub fn is_empty(&self) -> bool
         ensures { result ≡ (length self.now == 0) }
     {
-        self.items.is_empty()
+        self.as_slice().is_empty()
     }
 
     /// An equal text.
     pub fn copy(&self, alloc: Global) -> Result<Bytes, OutOfMemory>
         ensures { IfOk result (λ text. text ≡ self.now) }
     {
-        Bytes::of(alloc, self.as_slice())
+        let long = Vec::from_slice(alloc, self.long.as_slice())?;
+        Ok(Bytes {
+            short: self.short.copy(),
+            long,
+        })
     }
 
     /// An equal text with no more room than it needs. Where memory is refused, the text is gone.
     pub fn fitted(self, alloc: Global) -> Result<Bytes, OutOfMemory>
         ensures { IfOk result (λ text. text ≡ self) }
     {
-        if self.items.capacity() == self.items.len() {
+        if self.long.capacity() == self.long.len() {
             return Ok(self);
         }
         self.copy(alloc)
@@ -93,7 +129,15 @@ impl Bytes {
         ensures ok { OnOk result (self.new ≡ self.old ++ piece.now) }
         ensures err { OnErr result (self.new ≡ self.old) }
     {
-        self.items.extend_from_slice(piece)?;
+        if self.long.capacity() == 0 && self.short.has_room_for(piece) {
+            self.short.append(piece);
+        } else if self.short.is_empty() {
+            self.long.extend_from_slice(piece)?;
+        } else {
+            let alloc = *self.long.allocator();
+            self.long = joined(alloc, self.short.as_slice(), piece)?;
+            self.short = Short::new();
+        }
         Ok(())
     }
 }

@@ -11,6 +11,7 @@ mod items;
 mod list;
 mod memory;
 mod mime;
+mod short;
 mod split;
 mod token;
 mod trim;
