@@ -48,18 +48,50 @@ fn number(word: Option<String>) -> Result<u64, Failed> {
     }
 }
 
+// What the program's words say.
+struct Sizes {
+    policies: u64,
+    words: u64,
+    path: u64,
+    rounds: u64,
+}
+
+// The sizes that the program's words say.
+fn sizes<R: Env + AllocGlobal>(rt: &R) -> Result<Sizes, Failed> {
+    let mut words = env::args(rt)?.skip(1);
+    Ok(Sizes {
+        policies: number(words.next())?,
+        words: number(words.next())?,
+        path: number(words.next())?,
+        rounds: number(words.next())?,
+    })
+}
+
+// The origin of the document.
+fn document_origin(alloc: Global) -> Result<Origin, Failed> {
+    let url = Url::parse(alloc, "https://a.test/")?;
+    Ok(tuple_origin(alloc, &url)?)
+}
+
+// How many violations the rounds give.
+fn counted(alloc: Global, sizes: &Sizes, path: &[u8]) -> Result<usize, Failed> {
+    let compiled = policies(alloc, sizes.policies, sizes.words, path)?;
+    let document = document_origin(alloc)?;
+    let request = request(alloc, sizes.words, path, document.copy(alloc)?)?;
+    checked(alloc, &compiled, &request, &document, sizes.rounds)
+}
+
 fn run<R: Env + Print + AllocGlobal>(rt: &R) -> Result<(), Failed> {
     let alloc = rt.alloc();
-    let mut words = env::args(rt)?.skip(1);
-    let count = number(words.next())?;
-    let hosts = number(words.next())?;
-    let path = path(alloc, number(words.next())?)?;
-    let rounds = number(words.next())?;
-    let compiled = policies(alloc, count, hosts, path.as_slice())?;
-    let document = tuple_origin(alloc, &Url::parse(alloc, "https://a.test/")?)?;
-    let request = request(alloc, hosts, path.as_slice(), document.copy(alloc)?)?;
-    let violations = checked(alloc, &compiled, &request, &document, rounds)?;
-    println!(rt; "{count} policies, {rounds} rounds, {violations} violations")?;
+    let sizes = sizes(rt)?;
+    let path = path(alloc, sizes.path)?;
+    let violations = counted(alloc, &sizes, path.as_slice())?;
+    let Sizes {
+        policies,
+        rounds,
+        ..
+    } = sizes;
+    println!(rt; "{policies} policies, {rounds} rounds, {violations} violations")?;
     Ok(())
 }
 

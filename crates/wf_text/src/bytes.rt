@@ -15,13 +15,14 @@ pub struct Bytes {
 }
 
 impl Model for Bytes {
-    ghost use Rattle.std.specs.Prelude.{ℕ, List, [], ◌++◌, ◌≡◌, ◌⊎◌};
+    ghost use Rattle.std.specs.Prelude.{ℕ, List};
+    ghost use Rattle.wf_text.specs.Private.Stores.{IsInOnePlace, whole};
 
     ghost Value = { List ℕ };
 
-    ghost view = { λ text. text.short ++ text.long.items };
+    ghost view = { λ text. whole text.short text.long.items };
 
-    ghost invariant = { λ text. (text.short ≡ []) ⊎ (text.long.items ≡ []) };
+    ghost invariant = { λ text. IsInOnePlace text.short text.long.items };
 }
 
 // A text is moved often, so it stays small.
@@ -45,6 +46,7 @@ impl Bytes {
     }
 
     /// A copy of the bytes.
+    #[tactic(auto, unfolding(crate::specs::Private::Stores::whole, crate::specs::Private::Stores::IsInOnePlace))]
     pub fn of(alloc: Global, from: &[u8]) -> Result<Bytes, OutOfMemory>
         ensures { IfOk result (λ text. text ≡ from.now) }
     {
@@ -59,6 +61,7 @@ impl Bytes {
     }
 
     /// The bytes of a vector, which is not copied.
+    #[tactic(auto, unfolding(crate::specs::Private::Stores::whole, crate::specs::Private::Stores::IsInOnePlace))]
     pub fn from_vec(items: Vec<u8>) -> Bytes
         ensures { result ≡ items.items }
     {
@@ -69,6 +72,7 @@ impl Bytes {
     }
 
     /// The bytes.
+    #[tactic(auto, unfolding(crate::specs::Private::Stores::whole, crate::specs::Private::Stores::IsInOnePlace))]
     pub fn as_slice(&self) -> &[u8]
         ensures { result.now ≡ self.now }
     {
@@ -80,6 +84,7 @@ impl Bytes {
     }
 
     /// The bytes as a vector. Those that stand in the text itself are copied, and others are not.
+    #[tactic(auto, unfolding(crate::specs::Private::Stores::whole, crate::specs::Private::Stores::IsInOnePlace))]
     pub fn into_vec(self) -> Result<Vec<u8>, OutOfMemory>
         ensures { IfOk result (λ items. items.items ≡ self) }
     {
@@ -104,6 +109,7 @@ impl Bytes {
     }
 
     /// An equal text.
+    #[tactic(auto, unfolding(crate::specs::Private::Stores::whole, crate::specs::Private::Stores::IsInOnePlace))]
     pub fn copy(&self, alloc: Global) -> Result<Bytes, OutOfMemory>
         ensures { IfOk result (λ text. text ≡ self.now) }
     {
@@ -125,6 +131,7 @@ impl Bytes {
     }
 
     /// Adds the bytes at the end. Where memory is refused, the text is as it was.
+    #[tactic(auto, unfolding(crate::specs::Private::Stores::whole, crate::specs::Private::Stores::IsInOnePlace))]
     pub fn append(&mut self, piece: &[u8]) -> Result<(), OutOfMemory>
         ensures ok { OnOk result (self.new ≡ self.old ++ piece.now) }
         ensures err { OnErr result (self.new ≡ self.old) }

@@ -1,0 +1,10 @@
+-- How a text is stored: short ones in the text itself, and longer ones in memory.
+use Rattle.std.specs.Prelude.{◌≡◌, ◌⊎◌, ℕ, List, [], ◌++◌}
+
+-- the bytes that stand in the text itself, and those in memory
+unfoldable pub whole : List ℕ → List ℕ → List ℕ
+whole short long = short ++ long
+
+-- that there are such bytes in one place at most
+unfoldable pub IsInOnePlace : List ℕ → List ℕ → Type 0
+IsInOnePlace short long = (short ≡ []) ⊎ (long ≡ [])
