@@ -5,8 +5,8 @@ use crate::short::{SHORT, Short};
 use std::alloc::Global;
 use std::marker::Model;
 
-/// A text of any bytes, seen as the list of them. Up to 23 of them stand in the value itself, since most names and values
-/// of headers are that short: such a text takes no memory beside it.
+/// A text of any bytes, seen as the list of them. A copy of up to 23 bytes stands in the value itself and takes no memory
+/// beside it, since many names and values of headers are that short; the bytes of a vector stay where they are.
 #[derive(Drop)]
 pub struct Bytes {
     // One of the two is empty.
@@ -25,14 +25,15 @@ impl Model for Bytes {
     ghost invariant = { λ text. IsInOnePlace text.short text.long.items };
 }
 
-// A text is moved often, so it stays small.
+// A text is moved often, so its size tells.
 const _: () = prove!(size_of::<Bytes>() == 48);
 
 // Two pieces, joined.
 fn joined(alloc: Global, front: &[u8], back: &[u8]) -> Result<Vec<u8>, OutOfMemory>
     ensures { IfOk result (λ items. items.items ≡ front.now ++ back.now) }
 {
-    let mut items = Vec::from_slice(alloc, front)?;
+    let mut items = Vec::with_capacity(alloc, front.len().saturating_add(back.len()))?;
+    items.extend_from_slice(front)?;
     items.extend_from_slice(back)?;
     Ok(items)
 }
@@ -83,7 +84,8 @@ impl Bytes {
         }
     }
 
-    /// The bytes as a vector. Those that stand in the text itself are copied, and others are not.
+    /// The bytes as a vector. Those that stand in the text itself are copied, and others are not. Where memory is refused,
+    /// the text is gone.
     #[tactic(auto, unfolding(crate::specs::Private::Stores::whole, crate::specs::Private::Stores::IsInOnePlace))]
     pub fn into_vec(self) -> Result<Vec<u8>, OutOfMemory>
         ensures { IfOk result (λ items. items.items ≡ self) }
@@ -109,15 +111,10 @@ impl Bytes {
     }
 
     /// An equal text.
-    #[tactic(auto, unfolding(crate::specs::Private::Stores::whole, crate::specs::Private::Stores::IsInOnePlace))]
     pub fn copy(&self, alloc: Global) -> Result<Bytes, OutOfMemory>
         ensures { IfOk result (λ text. text ≡ self.now) }
     {
-        let long = Vec::from_slice(alloc, self.long.as_slice())?;
-        Ok(Bytes {
-            short: self.short.copy(),
-            long,
-        })
+        Bytes::of(alloc, self.as_slice())
     }
 
     /// An equal text with no more room than it needs. Where memory is refused, the text is gone.

@@ -1,6 +1,7 @@
 use std::alloc::{AllocError, AllocFailed};
 
-/// Memory was refused. Every call that allocates may answer it, and then leaves its object as it was.
+/// Memory was refused. Every call that allocates may answer it. What the call was lent is then as it was, and what it was
+/// given is gone.
 #[derive(Clone, Copy, Debug, PartialEq, Eq)]
 pub struct OutOfMemory;
 

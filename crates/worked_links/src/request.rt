@@ -61,9 +61,9 @@ fn fetched<R: Threads + Wait + Sync, S: Share>(
     requires left { 126 ≤ S.left pass.old }
 {
     let limit = limit_of(row)?;
-    let request = request_of(alloc, text)?;
     let policies = Compiled::of(alloc, &Policies::new(alloc))?;
     let cookies = Cookies::new(alloc);
+    let request = request_of(alloc, text)?;
     Ok(drive_fetch(
         rt, alloc, request, client, &policies, &cookies, 0, limit, share, pass, link,
     )?)

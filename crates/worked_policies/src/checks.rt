@@ -4,12 +4,14 @@
 //     reported REQUEST POLICIES      the violations of the report-only policies
 //     refused REQUEST POLICIES       those of the enforced ones
 //     response REQUEST POLICIES      whether its response is blocked, and the violations of all policies
+ghost use Rattle.wf_types.specs.Requests.{IsRequest};
+
 use std::alloc::Global;
 use wf_csp::{Compiled, Violations};
 use wf_csp_text::{Policies, parse_policies};
 use wf_rows::{Failed, Row, request_of, show};
 use wf_text::{Bytes, after_byte, before_byte};
-use wf_types::Violation;
+use wf_types::{Request, Violation};
 
 // The answer to a row of these kinds.
 pub(crate) fn answer(alloc: Global, row: &Row) -> Result<Option<Bytes>, Failed> {
@@ -55,19 +57,39 @@ fn compiled_of(alloc: Global, row: &Row, from: usize) -> Result<Compiled, Failed
 
 // The violations of the row's request by its policies of one disposition.
 fn request_checked(alloc: Global, row: &Row, enforced: bool) -> Result<Option<Bytes>, Failed> {
+    // what a request holds is dropped at each way out behind it, so there is one
     let request = request_of(alloc, row.text(0))?;
-    let compiled = compiled_of(alloc, row, 1)?;
-    let found = compiled.check_request(alloc, &request, &request.origin, enforced)?;
-    let mut shown = Bytes::new(alloc);
-    append_violations(alloc, &mut shown, &found)?;
-    Ok(Some(shown))
+    request_shown(alloc, row, &request, enforced)
 }
 
 // Whether the response to the row's request is blocked, and the violations.
 fn response_checked(alloc: Global, row: &Row) -> Result<Option<Bytes>, Failed> {
     let request = request_of(alloc, row.text(0))?;
+    response_shown(alloc, row, &request)
+}
+
+// The violations of a request.
+fn request_shown(
+    alloc: Global,
+    row: &Row,
+    request: &Request,
+    enforced: bool,
+) -> Result<Option<Bytes>, Failed>
+    requires { IsRequest request.now }
+{
     let compiled = compiled_of(alloc, row, 1)?;
-    let (found, blocked) = compiled.check_response(alloc, &request, &request.origin)?;
+    let found = compiled.check_request(alloc, request, &request.origin, enforced)?;
+    let mut shown = Bytes::new(alloc);
+    append_violations(alloc, &mut shown, &found)?;
+    Ok(Some(shown))
+}
+
+// Whether the response to a request is blocked, and the violations.
+fn response_shown(alloc: Global, row: &Row, request: &Request) -> Result<Option<Bytes>, Failed>
+    requires { IsRequest request.now }
+{
+    let compiled = compiled_of(alloc, row, 1)?;
+    let (found, blocked) = compiled.check_response(alloc, request, &request.origin)?;
     let mut shown = Bytes::of(alloc, if blocked { b"blocked " } else { b"passes " })?;
     append_violations(alloc, &mut shown, &found)?;
     Ok(Some(shown))

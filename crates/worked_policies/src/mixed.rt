@@ -24,8 +24,8 @@ pub(crate) fn answer(alloc: Global, row: &Row) -> Result<Option<Bytes>, Failed> 
 
 // Whether the row's request is upgraded, and whether it is blocked.
 fn mixed(alloc: Global, row: &Row) -> Result<Option<Bytes>, Failed> {
-    let request = request_of(alloc, row.text(0))?;
     let top = origin_written(alloc, row.text(1))?;
+    let request = request_of(alloc, row.text(0))?;
     let upgraded = upgrade(&request, &request.origin, &top);
     let answer = match (upgraded, blocked(&request, &request.origin, &top)) {
         (true, true) => b"upgraded blocked".as_slice(),

@@ -23,10 +23,10 @@ pub(crate) fn answer(alloc: Global, row: &Row) -> Result<Option<Bytes>, Failed> 
 
 // Whether the row's word matches its URL.
 fn matched(alloc: Global, row: &Row) -> Result<Option<Bytes>, Failed> {
-    let source = parse_source(alloc, row.text(0))?;
-    let url = url_written(alloc, row.text(1))?;
-    let document = document_of(alloc, row.text(2))?;
     let redirects = if row.text(3) == b"1".as_slice() { 1 } else { 0 };
+    let document = document_of(alloc, row.text(2))?;
+    let url = url_written(alloc, row.text(1))?;
+    let source = parse_source(alloc, row.text(0))?;
     show::yes_or_no(alloc, matches(&source, &url, &document, redirects))
 }
 

@@ -1,4 +1,4 @@
--- How a text is stored: short ones in the text itself, and longer ones in memory.
+-- How a text is stored: in the text itself, or in memory.
 use Rattle.std.specs.Prelude.{◌≡◌, ◌⊎◌, ℕ, List, [], ◌++◌}
 
 -- the bytes that stand in the text itself, and those in memory
