@@ -16,12 +16,12 @@ use Rattle.wf_print.specs.declared.failure.Failure.TheVariants as failure
 use Rattle.wf_print.specs.Summary.{summary_text}
 use Rattle.wf_print.specs.Text.{play_text}
 use Rattle.wf_wire.specs.Exchanges.{Answering}
-use Rattle.wf_play.specs.Links.{HasTakenBack}
+use Rattle.wf_play.specs.Links.{HasTakenBack, WasRefused}
 use Rattle.wf_play.proofs.LinkLemmas.{none-taken}
 use Rattle.wf_top.specs.Private.Steps.{IsRead, IsUnread, IsWhyNone, IsWritten}
 use Rattle.wf_top.specs.Program.{most_input, IsWhole, WritesPlay, IsCause, IsPlayed, IsVerdict, IsComplained, IsTold}
-use Rattle.wf_top.specs.Program.{AreLeft, HasPlayed, HasRefused, IsAnswer, IsExcused, IsExcusedRead, IsLinked, IsScripted, IsSummed}
-use Rattle.wf_top.specs.Program.{WritesSummary}
+use Rattle.wf_top.specs.Program.{AreLeft, HasPlayed, IsPlayedOver, IsAnswer, IsExcused, IsExcusedRead, IsLinked, IsScripted, IsSummed}
+use Rattle.wf_top.specs.Program.{IsBase, WritesSummary}
 use Rattle.wf_top.specs.Program.{GeneratedPlay, PlayOf, WritesSummaryPart, GaveFor, AnswersInput, AnswersCount, Answers}
 use Rattle.wf_top.specs.Statuses.{complaint, written_status}
 use Rattle.wf_top.specs.Streams.{Source, Sink, Net, Failed}
@@ -408,62 +408,106 @@ summary-outcome count of output output' (Err failure.TookNothing) took part faul
 
 -- ---- links and clock
 
--- they were played over
-pub left-played : {L State : Type 0} (by : Answering State) (state : L → Option State) (faults : L → ℕ)
-    (net net' : Net L) (transcripts : List Transcript) (history : List Entry) (output output' : Sink)
-    (verdict : Status) → IsWritten transcripts history output output' verdict
-    → HasPlayed by state faults net net' → AreLeft by state faults net net' verdict
-left-played by state faults net net' transcripts history output output' status.Ok w played = played
-left-played by state faults net net' transcripts history output output' status.Usage w played = absurd w
-left-played by state faults net net' transcripts history output output' (status.Scenario place) w played = absurd w
-left-played by state faults net net' transcripts history output output' status.ReadFault w played = absurd w
-left-played by state faults net net' transcripts history output output' status.WriteFault w played = played
-left-played by state faults net net' transcripts history output output' status.OutOfMemory w played = inr (inr played)
-left-played by state faults net net' transcripts history output output' status.InputTooLong w played = absurd w
+module _ {L State : Type 0} (by : Answering State) (state : L → Option State) (faults : L → ℕ) where
+  -- where no scenario was read they are as they were
+  pub over-unread : (net : Net L) (input input' : Source) (output : Sink) (verdict : Status)
+      → IsUnread input input' verdict
+      → IsPlayedOver by state faults net net input input' output output verdict
+  unfolding unread-played
+  over-unread net input input' output verdict u = record {
+    played = unread-played (IsLinked by state faults net net) input input' output verdict u;
+    left = left verdict u.why;
+  }
+    where
+      left : (v : Status) → IsWhyNone u.bytes input input' v → AreLeft by state faults net net u.bytes input' v
+      left status.Ok why = absurd why
+      left status.Usage why = absurd why
+      left (status.Scenario place) why = refl
+      left status.ReadFault why = refl
+      left status.WriteFault why = absurd why
+      left status.OutOfMemory why = inl refl
+      left status.InputTooLong why = refl
 
--- a play over them was refused
-pub left-refused : {L State : Type 0} (by : Answering State) (state : L → Option State) (faults : L → ℕ)
-    (net net' : Net L) → HasRefused by state faults net net' → AreLeft by state faults net net' status.OutOfMemory
-left-refused by state faults net net' refused = inr (inl refused)
+  module _ (net net' : Net L) where
+    -- a play over them was refused
+    pub over-refused : (input input' : Source) (output : Sink) (scenario : Scenario) (base : ℕ)
+        → IsRead input input' scenario → IsBase net.time base
+        → WasRefused by state faults net.links net'.links scenario base
+        → IsPlayedOver by state faults net net' input input' output output status.OutOfMemory
+    unfolding refused-played
+    over-refused input input' output scenario base r base_is refused = record {
+      played = refused-played (IsLinked by state faults net net') input input' output scenario r;
+      left = inr (inl (record {
+        whole = r.whole;
+        scenario = scenario;
+        read = r.read;
+        base = base;
+        base_is = base_is;
+        refused = refused;
+      }));
+    }
 
--- where no scenario was read they are as they were
-pub left-unread : {L State : Type 0} (by : Answering State) (state : L → Option State) (faults : L → ℕ) (net : Net L)
-    (input input' : Source) (verdict : Status) → IsUnread input input' verdict → AreLeft by state faults net net verdict
-left-unread by state faults net input input' verdict u = left verdict u.why
-  where
-    left : (v : Status) → IsWhyNone u.bytes input input' v → AreLeft by state faults net net v
-    left status.Ok why = absurd why
-    left status.Usage why = absurd why
-    left (status.Scenario place) why = refl
-    left status.ReadFault why = refl
-    left status.WriteFault why = absurd why
-    left status.OutOfMemory why = inl refl
-    left status.InputTooLong why = refl
+    -- they were played over
+    pub over-written : (input input' : Source) (output output' : Sink) (scenario : Scenario)
+        (transcripts : List Transcript) (history : List Entry) (verdict : Status) → IsRead input input' scenario
+        → IsLinked by state faults net net' scenario transcripts history
+        → IsWritten transcripts history output output' verdict
+        → IsPlayedOver by state faults net net' input input' output output' verdict
+    unfolding written-played
+    over-written input input' output output' scenario transcripts history verdict r linked w = record {
+      played = written-played (IsLinked by state faults net net') input input' output output' scenario transcripts
+          history verdict r linked w;
+      left = left verdict w;
+    }
+      where
+        played : HasPlayed by state faults net net' r.bytes input'
+        played = (
+          r.whole,
+          record {
+            scenario = scenario;
+            read = r.read;
+            transcripts = transcripts;
+            history = history;
+            play = linked;
+          },
+        )
 
-left-back : {L State : Type 0} (by : Answering State) (state : L → Option State) (faults : L → ℕ) (net net' : Net L)
-    (verdict : Status) → AreLeft by state faults net net' verdict → HasTakenBack faults net.links net'.links
-left-back {L} by state faults net net' verdict left = back verdict left
-  where
-    same : net' ≡ net → HasTakenBack faults net.links net'.links
-    same is = subst (λ (n : Net L). HasTakenBack faults net.links n.links) (sym is) (none-taken faults net.links)
+        left : (v : Status) → IsWritten transcripts history output output' v
+            → AreLeft by state faults net net' r.bytes input' v
+        left status.Ok w = played
+        left status.Usage w = absurd w
+        left (status.Scenario place) w = absurd w
+        left status.ReadFault w = absurd w
+        left status.WriteFault w = played
+        left status.OutOfMemory w = inr (inr played)
+        left status.InputTooLong w = absurd w
 
-    played : HasPlayed by state faults net net' → HasTakenBack faults net.links net'.links
-    played p = record { back = p.over.back; took = p.over.took }
+    -- each link that was made was taken back
+    left-back : (bytes : List ℕ) (input' : Source) (verdict : Status)
+        → AreLeft by state faults net net' bytes input' verdict → HasTakenBack faults net.links net'.links
+    left-back bytes input' verdict left = back verdict left
+      where
+        same : net' ≡ net → HasTakenBack faults net.links net'.links
+        same is = subst (λ (n : Net L). HasTakenBack faults net.links n.links) (sym is) (none-taken faults net.links)
 
-    back : (v : Status) → AreLeft by state faults net net' v → HasTakenBack faults net.links net'.links
-    back status.Ok left = played left
-    back status.WriteFault left = played left
-    back status.OutOfMemory left = elim left [
-      | inl is ↦ same is
-      | inr other ↦ elim other [
-        | inl r ↦ record { back = r.refused.back; took = r.refused.took }
-        | inr p ↦ played p
-      ]
-    ]
-    back status.Usage left = same left
-    back (status.Scenario place) left = same left
-    back status.ReadFault left = same left
-    back status.InputTooLong left = same left
+        played : HasPlayed by state faults net net' bytes input' → HasTakenBack faults net.links net'.links
+        played p = record { back = p.1.play.over.back; took = p.1.play.over.took }
+
+        back : (v : Status) → AreLeft by state faults net net' bytes input' v
+            → HasTakenBack faults net.links net'.links
+        back status.Ok left = played left
+        back status.WriteFault left = played left
+        back status.OutOfMemory left = elim left [
+          | inl is ↦ same is
+          | inr other ↦ elim other [
+            | inl r ↦ record { back = r.refused.back; took = r.refused.took }
+            | inr p ↦ played p
+          ]
+        ]
+        back status.Usage left = same left
+        back (status.Scenario place) left = same left
+        back status.ReadFault left = same left
+        back status.InputTooLong left = same left
 
 -- ---- the verdict
 
@@ -488,7 +532,7 @@ module _ {L State : Type 0} (by : Answering State) (state : L → Option State) 
   not_accepted-of (Some Play) input input' output output' verdict is v =
       absurd (input-usage IsScripted input input' output output' verdict v.0 is)
   not_accepted-of (Some Over) input input' output output' verdict is v =
-      absurd (input-usage (IsLinked by state faults net net') input input' output output' verdict v.0 is)
+      absurd (input-usage (IsLinked by state faults net net') input input' output output' verdict v.played is)
   not_accepted-of (Some (Gen count)) input input' output output' verdict is v =
       absurd (summed-usage count output output' verdict v.0 is)
 
@@ -502,7 +546,7 @@ module _ {L State : Type 0} (by : Answering State) (state : L → Option State) 
   verdict-write (Some Play) input input' output output' verdict is v =
       input-write IsScripted input input' output output' verdict v.0 is
   verdict-write (Some Over) input input' output output' verdict is v =
-      input-write (IsLinked by state faults net net') input input' output output' verdict v.0 is
+      input-write (IsLinked by state faults net net') input input' output output' verdict v.played is
   verdict-write (Some (Gen count)) input input' output output' verdict is v =
       summed-write count output output' verdict v.0 is
 
@@ -539,7 +583,7 @@ answers by state faults words input input' output output' c c' net net' answer a
       net = λ is.
           let v = verdict-at by state faults net net' asked (Some Over) input input' output output' a.verdict is
           a.is_verdict in
-          input-answers (IsLinked by state faults net net') input input' output output' c c' a.verdict answer v.0
+          input-answers (IsLinked by state faults net net') input input' output output' c c' a.verdict answer v.played
           a.is_told;
       gen = λ count is.
           let v = verdict-at by state faults net net' asked (Some (Gen count)) input input' output output' a.verdict is
@@ -549,7 +593,7 @@ answers by state faults words input input' output output' c c' net net' answer a
       back = λ is.
           let v = verdict-at by state faults net net' asked (Some Over) input input' output output' a.verdict is
           a.is_verdict in
-          left-back by state faults net net' a.verdict v.1;
+          left-back by state faults net net' v.played.bytes input' a.verdict v.left;
       write_fault = λ is. elim told [
         | inl e ↦ inl (verdict-write by state faults net net' asked input input' output output' a.verdict (sym e ∙ is)
             a.is_verdict)

@@ -61,28 +61,14 @@ module _ {L State : Type 0} (by : Answering State) (state : L → Option State) 
     pub alone : AreAlone by scenario base history 0 scenario.documents (map (way_of state faults) over.made)
         (map (way_of state faults) over.back) transcripts
 
-  -- A play over them was refused for want of memory.
-  pub record HasRefused : Type 0 where
+  -- A play of the scenario that the bytes of a whole input are was refused for want of memory.
+  pub record HasRefused (bytes : List ℕ) (input' : Source) : Type 0 where
+    pub whole : IsWhole bytes input'
     pub scenario : Scenario
+    pub read : scenario_of bytes ≡ Ok scenario
     pub base : ℕ
     pub base_is : IsBase old.time base
     pub refused : WasRefused by state faults old.links new.links scenario base
-
-  -- A scenario was played over them.
-  pub record HasPlayed : Type 0 where
-    pub scenario : Scenario
-    pub base : ℕ
-    pub base_is : IsBase old.time base
-    pub transcripts : List Transcript
-    pub history : List Entry
-    pub over : IsPlayOverLinks by state faults old.links new.links scenario base transcripts history
-
-  -- what is left of the links and the clock: as they were, where nothing was played; else the links were taken back
-  abbrev pub AreLeft : Status → Type 0
-  AreLeft status.Ok = HasPlayed
-  AreLeft status.WriteFault = HasPlayed
-  AreLeft status.OutOfMemory = (new ≡ old) ⊎ HasRefused ⊎ HasPlayed
-  AreLeft verdict = new ≡ old
 
 -- ---- a scenario that is read
 
@@ -134,6 +120,27 @@ module _ (Plays : Scenario → List Transcript → List Entry → Type 0) where
     pub gave : Gave input.left input'.left bytes
     pub cause : IsCause bytes input input' output output' verdict
 
+-- ---- what is left of links and clock
+
+module _ {L State : Type 0} (by : Answering State) (state : L → Option State) (faults : L → ℕ) (old new : Net L) where
+  -- the scenario that the bytes of a whole input are was played over the links
+  abbrev pub HasPlayed : List ℕ → Source → Type 0
+  HasPlayed bytes input' = IsWhole bytes input' × PlayOf (IsLinked by state faults old new) bytes
+
+  -- What is left of them where the input gave these bytes: as they were, where nothing was played; else the links were
+  -- taken back.
+  abbrev pub AreLeft : List ℕ → Source → Status → Type 0
+  AreLeft bytes input' status.Ok = HasPlayed bytes input'
+  AreLeft bytes input' status.WriteFault = HasPlayed bytes input'
+  AreLeft bytes input' status.OutOfMemory =
+      (new ≡ old) ⊎ HasRefused by state faults old new bytes input' ⊎ HasPlayed bytes input'
+  AreLeft bytes input' verdict = new ≡ old
+
+  -- the verdict on an input that is played over links, and what is left of them
+  pub record IsPlayedOver (input input' : Source) (output output' : Sink) (verdict : Status) : Type 0 where
+    pub played : IsPlayed (IsLinked by state faults old new) input input' output output' verdict
+    pub left : AreLeft played.bytes input' verdict
+
 -- ---- a generated scenario
 
 -- a play of the generated scenario of so many documents
@@ -174,8 +181,7 @@ module _ {L State : Type 0} (by : Answering State) (state : L → Option State) 
   IsVerdict (Some Play) input input' output output' verdict =
       IsPlayed IsScripted input input' output output' verdict × (net' ≡ net)
   IsVerdict (Some Over) input input' output output' verdict =
-      IsPlayed (IsLinked by state faults net net') input input' output output' verdict
-      × AreLeft by state faults net net' verdict
+      IsPlayedOver by state faults net net' input input' output output' verdict
   IsVerdict (Some (Gen count)) input input' output output' verdict =
       IsSummed count output output' verdict × (input' ≡ input) × (net' ≡ net)
 

@@ -6,7 +6,7 @@ ghost use Rattle.wf_script.specs.Generated.{generated};
 ghost use Rattle.wf_script.specs.Valid.{IsValid};
 ghost use Rattle.wf_wire.specs.Wires.{over_link};
 ghost use Rattle.wf_top.specs.Private.Steps.{IsRead, IsUnread, IsWritten};
-ghost use Rattle.wf_top.specs.Program.{Answers, AreLeft, IsBase, IsLinked, IsPlayed, IsScripted, IsSummed, IsVerdict};
+ghost use Rattle.wf_top.specs.Program.{Answers, IsBase, IsPlayed, IsPlayedOver, IsScripted, IsSummed, IsVerdict};
 ghost use Rattle.wf_top.specs.Statuses.{written_status};
 ghost use Rattle.wf_top.specs.Streams.{net_of, source_of, sink_of};
 ghost use Rattle.wf_top.specs.Words as spec;
@@ -36,7 +36,7 @@ const MOST_BASE: u64 = 1_099_511_627_776;
 /// read whole, read as a scenario, and played over the scenario's own servers, each document on a thread
 /// of its own where one can be made, and the text of the play is written to the output. `net` does the
 /// same over the links that are made for the documents, by the scenario's routes, from the clock's time
-/// on, which is asked once, or from 1,099,511,627,776 seconds on, if that is earlier. With `gen` and a
+/// on, or from 1,099,511,627,776 seconds on, if that is earlier. With `gen` and a
 /// number of documents, from 1 to 64, the input is left unread, the generated scenario of so many
 /// documents is played, and the summary of the play is written. A status other than `Ok` is told by one
 /// line on the complaints; where that line cannot be written the answer is `WriteFault`.
@@ -152,14 +152,11 @@ fn play_linked<R: Threads + Wait + Sync, S: Source, K: Sink, N: Links, C: Clock>
     links: &mut N,
     clock: &mut C,
 ) -> Status
-    ensures played { IsPlayed (IsLinked (over_link N.Link.answer N.Link.next) N.Link.state N.Link.faults
+    ensures { IsPlayedOver (over_link N.Link.answer N.Link.next) N.Link.state N.Link.faults
         (net_of (maker_of N.opening N.lent N.faults links.old) C.next clock.old)
-        (net_of (maker_of N.opening N.lent N.faults links.new) C.next clock.new))
+        (net_of (maker_of N.opening N.lent N.faults links.new) C.next clock.new)
         (source_of S.left S.faults input.old) (source_of S.left S.faults input.new)
         (sink_of K.taken K.faults K.zeros output.old) (sink_of K.taken K.faults K.zeros output.new) result }
-    ensures left { AreLeft (over_link N.Link.answer N.Link.next) N.Link.state N.Link.faults
-        (net_of (maker_of N.opening N.lent N.faults links.old) C.next clock.old)
-        (net_of (maker_of N.opening N.lent N.faults links.new) C.next clock.new) result }
 {
     law_isolated::<N::Link>();
     let scenario = match scenario_in(alloc, input) {
