@@ -1,7 +1,7 @@
 #!/usr/bin/env bash
 # What documents on threads cost, on the proved program: the instructions of `gen 8` and of `gen 64`, on one processor,
 # and how many times the one is the other; the memory of `gen 64` at its peak; and its wall and processor time on one
-# processor and on all, the median of five runs.
+# processor and on all, the median of eleven runs.
 set -eu
 source "$(dirname "${BASH_SOURCE[0]}")/common.bash"
 build_fetchplay
@@ -20,14 +20,14 @@ printf 'gen 8: %d instructions; gen 64: %d, which is %d.%02d times as many\n' "$
 /usr/bin/time -f '%M' -o "$work/memory" "$program" gen 64 >/dev/null
 printf 'gen 64: %d kilobytes of memory\n' "$(cat "$work/memory")"
 
-# The median of five runs of `gen 64`, in milliseconds: wall time, and user and system time.
+# The median of eleven runs of `gen 64`, in milliseconds: wall time, and user and system time.
 median() {
     local place=$1
     shift
-    for _ in 1 2 3 4 5; do
+    for _ in 1 2 3 4 5 6 7 8 9 10 11; do
         { TIMEFORMAT='%R %U %S'; time "$@" gen 64 >/dev/null; } 2>&1 \
             | awk '{ printf "%d %d\n", $1 * 1000, ($2 + $3) * 1000 }'
-    done | sort -n -k "$place" | sed -n 3p | cut -d ' ' -f "$place"
+    done | sort -n -k "$place" | sed -n 6p | cut -d ' ' -f "$place"
 }
 
 printf 'on one processor: %d ms, of which the processor took %d\n' \
