@@ -49,6 +49,7 @@ fn number(word: Option<String>) -> Result<u64, Failed> {
 }
 
 // What the program's words say.
+#[derive(Clone, Copy)]
 struct Sizes {
     policies: u64,
     words: u64,
@@ -57,7 +58,7 @@ struct Sizes {
 }
 
 // The sizes that the program's words say.
-fn sizes<R: Env + AllocGlobal>(rt: &R) -> Result<Sizes, Failed> {
+fn sizes_in<R: Env + AllocGlobal>(rt: &R) -> Result<Sizes, Failed> {
     let mut words = env::args(rt)?.skip(1);
     Ok(Sizes {
         policies: number(words.next())?,
@@ -83,7 +84,7 @@ fn counted(alloc: Global, sizes: &Sizes, path: &[u8]) -> Result<usize, Failed> {
 
 fn run<R: Env + Print + AllocGlobal>(rt: &R) -> Result<(), Failed> {
     let alloc = rt.alloc();
-    let sizes = sizes(rt)?;
+    let sizes = sizes_in(rt)?;
     let path = path(alloc, sizes.path)?;
     let violations = counted(alloc, &sizes, path.as_slice())?;
     let Sizes {
