@@ -11,10 +11,11 @@ use Rattle.wf_book.specs.declared.op.Reply.{Reply}
 use Rattle.wf_hsts.specs.Hosts.{matches_host}
 use Rattle.wf_precache.specs.Cache.{covers}
 use Rattle.wf_book.specs.Book.{after, reply, yes_or_no}
-use Rattle.wf_book.specs.Entries.{AllTurnsBelow, Extends, Legal, book_after, entry}
+use Rattle.wf_book.specs.Entries.{AllTurnsBelow, Extends, Legal, book_after, entries_of, entry}
 use Rattle.wf_book.specs.Ops.{is_answer, is_question}
 use Rattle.wf_book.specs.Private.Solo.{IsSolo}
 use Rattle.wf_book.proofs.EntryLemmas.{AllTurnsBelow-mono, AllTurnsBelow-snoc, LegalFrom-snoc, book_after-append}
+use Rattle.wf_book.proofs.EntryLemmas.{entries_of-snoc_same}
 
 yes_or_no-answers : (b : Bool) → is_answer (yes_or_no b) ≡ true
 yes_or_no-answers true = refl
@@ -51,6 +52,8 @@ module _ (book book' opening : Book) (history history' : List Entry) (calls : �
         (AllTurnsBelow-snoc (calls + 1) history e
         (AllTurnsBelow-mono calls (calls + 1) history (omega arith) solo.turns) (omega arith));
     few = omega arith;
+    mine = subst (λ (x : List Entry). entries_of 0 x ≡ x) (sym grown)
+        (entries_of-snoc_same 0 history e refl ∙ ap (λ (x : List Entry). x ++ e ∷ []) solo.mine);
   }
   solo_next few (Err error) is changed grown refused = record {
     book_is = refused.1 ∙ (solo.book_is ∙ ap (book_after opening) (sym refused.0));
@@ -58,6 +61,7 @@ module _ (book book' opening : Book) (history history' : List Entry) (calls : �
     turns = subst (AllTurnsBelow (calls + 1)) (sym refused.0)
         (AllTurnsBelow-mono calls (calls + 1) history (omega arith) solo.turns);
     few = omega arith;
+    mine = subst (λ (x : List Entry). entries_of 0 x ≡ x) (sym refused.0) solo.mine;
   }
 
   pub solo_extends : (result : Result Reply OutOfMemory) → IfOk result (λ answer. answer ≡ reply book op)

@@ -1,5 +1,5 @@
 ghost use Rattle.std.specs.Prelude.{◌≡◌, ℕ, ◌-◌, ◌<◌, List, OnErr, IfOk};
-ghost use Rattle.wf_book.specs.Entries.{Extends, StartsWith};
+ghost use Rattle.wf_book.specs.Entries.{Extends, StartsWith, entries_of};
 ghost use Rattle.wf_book.specs.Ops.{InRange, is_answer, is_question};
 ghost use Rattle.wf_book.specs.declared.book.Book.{Book};
 ghost use Rattle.wf_book.specs.declared.entry.Entry.{Entry};
@@ -34,7 +34,8 @@ pub trait Share {
 
     /// Does an operation that is in range. The pass's own entries grow by exactly this one; what it has
     /// seen of the history is legal, begins with what it had seen and ends with that entry. A refused
-    /// call leaves its own entries as they were.
+    /// call leaves its own entries as they were. In each case what it has seen has no other entry of
+    /// its document than its own.
     fn call<R: Threads + Wait + Sync>(
         &self,
         rt: &R,
@@ -51,5 +52,6 @@ pub trait Share {
         ensures ok { IfOk result (λ answer. Extends (opening pass.old) (document pass.old) op answer
             (own pass.old) (own pass.new) (seen pass.old) (seen pass.new)) }
         ensures kind { IfOk result (λ answer. is_answer answer ≡ is_question op) }
-        ensures err { OnErr result ((own pass.new ≡ own pass.old) × StartsWith (seen pass.new) (seen pass.old)) };
+        ensures err { OnErr result ((own pass.new ≡ own pass.old) × StartsWith (seen pass.new) (seen pass.old)) }
+        ensures whole { entries_of (document pass.new) (seen pass.new) ≡ own pass.new };
 }

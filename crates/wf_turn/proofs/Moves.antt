@@ -150,6 +150,7 @@ looks slots id m live waits unserved s o wide me _ =
           legal = subst (λ (b : Book). Legal b h) (sym l.opening_is) o.legal;
           turns = subst (λ (k : ℕ). AllTurnsBelow k h) hit o.turns;
           later = l.seen;
+          own = l.own;
           is = refl;
         }),
         λ miss. absurd (miss hit),

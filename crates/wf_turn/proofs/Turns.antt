@@ -11,8 +11,9 @@ use Rattle.wf_book.specs.declared.entry.Entry.{Entry}
 use Rattle.wf_book.specs.declared.op.Op.{Op}
 use Rattle.wf_book.specs.declared.op.Reply.{Reply}
 use Rattle.wf_text.specs.declared.memory.OutOfMemory.{OutOfMemory}
-use Rattle.wf_book.specs.Entries.{entry, book_after, Legal, AllTurnsBelow, StartsWith, Extends}
-use Rattle.wf_book.proofs.EntryLemmas.{book_after-append, LegalFrom-snoc}
+use Rattle.wf_book.specs.Entries.{entry, book_after, entries_of, Legal, AllTurnsBelow, StartsWith, Extends}
+use Rattle.std.proofs.lemmas.List.{append-nil}
+use Rattle.wf_book.proofs.EntryLemmas.{book_after-append, entries_of-snoc_same, LegalFrom-snoc}
 use Rattle.wf_turn.specs.Private.Rule.{desk, Keeps}
 use Rattle.wf_turn.specs.Private.Steps.{Sat, drew, Served, held, noting, passed, Passes, Made}
 use Rattle.wf_turn.specs.declared.desk.Desk.{Desk}
@@ -126,6 +127,21 @@ extends_if v₀ v document op d m₄ m₅ opening own later legal turns item is�
       seen_is = saw ∙ ap (λ (x : List Entry). x ++ e ∷ []) later.1;
     }
 
+-- whether the op was made or refused, what the pass has seen then has just its own entries of its document
+whole_if : (own h : List Entry) (t document : ℕ) (op : Op) (b : Book) (d : Desk)
+    (answer : Result Reply OutOfMemory) → entries_of document h ≡ own → Made t document op (desk b h) d answer
+    → entries_of document (h ++ drop (length h) d.history) ≡ own ++ drop (length h) d.history
+whole_if own h t document op b d (Ok r) mine made =
+    let e : Entry = entry t document op r in
+    let one : drop (length h) d.history ≡ e ∷ [] = ap (λ (x : Desk). drop (length h) x.history) made.1
+    ∙ drop-append_seam h (e ∷ []) in
+    ap (λ (x : List Entry). entries_of document (h ++ x)) one ∙ (entries_of-snoc_same document h e refl
+    ∙ (ap (λ (x : List Entry). x ++ e ∷ []) mine ∙ ap (λ (x : List Entry). own ++ x) (sym one)))
+whole_if own h t document op b d (Err error) mine made =
+    let none : drop (length h) d.history ≡ [] = ap (λ (x : Desk). drop (length h) x.history) made ∙ drop-length h in
+    ap (λ (x : List Entry). entries_of document (h ++ x)) none ∙ (ap (entries_of document) (append-nil h)
+    ∙ (mine ∙ (sym (append-nil own) ∙ ap (λ (x : List Entry). own ++ x) (sym none))))
+
 -- what is known once the desk has been put back
 pub record Ready (m₀ m₄ : Sat) (t document : ℕ) (h : List Entry) (op : Op) (d : Desk)
     (answer : Result Reply OutOfMemory) : Type 0 where
@@ -133,6 +149,7 @@ pub record Ready (m₀ m₄ : Sat) (t document : ℕ) (h : List Entry) (op : Op)
   pub legal : Legal m₀.0.opening h
   pub turns : AllTurnsBelow t h
   pub later : StartsWith h m₀.0.seen
+  pub own : entries_of m₀.0.document h ≡ m₀.0.own
   pub made : Made t document op (desk (book_after m₀.0.opening h) h) d answer
 
 pub ready : (m₀ m₁ m₂ m₃ m₄ n₄ : Sat) (t document : ℕ) (h : List Entry) (op : Op) (d₀ d : Desk) (found : Option Desk)
@@ -145,6 +162,7 @@ ready m₀ m₁ m₂ m₃ m₄ n₄ t document h op d₀ d found answer empty e�
   legal = subst (λ (b : Book). Legal b h) (ap (λ (m : Sat). m.0.opening) e₁) sv.legal;
   turns = subst (λ (k : ℕ). AllTurnsBelow k h) (ap (λ (m : Sat). m.0.ticket) e₁) sv.turns;
   later = subst (λ (x : List Entry). StartsWith h x) (ap (λ (m : Sat). m.0.seen) e₁) sv.later;
+  own = sym (ap (λ (m : Sat). entries_of m.0.document h) e₁) ∙ (sv.own ∙ ap (λ (m : Sat). m.0.own) e₁);
   made = subst (λ (x : Desk). Made t document op x d answer) (taken_is m₀ m₁ m₂ t h found d₀ e₁ sv there is) made;
 }
 
@@ -163,3 +181,12 @@ pub ready_extends : (m₀ m₄ m₅ : Sat) (t document : ℕ) (h : List Entry) (
 ready_extends m₀ m₄ m₅ t document h op d answer r is₅ =
     extends_if m₀.0 (noted_view m₀.0 t h d) document op d m₄ m₅ refl refl r.later r.legal r.turns refl r.is is₅ answer
     r.made
+
+pub ready_whole : (m₀ m₄ m₅ : Sat) (t document : ℕ) (h : List Entry) (op : Op) (d : Desk)
+    (answer : Result Reply OutOfMemory) → Ready m₀ m₄ t document h op d answer → m₀.0.document ≡ document
+    → m₅ ≡ (passed m₄.0, []) → entries_of document m₅.0.seen ≡ m₅.0.own
+ready_whole m₀ m₄ m₅ t document h op d answer r document-is is₅ =
+    let now : m₅.0 ≡ passed (noted_view m₀.0 t h d) = ap (λ (m : Sat). m.0) is₅ ∙ ap (λ (m : Sat). passed m.0) r.is in
+    ap (λ (v : View). entries_of document v.seen) now
+    ∙ (whole_if m₀.0.own h t document op (book_after m₀.0.opening h) d answer
+    (ap (λ (k : ℕ). entries_of k h) (sym document-is) ∙ r.own) r.made ∙ sym (ap (λ (v : View). v.own) now))

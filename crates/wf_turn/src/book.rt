@@ -1,5 +1,5 @@
 ghost use Rattle.std.specs.Prelude.{◌≡◌, ◌≢◌, ◌-◌, ◌<◌, [], ◌∷◌, IfOk, OnErr};
-ghost use Rattle.wf_book.specs.Entries.{Extends, StartsWith};
+ghost use Rattle.wf_book.specs.Entries.{Extends, StartsWith, entries_of};
 ghost use Rattle.wf_book.specs.Ops.{InRange, is_answer, is_question};
 ghost use Rattle.wf_turn.specs.Counts.{times};
 ghost use Rattle.wf_turn.specs.Passes.{left_of, made_of, opening_of, own_of, seen_of};
@@ -125,6 +125,7 @@ impl Share for TurnBook {
         ensures kind { IfOk result (λ answer. is_answer answer ≡ is_question op) }
         ensures err { OnErr result
             ((own_of pass.new ≡ own_of pass.old) × StartsWith (seen_of pass.new) (seen_of pass.old)) }
+        ensures whole { entries_of pass.new.document (seen_of pass.new) ≡ own_of pass.new }
     {
         let _entered = self.door.lock(rt);
         take_turn(

@@ -1,6 +1,6 @@
 // One call, from its ticket to the turn of the next one.
 ghost use Rattle.std.specs.Prelude.{◌≡◌, ◌+◌, ◌<◌, true, false, IfOk, OnErr};
-ghost use Rattle.wf_book.specs.Entries.{Extends, StartsWith};
+ghost use Rattle.wf_book.specs.Entries.{Extends, StartsWith, entries_of};
 ghost use Rattle.wf_book.specs.Ops.{InRange, is_answer, is_question};
 ghost use Rattle.wf_turn.specs.Private.Rest.{IsAtRest};
 ghost use Rattle.wf_turn.specs.Private.Steps.{Made, Served};
@@ -80,6 +80,7 @@ pub(crate) fn take_turn<R: Wait>(
     ensures kind { IfOk result (λ answer. is_answer answer ≡ is_question op) }
     ensures err { OnErr result
         ((seat.new.me.0.own ≡ seat.old.me.0.own) × StartsWith seat.new.me.0.seen seat.old.me.0.seen) }
+    ensures whole { entries_of document seat.new.me.0.seen ≡ seat.new.me.0.own }
 {
     let ticket = shared.fetch_add::<Draw>(seat, 0, 1);
     wait(rt, shared, seat, ticket);

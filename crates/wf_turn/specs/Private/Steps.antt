@@ -5,7 +5,7 @@ use Rattle.std.specs.declared.option.Option.{Option}
 use Rattle.atomic_table.specs.Table.{Me, Step}
 use Rattle.wf_book.specs.declared.entry.Entry.{Entry}
 use Rattle.wf_book.specs.Book.{after, empty, reply}
-use Rattle.wf_book.specs.Entries.{entry, book_after, Legal, AllTurnsBelow, StartsWith}
+use Rattle.wf_book.specs.Entries.{entry, book_after, entries_of, Legal, AllTurnsBelow, StartsWith}
 use Rattle.wf_book.specs.declared.op.Op.{Op}
 use Rattle.wf_book.specs.declared.op.Reply.{Reply}
 use Rattle.wf_text.specs.declared.memory.OutOfMemory.{OutOfMemory}
@@ -30,11 +30,12 @@ drew v n = record v { waits = true; ticket = n; draws = v.draws + 1 }
 abbrev pub Draws : Tells
 Draws st m n w = (n + 1 < 2 ^ 64) × (w ≡ (drew m.0 n, m.1))
 
--- the history when the turn came: it begins with what was seen
+-- the history when the turn came: it begins with what was seen, and its entries of the document are the pass's own
 pub record Served (m : Sat) (h : List Entry) (w : Sat) : Type 0 where
   pub legal : Legal m.0.opening h
   pub turns : AllTurnsBelow m.0.ticket h
   pub later : StartsWith h m.0.seen
+  pub own : entries_of m.0.document h ≡ m.0.own
   pub is : w ≡ (record m.0 { served = true; seen = h }, (0, Some (desk (book_after m.0.opening h) h)) ∷ m.1)
 
 -- where the ticket is its own the turn has come

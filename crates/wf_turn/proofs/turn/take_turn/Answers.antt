@@ -6,7 +6,7 @@ use Rattle.wf_turn.specs.Private.Rule.{desk}
 use Rattle.wf_turn.specs.Private.Steps.{Sat}
 use Rattle.wf_turn.specs.declared.desk.Desk.{Desk}
 use Rattle.wf_turn.proofs.Moves.{draws, notes}
-use Rattle.wf_turn.proofs.Turns.{held_is, ready, ready_passes, ready_extends}
+use Rattle.wf_turn.proofs.Turns.{held_is, ready, ready_passes, ready_extends, ready_whole}
 use Rattle.wf_turn.proofs.turn.take_turn.Goals as goal
 
 pub fetch_add-ticket-requires : goal.fetch_add-ticket-requires
@@ -50,3 +50,13 @@ returns-clause-ok g c = let r = c.requires.rest in
     c.work-answer.result
     r.0 c.fetch_add-ticket.ensures.2.1 c.wait.ensures.served c.exchange.ensures.2 c.in-Some.is c.exchange.ensures.3
     c.exchange-2.ensures.3 c.load.ensures.2 c.work-answer.ensures.made) c.store.ensures.2
+
+pub returns-clause-whole : goal.returns-clause-whole
+returns-clause-whole g c = let r = c.requires.rest in
+    ready_whole c.args.seat.now.me c.load.new.seat.me c.store.new.seat.me c.fetch_add-ticket.result c.args.document
+    c.wait.new.seat.me.0.seen c.args.op c.work-answer.new.desk c.work-answer.result
+    (ready c.args.seat.now.me c.fetch_add-ticket.new.seat.me c.wait.new.seat.me c.exchange.new.seat.me
+    c.exchange-2.new.seat.me c.load.new.seat.me _ _ _ _ c.in-Some.desk c.work-answer.new.desk c.exchange.result
+    c.work-answer.result
+    r.0 c.fetch_add-ticket.ensures.2.1 c.wait.ensures.served c.exchange.ensures.2 c.in-Some.is c.exchange.ensures.3
+    c.exchange-2.ensures.3 c.load.ensures.2 c.work-answer.ensures.made) r.1 c.store.ensures.2

@@ -18,3 +18,10 @@ returns-clause-ok g c =
 
 pub returns-clause-kind : goal.returns-clause-kind
 returns-clause-kind g c = kind-of _ c.args.op c.apply.result c.apply.ensures.reply
+
+pub returns-clause-whole : goal.returns-clause-whole
+returns-clause-whole g c =
+    let a = c.apply.ensures in
+    let few : c.pass.inside.calls < 4294967295 =
+    omega (arith, ap (λ (s : Solo). s.calls) c.pass.view_is, c.requires.left) in
+    (solo_next _ _ _ _ _ _ c.args.op c.pass.invariant few c.apply.result a.reply a.book a.history a.err).mine
