@@ -18,7 +18,8 @@ use Rattle.url.specs.Parts.{Parts, has_credentials}
 use Rattle.wf_send.specs.Making.{fault_or, fault_where, faults, first_fault, is_long_body, made, new_request, request_for}
 use Rattle.wf_send.specs.Making.{first_bad, given_size, is_navigate, is_no_cors, url_given}
 use Rattle.wf_commands.specs.Pieces.{pieces_behind}
-use Rattle.wf_commands.specs.Templates.{filled, opens, pieces, placed, put_on}
+use Rattle.wf_commands.specs.Templates.{filled, opens, pieces, placed}
+use Rattle.wf_text.specs.Pieces.{with_front}
 use Rattle.wf_print.specs.declared.events.Event.{Event}
 use Rattle.wf_run.specs.Filling.{cut_body, is_plain, lacks_dollar, lacks_dollar_in, with_cut_body}
 use Rattle.wf_run.specs.Results.{value_of}
@@ -38,8 +39,8 @@ one-piece (byte ∷ []) lacks = refl
 one-piece (byte ∷ next ∷ text) lacks =
     let rest : pieces (next ∷ text) ≡ (next ∷ text) ∷ [] = one-piece (next ∷ text) (grind (arith, lacks)) in
     let closed : opens byte next ≡ false = grind (arith, lacks) in
-    ap (λ (b : Bool). cond b ([] ∷ pieces text) (put_on byte (pieces (next ∷ text)))) closed
-    ∙ ap (put_on byte) rest
+    ap (λ (b : Bool). cond b ([] ∷ pieces text) (with_front byte (pieces (next ∷ text)))) closed
+    ∙ ap (with_front byte) rest
 
 pub filled-same : (value : List ℕ → List ℕ) (text : List ℕ) → lacks_dollar text ≡ true → filled value text ≡ text
 filled-same value text lacks = rw (one-piece text lacks) (append-nil text)
