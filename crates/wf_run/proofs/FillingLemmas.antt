@@ -15,7 +15,8 @@ use Rattle.wf_types.specs.Methods.{is_safelisted_method, is_get_or_head, normali
 use Rattle.wf_safelist.specs.Forbidden.{is_forbidden_method}
 use Rattle.wf_text.specs.Tokens.{is_token}
 use Rattle.url.specs.Parts.{Parts, has_credentials}
-use Rattle.wf_send.specs.Making.{fault_or, fault_where, faults, first_fault, is_long_body, made, new_request, request_for}
+use Rattle.wf_send.specs.Making.{fault_or, faults, first_fault, is_long_body, made, new_request, request_for}
+use Rattle.std.specs.Bool.{then_some}
 use Rattle.wf_send.specs.Making.{first_bad, given_size, is_navigate, is_no_cors, url_given}
 use Rattle.wf_commands.specs.Pieces.{pieces_behind}
 use Rattle.wf_commands.specs.Templates.{filled, opens, pieces, placed}
@@ -93,14 +94,14 @@ same-fault (Some fault ∷ rest) x y has = refl
 -- the faults, by whether there is a body, and whether it is too long
 faults_by : Init → Parts → Bool → Bool → List (Option TypeFault)
 faults_by init url some long =
-    fault_where (has_credentials url) UrlCredentials
-    ∷ fault_where (not (is_token init.method)) BadMethod
-    ∷ fault_where (is_forbidden_method init.method) ForbiddenMethod
-    ∷ fault_where (some && is_get_or_head (normalized init.method)) BodyWithGet
-    ∷ fault_where (is_no_cors init.mode && not (is_safelisted_method (normalized init.method))) NoCorsMethod
+    then_some (has_credentials url) UrlCredentials
+    ∷ then_some (not (is_token init.method)) BadMethod
+    ∷ then_some (is_forbidden_method init.method) ForbiddenMethod
+    ∷ then_some (some && is_get_or_head (normalized init.method)) BodyWithGet
+    ∷ then_some (is_no_cors init.mode && not (is_safelisted_method (normalized init.method))) NoCorsMethod
     ∷ option_map BadHeader (first_bad 0 init.headers)
-    ∷ fault_where (is_navigate init.mode) NavigateMode
-    ∷ fault_where (nat_lt 16384 (given_size init) || long) TooLong
+    ∷ then_some (is_navigate init.mode) NavigateMode
+    ∷ then_some (nat_lt 16384 (given_size init) || long) TooLong
     ∷ []
 
 faults-of : (init : Init) (url : Parts) → faults init url ≡ faults_by init url (is_some init.body) (is_long_body init.body)
@@ -112,20 +113,20 @@ faults-of-cut : (init : Init) (url : Parts) → faults (with_cut_body init) url
 unfolding faults_by
 faults-of-cut init url = refl
 
-too-long : (size : Bool) → HasFault (fault_where (size || true) TooLong ∷ [])
+too-long : (size : Bool) → HasFault (then_some (size || true) TooLong ∷ [])
 too-long true = tt
 too-long false = tt
 
 has-fault : (init : Init) (url : Parts) (some : Bool) → HasFault (faults_by init url some true)
 unfolding faults_by
 has-fault init url some =
-    later (fault_where (has_credentials url) UrlCredentials) _
-    (later (fault_where (not (is_token init.method)) BadMethod) _
-    (later (fault_where (is_forbidden_method init.method) ForbiddenMethod) _
-    (later (fault_where (some && is_get_or_head (normalized init.method)) BodyWithGet) _
-    (later (fault_where (is_no_cors init.mode && not (is_safelisted_method (normalized init.method))) NoCorsMethod) _
+    later (then_some (has_credentials url) UrlCredentials) _
+    (later (then_some (not (is_token init.method)) BadMethod) _
+    (later (then_some (is_forbidden_method init.method) ForbiddenMethod) _
+    (later (then_some (some && is_get_or_head (normalized init.method)) BodyWithGet) _
+    (later (then_some (is_no_cors init.mode && not (is_safelisted_method (normalized init.method))) NoCorsMethod) _
     (later (option_map BadHeader (first_bad 0 init.headers)) _
-    (later (fault_where (is_navigate init.mode) NavigateMode) _ (too-long (nat_lt 16384 (given_size init)))))))))
+    (later (then_some (is_navigate init.mode) NavigateMode) _ (too-long (nat_lt 16384 (given_size init)))))))))
 
 is-long : (body : List ℕ) → 65536 < length body → nat_lt 65536 (length body) ≡ true
 is-long body long = grind (arith, long)
