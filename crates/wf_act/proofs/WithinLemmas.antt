@@ -1,9 +1,10 @@
 -- What a process costs at most, and what holds of its acts, over each tape.
 use Rattle.std.proofs.Common.{◌≡◌, ℕ, Bool, true, false, ◌≤◌, List, [], ◌∷◌, refl, arith, cond}
-use Rattle.std.specs.List.{AllByRecursion}
+use Rattle.std.proofs.lemmas.List.Sums.{sum_by-cons}
+use Rattle.std.specs.List.{AllByRecursion, sum_by}
 use Rattle.wf_types.specs.declared.request.Request.{Request}
 use Rattle.wf_act.specs.Process.{Process, act, ended, fits, followed, run}
-use Rattle.wf_act.specs.Within.{Anything, Within, total}
+use Rattle.wf_act.specs.Within.{Anything, Within}
 use Rattle.wf_act.specs.declared.act.Act.{Act}
 use Rattle.wf_act.specs.declared.act.Input.{Input}
 
@@ -17,20 +18,21 @@ within-more cost Given P most more (act request first after) within le =
 -- what a run costs
 followed-total : (cost : Act → ℕ) (left : ℕ) (first : Act) (after : Input
     → Process) (input : Input) (tape : List Input) (b : Bool) → fits first input ≡ b
-    → total cost (run (after input) tape).acts ≤ left
-    → total cost (followed first (λ i. run (after i)) (input ∷ tape)).acts ≤ left
+    → sum_by cost (run (after input) tape).acts ≤ left
+    → sum_by cost (followed first (λ i. run (after i)) (input ∷ tape)).acts ≤ left
 followed-total cost left first after input tape true e le = rw e le
 followed-total cost left first after input tape false e le = rw e (omega arith)
 
 pub within-total : (cost : Act → ℕ) (Given : Input → Type 0) (P : Request → Act
     → Type 0) (most : ℕ) (process : Process) → Within cost Given P most process → (tape : List Input)
-    → AllByRecursion Given tape → total cost (run process tape).acts ≤ most
+    → AllByRecursion Given tape → sum_by cost (run process tape).acts ≤ most
 within-total cost Given P most (ended outcome) within tape given = omega arith
 within-total cost Given P most (act request first after) within [] given = omega (arith, within.1.enough)
 within-total cost Given P most (act request first after) within (input ∷ tape) given =
     omega (
       arith,
       within.1.enough,
+      sum_by-cons cost first (followed first (λ i. run (after i)) (input ∷ tape)).acts,
       followed-total cost within.1.left first after input tape (fits first input) refl
           (within-total cost Given P within.1.left (after input) (within.1.rest input given.0) tape given.1),
     )

@@ -1,5 +1,5 @@
 -- What a process does at most, and what holds of each of its acts.
-use Rattle.std.specs.Prelude.{ℕ, ◌+◌, ◌≤◌, List, [], ◌∷◌}
+use Rattle.std.specs.Prelude.{ℕ, ◌+◌, ◌≤◌}
 use Rattle.wf_types.specs.declared.request.Request.{Request}
 use Rattle.wf_act.specs.Process.{Process, act, ended}
 use Rattle.wf_act.specs.declared.act.Act.{Act}
@@ -26,11 +26,6 @@ Anything input = Unit {0}
 -- nothing is asked of an act
 abbrev pub AnyAct : Request → Act → Type 0
 AnyAct request first = Unit {0}
-
--- what the acts of a run cost together
-abbrev pub total : (Act → ℕ) → List Act → ℕ
-total cost [] = 0
-total cost (first ∷ acts) = cost first + total cost acts
 
 -- A price for each kind of act.
 pub record Prices : Type 0 where

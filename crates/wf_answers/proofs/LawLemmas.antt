@@ -22,13 +22,15 @@ use Rattle.wf_types.specs.declared.mode.Tainting.TheVariants as tainting
 use Rattle.wf_types.specs.declared.request.Request.{Request}
 use Rattle.wf_types.specs.declared.response.Outcome.TheVariants.{Error, Loaded}
 use Rattle.wf_types.specs.declared.response.Response.{Response}
-use Rattle.wf_types.specs.Requests.{current_url, is_http_url}
+use Rattle.wf_types.specs.Requests.{current_url, is_http_url, most_redirects}
 use Rattle.wf_filter.proofs.LawLemmas.{keeps_blocking, keeps_body, keeps_cors_check, keeps_filtered, keeps_redirect}
 use Rattle.wf_filter.proofs.LawLemmas.{keeps_resource_policy, keeps_target}
 use Rattle.wf_filter.proofs.ViewLemmas.{absent-extracted}
 use Rattle.wf_filter.specs.Blocks.{is_nosniff_blocked, is_type_blocked}
 use Rattle.wf_filter.specs.Laws.{HasSameBody, IsAllowed, IsResponse, IsSameBlock, LeadsAlike, is_opaque_tainted}
-use Rattle.wf_filter.specs.Views.{is_blocked, is_error, is_followed, is_manual, is_refused, is_refused_by, passes_check}
+use Rattle.wf_filter.specs.Views.{is_error, is_followed, is_manual, is_refused, is_refused_by}
+use Rattle.wf_types.specs.ResourcePolicy.{is_blocked}
+use Rattle.wf_types.specs.CorsCheck.{passes_check}
 use Rattle.wf_filter.specs.Views.{permitted_view}
 use Rattle.wf_answers.specs.declared.answers.Ended.{Ended}
 use Rattle.wf_answers.specs.declared.answers.Ended.TheVariants.{Over, Reads}
@@ -38,9 +40,10 @@ use Rattle.wf_answers.specs.Bodies.{has_null_body, is_coded}
 use Rattle.wf_answers.specs.Endings.{block_error, ended_by, ended_unblocked, is_bodiless, is_read, response_of}
 use Rattle.wf_answers.specs.Endings.{without_body}
 use Rattle.wf_answers.specs.Following.{redirected_request}
-use Rattle.wf_answers.specs.Judging.{check_error, error_where, is_to_follow}
+use Rattle.wf_answers.specs.Judging.{check_error, is_to_follow}
+use Rattle.std.specs.Bool.{then_some}
 use Rattle.wf_answers.specs.Laws.{IsLast, IsPassed, KeepsEnding, KeepsRedirected, KeepsRedirection, KeepsRefusal}
-use Rattle.wf_answers.specs.Redirects.{extracted_url, most_redirects, redirection, redirection_by}
+use Rattle.wf_answers.specs.Redirects.{extracted_url, redirection, redirection_by}
 use Rattle.wf_answers.specs.Redirects.{redirection_where, shows_credentials}
 
 -- ---- tests
@@ -55,7 +58,7 @@ negated false e = refl
 -- ---- refusals
 
 -- no error is there where the test fails
-where-none : (is : Bool) (error : NetError) → error_where is error ≡ None → is ≡ false
+where-none : (is : Bool) (error : NetError) → then_some is error ≡ None → is ≡ false
 where-none true error e = cc
 where-none false error e = refl
 
@@ -63,8 +66,8 @@ where-none false error e = refl
 refused-error : (by : Tainting) (request : Request) (headers : List Header) → is_refused_by by request headers ≡ true
     → (error : NetError) × (check_error by request headers ≡ Some error)
 refused-error tainting.Basic request headers e = absurd (grind arith)
-refused-error tainting.Cors request headers e = (CorsCheck, ap (λ is. error_where is CorsCheck) e)
-refused-error tainting.Opaque request headers e = (Corp, ap (λ is. error_where is Corp) e)
+refused-error tainting.Cors request headers e = (CorsCheck, ap (λ is. then_some is CorsCheck) e)
+refused-error tainting.Opaque request headers e = (Corp, ap (λ is. then_some is Corp) e)
 
 -- and where there is no error it does not
 passed-allowed : (by : Tainting) (request : Request) (headers : List Header) → check_error by request headers ≡ None
@@ -88,16 +91,16 @@ checks-same : (by : Tainting) (request : Request) (hop : Hop) (head : Head) → 
     → check_error by request (permitted_view request hop head).headers ≡ check_error by request head.headers
 checks-same tainting.Basic request hop head is sent = refl
 checks-same tainting.Cors request hop head is sent =
-    ap (λ passes. error_where (not passes) CorsCheck) (keeps_cors_check request hop head (rw (sent, is) refl))
+    ap (λ passes. then_some (not passes) CorsCheck) (keeps_cors_check request hop head (rw (sent, is) refl))
 checks-same tainting.Opaque request hop head is sent =
-    ap (λ blocked. error_where blocked Corp) (keeps_resource_policy request hop head (rw (sent, is) refl))
+    ap (λ blocked. then_some blocked Corp) (keeps_resource_policy request hop head (rw (sent, is) refl))
 
 pub keeps_refusal : KeepsRefusal
 keeps_refusal request hop head sent =
     let view = permitted_view request hop head in
     let checks = checks-same request.tainting request hop head refl (negated hop.preflight sent) in
     let after =
-    λ (w : Head) (check : Option NetError). option_or check (error_where (is_error request w) RedirectMode) in
+    λ (w : Head) (check : Option NetError). option_or check (then_some (is_error request w) RedirectMode) in
     elim (cases_Bool (is_refused request head.headers)) [
       | inl refused ↦
           let error = refused-error request.tainting request head.headers refused in
@@ -108,7 +111,7 @@ keeps_refusal request hop head sent =
           (record { sent = sent; allowed = denied (is_refused request head.headers) allowed }) in
           ap (after view) checks
           ∙ ap
-          (λ is. option_or (check_error request.tainting request head.headers) (error_where is RedirectMode))
+          (λ is. option_or (check_error request.tainting request head.headers) (then_some is RedirectMode))
           same.error
     ]
 
@@ -119,7 +122,7 @@ allowed-of request hop head passed = record {
   sent = passed.sent;
   allowed = denied (is_refused request head.headers)
       (passed-allowed request.tainting request head.headers
-      (first-none (check_error request.tainting request head.headers) (error_where (is_error request head) RedirectMode)
+      (first-none (check_error request.tainting request head.headers) (then_some (is_error request head) RedirectMode)
       passed.passed));
 }
 
@@ -226,7 +229,7 @@ response-of : (request : Request) (hop : Hop) (head : Head) → IsLast request h
 response-of request hop head last =
     let none =
     second-none (check_error request.tainting request head.headers)
-    (error_where (is_error request head) RedirectMode) last.passed.passed in
+    (then_some (is_error request head) RedirectMode) last.passed.passed in
     record {
       allowed = allowed-of request hop head last.passed;
       last = denied (is_followed request head) (stays-unfollowed request head last.stays);

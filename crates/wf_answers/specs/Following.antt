@@ -2,16 +2,15 @@
 use Rattle.std.specs.Prelude.{ℕ, ◌+◌, Bool, not, ◌==◌, ◌&&◌, ◌||◌, List, [], ◌∷◌, ◌++◌, filter, codes, bytes_eq, None}
 use Rattle.std.specs.Prelude.{if◌then◌else◌}
 use Rattle.url.specs.Parts.{Parts}
+use Rattle.wf_text.specs.Wildcards.{authorization}
 use Rattle.wf_headers.specs.declared.headers.Header.{Header}
 use Rattle.wf_headers.specs.Headers.{without}
 use Rattle.wf_origin.specs.Origins.{have_same_origin}
 use Rattle.wf_types.specs.declared.hop.Head.{Head}
-use Rattle.wf_types.specs.declared.mode.ReferrerPolicy.{ReferrerPolicy}
-use Rattle.wf_types.specs.declared.mode.ReferrerPolicy.TheVariants as policy
 use Rattle.wf_types.specs.declared.request.Request.{Request}
 use Rattle.wf_types.specs.Methods.{is_get_or_head}
 use Rattle.wf_types.specs.PermittedNames.{has_name_among}
-use Rattle.wf_types.specs.ReferrerPolicies.{policy_of_header}
+use Rattle.wf_types.specs.ReferrerPolicies.{policy_of_header, policy_or}
 use Rattle.wf_types.specs.Requests.{current_url}
 
 -- ---- the method
@@ -48,7 +47,7 @@ with_method_after status request =
 
 -- the request without Authorization
 abbrev pub without_authorization : Request → Request
-without_authorization request = record request { headers = without (codes "Authorization") request.headers }
+without_authorization request = record request { headers = without authorization request.headers }
 
 -- so it is where the URL has another origin than the current URL
 abbrev pub with_authorization_at : Parts → Request → Request
@@ -57,15 +56,10 @@ with_authorization_at url request =
 
 -- ---- the referrer policy
 
--- the policy that an answer names, or else the one that there is
-abbrev pub policy_after : ReferrerPolicy → ReferrerPolicy → ReferrerPolicy
-policy_after policy.Empty old = old
-policy_after named old = named
-
 -- the request with the referrer policy that the headers of the answer name, where they do ("set request's referrer
 -- policy on redirect", Referrer Policy, section 8.2)
 abbrev pub with_policy_of : List Header → Request → Request
-with_policy_of headers request = record request { policy = policy_after (policy_of_header headers) request.policy }
+with_policy_of headers request = record request { policy = policy_or (policy_of_header headers) request.policy }
 
 -- ---- the URL list
 

@@ -8,14 +8,13 @@ use Rattle.wf_headers.specs.declared.extract.Extracted.TheVariants.{Absent, Item
 use Rattle.wf_headers.specs.declared.extract.Rule.TheVariants.{Single}
 use Rattle.wf_headers.specs.Extract.{extracted}
 use Rattle.wf_origin.specs.Origins.{is_origin_of}
-use Rattle.wf_send.specs.Making.{unless_long}
 use Rattle.wf_types.specs.declared.error.NetError.TheVariants.{BadLocation, RedirectScheme, TooManyRedirects}
 use Rattle.wf_types.specs.declared.error.NetError.TheVariants.{RedirectCredentials}
 use Rattle.wf_types.specs.declared.hop.Head.{Head}
 use Rattle.wf_types.specs.declared.request.Request.{Request}
-use Rattle.wf_types.specs.OriginHeader.{is_cors_mode, is_cors_tainted}
-use Rattle.wf_types.specs.Requests.{current_url, is_http_url}
-use Rattle.wf_types.specs.Urls.{url_against}
+use Rattle.wf_types.specs.Modes.{is_cors_mode, is_cors_tainted}
+use Rattle.wf_types.specs.Requests.{current_url, is_http_url, most_redirects}
+use Rattle.wf_types.specs.Urls.{unless_long, url_against}
 use Rattle.wf_answers.specs.declared.answers.Redirection.{Redirection}
 use Rattle.wf_answers.specs.declared.answers.Redirection.TheVariants.{Stays, Refuses, Goes}
 use Rattle.wf_answers.specs.Judging.{is_to_follow}
@@ -37,10 +36,6 @@ extracted_url current (Items (text ∷ [])) = location_url current text
 extracted_url current _ = None
 
 -- ---- the redirect
-
--- so many redirects are followed
-abbrev pub most_redirects : ℕ
-most_redirects = 20
 
 -- the URL has credentials, and the tainting is cors, or the mode is cors and its origin is not the request's
 abbrev pub shows_credentials : Request → Parts → Bool

@@ -1,14 +1,14 @@
-ghost use Rattle.std.specs.Prelude.{◌≡◌, ◌<◌, length, map, not, IfOk};
+ghost use Rattle.std.specs.Prelude.{◌≡◌, ◌<◌, length, not, IfOk};
 ghost use Rattle.wf_types.specs.PermittedNames as permitted;
-ghost use Rattle.wf_types.specs.Requests.{IsAtHttp, IsRequest};
+ghost use Rattle.wf_types.specs.Requests.{IsAtHttp, IsRequest, most_redirects};
 ghost use Rattle.wf_answers.specs.Following as spec;
 
 use std::alloc::Global;
 use url::Url;
 use wf_headers::{Header, HeaderList, HeaderTest};
 use wf_origin::have_same_origin;
-use wf_text::{Bytes, OutOfMemory, is_among_fold};
-use wf_types::{Head, ReferrerPolicy, Request, is_get_or_head, policy_of_header};
+use wf_text::{AUTHORIZATION, Bytes, OutOfMemory};
+use wf_types::{Head, Request, has_name_among, is_get_or_head, policy_of_header, policy_or};
 
 // The request-body-header names.
 const BODY_HEADER_NAMES: [&[u8]; 4] = [
@@ -24,13 +24,6 @@ fn turns_to_get(method: &[u8], status: u16) -> bool
 {
     ((status == 301 || status == 302) && method == b"POST".as_slice())
         || (status == 303 && !is_get_or_head(method))
-}
-
-// Whether the header has one of these names.
-fn has_name_among(names: &[&[u8]], header: &Header) -> bool
-    ensures { result ≡ permitted.has_name_among (map (λ name. name.now) names.now) header.now }
-{
-    is_among_fold(names, header.name.as_slice())
 }
 
 // Headers without a request-body-header name pass.
@@ -83,7 +76,7 @@ fn without_authorization(request: Request) -> Request
     ensures { result ≡ spec.without_authorization request }
 {
     let mut headers = request.headers;
-    headers.delete(b"Authorization");
+    headers.delete(AUTHORIZATION);
     Request { headers, ..request }
 }
 
@@ -99,16 +92,6 @@ fn with_authorization_at(url: &Url, request: Request) -> Request
     }
 }
 
-// The policy that an answer names, or else the one that there is.
-fn policy_after(named: ReferrerPolicy, old: ReferrerPolicy) -> ReferrerPolicy
-    ensures { result ≡ spec.policy_after named old }
-{
-    match named {
-        ReferrerPolicy::Empty => old,
-        _ => named,
-    }
-}
-
 // The request with the referrer policy that the headers of the answer name, where they do.
 fn with_policy_of(
     alloc: Global,
@@ -118,13 +101,13 @@ fn with_policy_of(
     ensures { IfOk result (λ with. with ≡ spec.with_policy_of headers.now request) }
 {
     let named = policy_of_header(alloc, headers)?;
-    let policy = policy_after(named, request.policy);
+    let policy = policy_or(named, request.policy);
     Ok(Request { policy, ..request })
 }
 
 // The request at one URL more, and redirected once more.
 fn at_next(url: Url, request: Request) -> Result<Request, OutOfMemory>
-    requires { request.redirects < 20 }
+    requires { request.redirects < most_redirects }
     ensures { IfOk result (λ next. next ≡ spec.at_next url request) }
 {
     let mut urls = request.urls;
@@ -150,7 +133,7 @@ pub fn redirected(
     url: Url,
 ) -> Result<Request, OutOfMemory>
     requires request { IsRequest request }
-    requires few { request.redirects < 20 }
+    requires few { request.redirects < most_redirects }
     requires at_http { IsAtHttp request }
     ensures value { IfOk result (λ next. next ≡ spec.redirected_request request head.now url) }
     ensures request { IfOk result IsRequest }

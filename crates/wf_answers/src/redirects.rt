@@ -2,8 +2,6 @@ ghost use Rattle.std.specs.Prelude.{◌≡◌, All, IfOk};
 ghost use Rattle.percent_encoding.specs.Percent.{IsKept};
 ghost use Rattle.url.specs.Parts as parts;
 ghost use Rattle.url.specs.declared.sets.TheConstants.{FRAGMENT};
-ghost use Rattle.wf_send.specs.Making as making;
-ghost use Rattle.wf_types.specs.OriginHeader as origin_header;
 ghost use Rattle.wf_types.specs.Requests.{IsRequest};
 ghost use Rattle.wf_answers.specs.Redirects as spec;
 
@@ -14,13 +12,9 @@ use url::Url;
 use wf_headers::{Extracted, Rule};
 use wf_origin::{is_http_url, is_origin_of};
 use wf_text::{BytesList, OutOfMemory};
-use wf_types::{Head, Mode, NetError, Request, Tainting, url_against};
-
-/// How many bytes the text of a URL may have.
-const MOST_URL: usize = 8_192;
-
-/// How many redirects are followed.
-const MOST_REDIRECTS: u32 = 20;
+use wf_types::{
+    Head, MOST_REDIRECTS, NetError, Request, has_credentials, unless_long, url_against,
+};
 
 // The URL with this fragment, which is that of a URL.
 fn with_fragment(url: Url, fragment: &str) -> Result<Url, OutOfMemory>
@@ -45,16 +39,6 @@ fn with_fragment_of(current: &Url, url: Url) -> Result<Url, OutOfMemory>
     match current.fragment() {
         None => Ok(url),
         Some(fragment) => with_fragment(url, fragment),
-    }
-}
-
-// The URL, unless its text is too long.
-fn unless_long(url: Option<Url>) -> Option<Url>
-    ensures { result ≡ making.unless_long url }
-{
-    match url {
-        Some(url) if url.as_str().len() <= MOST_URL => Some(url),
-        Some(_) | None => None,
     }
 }
 
@@ -83,35 +67,14 @@ fn extracted_url(
     }
 }
 
-// Whether the URL has a user name or a password.
-fn has_credentials(url: &Url) -> bool
-    ensures { result ≡ parts.has_credentials url.now }
-{
-    !url.username().is_empty() || url.password().is_some()
-}
-
-// Whether the tainting is cors.
-fn is_cors_tainted(tainting: Tainting) -> bool
-    ensures { result ≡ origin_header.is_cors_tainted tainting }
-{
-    matches!(tainting, Tainting::Cors)
-}
-
-// Whether the mode is cors.
-fn is_cors_mode(mode: Mode) -> bool
-    ensures { result ≡ origin_header.is_cors_mode mode }
-{
-    matches!(mode, Mode::Cors)
-}
-
 // Whether the URL has credentials, and the tainting is cors, or the mode is cors and its origin is not
 // the request's.
 fn shows_credentials(request: &Request, url: &Url) -> bool
     ensures { result ≡ spec.shows_credentials request.now url.now }
 {
     has_credentials(url)
-        && (is_cors_tainted(request.tainting)
-            || (is_cors_mode(request.mode) && !is_origin_of(&request.origin, url)))
+        && (request.tainting.is_cors()
+            || (request.mode.is_cors() && !is_origin_of(&request.origin, url)))
 }
 
 // A redirect to this URL, or what it is refused for.

@@ -1,5 +1,6 @@
 -- Histories of the book: what they leave, which are legal, and the entries of a document.
-use Rattle.std.specs.Prelude.{◌≡◌, ℕ, ◌+◌, ◌≤◌, ◌<◌, List, [], ◌∷◌, ◌++◌, ◌==◌, if◌then◌else◌}
+use Rattle.std.specs.Prelude.{◌≡◌, ℕ, ◌+◌, ◌≤◌, ◌<◌, List, [], ◌∷◌, ◌++◌, ◌==◌, filter, if◌then◌else◌}
+use Rattle.std.specs.List.{AllByRecursion}
 use Rattle.wf_book.specs.declared.book.Book.{Book}
 use Rattle.wf_book.specs.declared.entry.Entry.{Entry}
 use Rattle.wf_book.specs.declared.op.Op.{Op}
@@ -27,14 +28,11 @@ Legal book history = LegalFrom book 0 history
 
 -- the entries of a document, in order
 abbrev pub entries_of : ℕ → List Entry → List Entry
-entries_of document [] = []
-entries_of document (e ∷ es) =
-    if e.document == document then e ∷ entries_of document es else entries_of document es
+entries_of document history = filter (λ e. e.document == document) history
 
 -- all turn numbers are below this one
 abbrev pub AllTurnsBelow : ℕ → List Entry → Type 0
-AllTurnsBelow turn [] = Unit {0}
-AllTurnsBelow turn (e ∷ es) = (e.turn < turn) × AllTurnsBelow turn es
+AllTurnsBelow turn history = AllByRecursion (λ e. e.turn < turn) history
 
 -- the history begins with what was seen of it
 abbrev pub StartsWith : List Entry → List Entry → Type 0

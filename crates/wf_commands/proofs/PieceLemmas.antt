@@ -3,26 +3,27 @@ use Rattle.std.proofs.Common.{◌≡◌, ℕ, suc, ◌+◌, ◌<◌, ◌≤◌, 
 use Rattle.std.proofs.Common.{get_or, Option, Some, None, refl, ap, sym, ◌∙◌, arith, append_assoc, add-one, drop-cons}
 use Rattle.std.proofs.Math.Seq.{take-suc}
 use Rattle.std.proofs.lemmas.List.{append-nil, length-drop, take-append-drop}
-use Rattle.wf_commands.specs.Templates.{put_on, opens, pieces}
+use Rattle.wf_text.specs.Pieces.{with_front}
+use Rattle.wf_commands.specs.Templates.{opens, pieces}
 
 -- bytes more at the front of the first piece
 abbrev pub onto : List ℕ → List (List ℕ) → List (List ℕ)
 onto front [] = front ∷ []
 onto front (piece ∷ pieces) = (front ++ piece) ∷ pieces
 
-pub onto-put_on : (front : List ℕ) (byte : ℕ) (ps : List (List ℕ)) → onto front (put_on byte ps) ≡ onto (front ++ byte ∷ []) ps
-onto-put_on front byte [] = refl
-onto-put_on front byte (p ∷ ps) =
+pub onto-with_front : (front : List ℕ) (byte : ℕ) (ps : List (List ℕ)) → onto front (with_front byte ps) ≡ onto (front ++ byte ∷ []) ps
+onto-with_front front byte [] = refl
+onto-with_front front byte (p ∷ ps) =
     ap (λ (l : List ℕ). l ∷ ps) (sym (append_assoc front (byte ∷ []) p))
 
 -- ---- nothing before
 
-put-none : (byte : ℕ) (ps : List (List ℕ)) → onto [] (put_on byte ps) ≡ put_on byte ps
+put-none : (byte : ℕ) (ps : List (List ℕ)) → onto [] (with_front byte ps) ≡ with_front byte ps
 put-none byte [] = refl
 put-none byte (p ∷ ps) = refl
 
 either-none : (test : Bool) (byte : ℕ) (ps qs : List (List ℕ))
-    → onto [] (cond test ([] ∷ ps) (put_on byte qs)) ≡ cond test ([] ∷ ps) (put_on byte qs)
+    → onto [] (cond test ([] ∷ ps) (with_front byte qs)) ≡ cond test ([] ∷ ps) (with_front byte qs)
 either-none true byte ps qs = refl
 either-none false byte ps qs = put-none byte qs
 
@@ -48,7 +49,7 @@ opened text i lt is =
 -- or none
 unopened : (text : List ℕ) (i : ℕ) → i + 1 < length text
     → opens (get_or text i 0) (get_or text (i + 1) 0) ≡ false
-    → pieces (drop i text) ≡ put_on (get_or text i 0) (pieces (drop (i + 1) text))
+    → pieces (drop i text) ≡ with_front (get_or text i 0) (pieces (drop (i + 1) text))
 unopened text i lt is =
     rw (drop-next text i (i + 1) refl (omega (arith, lt)), drop-next text (i + 1) (i + 2) (omega arith) lt)
     (rw is refl)
@@ -68,7 +69,7 @@ pub piece-goes-on : (text : List ℕ) (i : ℕ) → i + 1 < length text
     → pieces text ≡ onto (take (i + 1) text) (pieces (drop (i + 1) text))
 piece-goes-on text i lt is so =
     so ∙ ap (onto (take i text)) (unopened text i lt is)
-    ∙ onto-put_on (take i text) (get_or text i 0) (pieces (drop (i + 1) text))
+    ∙ onto-with_front (take i text) (get_or text i 0) (pieces (drop (i + 1) text))
     ∙ ap (λ (l : List ℕ). onto l (pieces (drop (i + 1) text)))
     (rw add-one (sym (take-suc text i 0 (omega (arith, lt)))))
 

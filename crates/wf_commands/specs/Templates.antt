@@ -3,14 +3,10 @@
 use Rattle.std.specs.Prelude.{ℕ, Bool, true, ◌&&◌, ◌||◌, ◌==◌, not, nat_eq, List, [], ◌∷◌, ◌++◌, codes, bytes_eq, drop}
 use Rattle.std.specs.Prelude.{is_some, if◌then◌else◌}
 use Rattle.std.specs.List.{list_all, list_any, flat_map, position, starts_with, before_first, after_first}
+use Rattle.wf_text.specs.Pieces.{with_front}
 use Rattle.wf_text.specs.Tokens.{is_token}
 
 -- ---- the pieces of a text
-
--- a byte more at the front of the first piece
-abbrev pub put_on : ℕ → List (List ℕ) → List (List ℕ)
-put_on byte [] = (byte ∷ []) ∷ []
-put_on byte (piece ∷ pieces) = (byte ∷ piece) ∷ pieces
 
 -- the two bytes are `${`
 abbrev pub opens : ℕ → ℕ → Bool
@@ -21,7 +17,7 @@ abbrev pub pieces : List ℕ → List (List ℕ)
 pieces [] = [] ∷ []
 pieces (byte ∷ []) = (byte ∷ []) ∷ []
 pieces (byte ∷ next ∷ text) =
-    if opens byte next then [] ∷ pieces text else put_on byte (pieces (next ∷ text))
+    if opens byte next then [] ∷ pieces text else with_front byte (pieces (next ∷ text))
 
 -- the piece before the first `${`
 abbrev pub first_piece : List (List ℕ) → List ℕ

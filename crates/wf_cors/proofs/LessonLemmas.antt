@@ -36,7 +36,7 @@ capped-small digits =
       | inr other ↦ rw other (grind (arith, common_steps))
     ]
 
-age-small : (found : Extracted) → age_of found ≤ 7200
+pub age-small : (found : Extracted) → age_of found ≤ 7200
 age-small Absent = grind (arith)
 age-small Failure = grind (arith)
 age-small (Items []) = grind (arith)

@@ -8,7 +8,7 @@ use Rattle.wf_headers.specs.declared.headers.Header.{Header}
 use Rattle.wf_origin.specs.Origins.{origin_of}
 use Rattle.wf_types.specs.declared.hop.Hop.{Hop}
 use Rattle.wf_types.specs.declared.request.Request.{Request}
-use Rattle.wf_types.specs.Lines.{header, header_where, present}
+use Rattle.wf_types.specs.Lines.{accept_encoding, connection_close, header, header_where, present, user_agent}
 use Rattle.wf_types.specs.OriginHeader.{referrer_value}
 use Rattle.wf_types.specs.Requests.{current_url, serialized_request_origin}
 use Rattle.wf_types.specs.Targets.{host_value, origin_text, target_of}
@@ -20,8 +20,7 @@ names_value [] = None
 names_value (name ∷ names) = Some (join_with_byte comma (name ∷ names))
 
 -- its header list as it is sent, from Host on: Accept and what the request asks leave for, then what is sent with
--- every request (the user agent's name, the coding and the closed connection are this project's choice). Its tainting
--- is cors, so Origin is the serialised request origin, and no credentials are included
+-- every request. Its tainting is cors, so Origin is the serialised request origin, and no credentials are included
 abbrev pub preflight_lines : Request → List (List ℕ) → Parts → List Header
 preflight_lines request names url =
     present
@@ -29,11 +28,11 @@ preflight_lines request names url =
     ∷ Some (header (codes "Accept") (codes "*/*"))
     ∷ Some (header (codes "Access-Control-Request-Method") request.method)
     ∷ header_where (codes "Access-Control-Request-Headers") (names_value names)
-    ∷ Some (header (codes "User-Agent") (codes "fetchplay/1"))
-    ∷ Some (header (codes "Accept-Encoding") (codes "identity"))
+    ∷ Some (header (codes "User-Agent") user_agent)
+    ∷ Some accept_encoding
     ∷ header_where (codes "Referer") (referrer_value request.referrer)
     ∷ Some (header (codes "Origin") (serialized_request_origin request))
-    ∷ Some (header (codes "Connection") (codes "close"))
+    ∷ Some connection_close
     ∷ [])
 
 -- the preflight of a request as it is sent to a URL: OPTIONS without a body

@@ -5,6 +5,7 @@ use Rattle.std.specs.Prelude.{unwrap_or, if◌then◌else◌}
 use Rattle.std.specs.List.{find, list_any}
 use Rattle.std.specs.Str.{str_eq_ignore_ascii_case}
 use Rattle.wf_text.specs.Digits.{capped_digits}
+use Rattle.wf_text.specs.Wildcards.{authorization, has_wildcard}
 use Rattle.wf_headers.specs.declared.extract.Extracted.{Extracted}
 use Rattle.wf_headers.specs.declared.extract.Extracted.TheVariants.{Absent, Failure, Items}
 use Rattle.wf_headers.specs.declared.extract.Rule.TheVariants.{Digits, Tokens}
@@ -43,10 +44,6 @@ age_of _ = 5
 
 -- ---- whether it allows the request
 
--- the list contains `*`
-abbrev pub has_wildcard : List (List ℕ) → Bool
-has_wildcard items = list_any (λ item. bytes_eq item (codes "*")) items
-
 -- `*` counts: the credentials mode is not include, and the list contains it
 abbrev pub covers_all : Credentials → List (List ℕ) → Bool
 covers_all credentials items = not (is_include credentials) && has_wildcard items
@@ -67,7 +64,7 @@ has_name name names = list_any (λ item. str_eq_ignore_ascii_case item name) nam
 -- Authorization, the CORS non-wildcard request-header name, is allowed: the request does not have it, or it is listed
 abbrev pub allows_authorization : Request → List (List ℕ) → Bool
 allows_authorization request names =
-    not (contains (codes "Authorization") request.headers) || has_name (codes "Authorization") names
+    not (contains authorization request.headers) || has_name authorization names
 
 -- a header name is allowed: it is listed, or covered by `*`
 abbrev pub allows_name : Credentials → List (List ℕ) → List ℕ → Bool
@@ -89,7 +86,7 @@ unless_refused (Some name) pass = Refused (error.PreflightHeader name)
 abbrev pub verdict_by : Request → List (List ℕ) → ℕ → List (List ℕ) → List (List ℕ) → Checked
 verdict_by request unsafe age methods names =
     if not (allows_method request methods) then Refused error.PreflightMethod
-    else if not (allows_authorization request names) then Refused (error.PreflightHeader (codes "authorization"))
+    else if not (allows_authorization request names) then Refused (error.PreflightHeader authorization)
     else unless_refused (first_refused request.credentials names unsafe) (Pass age methods names)
 
 -- the same where each of the two lists is there

@@ -5,7 +5,10 @@ ghost use Rattle.wf_cors.specs.Verdict as spec;
 use crate::check::cors_check;
 use std::alloc::Global;
 use wf_headers::{Extracted, HeaderList, Rule};
-use wf_text::{Bytes, BytesList, OutOfMemory, eq_fold, parse_digits};
+use wf_text::{
+    AUTHORIZATION, Bytes, BytesList, OutOfMemory, has_text, has_text_fold, has_wildcard,
+    parse_digits,
+};
 use wf_types::{Credentials, Head, NetError, Request, is_ok_status, is_safelisted_method};
 
 /// The verdict on a preflight's answer.
@@ -73,13 +76,6 @@ fn age_of(found: &Extracted) -> u64
     }
 }
 
-// Whether the list contains `*`.
-fn has_wildcard(items: &[Bytes]) -> bool
-    ensures { result ≡ spec.has_wildcard items.now }
-{
-    items.iter().any(|item| item.as_slice() == b"*".as_slice())
-}
-
 // Whether `*` counts: the list contains it, and the credentials mode is not include.
 fn covers_all(credentials: Credentials, items: &[Bytes]) -> bool
     ensures { result ≡ spec.covers_all credentials items.now }
@@ -91,7 +87,7 @@ fn covers_all(credentials: Credentials, items: &[Bytes]) -> bool
 fn has_method(method: &[u8], methods: &[Bytes]) -> bool
     ensures { result ≡ spec.has_method method.now methods.now }
 {
-    methods.iter().any(|item| item.as_slice() == method)
+    has_text(methods, method)
 }
 
 // Whether the request's method is listed, CORS-safelisted, or covered by `*`.
@@ -108,14 +104,14 @@ fn allows_method(request: &Request, methods: &[Bytes]) -> bool
 fn has_name(name: &[u8], names: &[Bytes]) -> bool
     ensures { result ≡ spec.has_name name.now names.now }
 {
-    names.iter().any(|item| eq_fold(item.as_slice(), name))
+    has_text_fold(names, name)
 }
 
 // Whether the request has no Authorization, or it is listed: `*` does not cover it.
 fn allows_authorization(request: &Request, names: &[Bytes]) -> bool
     ensures { result ≡ spec.allows_authorization request.now names.now }
 {
-    !request.headers.contains(b"Authorization") || has_name(b"Authorization", names)
+    !request.headers.contains(AUTHORIZATION) || has_name(AUTHORIZATION, names)
 }
 
 // Whether a header name is listed, or covered by `*`.
@@ -163,7 +159,7 @@ fn verdict_by(
         return Ok(Checked::Refused(NetError::PreflightMethod));
     }
     if !allows_authorization(request, names.as_slice()) {
-        return refused_name(alloc, b"authorization");
+        return refused_name(alloc, AUTHORIZATION);
     }
     match first_refused(request.credentials, names.as_slice(), unsafe_names) {
         Some(name) => refused_name(alloc, name),

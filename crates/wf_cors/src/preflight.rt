@@ -11,8 +11,8 @@ use url::Url;
 use wf_headers::HeaderList;
 use wf_text::{Bytes, BytesList, OutOfMemory};
 use wf_types::{
-    Hop, Request, append_where, host_value, origin_text, referrer_value, serialized_origin,
-    target_of,
+    Hop, Request, USER_AGENT, append_accept_encoding, append_connection, append_where, host_value,
+    origin_text, referrer_value, serialized_origin, target_of,
 };
 
 // The names in a row, with a comma between each two.
@@ -57,11 +57,11 @@ fn preflight_lines(
     headers.append(b"Accept", b"*/*")?;
     headers.append(b"Access-Control-Request-Method", request.method.as_slice())?;
     append_names(alloc, &mut headers, names)?;
-    headers.append(b"User-Agent", b"fetchplay/1")?;
-    headers.append(b"Accept-Encoding", b"identity")?;
+    headers.append(b"User-Agent", USER_AGENT)?;
+    append_accept_encoding(&mut headers)?;
     append_where(&mut headers, b"Referer", referrer_value(&request.referrer))?;
     headers.append(b"Origin", origin.as_slice())?;
-    headers.append(b"Connection", b"close")?;
+    append_connection(&mut headers)?;
     Ok(headers)
 }
 

@@ -3,13 +3,12 @@ use Rattle.std.specs.Prelude.{ℕ, Bool, true, false, ◌==◌, ◌-◌, ◌&&�
 use Rattle.std.specs.Prelude.{Option, Some, None, not, option_and_then, unwrap_or}
 use Rattle.std.specs.Option.{option_map_or, option_or}
 use Rattle.std.specs.Str.{str_eq_ignore_ascii_case}
-use Rattle.std.specs.Str.Parse.{digits_value}
 use Rattle.url.specs.Host.{domain_of}
 use Rattle.url.specs.Parts.{Parts, nonempty_host}
 use Rattle.url.specs.Scheme.{default_port}
 use Rattle.wf_origin.specs.declared.origin.Origin.{Origin}
 use Rattle.wf_origin.specs.Origins.{is_default_port, is_host_of, is_http, is_origin_of, tuple_origin}
-use Rattle.wf_text.specs.Digits.{is_digits}
+use Rattle.wf_text.specs.Digits.{writes}
 use Rattle.wf_csp_match.specs.declared.source.HostSource.{HostSource}
 use Rattle.wf_csp_match.specs.declared.source.Source.{Source}
 use Rattle.wf_csp_match.specs.declared.source.Source.TheVariants as kind
@@ -47,10 +46,6 @@ abbrev pub host_part_matches : List ℕ → Parts → Bool
 host_part_matches pattern url =
     option_map_or (domain_matches pattern) (option_and_then domain_of (nonempty_host url)) false
 
--- the digits write this number
-abbrev pub writes : List ℕ → ℕ → Bool
-writes digits number = is_digits digits && digits_value 10 digits == number
-
 -- the port of a URL, or the default one of its scheme where it has none
 abbrev pub port_or_default : Parts → Option ℕ
 port_or_default url = option_or url.port (default_port url.scheme)
@@ -60,7 +55,8 @@ port_or_default url = option_or url.port (default_port url.scheme)
 abbrev pub port_part_matches : Option SourcePort → Parts → Bool
 port_part_matches None url = is_none url.port
 port_part_matches (Some port.Any) url = true
-port_part_matches (Some (port.Digits digits)) url = option_map_or (writes digits) (port_or_default url) false
+port_part_matches (Some (port.Digits digits)) url =
+    option_map_or (λ number. writes number digits) (port_or_default url) false
 
 -- the scheme-part matches, or the scheme of the document where there is none
 abbrev pub scheme_matches : Option (List ℕ) → Parts → Origin → Bool

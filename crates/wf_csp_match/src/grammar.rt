@@ -4,6 +4,7 @@ ghost use Rattle.url.specs.Scheme.{is_scheme_byte};
 ghost use Rattle.wf_csp_match.specs.Grammar as spec;
 ghost use Rattle.wf_origin.specs.Names as names;
 
+use wf_origin::without_last_dot;
 use wf_text::is_digits;
 
 // The bytes of a path beside letters, digits and escapes.
@@ -60,13 +61,6 @@ fn are_labels(name: &[u8]) -> bool
 {
     name.split(|byte| *byte == b'.')
         .all(|label| is_label(label))
-}
-
-// The name without one last dot.
-fn without_last_dot(name: &[u8]) -> &[u8]
-    ensures { result.now ≡ names.without_last_dot name.now }
-{
-    name.strip_suffix(b".").unwrap_or(name)
 }
 
 // Whether the host begins with `*.`.

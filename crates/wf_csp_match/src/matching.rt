@@ -1,6 +1,7 @@
 ghost use Rattle.std.specs.Prelude.{◌≡◌};
 ghost use Rattle.wf_csp_match.specs.Matching as spec;
 ghost use Rattle.wf_origin.specs.Origins as origins;
+ghost use Rattle.wf_text.specs.Digits.{writes};
 
 use crate::grammar::has_wildcard;
 use crate::paths::path_part_matches;
@@ -47,7 +48,7 @@ fn host_part_matches(pattern: &[u8], url: &Url) -> bool
 
 // Whether the digits write this number.
 fn writes(digits: &[u8], number: u16) -> bool
-    ensures { result ≡ spec.writes digits.now number }
+    ensures { result ≡ writes number digits.now }
 {
     parse_digits(digits, 65_536) == Some(u64::from(number))
 }

@@ -1,5 +1,6 @@
 ghost use Rattle.std.specs.Prelude.{◌≡◌, ◌<◌, ◌≤◌, ◌+◌, ◌^◌, [], IfOk, OnErr};
 ghost use Rattle.wf_fetch.specs.Fetch.{fetch};
+ghost use Rattle.wf_laws.specs.Laws.{most_asks};
 ghost use Rattle.wf_fetch.specs.Then.{context_of};
 ghost use Rattle.wf_link.specs.Sources.{IsAtEnd};
 ghost use Rattle.wf_types.specs.Requests.{IsClient, IsRequest};
@@ -49,7 +50,7 @@ pub fn run_fetch<R: Threads + Wait + Sync, S: Share, L: Link>(
     requires client { IsClient lent.now.client.now }
     requires timely { now < 2 ^ 48 }
     requires belongs { S.belongs lent.now.share.now pass.old }
-    requires left { 126 ≤ S.left pass.old }
+    requires left { most_asks ≤ S.left pass.old }
     ensures fetched { IfOk result (λ outcome. FetchedTo (over_link L.answer L.next) lent.now.limit (S.document pass.old)
         (fetch (context_of lent.now.client.now lent.now.policies.now lent.now.cookies.now now) request)
         (moment_of (world_of S.own S.left L.state L.left L.faults pass.old link.old wire.old) shown.old) outcome
@@ -58,7 +59,7 @@ pub fn run_fetch<R: Threads + Wait + Sync, S: Share, L: Link>(
         (fetch (context_of lent.now.client.now lent.now.policies.now lent.now.cookies.now now) request)
         (moment_of (world_of S.own S.left L.state L.left L.faults pass.old link.old wire.old) shown.old)
         (moment_of (world_of S.own S.left L.state L.left L.faults pass.new link.new wire.new) shown.new)) }
-    ensures few { S.left pass.old ≤ S.left pass.new + 126 }
+    ensures few { S.left pass.old ≤ S.left pass.new + most_asks }
     ensures belongs { S.belongs lent.now.share.now pass.new }
     ensures same { (S.document pass.new ≡ S.document pass.old) × (S.opening pass.new ≡ S.opening pass.old) }
 {
@@ -117,7 +118,7 @@ pub fn drive_fetch<R: Threads + Wait + Sync, S: Share, L: Link>(
     requires client { IsClient client.now }
     requires timely { now < 2 ^ 48 }
     requires belongs { S.belongs share.now pass.old }
-    requires left { 126 ≤ S.left pass.old }
+    requires left { most_asks ≤ S.left pass.old }
     ensures drove { IfOk result (λ run. Drove (over_link L.answer L.next) body_limit (S.document pass.old)
         (fetch (context_of client.now policies.now cookies.now now) request)
         (outside S.own S.left L.state L.faults pass.old link.old) run.events run.outcome
@@ -126,7 +127,7 @@ pub fn drive_fetch<R: Threads + Wait + Sync, S: Share, L: Link>(
         (fetch (context_of client.now policies.now cookies.now now) request)
         (outside S.own S.left L.state L.faults pass.old link.old)
         (outside S.own S.left L.state L.faults pass.new link.new)) }
-    ensures few { S.left pass.old ≤ S.left pass.new + 126 }
+    ensures few { S.left pass.old ≤ S.left pass.new + most_asks }
     ensures hung_up { IfOk result (λ _. IsAtEnd (L.left link.new)) }
     ensures belongs { S.belongs share.now pass.new }
     ensures same { (S.document pass.new ≡ S.document pass.old) × (S.opening pass.new ≡ S.opening pass.old) }

@@ -30,7 +30,7 @@ use Rattle.wf_types.specs.declared.response.Outcome.{Outcome}
 use Rattle.wf_types.specs.declared.response.Outcome.TheVariants as outcome
 use Rattle.wf_types.specs.declared.response.Response.{Response}
 use Rattle.wf_types.specs.CorsCheck.{is_include, passes_cors_check}
-use Rattle.wf_types.specs.Requests.{current_url, is_http_url, serialized_request_origin}
+use Rattle.wf_types.specs.Requests.{current_url, is_http_url, most_redirects, serialized_request_origin}
 use Rattle.wf_types.specs.Statuses.{is_ok_status}
 use Rattle.wf_mixed.specs.Ports.{is_bad_port}
 use Rattle.wf_book.specs.declared.op.Op.{Op}
@@ -68,9 +68,10 @@ use Rattle.wf_answers.specs.Endings.{after_body as outcome_with, block_error, en
 use Rattle.wf_answers.specs.Endings.{ended_unblocked, ended_under, handed_over, is_accepted, is_bodiless, is_matched}
 use Rattle.wf_answers.specs.Endings.{is_read, is_trusting, response_of, type_error}
 use Rattle.wf_answers.specs.Following.{redirected_request}
-use Rattle.wf_answers.specs.Judging.{check_error, error_where, is_to_follow, refusal_after}
+use Rattle.wf_answers.specs.Judging.{check_error, is_to_follow, refusal_after}
+use Rattle.std.specs.Bool.{then_some}
 use Rattle.wf_filter.specs.Views.{is_error}
-use Rattle.wf_answers.specs.Redirects.{extracted_url, most_redirects, redirection, redirection_by}
+use Rattle.wf_answers.specs.Redirects.{extracted_url, redirection, redirection_by}
 use Rattle.wf_answers.specs.Redirects.{redirection_where, shows_credentials}
 use Rattle.wf_fetch.specs.Fetch.{after_body, again, ends, fetch, finished, onward_of}
 use Rattle.wf_fetch.specs.HttpFetch.{after_head, after_sent, answered, http_fetch, judged, redirected}
@@ -160,7 +161,7 @@ IsOther reason = failure_of reason ≡ None
 abbrev AreOther : Option NetError → Type 0
 AreOther reason = IfSome reason IsOther
 
-other-where : (b : Bool) (reason : NetError) → IsOther reason → AreOther (error_where b reason)
+other-where : (b : Bool) (reason : NetError) → IsOther reason → AreOther (then_some b reason)
 other-where true reason is = is
 other-where false reason is = tt
 
@@ -186,7 +187,7 @@ other-check tainting.Opaque request headers = other-where _ error.Corp refl
 other-after : (request : Request) (head : Head) → AreOther (refusal_after request head)
 other-after request head =
     other-or (check_error request.tainting request head.headers)
-    (error_where (is_error request head) error.RedirectMode) (other-check request.tainting request head.headers)
+    (then_some (is_error request head) error.RedirectMode) (other-check request.tainting request head.headers)
     (other-where (is_error request head) error.RedirectMode refl)
 
 other-type : (kind : Destination) (headers : List Header) → AreOther (type_error kind headers)

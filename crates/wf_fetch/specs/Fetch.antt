@@ -5,6 +5,7 @@ use Rattle.wf_types.specs.declared.error.NetError.TheVariants.{TooManyRedirects}
 use Rattle.wf_types.specs.declared.request.Request.{Request}
 use Rattle.wf_types.specs.declared.response.Outcome.TheVariants.{Error}
 use Rattle.wf_types.specs.declared.response.Response.{Response}
+use Rattle.wf_types.specs.Requests.{most_redirects}
 use Rattle.wf_csp.specs.Violations.{response_violations}
 use Rattle.wf_act.specs.declared.act.Act.TheVariants.{ReadBody}
 use Rattle.wf_act.specs.declared.act.Input.{Input}
@@ -35,10 +36,6 @@ finished context request (Ok head) =
     (ends request (ended_under context.policies context.client.origin request head))
 
 -- ---- the whole
-
--- how many redirects are followed
-abbrev pub most_redirects : ℕ
-most_redirects = 20
 
 -- main fetch again, after at most so many redirects more; where none is left the last was refused before
 abbrev pub again : ℕ → Context → Onward

@@ -1,5 +1,5 @@
 ghost use Rattle.std.specs.Prelude.{◌≡◌, ◌<◌, ◌≤◌, ◌+◌, false, IfOk, IsTrue, Option, Ok, Err};
-ghost use Rattle.wf_types.specs.Requests.{IsClient, IsRequest, is_http_url};
+ghost use Rattle.wf_types.specs.Requests.{IsClient, IsRequest, is_http_url, most_redirects};
 ghost use Rattle.wf_answers.specs.Judging.{refusal_after as refusal_of};
 ghost use Rattle.wf_answers.specs.Following.{redirected_request as after_redirect};
 ghost use Rattle.wf_answers.specs.Redirects.{redirection as redirection_of};
@@ -116,7 +116,7 @@ pub(crate) fn redirect(
 
 // How many levels owe a clear, with this one.
 fn total_owed(owed: u32, owes: bool) -> u32
-    requires { owed ≤ 20 }
+    requires { owed ≤ most_redirects }
     ensures same { (context : Context) → next_of context result false ≡ next_of context owed owes }
     ensures few { result ≤ owed + 1 }
 {
@@ -132,7 +132,7 @@ pub(crate) fn follow(
     url: Url,
 ) -> Result<Step, OutOfMemory>
     requires client { IsClient lent.now.client.now }
-    requires few { level.request.value.redirects < 20 }
+    requires few { level.request.value.redirects < most_redirects }
     requires http { IsTrue (is_http_url url) }
     requires ready { IsReady level.request.value }
     ensures { Leads (lent_at lent.now level.now) result

@@ -17,7 +17,8 @@ use Rattle.wf_types.specs.CorsCheck.{is_include}
 use Rattle.wf_types.specs.PermittedNames.{has_name_among}
 use Rattle.wf_filter.proofs.ViewLemmas.{filter-all_named, other-name}
 use Rattle.wf_filter.specs.declared.exposed.Exposure.TheVariants.{All, Names}
-use Rattle.wf_filter.specs.Exposed.{exposed_by, exposed_names, has_star, header_names}
+use Rattle.wf_filter.specs.Exposed.{exposed_by, exposed_names, header_names}
+use Rattle.wf_text.specs.Wildcards.{has_wildcard}
 use Rattle.wf_filter.specs.Filtered.{exposed_to}
 use Rattle.wf_filter.specs.Names.{is_forbidden, is_safelisted, safelisted_names}
 use Rattle.wf_filter.specs.Private.Exposing.{exposure, exposure_by, exposure_to, is_safelisted_in, names_in}
@@ -34,7 +35,7 @@ named-found : (include : Bool) (found : Extracted) (headers : List Header)
     → names_in headers (exposure_by include found) ≡ exposed_by include headers found
 named-found include Absent headers = refl
 named-found include Failure headers = refl
-named-found include (Items names) headers = named-by (not include && has_star names) names headers
+named-found include (Items names) headers = named-by (not include && has_wildcard names) names headers
 
 -- the names that a header list exposes
 pub exposed_names_of : (include : Bool) (headers : List Header)
@@ -115,7 +116,7 @@ safelisted-found : (include : Bool) (found : Extracted) (headers : List Header)
     ≡ filter (is_safelisted (exposed_by include headers found)) headers
 safelisted-found include Absent headers = refl
 safelisted-found include Failure headers = refl
-safelisted-found include (Items names) headers = safelisted-by (not include && has_star names) names headers
+safelisted-found include (Items names) headers = safelisted-by (not include && has_wildcard names) names headers
 
 told-found : (include : Bool) (found : Extracted) (headers : List Header)
     → filter (λ header. is_safelisted_in (exposure_by include found) header
@@ -123,7 +124,7 @@ told-found : (include : Bool) (found : Extracted) (headers : List Header)
     ≡ filter (is_told_cors (exposed_by include headers found)) headers
 told-found include Absent headers = refl
 told-found include Failure headers = refl
-told-found include (Items names) headers = told-by (not include && has_star names) names headers
+told-found include (Items names) headers = told-by (not include && has_wildcard names) names headers
 
 -- the headers that a CORS filtered response keeps
 pub safelisted-headers : (request : Request) (headers : List Header)

@@ -19,7 +19,7 @@ use Rattle.wf_types.specs.declared.mode.Tainting.TheVariants as tainting
 use Rattle.wf_types.specs.declared.policy.Destination.{Destination}
 use Rattle.wf_types.specs.declared.policy.Destination.TheVariants as destination
 use Rattle.wf_types.specs.declared.request.Request.{Request}
-use Rattle.wf_types.specs.OriginHeader.{is_cors_tainted}
+use Rattle.wf_types.specs.Modes.{is_cors_tainted, is_error_mode, is_follow, is_manual_mode}
 use Rattle.wf_types.specs.PermittedNames.{preflight_names}
 use Rattle.wf_types.specs.Statuses.{is_redirect_status}
 use Rattle.wf_filter.proofs.OwnViewLemmas.{both-second, cors-checked, cors-safelisted, fewer, view_by}
@@ -31,8 +31,10 @@ use Rattle.wf_filter.specs.Laws.{HasSameBody, IsSameRedirect, KeepsBlocking, Kee
 use Rattle.wf_filter.specs.Laws.{KeepsCorsCheck, KeepsFiltered, KeepsKnownHost, KeepsRedirect, KeepsResourcePolicy}
 use Rattle.wf_filter.specs.Laws.{KeepsTarget, is_fetch, is_opaque_tainted}
 use Rattle.wf_filter.specs.Names.{is_forbidden}
-use Rattle.wf_filter.specs.Views.{checked_names, is_blocked, is_error, is_error_mode, is_follow, is_followed, is_manual}
-use Rattle.wf_filter.specs.Views.{is_manual_mode, is_refused, is_told, is_told_cors, is_unfollowed, passes_check}
+use Rattle.wf_filter.specs.Views.{checked_names, is_error, is_followed, is_manual}
+use Rattle.wf_types.specs.ResourcePolicy.{is_blocked}
+use Rattle.wf_filter.specs.Views.{is_refused, is_told, is_told_cors, is_unfollowed}
+use Rattle.wf_types.specs.CorsCheck.{passes_check}
 use Rattle.wf_filter.specs.Views.{permitted_view, redirect_names, response_names, response_view, type_names}
 
 -- ---- tests

@@ -23,10 +23,12 @@ use Rattle.wf_filter.proofs.ViewLemmas.{KeepsChecked, basic-named, contains-fewe
 use Rattle.wf_filter.proofs.ViewLemmas.{filter-all_named}
 use Rattle.wf_filter.proofs.ViewLemmas.{filter-twice, filter-within, first-passes, refused-kept, told-checked}
 use Rattle.wf_filter.proofs.ViewLemmas.{told-named}
-use Rattle.wf_filter.specs.Exposed.{exposed_by, has_star, header_names}
+use Rattle.wf_filter.specs.Exposed.{exposed_by, header_names}
+use Rattle.wf_text.specs.Wildcards.{has_wildcard}
 use Rattle.wf_filter.specs.Filtered.{exposed_to}
 use Rattle.wf_filter.specs.Names.{is_forbidden, is_safelisted}
-use Rattle.wf_filter.specs.Views.{followed_view, is_follow, is_followed, is_refused, is_told, is_told_cors}
+use Rattle.wf_filter.specs.Views.{followed_view, is_followed, is_refused, is_told, is_told_cors}
+use Rattle.wf_types.specs.Modes.{is_follow}
 use Rattle.wf_filter.specs.Views.{is_unfollowed, permitted_view, redirect_names, refused_view, response_names}
 use Rattle.wf_filter.specs.Views.{response_view}
 use Rattle.wf_filter.specs.Views.{type_names, unfollowed_view}
@@ -69,7 +71,7 @@ again-found : (include : Bool) (found : Extracted) (headers : List Header)
     filter (is_told_cors (exposed_by include view found)) view ≡ view
 again-found include Absent headers = filter-twice (is_told_cors []) headers
 again-found include Failure headers = filter-twice (is_told_cors []) headers
-again-found include (Items names) headers = again-by (not include && has_star names) names headers
+again-found include (Items names) headers = again-by (not include && has_wildcard names) names headers
 
 safelisted-found : (include : Bool) (found : Extracted) (headers : List Header)
     → let view = filter (is_told_cors (exposed_by include headers found)) headers in
@@ -79,7 +81,7 @@ safelisted-found include Absent headers =
     filter-within (is_safelisted []) (is_told_cors []) (safelisted-told []) headers
 safelisted-found include Failure headers =
     filter-within (is_safelisted []) (is_told_cors []) (safelisted-told []) headers
-safelisted-found include (Items names) headers = safelisted-by (not include && has_star names) names headers
+safelisted-found include (Items names) headers = safelisted-by (not include && has_wildcard names) names headers
 
 -- the names that a view exposes are extracted from the same values
 values-exposed : (request : Request) (headers : List Header)

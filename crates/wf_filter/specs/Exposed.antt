@@ -1,7 +1,7 @@
 -- The names of response headers that a CORS response exposes ("CORS-exposed header-name list", Fetch, section 2.2.6, as
 -- main fetch sets it, section 4.1).
-use Rattle.std.specs.Prelude.{ℕ, Bool, not, ◌&&◌, List, [], ◌∷◌, filter, codes, bytes_eq, if◌then◌else◌}
-use Rattle.std.specs.List.{list_any}
+use Rattle.std.specs.Prelude.{ℕ, Bool, not, ◌&&◌, List, [], ◌∷◌, filter, codes, if◌then◌else◌}
+use Rattle.wf_text.specs.Wildcards.{has_wildcard}
 use Rattle.wf_headers.specs.declared.extract.Extracted.{Extracted}
 use Rattle.wf_headers.specs.declared.extract.Extracted.TheVariants.{Items}
 use Rattle.wf_headers.specs.declared.extract.Rule.TheVariants.{Tokens}
@@ -14,14 +14,10 @@ abbrev pub header_names : List Header → List (List ℕ)
 header_names [] = []
 header_names (header ∷ headers) = header.name ∷ filter (λ name. not (is_named name header)) (header_names headers)
 
--- one of the names is `*`
-abbrev pub has_star : List (List ℕ) → Bool
-has_star names = list_any (λ name. bytes_eq name (codes "*")) names
-
 -- the exposed names by what was extracted: `*` stands for all, unless the credentials mode is include; a list that is
 -- absent or a failure exposes none
 abbrev pub exposed_by : Bool → List Header → Extracted → List (List ℕ)
-exposed_by include headers (Items names) = if not include && has_star names then header_names headers else names
+exposed_by include headers (Items names) = if not include && has_wildcard names then header_names headers else names
 exposed_by include headers _ = []
 
 -- the exposed names of a header list, where the credentials mode is include or another

@@ -9,10 +9,12 @@ use Rattle.wf_types.specs.declared.mode.Tainting.TheVariants as tainting
 use Rattle.wf_types.specs.declared.policy.Destination.{Destination}
 use Rattle.wf_types.specs.declared.policy.Destination.TheVariants as destination
 use Rattle.wf_types.specs.declared.request.Request.{Request}
-use Rattle.wf_types.specs.OriginHeader.{is_cors_tainted}
+use Rattle.wf_types.specs.Modes.{is_cors_tainted, is_follow}
 use Rattle.wf_filter.specs.Blocks.{is_nosniff_blocked, is_type_blocked}
 use Rattle.wf_filter.specs.Filtered.{filtered}
-use Rattle.wf_filter.specs.Views.{is_blocked, is_error, is_follow, is_followed, is_manual, is_refused, passes_check}
+use Rattle.wf_filter.specs.Views.{is_error, is_followed, is_manual, is_refused}
+use Rattle.wf_types.specs.ResourcePolicy.{is_blocked}
+use Rattle.wf_types.specs.CorsCheck.{passes_check}
 use Rattle.wf_filter.specs.Views.{permitted_view}
 
 -- ---- where the rules are asked

@@ -4,34 +4,22 @@
 use Rattle.std.specs.Prelude.{ℕ, Bool, true, false, not, ◌&&◌, ◌||◌, List, [], ◌∷◌, filter, codes, if◌then◌else◌}
 use Rattle.wf_headers.specs.declared.headers.Header.{Header}
 use Rattle.wf_headers.specs.Headers.{contains}
-use Rattle.wf_origin.specs.Origins.{tuple_origin}
 use Rattle.wf_types.specs.declared.hop.Head.{Head}
 use Rattle.wf_types.specs.declared.hop.Hop.{Hop}
-use Rattle.wf_types.specs.declared.mode.RedirectMode.TheVariants as redirect
-use Rattle.wf_types.specs.declared.mode.RedirectMode.{RedirectMode}
 use Rattle.wf_types.specs.declared.mode.Tainting.TheVariants as tainting
 use Rattle.wf_types.specs.declared.mode.Tainting.{Tainting}
 use Rattle.wf_types.specs.declared.policy.Destination.TheVariants as destination
 use Rattle.wf_types.specs.declared.policy.Destination.{Destination}
 use Rattle.wf_types.specs.declared.request.Request.{Request}
-use Rattle.wf_types.specs.CorsCheck.{is_include, passes_cors_check}
+use Rattle.wf_types.specs.CorsCheck.{passes_check}
+use Rattle.wf_types.specs.Modes.{is_error_mode, is_follow, is_manual_mode}
 use Rattle.wf_types.specs.PermittedNames.{has_name_among, preflight_view}
-use Rattle.wf_types.specs.Requests.{current_url, serialized_request_origin}
-use Rattle.wf_types.specs.ResourcePolicy.{corp_blocks}
+use Rattle.wf_types.specs.ResourcePolicy.{is_blocked}
 use Rattle.wf_types.specs.Statuses.{is_redirect_status}
 use Rattle.wf_filter.specs.Filtered.{exposed_to, without_forbidden}
 use Rattle.wf_filter.specs.Names.{is_safelisted}
 
 -- ---- what is asked of a head
-
--- the CORS check of a request passes
-abbrev pub passes_check : Request → List Header → Bool
-passes_check request headers =
-    passes_cors_check (serialized_request_origin request) (is_include request.credentials) headers
-
--- the cross-origin resource policy check of a request fails
-abbrev pub is_blocked : Request → List Header → Bool
-is_blocked request headers = corp_blocks request.origin (tuple_origin (current_url request)) headers
 
 -- the check of a response by its tainting fails: the CORS check, or the cross-origin resource policy check
 abbrev pub is_refused_by : Tainting → Request → List Header → Bool
@@ -42,21 +30,6 @@ is_refused_by tainting.Opaque request headers = is_blocked request headers
 -- the same by the request's tainting
 abbrev pub is_refused : Request → List Header → Bool
 is_refused request headers = is_refused_by request.tainting request headers
-
--- the redirect mode is follow
-abbrev pub is_follow : RedirectMode → Bool
-is_follow redirect.Follow = true
-is_follow _ = false
-
--- the redirect mode is manual
-abbrev pub is_manual_mode : RedirectMode → Bool
-is_manual_mode redirect.Manual = true
-is_manual_mode _ = false
-
--- the redirect mode is error
-abbrev pub is_error_mode : RedirectMode → Bool
-is_error_mode redirect.Error = true
-is_error_mode _ = false
 
 -- a redirect in redirect mode manual, whose response is an opaque-redirect one
 abbrev pub is_manual : Request → Head → Bool

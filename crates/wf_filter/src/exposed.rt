@@ -1,13 +1,11 @@
 ghost use Rattle.std.specs.Prelude.{◌≡◌, codes, IfOk, OnOk};
-ghost use Rattle.std.specs.Str.{str_eq_ignore_ascii_case};
-ghost use Rattle.std.specs.List.{list_any};
 ghost use Rattle.wf_filter.specs.Exposed as spec;
 ghost use Rattle.wf_filter.specs.Private.Collecting.{with_new};
 ghost use Rattle.wf_filter.specs.Private.Exposing as private;
 
 use std::alloc::Global;
 use wf_headers::{Extracted, Header, HeaderList, Rule};
-use wf_text::{Bytes, BytesList, OutOfMemory, eq_fold};
+use wf_text::{Bytes, BytesList, OutOfMemory, has_text_fold, has_wildcard};
 
 /// The names of response headers that a CORS response exposes.
 #[derive(Drop)]
@@ -18,18 +16,11 @@ pub enum Exposure {
     Names(BytesList),
 }
 
-// Whether a name is one of these, ASCII case aside.
-fn is_one_of(names: &[Bytes], name: &[u8]) -> bool
-    ensures { result ≡ list_any (λ other. str_eq_ignore_ascii_case other name.now) names.now }
-{
-    names.iter().any(|other| eq_fold(other.as_slice(), name))
-}
-
 // Adds a name, unless it is there.
 fn add_name(alloc: Global, names: &mut BytesList, name: &[u8]) -> Result<(), OutOfMemory>
     ensures { OnOk result (names.new ≡ with_new name.now names.old) }
 {
-    if is_one_of(names.as_slice(), name) {
+    if has_text_fold(names.as_slice(), name) {
         return Ok(());
     }
     names.push(Bytes::of(alloc, name)?)
@@ -47,20 +38,13 @@ fn header_names(alloc: Global, headers: &[Header]) -> Result<BytesList, OutOfMem
     Ok(names)
 }
 
-// Whether one of the names is `*`.
-fn has_star(names: &[Bytes]) -> bool
-    ensures { result ≡ spec.has_star names.now }
-{
-    names.iter().any(|name| name.as_slice() == b"*".as_slice())
-}
-
 // What the extracted names of Access-Control-Expose-Headers expose.
 fn exposure_by(alloc: Global, include: bool, found: Extracted) -> Exposure
     ensures { result ≡ private.exposure_by include found }
 {
     match found {
         Extracted::Items(names) => {
-            if !include && has_star(names.as_slice()) {
+            if !include && has_wildcard(names.as_slice()) {
                 Exposure::All
             } else {
                 Exposure::Names(names)

@@ -5,9 +5,9 @@ ghost use Rattle.wf_filter.specs.Views as views;
 ghost use Rattle.wf_types.specs.PermittedNames as permitted;
 
 use crate::exposed::Exposure;
-use crate::names::{has_name_among, is_forbidden, is_safelisted};
+use crate::names::{is_forbidden, is_safelisted};
 use wf_headers::{Header, HeaderTest};
-use wf_types::Tainting;
+use wf_types::{Tainting, has_name_among};
 
 // The headers that a verdict on the answer to a preflight rests on.
 const PREFLIGHT_NAMES: [&[u8]; 6] = [

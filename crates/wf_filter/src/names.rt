@@ -1,9 +1,10 @@
-ghost use Rattle.std.specs.Prelude.{◌≡◌, map};
+ghost use Rattle.std.specs.Prelude.{◌≡◌};
 ghost use Rattle.wf_filter.specs.Names as spec;
 ghost use Rattle.wf_types.specs.PermittedNames as permitted;
 
 use wf_headers::Header;
-use wf_text::{Bytes, eq_fold, is_among_fold};
+use wf_text::{Bytes, eq_fold};
+use wf_types::has_name_among;
 
 // The forbidden response-header names.
 const FORBIDDEN_NAMES: [&[u8]; 2] = [b"Set-Cookie", b"Set-Cookie2"];
@@ -20,13 +21,6 @@ const SAFELISTED_NAMES: [&[u8]; 7] = [
 ];
 
 // Whether the header has one of these names.
-pub fn has_name_among(names: &[&[u8]], header: &Header) -> bool
-    ensures { result ≡ permitted.has_name_among (map (λ name. name.now) names.now) header.now }
-{
-    is_among_fold(names, header.name.as_slice())
-}
-
-// The same of names that were read.
 fn has_name_in(names: &[Bytes], header: &Header) -> bool
     ensures { result ≡ permitted.has_name_among names.now header.now }
 {

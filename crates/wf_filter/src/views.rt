@@ -8,11 +8,10 @@ use crate::keep::Keep;
 use crate::responses::{exposure_to, without_forbidden};
 use std::alloc::Global;
 use wf_headers::HeaderList;
-use wf_origin::tuple_origin;
 use wf_text::OutOfMemory;
 use wf_types::{
-    Destination, Head, Hop, RedirectMode, Request, Tainting, corp_blocks, is_ok_status,
-    is_redirect_status, passes_cors_check, serialized_origin,
+    Destination, Head, Hop, Request, Tainting, is_blocked, is_ok_status, is_redirect_status,
+    passes_check,
 };
 
 // The headers that following a redirect rests on.
@@ -20,24 +19,6 @@ const REDIRECT_NAMES: [&[u8]; 2] = [b"Location", b"Referrer-Policy"];
 
 // The headers that blocking for a MIME type rests on.
 const TYPE_NAMES: [&[u8]; 2] = [b"X-Content-Type-Options", b"Content-Type"];
-
-// Whether the CORS check of a request passes.
-fn passes_check(alloc: Global, request: &Request, headers: &HeaderList) -> Result<bool, OutOfMemory>
-    ensures { IfOk result (λ passes. passes ≡ spec.passes_check request.now headers.now) }
-{
-    let origin = serialized_origin(alloc, request)?;
-    let include = request.credentials.is_include();
-    Ok(passes_cors_check(origin.as_slice(), include, headers))
-}
-
-// Whether the cross-origin resource policy check of a request fails.
-fn is_blocked(alloc: Global, request: &Request, headers: &HeaderList) -> Result<bool, OutOfMemory>
-    requires { IsRequest request.now }
-    ensures { IfOk result (λ blocked. blocked ≡ spec.is_blocked request.now headers.now) }
-{
-    let url = tuple_origin(alloc, request.current_url())?;
-    Ok(corp_blocks(&request.origin, &url, headers))
-}
 
 // Whether the check of a response by the request's tainting fails.
 fn is_refused(alloc: Global, request: &Request, headers: &HeaderList) -> Result<bool, OutOfMemory>
@@ -51,18 +32,11 @@ fn is_refused(alloc: Global, request: &Request, headers: &HeaderList) -> Result<
     }
 }
 
-// Whether the redirect mode is follow.
-fn is_follow(mode: RedirectMode) -> bool
-    ensures { result ≡ spec.is_follow mode }
-{
-    matches!(mode, RedirectMode::Follow)
-}
-
 // Whether the head is a redirect that is not to be followed.
 fn is_unfollowed(request: &Request, head: &Head) -> bool
     ensures { result ≡ spec.is_unfollowed request.now head.now }
 {
-    is_redirect_status(head.status) && !is_follow(request.redirect)
+    is_redirect_status(head.status) && !request.redirect.is_follow()
 }
 
 // Whether the head is a redirect that is followed.
@@ -70,7 +44,7 @@ fn is_followed(request: &Request, head: &Head) -> bool
     ensures { result ≡ spec.is_followed request.now head.now }
 {
     is_redirect_status(head.status)
-        && is_follow(request.redirect)
+        && request.redirect.is_follow()
         && head.headers.contains(b"Location")
 }
 

@@ -4,7 +4,8 @@ use Rattle.std.proofs.Common.{false, cond, Option, Some, None, nat_eq}
 use Rattle.std.proofs.lemmas.Grind.{common_steps}
 use Rattle.wf_text.specs.Trims.{tab_or_space, trimmed}
 use Rattle.wf_headers.specs.Headers.{after_comma}
-use Rattle.wf_headers.specs.Split.{with_front, pieces, in_quoted_string}
+use Rattle.wf_text.specs.Pieces.{with_front}
+use Rattle.wf_headers.specs.Split.{pieces, in_quoted_string}
 use Rattle.wf_headers.specs.Private.Splitting.{onto, split_with}
 use Rattle.wf_headers.specs.declared.split.Splitter.{Splitter}
 

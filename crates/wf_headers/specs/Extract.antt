@@ -3,11 +3,11 @@ use Rattle.std.specs.Prelude.{ℕ, List, [], ◌∷◌, ◌==◌, map, filter, i
 use Rattle.std.specs.List.{flat_map, list_all}
 use Rattle.wf_text.specs.Ascii.{comma}
 use Rattle.wf_text.specs.Digits.{is_digits}
+use Rattle.wf_text.specs.Pieces.{with_front}
 use Rattle.wf_text.specs.Tokens.{is_token}
 use Rattle.wf_text.specs.Trims.{tab_or_space, trimmed}
 use Rattle.wf_text.specs.Words.{is_filled}
 use Rattle.wf_headers.specs.Headers.{values_of}
-use Rattle.wf_headers.specs.Split.{with_front}
 use Rattle.wf_headers.specs.declared.headers.Header.{Header}
 use Rattle.wf_headers.specs.declared.extract.Rule.{Rule}
 use Rattle.wf_headers.specs.declared.extract.Rule.TheVariants.{Tokens, Digits, Single}

@@ -1,14 +1,10 @@
 -- "get, decode, and split": the pieces of the values of a name (Fetch, section 2.2.2).
 use Rattle.std.specs.Prelude.{ℕ, List, [], ◌∷◌, ◌==◌, map, Option, option_map, if◌then◌else◌}
 use Rattle.wf_text.specs.Ascii.{backslash, comma, quotation_mark}
+use Rattle.wf_text.specs.Pieces.{with_front}
 use Rattle.wf_text.specs.Trims.{tab_or_space, trimmed}
 use Rattle.wf_headers.specs.Headers.{combined}
 use Rattle.wf_headers.specs.declared.headers.Header.{Header}
-
--- the pieces, the first of them with one byte more at its front
-abbrev pub with_front : ℕ → List (List ℕ) → List (List ℕ)
-with_front byte [] = (byte ∷ []) ∷ []
-with_front byte (piece ∷ pieces) = (byte ∷ piece) ∷ pieces
 
 abbrev mutual
   -- the pieces of a text: what stands between its commas, where a comma in an HTTP quoted string

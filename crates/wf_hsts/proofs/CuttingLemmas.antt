@@ -3,7 +3,8 @@ use Rattle.std.proofs.Common.{◌≡◌, ◌≤◌, ◌+◌, ℕ, suc, Bool, tru
 use Rattle.std.proofs.Common.{◌∙◌, arith, append_assoc, append-nil, ◌<◌, ◌-◌}
 use Rattle.std.proofs.lemmas.List.{take_rest}
 use Rattle.wf_hsts.specs.Private.Pieces.{piece_end}
-use Rattle.wf_hsts.specs.Reading.{cuts, directives_in, directives_of, next_place, piece_in, pieces, with_front}
+use Rattle.wf_hsts.specs.Reading.{cuts, directives_in, directives_of, next_place, piece_in, pieces}
+use Rattle.wf_text.specs.Pieces.{with_front}
 use Rattle.wf_hsts.specs.Reading.{with_more}
 use Rattle.wf_hsts.specs.declared.directives.Directive.{Directive}
 use Rattle.wf_hsts.specs.declared.pieces.Place.{Place}

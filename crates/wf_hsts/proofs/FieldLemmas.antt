@@ -11,7 +11,8 @@ use Rattle.wf_text.specs.Trims.{tab_or_space, trimmed}
 use Rattle.wf_hsts.specs.Grammar.{IsBlank, IsDirective, IsField, IsPadded, IsPiece, IsQuoted, IsValue, is_blank}
 use Rattle.wf_hsts.specs.Reading.{behind_equals, directive, directive_from, directive_in, directive_with}
 use Rattle.wf_hsts.specs.Reading.{cuts, directives_in, directives_of, next_place, piece_in, pieces, value_in}
-use Rattle.wf_hsts.specs.Reading.{with_front, with_more}
+use Rattle.wf_text.specs.Pieces.{with_front}
+use Rattle.wf_hsts.specs.Reading.{with_more}
 use Rattle.wf_hsts.specs.declared.directives.Directive.{Directive}
 use Rattle.wf_hsts.specs.declared.pieces.Place.{Place}
 use Rattle.wf_hsts.specs.declared.pieces.Place.TheVariants.{Escaped, Outside, Quoted}

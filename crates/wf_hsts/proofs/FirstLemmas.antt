@@ -2,12 +2,13 @@
 use Rattle.std.proofs.Common.{◌≡◌, ◌||◌, not, ℕ, Bool, true, false, List, [], ◌∷◌, filter, Option, Some, refl, ap}
 use Rattle.std.proofs.Common.{sym, ◌∙◌, if◌then◌else◌}
 use Rattle.std.specs.Cmp.{nat_cmp_total}
-use Rattle.std.specs.List.{list_any}
+use Rattle.std.specs.List.{AllByRecursion, list_any}
 use Rattle.std.specs.Ordering.{is_eq, is_gt, is_lt, nat_cmp, ordering_reverse, ordering_then}
 use Rattle.std.specs.Str.{bytes_eq}
 use Rattle.std.specs.declared.cmp.Ordering.{Ordering}
 use Rattle.std.specs.declared.cmp.Ordering.TheVariants.{Equal, Greater, Less}
-use Rattle.wf_hsts.specs.Hosts.{AreSorted, Each, ends_before, holds, text_cmp, without, without_first_to_end}
+use Rattle.wf_hsts.specs.Hosts.{AreSorted, ends_before, holds, without, without_first_to_end}
+use Rattle.wf_text.specs.Orders.{text_cmp}
 use Rattle.wf_hsts.specs.Private.Terms.{term_in}
 use Rattle.wf_hsts.specs.declared.hosts.KnownHost.{KnownHost}
 use Rattle.wf_hsts.specs.declared.index.Term.{Term}
@@ -17,7 +18,7 @@ use Rattle.wf_hsts.proofs.SortedLemmas.{term_from}
 -- ---- what holds of each host
 
 each-both : {P Q R : KnownHost → Type 0} → ((known : KnownHost) → P known → Q known → R known)
-    → (hosts : List KnownHost) → Each P hosts → Each Q hosts → Each R hosts
+    → (hosts : List KnownHost) → AllByRecursion P hosts → AllByRecursion Q hosts → AllByRecursion R hosts
 each-both f [] p q = tt
 each-both f (known ∷ hosts) p q = (f known p.0 q.0, each-both f hosts p.1 q.1)
 
@@ -27,7 +28,7 @@ pass-over known other hosts found less e = rw (less-apart known.host other.host 
 
 -- each host of a sorted list is looked up by its name
 pub each-term : (hosts : List KnownHost) → AreSorted hosts
-    → Each (λ known. term_in known.host hosts ≡ Some (term_from known)) hosts
+    → AllByRecursion (λ known. term_in known.host hosts ≡ Some (term_from known)) hosts
 each-term [] sorted = tt
 each-term (known ∷ hosts) sorted = (
   rw (bytes-self known.host) refl,
@@ -67,12 +68,12 @@ any-from test host (known ∷ hosts) term e passes =
         or-true true = refl
         or-true false = refl
 
-none-from : (test : KnownHost → Bool) (hosts : List KnownHost) → Each (λ known. test known ≡ false) hosts
+none-from : (test : KnownHost → Bool) (hosts : List KnownHost) → AllByRecursion (λ known. test known ≡ false) hosts
     → list_any test hosts ≡ false
 none-from test [] each = refl
 none-from test (known ∷ hosts) each = rw (each.0, none-from test hosts each.1) refl
 
-filter-same : (p q : KnownHost → Bool) (hosts : List KnownHost) → Each (λ known. p known ≡ q known) hosts
+filter-same : (p q : KnownHost → Bool) (hosts : List KnownHost) → AllByRecursion (λ known. p known ≡ q known) hosts
     → filter p hosts ≡ filter q hosts
 filter-same p q [] each = refl
 filter-same p q (known ∷ hosts) each = rw (each.0, filter-same p q hosts each.1) refl
@@ -124,7 +125,7 @@ first-before first known h other =
 
 kept-by : (host : List ℕ) (term : Term) (hosts : List KnownHost) (known : KnownHost) (here : Bool)
     → bytes_eq known.host host ≡ here → term_in host hosts ≡ Some term
-    → Each (λ other. is_gt (end_order term.until host other) ≡ false) hosts
+    → AllByRecursion (λ other. is_gt (end_order term.until host other) ≡ false) hosts
     → term_in known.host hosts ≡ Some (term_from known) → is_gt (end_order term.until host known) ≡ false
     → list_any (λ other. ends_before other known) hosts ≡ not here
 kept-by host term hosts known true same there each found late =
@@ -147,7 +148,7 @@ kept-by host term hosts known false same there each found late =
     first-before first known late_first other)
 
 pub first-goes : (host : List ℕ) (term : Term) (hosts : List KnownHost) → AreSorted hosts → term_in host hosts
-    ≡ Some term → Each (λ other. is_gt (end_order term.until host other) ≡ false) hosts
+    ≡ Some term → AllByRecursion (λ other. is_gt (end_order term.until host other) ≡ false) hosts
     → without_first_to_end hosts ≡ without host hosts
 first-goes host term hosts sorted there each =
     filter-same (λ known. list_any (λ other. ends_before other known) hosts) (λ known. not (bytes_eq known.host host))

@@ -11,7 +11,8 @@ use Rattle.std.specs.Map.{remove_entry}
 use Rattle.std.specs.Ordering.{is_eq, is_gt, match_ordering, nat_cmp, ordering_then}
 use Rattle.std.specs.declared.cmp.Ordering.{Ordering}
 use Rattle.std.specs.declared.cmp.Ordering.TheVariants.{Equal, Greater, Less}
-use Rattle.wf_hsts.specs.Hosts.{AreSorted, Each, holds, text_cmp, with_host, without, without_first_to_end}
+use Rattle.wf_hsts.specs.Hosts.{AreSorted, holds, with_host, without, without_first_to_end}
+use Rattle.wf_text.specs.Orders.{text_cmp}
 use Rattle.wf_hsts.specs.Private.Index.{end_cmp, ends_at, known_of, listed, name_cmp, term_of}
 use Rattle.wf_hsts.specs.Private.Terms.{term_in}
 use Rattle.wf_hsts.specs.declared.hosts.KnownHost.{KnownHost}
@@ -340,8 +341,8 @@ module _ {V : Type 0} (items : V → List ℕ) where
   -- each host of some entries ends no earlier than this end
   each-late : (end : ℕ × V) (all es : List (V × Term))
       → ((q : ℕ × V) → ends_at items q.0 (term_of items (items q.1) all) ≡ true → is_gt (end_cmp items end q) ≡ false)
-      → Each (λ known. term_in known.host (listed items all) ≡ Some (term_from known)) (listed items es)
-      → Each (λ other. is_gt (end_order end.0 (items end.1) other) ≡ false) (listed items es)
+      → AllByRecursion (λ known. term_in known.host (listed items all) ≡ Some (term_from known)) (listed items es)
+      → AllByRecursion (λ other. is_gt (end_order end.0 (items end.1) other) ≡ false) (listed items es)
   each-late end all [] late found = tt
   each-late end all (e ∷ es) late found = (
     late (e.1.until, e.0) (ap (λ o. ends_at items e.1.until o) (term-listed (items e.0) all ∙ found.0)
@@ -371,7 +372,7 @@ module _ {V : Type 0} (items : V → List ℕ) where
       let late = each-late end es es (λ q e. least q (agree q ∙ e)) (each-term (listed items es) hosts) in (
         term-holds (items end.1) (listed items es) t.term found,
         first-goes (items end.1) t.term (listed items es) hosts found
-            (subst (λ u. Each (λ other. is_gt (end_order u (items end.1) other) ≡ false) (listed items es))
+            (subst (λ u. AllByRecursion (λ other. is_gt (end_order u (items end.1) other) ≡ false) (listed items es))
             (sym t.until_is) late),
       )
 

@@ -3,37 +3,39 @@ use Rattle.std.proofs.Common.{◌≡◌, Bool, true, false, cond, List, [], ◌�
 use Rattle.std.specs.Ordering.{is_gt, is_lt, ordering_reverse}
 use Rattle.std.specs.declared.cmp.Ordering.{Ordering}
 use Rattle.std.specs.declared.cmp.Ordering.TheVariants.{Equal, Greater, Less}
-use Rattle.wf_hsts.specs.Hosts.{AreSorted, Each, text_cmp, with_host}
+use Rattle.wf_hsts.specs.Hosts.{AreSorted, with_host}
+use Rattle.std.specs.List.{AllByRecursion}
+use Rattle.wf_text.specs.Orders.{text_cmp}
 use Rattle.wf_hsts.specs.declared.hosts.KnownHost.{KnownHost}
 use Rattle.wf_hsts.proofs.OrderLemmas.{chained, flipped}
 
 -- ---- what holds of each host
 
 each-map : (P Q : KnownHost → Type 0) → ((known : KnownHost) → P known → Q known) → (hosts : List KnownHost)
-    → Each P hosts → Each Q hosts
+    → AllByRecursion P hosts → AllByRecursion Q hosts
 each-map P Q f [] each = tt
 each-map P Q f (known ∷ hosts) each = (f known each.0, each-map P Q f hosts each.1)
 
-each-append : (P : KnownHost → Type 0) (a b : List KnownHost) → Each P a → Each P b → Each P (a ++ b)
+each-append : (P : KnownHost → Type 0) (a b : List KnownHost) → AllByRecursion P a → AllByRecursion P b → AllByRecursion P (a ++ b)
 each-append P [] b each others = others
 each-append P (known ∷ a) b each others = (each.0, each-append P a b each.1 others)
 
-each-kept : (P : KnownHost → Type 0) (p : KnownHost → Bool) (hosts : List KnownHost) → Each P hosts
-    → Each P (filter p hosts)
+each-kept : (P : KnownHost → Type 0) (p : KnownHost → Bool) (hosts : List KnownHost) → AllByRecursion P hosts
+    → AllByRecursion P (filter p hosts)
 each-kept P p [] each = tt
 each-kept P p (known ∷ hosts) each = by (p known) (each-kept P p hosts each.1)
   where
-    by : (kept : Bool) → Each P (filter p hosts) → Each P (cond kept (known ∷ filter p hosts) (filter p hosts))
+    by : (kept : Bool) → AllByRecursion P (filter p hosts) → AllByRecursion P (cond kept (known ∷ filter p hosts) (filter p hosts))
     by true rest = (each.0, rest)
     by false rest = rest
 
 each-passing : (P : KnownHost → Type 0) (p : KnownHost → Bool) → ((known : KnownHost) → p known ≡ true → P known)
-    → (hosts : List KnownHost) → Each P (filter p hosts)
+    → (hosts : List KnownHost) → AllByRecursion P (filter p hosts)
 each-passing P p f [] = tt
 each-passing P p f (known ∷ hosts) = by (p known) refl (each-passing P p f hosts)
   where
-    by : (kept : Bool) → p known ≡ kept → Each P (filter p hosts)
-        → Each P (cond kept (known ∷ filter p hosts) (filter p hosts))
+    by : (kept : Bool) → p known ≡ kept → AllByRecursion P (filter p hosts)
+        → AllByRecursion P (cond kept (known ∷ filter p hosts) (filter p hosts))
     by true is rest = (f known is, rest)
     by false is rest = rest
 
@@ -48,7 +50,7 @@ sorted-kept p (known ∷ hosts) sorted = by (p known) (sorted-kept p hosts sorte
     by false rest = rest
 
 sorted-joined : (new : KnownHost) (a b : List KnownHost) → AreSorted a → AreSorted b
-    → Each (λ known. text_cmp known.host new.host ≡ Less) a → Each (λ known. text_cmp new.host known.host ≡ Less) b
+    → AllByRecursion (λ known. text_cmp known.host new.host ≡ Less) a → AllByRecursion (λ known. text_cmp new.host known.host ≡ Less) b
     → AreSorted (a ++ (new ∷ b))
 sorted-joined new [] b front back before behind = (behind, back)
 sorted-joined new (known ∷ a) b front back before behind = (

@@ -8,7 +8,8 @@ use Rattle.std.specs.Ordering.{is_eq, is_gt, is_lt}
 use Rattle.std.specs.Str.{bytes_eq}
 use Rattle.std.specs.declared.cmp.Ordering.{Ordering}
 use Rattle.std.specs.declared.cmp.Ordering.TheVariants.{Equal, Greater, Less}
-use Rattle.wf_hsts.specs.Hosts.{AreHosts, holds, known_host, noted, text_cmp, with_host, with_room, without, without_first_to_end}
+use Rattle.wf_hsts.specs.Hosts.{AreHosts, holds, known_host, noted, with_host, with_room, without, without_first_to_end}
+use Rattle.wf_text.specs.Orders.{text_cmp}
 use Rattle.wf_hsts.specs.Private.Terms.{IsLeaving, term_in}
 use Rattle.wf_hsts.specs.declared.hosts.KnownHost.{KnownHost}
 use Rattle.wf_hsts.specs.declared.index.Term.{Term}

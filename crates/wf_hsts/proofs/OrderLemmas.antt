@@ -5,7 +5,7 @@ use Rattle.std.specs.Ordering.{is_eq, ordering_reverse}
 use Rattle.std.specs.Str.{bytes_eq}
 use Rattle.std.specs.declared.cmp.Ordering.{Ordering}
 use Rattle.std.specs.declared.cmp.Ordering.TheVariants.{Equal, Greater, Less}
-use Rattle.wf_hsts.specs.Hosts.{text_cmp}
+use Rattle.wf_text.specs.Orders.{text_cmp}
 
 pub text-equal : (a b : List ℕ) → text_cmp a b ≡ Equal → a ≡ b
 text-equal a b e = (bytes_decides a b).0 (texts_ties a b ∙ ap is_eq e)

@@ -1,12 +1,13 @@
 -- Sorted lists of known hosts: a host looked up, taken out and put in.
 use Rattle.std.proofs.Common.{◌≡◌, ◌&&◌, ◌||◌, not, ℕ, Bool, true, false, cond, List, [], ◌∷◌, ◌++◌, filter, Some}
 use Rattle.std.proofs.Common.{refl, ap, sym, subst, ◌∙◌, if◌then◌else◌}
-use Rattle.std.specs.List.{list_any}
+use Rattle.std.specs.List.{AllByRecursion, list_any}
 use Rattle.std.specs.Ordering.{is_gt, is_lt, match_ordering, ordering_reverse}
 use Rattle.std.specs.Str.{bytes_eq}
 use Rattle.std.specs.declared.cmp.Ordering.{Ordering}
 use Rattle.std.specs.declared.cmp.Ordering.TheVariants.{Equal, Greater, Less}
-use Rattle.wf_hsts.specs.Hosts.{AreSorted, Each, text_cmp, with_host, without}
+use Rattle.wf_hsts.specs.Hosts.{AreSorted, with_host, without}
+use Rattle.wf_text.specs.Orders.{text_cmp}
 use Rattle.wf_hsts.specs.Private.Terms.{passes, term_in}
 use Rattle.wf_hsts.specs.declared.hosts.KnownHost.{KnownHost}
 use Rattle.wf_hsts.specs.declared.index.Term.{Term}
@@ -14,7 +15,7 @@ use Rattle.wf_hsts.proofs.OrderLemmas.{bytes-equal, chained, flipped, less-apart
 
 -- each of the hosts comes after this text
 abbrev pub ComeAfter : List ℕ → List KnownHost → Type 0
-ComeAfter text hosts = Each (λ other. text_cmp text other.host ≡ Less) hosts
+ComeAfter text hosts = AllByRecursion (λ other. text_cmp text other.host ≡ Less) hosts
 
 -- none of them is it
 pub after-none : (p : KnownHost → Bool) (text : List ℕ) (hosts : List KnownHost) → ComeAfter text hosts

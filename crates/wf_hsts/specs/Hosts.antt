@@ -2,29 +2,20 @@
 -- Strict-Transport-Security field changes. A list of them is sorted by the bytes of the host.
 use Rattle.std.specs.Prelude.{◌≡◌, ℕ, ◌+◌, ◌≤◌, ◌==◌, ◌||◌, ◌&&◌, not, Bool, List, [], ◌∷◌, ◌++◌, length}
 use Rattle.std.specs.Prelude.{nat_eq, nat_lt, filter, if◌then◌else◌}
-use Rattle.std.specs.Cmp.Lexicographic.{slice_cmp}
-use Rattle.std.specs.List.{ends_with, list_any}
-use Rattle.std.specs.declared.cmp.Ordering.{Ordering}
+use Rattle.std.specs.List.{AllByRecursion, ends_with, list_any}
 use Rattle.std.specs.declared.cmp.Ordering.TheVariants.{Less}
 use Rattle.std.specs.Ordering.{is_gt, is_lt, nat_cmp, ordering_then}
 use Rattle.std.specs.Str.{bytes_eq}
 use Rattle.wf_text.specs.Ascii.{dot}
+use Rattle.wf_text.specs.Orders.{text_cmp}
 use Rattle.wf_hsts.specs.declared.hosts.KnownHost.{KnownHost}
 use Rattle.wf_hsts.specs.declared.sts.Sts.{Sts}
-
--- the order of texts by their bytes
-abbrev pub text_cmp : List ℕ → List ℕ → Ordering
-text_cmp a b = slice_cmp nat_cmp a b
-
--- P holds of each host
-abbrev pub Each : (KnownHost → Type 0) → List KnownHost → Type 0
-Each P [] = Unit {0}
-Each P (known ∷ hosts) = P known × Each P hosts
 
 -- each host comes before those behind it
 abbrev pub AreSorted : List KnownHost → Type 0
 AreSorted [] = Unit {0}
-AreSorted (known ∷ hosts) = Each (λ other. text_cmp known.host other.host ≡ Less) hosts × AreSorted hosts
+AreSorted (known ∷ hosts) =
+    AllByRecursion (λ other. text_cmp known.host other.host ≡ Less) hosts × AreSorted hosts
 
 -- what every list of known hosts is: sorted, each host once, and at most 4,096
 pub record AreHosts (hosts : List KnownHost) : Type 0 where

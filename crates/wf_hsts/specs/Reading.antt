@@ -6,6 +6,7 @@ use Rattle.std.specs.Prelude.{Option, Some, None, option_and_then, option_map, i
 use Rattle.std.specs.List.{before_first, list_all, position}
 use Rattle.std.specs.Str.{str_to_ascii_lowercase}
 use Rattle.wf_text.specs.Ascii.{backslash, equals_sign, quotation_mark, semicolon}
+use Rattle.wf_text.specs.Pieces.{with_front}
 use Rattle.wf_text.specs.Tokens.{is_token}
 use Rattle.wf_text.specs.Trims.{tab_or_space, trimmed}
 use Rattle.wf_hsts.specs.Field.{IsSts, greatest_age, has_twice, sts_of}
@@ -27,11 +28,6 @@ abbrev pub next_place : Place → ℕ → Place
 next_place Outside byte = if byte == quotation_mark then Quoted else Outside
 next_place Quoted byte = if byte == quotation_mark then Outside else if byte == backslash then Escaped else Quoted
 next_place Escaped byte = Quoted
-
--- the pieces, the first of them with one byte more at its front
-abbrev pub with_front : ℕ → List (List ℕ) → List (List ℕ)
-with_front byte [] = (byte ∷ []) ∷ []
-with_front byte (piece ∷ pieces) = (byte ∷ piece) ∷ pieces
 
 -- the pieces of a text that begins at this place
 abbrev pub pieces : Place → List ℕ → List (List ℕ)

@@ -1,10 +1,10 @@
 -- How the body of an answer is framed (RFC 9112, section 6.3; codings other than chunked are refused).
-use Rattle.std.specs.Prelude.{ℕ, ◌^◌, ◌-◌, Bool, ◌&&◌, ◌||◌, ◌==◌, min, List, [], ◌∷◌, codes, Option, Some, None}
+use Rattle.std.specs.Prelude.{ℕ, ◌^◌, ◌-◌, Bool, ◌||◌, ◌==◌, min, List, [], ◌∷◌, codes, Option, Some, None}
 use Rattle.std.specs.Prelude.{if◌then◌else◌}
 use Rattle.std.specs.List.{list_all}
 use Rattle.std.specs.Str.{str_eq_ignore_ascii_case}
 use Rattle.std.specs.Str.Parse.{digits_value}
-use Rattle.wf_text.specs.Digits.{is_digits}
+use Rattle.wf_text.specs.Digits.{writes}
 use Rattle.wf_text.specs.Trims.{tab_or_space, trimmed}
 use Rattle.wf_headers.specs.declared.headers.Header.{Header}
 use Rattle.wf_headers.specs.Headers.{combined}
@@ -16,10 +16,6 @@ use Rattle.wf_http1.specs.declared.framing.Framing.TheVariants as framing
 -- such an answer has no body on the wire: No Content and Not Modified
 abbrev pub has_no_body : ℕ → Bool
 has_no_body status = status == 204 || status == 304
-
--- the text is digits of this number
-abbrev pub writes : ℕ → List ℕ → Bool
-writes number text = is_digits text && digits_value 10 text == number
 
 -- so many bytes, where all texts are digits of one number; as a number of 64 bits, which no body exceeds
 abbrev pub by_lengths : List (List ℕ) → Framing

@@ -1,7 +1,7 @@
 ghost use Rattle.std.specs.Prelude.{◌≡◌, ◌==◌, IfOk, IfSome, IsTrue, option_copied};
 ghost use Rattle.std.specs.List.{list_all};
 ghost use Rattle.std.specs.Str.Parse.{digits_value};
-ghost use Rattle.wf_text.specs.Digits.{is_digits};
+ghost use Rattle.wf_text.specs.Digits.{is_digits, writes};
 ghost use Rattle.wf_http1.specs.Framings as spec;
 ghost use Rattle.wf_http1.specs.Private.Lengths.{first_value};
 
@@ -111,7 +111,7 @@ fn of_lengths(texts: &BytesList) -> Framing
 // Whether all texts are digits of the number that these digits write.
 fn all_write(texts: &BytesList, digits: &[u8]) -> bool
     requires { IsTrue (is_digits digits.now) }
-    ensures { result ≡ list_all (spec.writes (digits_value 10 digits.now)) texts.now }
+    ensures { result ≡ list_all (writes (digits_value 10 digits.now)) texts.now }
 {
     for index in 0..texts.len() {
         if !writes_same(texts.at(index), digits) {
@@ -124,7 +124,7 @@ fn all_write(texts: &BytesList, digits: &[u8]) -> bool
 // Whether the text is digits of the number that these digits write.
 fn writes_same(text: &[u8], digits: &[u8]) -> bool
     requires { IsTrue (is_digits digits.now) }
-    ensures { result ≡ spec.writes (digits_value 10 digits.now) text.now }
+    ensures { result ≡ writes (digits_value 10 digits.now) text.now }
 {
     parse_digits(text, 0).is_some() && are_equal(text, digits)
 }

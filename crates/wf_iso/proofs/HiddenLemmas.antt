@@ -7,7 +7,8 @@ use Rattle.wf_types.specs.declared.hop.Hop.{Hop}
 use Rattle.wf_types.specs.declared.mode.Tainting.{Tainting}
 use Rattle.wf_types.specs.declared.request.Request.{Request}
 use Rattle.wf_types.specs.Statuses.{is_redirect_status}
-use Rattle.wf_filter.specs.Views.{is_follow, is_followed, is_refused, opaque_view}
+use Rattle.wf_filter.specs.Views.{is_followed, is_refused, opaque_view}
+use Rattle.wf_types.specs.Modes.{is_follow}
 use Rattle.wf_filter.specs.Views.{permitted_view, refused_view, response_view}
 use Rattle.wf_iso.specs.Hidden.{HidesOpaque, HidesRefused, IsKeptOut, IsOpaque}
 

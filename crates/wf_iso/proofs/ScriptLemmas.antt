@@ -16,7 +16,7 @@ use Rattle.wf_types.specs.declared.request.Request.{Request}
 use Rattle.wf_types.specs.declared.response.Outcome.{Outcome}
 use Rattle.wf_types.specs.declared.response.Outcome.TheVariants as outcome
 use Rattle.wf_filter.specs.Laws.{follows_or_fetches}
-use Rattle.wf_filter.specs.Views.{is_follow}
+use Rattle.wf_types.specs.Modes.{is_follow}
 use Rattle.wf_send.specs.Loading.{load_for, new_load}
 use Rattle.wf_send.specs.Making.{fault_or, faults, first_fault, made, new_request, request_for, url_given}
 use Rattle.wf_commands.specs.Scripts.{Step, Steps}

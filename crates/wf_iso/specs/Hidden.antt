@@ -7,7 +7,8 @@ use Rattle.wf_types.specs.declared.hop.Hop.{Hop}
 use Rattle.wf_types.specs.declared.mode.Tainting.TheVariants as tainting
 use Rattle.wf_types.specs.declared.request.Request.{Request}
 use Rattle.wf_filter.specs.Laws.{IsResponse}
-use Rattle.wf_filter.specs.Views.{is_follow, is_refused, is_told, permitted_view, type_names}
+use Rattle.wf_filter.specs.Views.{is_refused, is_told, permitted_view, type_names}
+use Rattle.wf_types.specs.Modes.{is_follow}
 
 -- A head that is handed over as an opaque response, where redirects are followed, as those of loads are.
 pub record IsOpaque (request : Request) (hop : Hop) (head : Head) : Type 0 where

@@ -17,7 +17,7 @@ use Rattle.wf_fetch.specs.Fetch.{fetch}
 use Rattle.wf_fetch.specs.Then.{Context}
 use Rattle.wf_laws.specs.Own.{IsOwn, IsOwnAct, IsOwnOp}
 use Rattle.wf_laws.specs.Prices.{fetch_price}
-use Rattle.wf_laws.specs.Laws.{AsksFew, AsksOwn}
+use Rattle.wf_laws.specs.Laws.{AsksFew, AsksOwn, most_asks}
 use Rattle.wf_laws.proofs.RuleLemmas.{Keeps, within-fetch}
 
 -- ---- any act
@@ -85,7 +85,7 @@ fetch-within prices context request early =
 -- ---- runs
 
 -- the ops alone: six in each of at most 21 levels
-pub asks-at-most : (context : Context) (request : Request) → fetch_price asks context request ≤ 126
+pub asks-at-most : (context : Context) (request : Request) → fetch_price asks context request ≤ most_asks
 asks-at-most context request = omega arith
 
 pub run-asks : AsksFew

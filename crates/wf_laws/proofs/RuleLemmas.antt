@@ -1,14 +1,10 @@
 -- A fetch costs at most its price, and each of its acts is as it should be: rule by rule.
-use Rattle.std.proofs.Common.{ℕ, zero, suc, Bool, true, false, not, ◌+◌, ◌-◌, ◌*◌, ◌≤◌, cond, inl, inr}
-use Rattle.std.proofs.Common.{arith, List, [], ◌∷◌, length, map, Some, None, Option, Ok, Err, Result, unwrap_or, codes}
-use Rattle.std.proofs.lemmas.Bool.{cases_Bool}
+use Rattle.std.proofs.Common.{ℕ, zero, suc, Bool, true, false, not, ◌+◌, ◌-◌, ◌*◌, ◌≤◌, cond}
+use Rattle.std.proofs.Common.{arith, List, [], ◌∷◌, length, map, Some, None, Option, Ok, Err, Result, codes}
 use Rattle.std.proofs.lemmas.Grind.{common_steps}
 use Rattle.std.proofs.lemmas.List.{length-map}
 use Rattle.std.proofs.Math.Nat.{mul-le-mul_right}
 use Rattle.std.specs.Prelude.{IfSome, ◌&&◌}
-use Rattle.wf_text.specs.Digits.{capped_digits, is_digits}
-use Rattle.wf_headers.specs.declared.extract.Extracted.{Extracted}
-use Rattle.wf_headers.specs.declared.extract.Extracted.TheVariants.{Absent, Failure, Items}
 use Rattle.wf_headers.specs.declared.extract.Rule.TheVariants.{Digits, Tokens}
 use Rattle.wf_headers.specs.Extract.{extracted}
 use Rattle.wf_origin.specs.declared.origin.Origin.{Origin}
@@ -30,6 +26,7 @@ use Rattle.wf_csp.specs.Violations.{violations_from}
 use Rattle.wf_cors.specs.declared.answer.Checked.{Checked}
 use Rattle.wf_cors.specs.declared.answer.Checked.TheVariants.{Pass, Refused}
 use Rattle.wf_cors.specs.Verdict.{age_of, allows_authorization, allows_method, first_refused, methods_of, names_of}
+use Rattle.wf_cors.proofs.LessonLemmas.{age-small}
 use Rattle.wf_cors.specs.Verdict.{unless_refused, verdict, verdict_by, verdict_where}
 use Rattle.wf_act.specs.declared.act.Act.{Act}
 use Rattle.wf_act.specs.declared.act.Act.TheVariants.{Ask, Send, ReadHead, ReadBody, Tell}
@@ -95,19 +92,6 @@ WithinOnward prices P more onward =
 abbrev IsShort : Checked → Type 0
 IsShort (Pass age methods names) = age ≤ 7200
 IsShort (Refused reason) = Unit {0}
-
-capped-small : (digits : List ℕ) → unwrap_or (capped_digits digits 7200) 5 ≤ 7200
-capped-small digits =
-    elim (cases_Bool (is_digits digits)) [
-      | inl are ↦ rw are (grind (arith, common_steps))
-      | inr other ↦ rw other (grind (arith, common_steps))
-    ]
-
-age-small : (found : Extracted) → age_of found ≤ 7200
-age-small Absent = grind (arith)
-age-small Failure = grind (arith)
-age-small (Items []) = grind (arith)
-age-small (Items (digits ∷ more)) = capped-small digits
 
 unless-short : (refused : Option (List ℕ)) (age : ℕ) (methods names : List (List ℕ)) → age ≤ 7200
     → IsShort (unless_refused refused (Pass age methods names))

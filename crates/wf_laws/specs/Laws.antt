@@ -1,10 +1,10 @@
 -- Laws of a whole fetch, over every tape of inputs (Fetch, section 4).
-use Rattle.std.specs.Prelude.{ℕ, ◌≤◌, ◌<◌, ◌^◌, List}
+use Rattle.std.specs.Prelude.{ℕ, ◌≤◌, ◌<◌, ◌^◌, List, sum_by}
 use Rattle.std.specs.List.{AllByRecursion}
 use Rattle.wf_types.specs.declared.request.Request.{Request}
 use Rattle.wf_act.specs.declared.act.Input.{Input}
 use Rattle.wf_act.specs.Process.{run}
-use Rattle.wf_act.specs.Within.{asks, price_of, total}
+use Rattle.wf_act.specs.Within.{asks, price_of}
 use Rattle.wf_fetch.specs.Fetch.{fetch}
 use Rattle.wf_fetch.specs.Then.{Context}
 use Rattle.wf_laws.specs.Own.{IsOwn}
@@ -17,7 +17,7 @@ most_asks = 126
 abbrev pub AsksFew : Type 0
 AsksFew =
     (context : Context) (request : Request) (tape : List Input)
-    → total (price_of asks) (run (fetch context request) tape).acts ≤ most_asks
+    → sum_by (price_of asks) (run (fetch context request) tape).acts ≤ most_asks
 
 -- each op of a run is in range and of the client's key, before the time 2^48
 abbrev pub AsksOwn : Type 0

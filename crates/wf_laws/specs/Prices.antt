@@ -1,8 +1,8 @@
 -- What a fetch costs at most, at a price for each kind of act (Fetch, section 4: main fetch, and what it calls).
 use Rattle.std.specs.Prelude.{ℕ, ◌+◌, ◌-◌, ◌*◌, length}
 use Rattle.wf_types.specs.declared.request.Request.{Request}
+use Rattle.wf_types.specs.Requests.{most_redirects}
 use Rattle.wf_act.specs.Within.{Prices}
-use Rattle.wf_fetch.specs.Fetch.{most_redirects}
 use Rattle.wf_fetch.specs.Then.{Context}
 
 -- the violations of one request: at most one for each policy

@@ -10,7 +10,8 @@ use Rattle.std.specs.Str.{bytes_eq, str_eq_ignore_ascii_case, str_to_ascii_lower
 use Rattle.wf_text.specs.Trims.{tab_or_space, trimmed, trimmed_start}
 use Rattle.wf_headers.specs.Headers.{after_comma, is_named, values_of}
 use Rattle.wf_headers.specs.declared.headers.Header.{Header}
-use Rattle.wf_headers.specs.Split.{in_quoted_string, pieces, split, with_front}
+use Rattle.wf_text.specs.Pieces.{with_front}
+use Rattle.wf_headers.specs.Split.{in_quoted_string, pieces, split}
 use Rattle.wf_mime.specs.Nosniff.{begins_with_nosniff, nosniff}
 
 -- the text before the first comma

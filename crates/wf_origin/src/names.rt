@@ -2,8 +2,8 @@ ghost use Rattle.std.specs.Prelude.{◌≡◌, ◌∷◌, [], MatchOption};
 ghost use Rattle.wf_origin.specs.Names as spec;
 ghost use Rattle.wf_origin.specs.Private.Cut.{IsCutAtLastDot};
 
-// The name without one last dot.
-pub(crate) fn without_last_dot(name: &[u8]) -> &[u8]
+/// The name without one last dot. It takes no memory.
+pub fn without_last_dot(name: &[u8]) -> &[u8]
     ensures { result.now ≡ spec.without_last_dot name.now }
 {
     name.strip_suffix(b".").unwrap_or(name)

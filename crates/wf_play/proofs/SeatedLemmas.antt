@@ -5,6 +5,7 @@ use Rattle.std.proofs.lemmas.List.{length-map}
 use Rattle.std.proofs.lemmas.List.Elements.{All-map}
 use Rattle.std.proofs.lemmas.List.FromFn.{length-range_with_len}
 use Rattle.atomic_table.specs.Seated.{TableId}
+use Rattle.wf_running.specs.Parts.{most_calls}
 use Rattle.wf_player.specs.Seats.{AreSeated, Seat}
 use Rattle.wf_player.specs.declared.seating.Seating.{Seating}
 use Rattle.wf_script.specs.declared.types.Scenario.{Scenario}
@@ -38,7 +39,7 @@ module _ {L State : Type 0} (state : L → Option State) (faults : L → ℕ) (i
     each = map-map (seat_seen state faults) (λ (s : Seat State). s.document) seats
         ∙ sym (map-map (λ (s : Seating L TurnPass). s.pass) (λ (p : TurnPass). p.document) seats)
         ∙ ap (map (λ (p : TurnPass). p.document)) are ∙ documents;
-    calls = All-map (λ (s : Seat State). 129024 ≤ s.outside.left) (seat_seen state faults) seats
+    calls = All-map (λ (s : Seat State). most_calls ≤ s.outside.left) (seat_seen state faults) seats
         (λ k d lt. let n = unmap (IsNew id (opening_book scenario)) (λ (s : Seating L TurnPass). s.pass) seats
         (subst (All (IsNew id (opening_book scenario))) (sym are) new) k d lt in omega (arith, n.left_is));
   }

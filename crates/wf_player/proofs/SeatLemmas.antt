@@ -11,6 +11,7 @@ use Rattle.wf_print.specs.declared.events.Transcript.{Transcript}
 use Rattle.wf_script.specs.declared.types.Document.{Document}
 use Rattle.wf_script.specs.declared.types.Scenario.{Scenario}
 use Rattle.wf_wire.specs.Exchanges.{Answering}
+use Rattle.wf_running.specs.Parts.{most_calls}
 use Rattle.wf_player.specs.Private.Rows.{CanPlay, RowPlayed, seatings_of, transcripts_of}
 use Rattle.wf_player.specs.Seats.{ArePlayed, AreRefused, AreSeated, IsPlayed, Seat}
 use Rattle.wf_player.specs.declared.seating.Row.{Row}
@@ -48,7 +49,7 @@ module _ {L P State : Type 0} (belongs : P → Type 0) (seen : Seating L P → S
       let at : i < length seats = omega (arith, all) in
       let seat_is : get_or (map seen seats) i (seen d.seating) ≡ seen row.seating =
       get_or-map seen seats i d.seating (seen d.seating) at ∙ ap seen here in
-      let Calls : Seat State → Type 0 = λ s. 129024 ≤ s.outside.left in
+      let Calls : Seat State → Type 0 = λ s. most_calls ≤ s.outside.left in
       let Belongs : Seating L P → Type 0 = λ s. belongs s.pass in
       record {
         number_is = omega (arith, all, many);

@@ -11,6 +11,7 @@ use Rattle.wf_script.specs.declared.types.Document.{Document}
 use Rattle.wf_script.specs.declared.types.Scenario.{Scenario}
 use Rattle.wf_wire.specs.Exchanges.{Answering}
 use Rattle.wf_drive.specs.Worlds.{Outside, outside}
+use Rattle.wf_running.specs.Parts.{most_calls}
 use Rattle.wf_player.specs.Playing.{Came}
 use Rattle.wf_player.specs.declared.seating.Seating.{Seating}
 
@@ -32,7 +33,7 @@ seat_of document opening own calls state faults seating = record {
 -- one seat for each document, in their order, each with calls enough for a whole script
 pub record AreSeated {State : Type 0} (documents : List Document) (seats : List (Seat State)) : Type 0 where
   pub each : map (λ seat. seat.document) seats ≡ range_with_len 0 (length documents)
-  pub calls : All (λ seat. 129024 ≤ seat.outside.left) seats
+  pub calls : All (λ seat. most_calls ≤ seat.outside.left) seats
 
 -- The document of this number was played on a seat, whose pass is for it: its transcript is what its run comes to in
 -- the seat's world.
@@ -42,7 +43,7 @@ pub record IsPlayed {State : Type 0} (by : Answering State) (scenario : Scenario
   pub key_is : transcript.ending ≢ Memory → transcript.key ≡ (document_client document).key
   pub came : Came by scenario.body_limit number (document_run scenario.cookies base document) old.outside
       transcript.events transcript.ending transcript.clock new.outside
-  pub few : old.outside.left ≤ new.outside.left + 129024
+  pub few : old.outside.left ≤ new.outside.left + most_calls
   pub document_is : new.document ≡ number
   pub opening_is : new.opening ≡ old.opening
 

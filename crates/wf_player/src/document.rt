@@ -8,6 +8,7 @@ ghost use Rattle.wf_wire.specs.Wires.{over_link};
 ghost use Rattle.wf_player.specs.Playing.{Began, Came, Ran};
 ghost use Rattle.wf_player.specs.Playing as spec;
 ghost use Rattle.wf_drive.specs.Worlds.{outside};
+ghost use Rattle.wf_running.specs.Parts.{most_calls};
 
 use crate::script::run_script;
 use std::alloc::Global;
@@ -48,7 +49,7 @@ fn run_document<R: Threads + Wait + Sync, S: Share, L: Link>(
 ) -> Result<(Ending, Bytes), OutOfMemory>
     requires valid { IsValidDocument document.now }
     requires belongs { S.belongs share.now pass.old }
-    requires left { 129024 ≤ S.left pass.old }
+    requires left { most_calls ≤ S.left pass.old }
     requires base { running.old ≡ beginning running.old.clock }
     ensures ran { IfOk result (λ made. Ran (over_link L.answer L.next) limit (S.document pass.old)
         (document_run cookies.now running.old.clock document.now)
@@ -58,7 +59,7 @@ fn run_document<R: Threads + Wait + Sync, S: Share, L: Link>(
         (document_run cookies.now running.old.clock document.now)
         (outside S.own S.left L.state L.faults pass.old link.old) running.new.shown
         (outside S.own S.left L.state L.faults pass.new link.new)) }
-    ensures few { S.left pass.old ≤ S.left pass.new + 129024 }
+    ensures few { S.left pass.old ≤ S.left pass.new + most_calls }
     ensures hung_up { OnOk result (IsAtEnd (L.left link.new)) }
     ensures has_text { IfOk result (λ made. made.0 ≢ Memory) }
     ensures key { IfOk result (λ made. made.1 ≡ (document_client document.now).key) }
@@ -105,12 +106,12 @@ pub fn drive<R: Threads + Wait + Sync, S: Share, L: Link>(
     requires document { document < length scenario.now.documents }
     requires base { base ≤ 2 ^ 40 }
     requires belongs { S.belongs share.now pass.old }
-    requires left { 129024 ≤ S.left pass.old }
+    requires left { most_calls ≤ S.left pass.old }
     ensures came { (one : OneDocument) → slice_get scenario.entry.now.documents document ≡ Some one
         → Came (over_link L.answer L.next) scenario.entry.now.body_limit (S.document pass.old)
         (document_run scenario.entry.now.cookies base one) (outside S.own S.left L.state L.faults pass.old link.old)
         result.events result.ending result.clock (outside S.own S.left L.state L.faults pass.new link.new) }
-    ensures few { S.left pass.old ≤ S.left pass.new + 129024 }
+    ensures few { S.left pass.old ≤ S.left pass.new + most_calls }
     ensures hung_up { result.ending ≢ Memory → IsAtEnd (L.left link.new) }
     ensures number { result.document ≡ document }
     ensures key { (one : OneDocument) → slice_get scenario.entry.now.documents document ≡ Some one

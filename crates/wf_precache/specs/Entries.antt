@@ -1,7 +1,8 @@
 -- The entries of one key and what they match (Fetch, "CORS-preflight cache").
-use Rattle.std.specs.Prelude.{ℕ, Bool, true, false, ◌+◌, ◌&&◌, ◌||◌, not, nat_lt, List, Option, Some, None, codes}
+use Rattle.std.specs.Prelude.{ℕ, Bool, true, false, ◌+◌, ◌&&◌, ◌||◌, not, nat_lt, List, Option, Some, None}
 use Rattle.std.specs.List.{list_all, list_any}
 use Rattle.std.specs.Str.{bytes_eq, str_eq_ignore_ascii_case}
+use Rattle.wf_text.specs.Wildcards.{is_non_wildcard_name, is_wildcard}
 use Rattle.wf_precache.specs.declared.entry.Allowed.{Allowed}
 use Rattle.wf_precache.specs.declared.entry.Allowed.TheVariants.{Method, HeaderName}
 use Rattle.wf_precache.specs.declared.entry.CacheEntry.{CacheEntry}
@@ -20,14 +21,6 @@ is_of origin url entry = bytes_eq entry.origin origin && bytes_eq entry.url url
 abbrev pub is_entry_match : List ℕ → List ℕ → Bool → CacheEntry → Bool
 is_entry_match origin url include entry =
     is_of origin url entry && (not include || entry.include)
-
--- the text is the wildcard
-abbrev pub is_wildcard : List ℕ → Bool
-is_wildcard text = bytes_eq text (codes "*")
-
--- "CORS non-wildcard request-header name"
-abbrev pub is_non_wildcard_name : List ℕ → Bool
-is_non_wildcard_name name = str_eq_ignore_ascii_case name (codes "authorization")
 
 -- what an entry allows is this method or every method
 abbrev pub allows_method : List ℕ → Allowed → Bool

@@ -2,8 +2,8 @@
 use Rattle.std.specs.Prelude.{◌≡◌, ℕ, ◌≤◌, Bool, false, List, [], ◌∷◌, ◌++◌, length, map, filter}
 use Rattle.std.specs.List.{AllByRecursion}
 use Rattle.std.specs.Str.{bytes_eq}
-use Rattle.std.specs.Ordering.{is_lt, nat_cmp}
-use Rattle.std.specs.Cmp.Lexicographic.{slice_cmp}
+use Rattle.std.specs.Ordering.{is_lt}
+use Rattle.wf_text.specs.Orders.{text_cmp}
 use Rattle.wf_precache.specs.declared.entry.CacheEntry.{CacheEntry}
 
 -- an entry and the network partition key that it is kept under
@@ -16,7 +16,7 @@ keyed key entry = record { key = key; entry = entry }
 
 -- the first text stands before the second in the order of bytes
 abbrev pub stands_before : List ℕ → List ℕ → Bool
-stands_before a b = is_lt (slice_cmp nat_cmp a b)
+stands_before a b = is_lt (text_cmp a b)
 
 -- the entries of one key, in order
 abbrev pub entries_of : List ℕ → List Keyed → List CacheEntry

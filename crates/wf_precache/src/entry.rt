@@ -1,10 +1,9 @@
 ghost use Rattle.std.specs.Prelude.{◌≡◌, IfOk};
 ghost use Rattle.std.specs.Str.{bytes_eq};
 ghost use Rattle.wf_precache.specs.Entries.{allows, allows_method, allows_name, is_alive, is_entry_match};
-ghost use Rattle.wf_precache.specs.Entries.{is_non_wildcard_name, is_wildcard};
 
 use std::alloc::Global;
-use wf_text::{Bytes, OutOfMemory, eq_fold};
+use wf_text::{Bytes, OutOfMemory, eq_fold, is_non_wildcard_name, is_wildcard};
 
 /// What one entry allows: a method or a header name. Either may be `*`.
 #[derive(Drop)]
@@ -26,20 +25,6 @@ pub struct CacheEntry {
     /// For how long it holds from then on, in seconds.
     pub age: u64,
     pub allowed: Allowed,
-}
-
-// Whether the text is the wildcard.
-fn is_wildcard(text: &[u8]) -> bool
-    ensures { result ≡ is_wildcard text.now }
-{
-    text == b"*".as_slice()
-}
-
-// Whether the wildcard doesn't speak of the name.
-fn is_non_wildcard_name(name: &[u8]) -> bool
-    ensures { result ≡ is_non_wildcard_name name.now }
-{
-    eq_fold(name, b"authorization")
 }
 
 impl Allowed {

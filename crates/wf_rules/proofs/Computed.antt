@@ -23,7 +23,7 @@ use Rattle.wf_types.specs.Lines.{header}
 use Rattle.wf_rules.specs.declared.switch.Switch.TheVariants.{Fetches, Preflights, Refuses}
 use Rattle.wf_rules.specs.Blocking.{refusal_before}
 use Rattle.wf_rules.specs.KnownHosts.{match_of, note_of}
-use Rattle.wf_rules.specs.Policies.{policy_or}
+use Rattle.wf_types.specs.ReferrerPolicies.{policy_or}
 use Rattle.wf_rules.specs.Switch.{switch_of}
 use Rattle.wf_rules.specs.Upgrading.{mixed_upgraded, secured, with_https}
 

@@ -15,10 +15,12 @@ use Rattle.wf_types.specs.Methods.{is_safelisted_method, is_get_or_head, normali
 use Rattle.wf_safelist.specs.Forbidden.{is_forbidden_method}
 use Rattle.wf_text.specs.Tokens.{is_token}
 use Rattle.url.specs.Parts.{Parts, has_credentials}
-use Rattle.wf_send.specs.Making.{fault_or, fault_where, faults, first_fault, is_long_body, made, new_request, request_for}
+use Rattle.wf_send.specs.Making.{fault_or, faults, first_fault, is_long_body, made, new_request, request_for}
+use Rattle.std.specs.Bool.{then_some}
 use Rattle.wf_send.specs.Making.{first_bad, given_size, is_navigate, is_no_cors, url_given}
 use Rattle.wf_commands.specs.Pieces.{pieces_behind}
-use Rattle.wf_commands.specs.Templates.{filled, opens, pieces, placed, put_on}
+use Rattle.wf_commands.specs.Templates.{filled, opens, pieces, placed}
+use Rattle.wf_text.specs.Pieces.{with_front}
 use Rattle.wf_print.specs.declared.events.Event.{Event}
 use Rattle.wf_run.specs.Filling.{cut_body, is_plain, lacks_dollar, lacks_dollar_in, with_cut_body}
 use Rattle.wf_run.specs.Results.{value_of}
@@ -38,8 +40,8 @@ one-piece (byte ∷ []) lacks = refl
 one-piece (byte ∷ next ∷ text) lacks =
     let rest : pieces (next ∷ text) ≡ (next ∷ text) ∷ [] = one-piece (next ∷ text) (grind (arith, lacks)) in
     let closed : opens byte next ≡ false = grind (arith, lacks) in
-    ap (λ (b : Bool). cond b ([] ∷ pieces text) (put_on byte (pieces (next ∷ text)))) closed
-    ∙ ap (put_on byte) rest
+    ap (λ (b : Bool). cond b ([] ∷ pieces text) (with_front byte (pieces (next ∷ text)))) closed
+    ∙ ap (with_front byte) rest
 
 pub filled-same : (value : List ℕ → List ℕ) (text : List ℕ) → lacks_dollar text ≡ true → filled value text ≡ text
 filled-same value text lacks = rw (one-piece text lacks) (append-nil text)
@@ -92,14 +94,14 @@ same-fault (Some fault ∷ rest) x y has = refl
 -- the faults, by whether there is a body, and whether it is too long
 faults_by : Init → Parts → Bool → Bool → List (Option TypeFault)
 faults_by init url some long =
-    fault_where (has_credentials url) UrlCredentials
-    ∷ fault_where (not (is_token init.method)) BadMethod
-    ∷ fault_where (is_forbidden_method init.method) ForbiddenMethod
-    ∷ fault_where (some && is_get_or_head (normalized init.method)) BodyWithGet
-    ∷ fault_where (is_no_cors init.mode && not (is_safelisted_method (normalized init.method))) NoCorsMethod
+    then_some (has_credentials url) UrlCredentials
+    ∷ then_some (not (is_token init.method)) BadMethod
+    ∷ then_some (is_forbidden_method init.method) ForbiddenMethod
+    ∷ then_some (some && is_get_or_head (normalized init.method)) BodyWithGet
+    ∷ then_some (is_no_cors init.mode && not (is_safelisted_method (normalized init.method))) NoCorsMethod
     ∷ option_map BadHeader (first_bad 0 init.headers)
-    ∷ fault_where (is_navigate init.mode) NavigateMode
-    ∷ fault_where (nat_lt 16384 (given_size init) || long) TooLong
+    ∷ then_some (is_navigate init.mode) NavigateMode
+    ∷ then_some (nat_lt 16384 (given_size init) || long) TooLong
     ∷ []
 
 faults-of : (init : Init) (url : Parts) → faults init url ≡ faults_by init url (is_some init.body) (is_long_body init.body)
@@ -111,20 +113,20 @@ faults-of-cut : (init : Init) (url : Parts) → faults (with_cut_body init) url
 unfolding faults_by
 faults-of-cut init url = refl
 
-too-long : (size : Bool) → HasFault (fault_where (size || true) TooLong ∷ [])
+too-long : (size : Bool) → HasFault (then_some (size || true) TooLong ∷ [])
 too-long true = tt
 too-long false = tt
 
 has-fault : (init : Init) (url : Parts) (some : Bool) → HasFault (faults_by init url some true)
 unfolding faults_by
 has-fault init url some =
-    later (fault_where (has_credentials url) UrlCredentials) _
-    (later (fault_where (not (is_token init.method)) BadMethod) _
-    (later (fault_where (is_forbidden_method init.method) ForbiddenMethod) _
-    (later (fault_where (some && is_get_or_head (normalized init.method)) BodyWithGet) _
-    (later (fault_where (is_no_cors init.mode && not (is_safelisted_method (normalized init.method))) NoCorsMethod) _
+    later (then_some (has_credentials url) UrlCredentials) _
+    (later (then_some (not (is_token init.method)) BadMethod) _
+    (later (then_some (is_forbidden_method init.method) ForbiddenMethod) _
+    (later (then_some (some && is_get_or_head (normalized init.method)) BodyWithGet) _
+    (later (then_some (is_no_cors init.mode && not (is_safelisted_method (normalized init.method))) NoCorsMethod) _
     (later (option_map BadHeader (first_bad 0 init.headers)) _
-    (later (fault_where (is_navigate init.mode) NavigateMode) _ (too-long (nat_lt 16384 (given_size init)))))))))
+    (later (then_some (is_navigate init.mode) NavigateMode) _ (too-long (nat_lt 16384 (given_size init)))))))))
 
 is-long : (body : List ℕ) → 65536 < length body → nat_lt 65536 (length body) ≡ true
 is-long body long = grind (arith, long)

@@ -4,6 +4,7 @@ use Rattle.std.specs.Prelude.{ℕ, Bool, true, false, ◌==◌, List, [], ◌∷
 use Rattle.std.specs.Prelude.{option_map, option_and_then, unwrap_or, if◌then◌else◌}
 use Rattle.std.specs.Borrow.{Bor}
 use Rattle.std.specs.Option.{option_or}
+use Rattle.wf_text.specs.Mime.{is_text}
 use Rattle.wf_headers.specs.Headers.{combined}
 use Rattle.wf_types.specs.declared.response.BodyEnd.{BodyEnd}
 use Rattle.wf_types.specs.declared.response.BodyEnd.TheVariants.{Whole}
@@ -109,11 +110,6 @@ is_error (Some (event.LoadFailed error)) = true
 is_error (Some (event.TypeError fault)) = true
 is_error (Some (event.LoadError fault)) = true
 is_error _ = false
-
--- there is a text, and it is this one
-abbrev pub is_text : List ℕ → Option (List ℕ) → Bool
-is_text wanted None = false
-is_text wanted (Some text) = bytes_eq text wanted
 
 -- the condition holds of the last result
 abbrev pub holds : Test → Option Event → Bool

@@ -1,6 +1,7 @@
 ghost use Rattle.std.specs.Prelude.{◌≡◌, ◌++◌, [], OnOk, drop, decimal, unwrap_or, option_map};
 ghost use Rattle.wf_run.specs.Results as spec;
 ghost use Rattle.wf_run.specs.Results.{lent_result};
+ghost use Rattle.wf_text.specs.Mime.{is_text};
 
 use std::alloc::Global;
 use wf_commands::Test;
@@ -206,7 +207,7 @@ fn is_error(last: Option<&Event>) -> bool
 
 // Whether there is a text, and it is this one.
 fn is_text(wanted: &[u8], text: Option<&[u8]>) -> bool
-    ensures { result ≡ spec.is_text wanted.now (option_map (λ bytes. bytes.now) text.entry) }
+    ensures { result ≡ is_text wanted.now (option_map (λ bytes. bytes.now) text.entry) }
 {
     match text {
         None => false,

@@ -4,7 +4,8 @@ use Rattle.wf_act.specs.declared.act.Input.{Input}
 use Rattle.wf_print.specs.declared.events.Ending.{Ending}
 use Rattle.wf_print.specs.declared.events.Event.{Event}
 use Rattle.wf_run.specs.Play.{Play}
-use Rattle.wf_run.specs.Runs.{Next, Progress, unless_limit}
+use Rattle.wf_laws.specs.Laws.{most_asks}
+use Rattle.wf_run.specs.Runs.{Next, Progress, most_fetches, unless_limit}
 use Rattle.wf_run.specs.Traces.{PlayTrace}
 use Rattle.wf_wire.specs.Exchanges.{Answering}
 use Rattle.wf_drive.specs.Worlds.{Answers, Outside, Refuses, Settles, World, outside_of}
@@ -57,11 +58,16 @@ Played by limit document part old ending new =
 abbrev pub Cut : {State : Type 0} → Answering State → ℕ → ℕ → (Next → Next) → Standing State → Standing State → Type 0
 Cut by limit document part old new = CutShort by limit document (λ next. part next old.progress) old new
 
--- at most 1,024 fetches and loads have started, and the calls that are left suffice for those that may still start
-abbrev pub HasRoom : ℕ → Progress → Type 0
-HasRoom left progress = (129024 ≤ left + progress.fetches * 126) × (progress.fetches ≤ 1024)
+-- how many calls of the shared book the fetches and loads of a document make at most
+abbrev pub most_calls : ℕ
+most_calls = most_fetches * most_asks
 
--- each fetch or load that has started between two moments has made 126 calls at most
+-- no more fetches and loads have started than may, and the calls that are left suffice for those that may still start
+abbrev pub HasRoom : ℕ → Progress → Type 0
+HasRoom left progress =
+    (most_calls ≤ left + progress.fetches * most_asks) × (progress.fetches ≤ most_fetches)
+
+-- each fetch or load that has started between two moments has made no more calls than one may
 abbrev pub IsSpent : ℕ → Progress → ℕ → Progress → Type 0
 IsSpent left old left' new =
-    (left + old.fetches * 126 ≤ left' + new.fetches * 126) × (new.fetches ≤ 1024)
+    (left + old.fetches * most_asks ≤ left' + new.fetches * most_asks) × (new.fetches ≤ most_fetches)

@@ -4,11 +4,13 @@ ghost use Rattle.wf_send.specs.Loading.{new_load as load_of};
 ghost use Rattle.wf_send.specs.Making.{new_request as request_of};
 ghost use Rattle.wf_types.specs.Requests.{IsClient, IsRequest};
 ghost use Rattle.wf_link.specs.Sources.{IsAtEnd};
+ghost use Rattle.wf_laws.specs.Laws.{most_asks};
 ghost use Rattle.wf_wire.specs.Exchanges.{IsIdle};
 ghost use Rattle.wf_wire.specs.Wires.{exchange_of, over_link};
 ghost use Rattle.wf_run.specs.Results.{lent_result};
 ghost use Rattle.wf_commands.specs.Scripts.{fetch, load};
-ghost use Rattle.wf_run.specs.Runs.{after_events, asked, command_started, fetched, limit_before, setting, started};
+ghost use Rattle.wf_run.specs.Runs.{after_events, asked, command_started, fetched, limit_before, most_commands};
+ghost use Rattle.wf_run.specs.Runs.{most_fetches, setting, started};
 ghost use Rattle.wf_run.specs.Runs.{filled_init as filled_fetch, filled_load as load_filled};
 ghost use Rattle.wf_drive.specs.Worlds.{world_of};
 ghost use Rattle.wf_running.specs.Parts.{Cut, HasRoom, IsSpent, Played, standing_of};
@@ -97,7 +99,7 @@ fn run_request<R: Threads + Wait + Sync, S: Share, L: Link>(
     requires made { IfOk made IsRequest }
     requires client { IsClient lent.now.client.now }
     requires belongs { S.belongs lent.now.share.now pass.old }
-    requires left { 126 ≤ S.left pass.old }
+    requires left { most_asks ≤ S.left pass.old }
     requires end { IsAtEnd (L.left link.old) }
     ensures played { OnOk result (Played (over_link L.answer L.next) lent.now.limit (S.document pass.old)
         (fetched (setting lent.now.client.now lent.now.policies.now lent.now.cookies.now) kind made)
@@ -107,7 +109,7 @@ fn run_request<R: Threads + Wait + Sync, S: Share, L: Link>(
         (fetched (setting lent.now.client.now lent.now.policies.now lent.now.cookies.now) kind made)
         (standing_of (world_of S.own S.left L.state L.left L.faults pass.old link.old wire.old) running.old)
         (standing_of (world_of S.own S.left L.state L.left L.faults pass.new link.new wire.new) running.new)) }
-    ensures few { S.left pass.old ≤ S.left pass.new + 126 }
+    ensures few { S.left pass.old ≤ S.left pass.new + most_asks }
     ensures hung_up { OnOk result (IsAtEnd (L.left link.new)) }
     ensures fetches { running.new.fetches ≡ running.old.fetches }
     ensures belongs { S.belongs lent.now.share.now pass.new }
@@ -137,8 +139,8 @@ fn run_asked<R: Threads + Wait + Sync, S: Share, L: Link>(
 ) -> Result<(), OutOfMemory>
     requires made { IfOk made IsRequest }
     requires client { IsClient lent.now.client.now }
-    requires commands { running.old.commands < 16384 }
-    requires fetches { running.old.fetches < 1024 }
+    requires commands { running.old.commands < most_commands }
+    requires fetches { running.old.fetches < most_fetches }
     requires belongs { S.belongs lent.now.share.now pass.old }
     requires room { HasRoom (S.left pass.old) running.old }
     requires end { IsAtEnd (L.left link.old) }

@@ -2,7 +2,8 @@ ghost use Rattle.std.specs.Prelude.{◌≡◌, ◌<◌, ◌≤◌, ◌+◌, ◌^
 ghost use Rattle.wf_commands.specs.Commands.{step_of};
 ghost use Rattle.wf_run.specs.Results.{lent_result};
 ghost use Rattle.wf_run.specs.Runs as spec;
-ghost use Rattle.wf_run.specs.Runs.{after_events, beginning, fetch_started, last_of, started, waited};
+ghost use Rattle.wf_run.specs.Runs.{after_events, beginning, fetch_started, last_of, most_commands, most_fetches};
+ghost use Rattle.wf_run.specs.Runs.{started, waited};
 
 use std::alloc::Global;
 use std::marker::Model;
@@ -30,7 +31,7 @@ pub struct Running {
 
 impl Model for Running {
     ghost use Rattle.std.specs.Prelude.{◌≤◌, ◌+◌, ◌*◌, ◌-◌, ◌^◌};
-    ghost use Rattle.wf_run.specs.Runs.{Progress};
+    ghost use Rattle.wf_run.specs.Runs.{Progress, most_commands, most_fetches};
 
     ghost Value = { Progress };
 
@@ -41,7 +42,7 @@ impl Model for Running {
       shown = running.shown;
     } };
 
-    ghost invariant = { λ running. (running.commands ≤ 16384) × (running.fetches ≤ 1024)
+    ghost invariant = { λ running. (running.commands ≤ most_commands) × (running.fetches ≤ most_fetches)
         × (running.clock ≤ 2 ^ 40 + running.commands * (2 ^ 32 - 1)) };
 }
 
@@ -144,7 +145,7 @@ impl Running {
 
     /// Starts a command. Fewer than 16,384 have started.
     pub fn start(&mut self)
-        requires { self.old.commands < 16384 }
+        requires { self.old.commands < most_commands }
         ensures { self.new ≡ started self.old }
     {
         self.commands += 1;
@@ -152,7 +153,7 @@ impl Running {
 
     /// Starts a wait of so many seconds, which are over at once. Fewer than 16,384 commands have started.
     pub fn wait(&mut self, seconds: u32)
-        requires { self.old.commands < 16384 }
+        requires { self.old.commands < most_commands }
         ensures { self.new ≡ waited seconds (started self.old) }
     {
         self.commands += 1;
@@ -161,8 +162,8 @@ impl Running {
 
     // Starts a fetch, or a load of a kind, and shows its number.
     pub(crate) fn start_fetch(&mut self, kind: Destination) -> Result<(), OutOfMemory>
-        requires commands { self.old.commands < 16384 }
-        requires fetches { self.old.fetches < 1024 }
+        requires commands { self.old.commands < most_commands }
+        requires fetches { self.old.fetches < most_fetches }
         ensures ok { OnOk result (self.new ≡ after_events (spec.start_event kind self.old.fetches ∷ [])
             (fetch_started (started self.old))) }
         ensures err { OnErr result (self.new ≡ self.old) }

@@ -1,15 +1,14 @@
 ghost use Rattle.std.specs.Prelude.{◌≡◌, ℕ, List, map, bytes_eq, IfOk};
-ghost use Rattle.std.specs.Cmp.Lexicographic.{slice_cmp};
 ghost use Rattle.std.specs.List.{list_any};
 ghost use Rattle.std.specs.List.Sorted.{IsStrictlySortedBy};
-ghost use Rattle.std.specs.Ordering.{nat_cmp};
+ghost use Rattle.wf_text.specs.Orders.{text_cmp};
 
 use std::alloc::Global;
 use wf_text::{Bytes, BytesList, OutOfMemory};
 
 // Puts the texts in ascending order of their bytes, each once.
 pub(crate) fn sort_and_dedup(texts: &mut Vec<Vec<u8>>)
-    ensures ascending { IsStrictlySortedBy (slice_cmp nat_cmp) (map (λ text. text.items) texts.new.items) }
+    ensures ascending { IsStrictlySortedBy text_cmp (map (λ text. text.items) texts.new.items) }
     ensures members { (query : List ℕ) → list_any (bytes_eq query) (map (λ text. text.items) texts.new.items)
         ≡ list_any (bytes_eq query) (map (λ text. text.items) texts.old.items) }
 {

@@ -1,9 +1,10 @@
 -- The known HSTS hosts that a scenario may have (RFC 6797, section 8.1.1): domains as URLs have them.
-use Rattle.std.specs.Prelude.{ℕ, ◌&&◌, Bool, false, not, List, ◌++◌, codes, bytes_eq, Option, Some, None}
+use Rattle.std.specs.Prelude.{ℕ, ◌&&◌, Bool, not, List, ◌++◌, codes, Option, Some, None}
 use Rattle.std.specs.Prelude.{option_and_then}
 use Rattle.url.specs.Host.{domain_of}
 use Rattle.url.specs.Parts.{Parts, nonempty_host}
 use Rattle.wf_origin.specs.Names.{is_local_name}
+use Rattle.wf_text.specs.Mime.{is_text}
 use Rattle.wf_types.specs.Urls.{url_of_text}
 
 -- the http URL of a host
@@ -14,12 +15,7 @@ http_url_of host = url_of_text None (Some (codes "http://" ++ (host ++ codes "/"
 abbrev pub domain_in : Parts → Option (List ℕ)
 domain_in url = option_and_then domain_of (nonempty_host url)
 
--- there is a domain, and it is this text
-abbrev pub is_domain : List ℕ → Option (List ℕ) → Bool
-is_domain text None = false
-is_domain text (Some domain) = bytes_eq domain text
-
 -- The host of the text's http URL is a domain with exactly this text, and no localhost name. An address, a
 -- port and a capital letter are no part of such a text; a last dot may be.
 abbrev pub is_host_name : List ℕ → Bool
-is_host_name host = not (is_local_name host) && is_domain host (option_and_then domain_in (http_url_of host))
+is_host_name host = not (is_local_name host) && is_text host (option_and_then domain_in (http_url_of host))

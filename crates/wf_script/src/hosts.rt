@@ -2,6 +2,7 @@
 ghost use Rattle.std.specs.Prelude.{◌≡◌, IfOk};
 ghost use Rattle.wf_script.specs.Hosts as hosts;
 ghost use Rattle.wf_script.specs.Scenarios as spec;
+ghost use Rattle.wf_text.specs.Mime.{is_text};
 
 use crate::types::KnownHost;
 use serde_json::Value;
@@ -31,7 +32,7 @@ fn http_url_of(alloc: Global, host: &str) -> Result<Option<Url>, OutOfMemory>
 
 // Whether the host of a URL is a domain with exactly this text.
 fn has_domain(url: &Url, text: &str) -> bool
-    ensures { result ≡ hosts.is_domain text.now (hosts.domain_in url.now) }
+    ensures { result ≡ is_text text.now (hosts.domain_in url.now) }
 {
     match url.domain() {
         Some(domain) => domain == text,

@@ -7,16 +7,13 @@ use std::alloc::Global;
 use url::Url;
 use wf_form::{Form, Refused, refused_here};
 use wf_origin::is_http_url;
-use wf_types::url_alone;
+use wf_types::{has_credentials, is_short_url, url_alone};
 
 // Whether it is an http or https URL without credentials, of at most 8,192 bytes.
 fn is_document_url(url: &Url) -> bool
     ensures { result ≡ spec.is_document_url url.now }
 {
-    is_http_url(url)
-        && url.username().is_empty()
-        && url.password().is_none()
-        && url.as_str().len() <= 8192
+    is_http_url(url) && !has_credentials(url) && is_short_url(url)
 }
 
 /// The URL of a document, or of the page at its top.

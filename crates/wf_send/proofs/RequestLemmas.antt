@@ -17,7 +17,8 @@ use Rattle.wf_types.specs.declared.init.Init.{Init}
 use Rattle.wf_types.specs.declared.request.Request.{Request}
 use Rattle.wf_types.specs.Methods.{is_normalized, normalized}
 use Rattle.wf_types.specs.Requests.{IsRequest, is_http_referrer}
-use Rattle.wf_send.specs.Making.{fault_where, faults, first_fault, made, referrer_of}
+use Rattle.wf_send.specs.Making.{faults, first_fault, made, referrer_of}
+use Rattle.std.specs.Bool.{then_some}
 
 -- its referrer is no URL
 referrer-http : (client_referrer : Bool) → IsTrue (is_http_referrer (referrer_of client_referrer))
@@ -59,7 +60,7 @@ normalized-token method is =
 
 -- no fault means that the method is a token
 first-clear : (is : Bool) (fault : TypeFault) (more : List (Option TypeFault))
-    → first_fault (fault_where is fault ∷ more) ≡ None → (is ≡ false) × (first_fault more ≡ None)
+    → first_fault (then_some is fault ∷ more) ≡ None → (is ≡ false) × (first_fault more ≡ None)
 first-clear true fault more none = absurd (cc)
 first-clear false fault more none = (refl, none)
 

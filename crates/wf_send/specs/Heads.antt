@@ -12,7 +12,7 @@ use Rattle.wf_types.specs.declared.mode.Credentials.TheVariants as credentials
 use Rattle.wf_types.specs.declared.mode.Tainting.{Tainting}
 use Rattle.wf_types.specs.declared.mode.Tainting.TheVariants as tainting
 use Rattle.wf_types.specs.declared.request.Request.{Request}
-use Rattle.wf_types.specs.Lines.{header, header_where, present}
+use Rattle.wf_types.specs.Lines.{accept_encoding, connection_close, header, header_where, present, user_agent}
 use Rattle.wf_types.specs.Methods.{is_post_or_put}
 use Rattle.wf_types.specs.OriginHeader.{origin_value, referrer_value}
 use Rattle.wf_types.specs.Requests.{current_url}
@@ -46,7 +46,7 @@ length_value method None = if is_post_or_put method then Some (codes "0") else N
 -- the user agent's own name, where the request gives none
 abbrev pub user_agent_value : List Header → Option (List ℕ)
 user_agent_value headers =
-    if contains (codes "User-Agent") headers then None else Some (codes "fetchplay/1")
+    if contains (codes "User-Agent") headers then None else Some user_agent
 
 -- ---- the head
 
@@ -55,12 +55,12 @@ abbrev pub added_headers : List Cookie → Request → Parts → List Header
 added_headers cookies request url =
     present
     (header_where (codes "User-Agent") (user_agent_value request.headers)
-    ∷ Some (header (codes "Accept-Encoding") (codes "identity"))
+    ∷ Some accept_encoding
     ∷ header_where (codes "Referer") (referrer_value request.referrer)
     ∷ header_where (codes "Origin") (origin_value request url)
     ∷ header_where (codes "Cookie") (cookie_value cookies request url)
     ∷ header_where (codes "Content-Length") (length_value request.method request.body)
-    ∷ Some (header (codes "Connection") (codes "close"))
+    ∷ Some connection_close
     ∷ [])
 
 -- the header list as it is sent, from Host on

@@ -1,8 +1,9 @@
 -- The request that a script's `fetch` makes (Fetch, sections 5.4 "new Request" and 5.6), or why it makes
 -- none: the first of nine faults.
-use Rattle.std.specs.Prelude.{ℕ, ◌+◌, ◌&&◌, ◌||◌, Bool, true, false, not, nat_le, nat_lt, List, [], ◌∷◌, length}
+use Rattle.std.specs.Prelude.{ℕ, ◌+◌, ◌&&◌, ◌||◌, Bool, true, false, not, nat_lt, List, [], ◌∷◌, length}
 use Rattle.std.specs.Prelude.{sum_by, codes, Option, Some, None, is_some, option_map, Result, Ok, Err, if◌then◌else◌}
-use Rattle.url.specs.Parts.{Parts, has_credentials, serialize}
+use Rattle.std.specs.Bool.{then_some}
+use Rattle.url.specs.Parts.{Parts, has_credentials}
 use Rattle.wf_text.specs.Tokens.{is_token}
 use Rattle.wf_text.specs.Values.{is_header_value}
 use Rattle.wf_headers.specs.declared.headers.Header.{Header}
@@ -26,25 +27,16 @@ use Rattle.wf_types.specs.declared.policy.Destination.TheVariants as destination
 use Rattle.wf_types.specs.declared.request.Referrer.{Referrer}
 use Rattle.wf_types.specs.declared.request.Referrer.TheVariants as referrer
 use Rattle.wf_types.specs.declared.request.Request.{Request}
-use Rattle.wf_types.specs.Urls.{url_against}
+use Rattle.wf_types.specs.Urls.{unless_long, url_against}
 use Rattle.wf_types.specs.Methods.{is_safelisted_method, is_get_or_head, normalized}
 
 -- ---- the URL
-
--- a URL whose text has at most 8,192 bytes
-abbrev pub unless_long : Option Parts → Option Parts
-unless_long None = None
-unless_long (Some url) = if nat_le (length (serialize url)) 8192 then Some url else None
 
 -- the URL that a text gives against the client's
 abbrev pub url_given : Client → List ℕ → Option Parts
 url_given client text = unless_long (url_against client.url text)
 
 -- ---- the faults
-
--- the fault, where it is one
-abbrev pub fault_where : Bool → TypeFault → Option TypeFault
-fault_where is fault = if is then Some fault else None
 
 -- it is neither a header's name nor its value
 abbrev pub is_bad_pair : Pair → Bool
@@ -85,14 +77,14 @@ is_too_long init = nat_lt 16384 (given_size init) || is_long_body init.body
 -- the faults of a request for a URL, in the order in which they are looked for
 abbrev pub faults : Init → Parts → List (Option TypeFault)
 faults init url =
-    fault_where (has_credentials url) UrlCredentials
-    ∷ fault_where (not (is_token init.method)) BadMethod
-    ∷ fault_where (is_forbidden_method init.method) ForbiddenMethod
-    ∷ fault_where (is_some init.body && is_get_or_head (normalized init.method)) BodyWithGet
-    ∷ fault_where (is_no_cors init.mode && not (is_safelisted_method (normalized init.method))) NoCorsMethod
+    then_some (has_credentials url) UrlCredentials
+    ∷ then_some (not (is_token init.method)) BadMethod
+    ∷ then_some (is_forbidden_method init.method) ForbiddenMethod
+    ∷ then_some (is_some init.body && is_get_or_head (normalized init.method)) BodyWithGet
+    ∷ then_some (is_no_cors init.mode && not (is_safelisted_method (normalized init.method))) NoCorsMethod
     ∷ option_map BadHeader (first_bad 0 init.headers)
-    ∷ fault_where (is_navigate init.mode) NavigateMode
-    ∷ fault_where (is_too_long init) TooLong
+    ∷ then_some (is_navigate init.mode) NavigateMode
+    ∷ then_some (is_too_long init) TooLong
     ∷ []
 
 -- the first that is there

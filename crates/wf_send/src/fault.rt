@@ -1,25 +1,19 @@
 ghost use Rattle.std.specs.Prelude.{◌≡◌, ◌+◌, ◌<◌, ◌^◌, nat_lt, length, sum_by};
-ghost use Rattle.url.specs.Parts as parts;
 ghost use Rattle.wf_send.specs.Making as spec;
 ghost use Rattle.wf_types.specs.Methods.{normalized};
 
 use url::Url;
 use wf_safelist::is_forbidden_method;
 use wf_text::{Bytes, is_token, is_value};
-use wf_types::{Init, Mode, Pair, TypeFault, is_get_or_head, is_safelisted_method};
+use wf_types::{
+    Init, Mode, Pair, TypeFault, has_credentials, is_get_or_head, is_safelisted_method,
+};
 
 /// How many bytes the method and the headers may have together.
 const MOST_GIVEN: usize = 16_384;
 
 /// How many bytes a body may have.
 const MOST_BODY: usize = 65_536;
-
-// Whether the URL has a user name or a password.
-fn has_credentials(url: &Url) -> bool
-    ensures { result ≡ parts.has_credentials url.now }
-{
-    !url.username().is_empty() || url.password().is_some()
-}
 
 // Whether a pair is no header: its name no token, or its value none.
 fn is_bad_pair(pair: &Pair) -> bool

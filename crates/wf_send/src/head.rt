@@ -11,8 +11,8 @@ use url::Url;
 use wf_headers::HeaderList;
 use wf_text::{Bytes, OutOfMemory};
 use wf_types::{
-    Cookie, Credentials, Request, Tainting, append_where, host_value, is_post_or_put, origin_value,
-    referrer_value,
+    Cookie, Credentials, Request, Tainting, USER_AGENT, append_accept_encoding, append_connection,
+    append_where, host_value, is_post_or_put, origin_value, referrer_value,
 };
 
 /// Whether credentials are included: in mode include, and in mode same-origin while the tainting is
@@ -59,7 +59,7 @@ fn user_agent_value(headers: &HeaderList) -> Option<&'static [u8]>
     if headers.contains(b"User-Agent") {
         None
     } else {
-        Some(b"fetchplay/1")
+        Some(USER_AGENT)
     }
 }
 
@@ -113,12 +113,12 @@ fn append_added(
         ≡ all_appended (spec.added_headers cookies.now request.now url.now) headers.old) }
 {
     append_where(headers, b"User-Agent", user_agent_value(&request.headers))?;
-    headers.append(b"Accept-Encoding", b"identity")?;
+    append_accept_encoding(headers)?;
     append_where(headers, b"Referer", referrer_value(&request.referrer))?;
     append_origin(alloc, headers, request, url)?;
     append_where(headers, b"Cookie", cookie_value(cookies, request, origin))?;
     append_length(alloc, headers, request.method.as_slice(), &request.body)?;
-    headers.append(b"Connection", b"close")?;
+    append_connection(headers)?;
     Ok(())
 }
 

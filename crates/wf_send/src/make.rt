@@ -10,11 +10,8 @@ use url::Url;
 use wf_text::{Bytes, OutOfMemory, copy_of};
 use wf_types::{
     Client, Destination, Init, Referrer, Request, Tainting, TypeFault, Urls, normalized_method,
-    url_against,
+    unless_long, url_against,
 };
-
-/// How many bytes the text of a URL may have.
-const MOST_URL: usize = 8_192;
 
 // The URL that a text gives against the client's, unless its own text is too long.
 pub(crate) fn url_given(
@@ -24,10 +21,7 @@ pub(crate) fn url_given(
 ) -> Result<Option<Url>, OutOfMemory>
     ensures { IfOk result (λ url. url ≡ spec.url_given client.now text.now) }
 {
-    match url_against(alloc, &client.url, text)? {
-        Some(url) if url.as_str().len() <= MOST_URL => Ok(Some(url)),
-        Some(_) | None => Ok(None),
-    }
+    Ok(unless_long(url_against(alloc, &client.url, text)?))
 }
 
 // The referrer that a script asks for: the client, or none.

@@ -12,6 +12,10 @@ is_digits text = not (length text == 0) && list_all is_ascii_digit text
 abbrev pub capped_digits : List ℕ → ℕ → Option ℕ
 capped_digits text cap = if is_digits text then Some (min (digits_value 10 text) cap) else None
 
+-- the text is digits that write this number
+abbrev pub writes : ℕ → List ℕ → Bool
+writes number text = is_digits text && digits_value 10 text == number
+
 -- the number that the digits write is at most that of the others
 abbrev pub digits_at_most : List ℕ → List ℕ → Bool
 digits_at_most digits most = nat_le (digits_value 10 digits) (digits_value 10 most)

@@ -16,8 +16,9 @@ mod split;
 mod token;
 mod trim;
 mod value;
+mod wildcard;
 
-pub use among::{is_among, is_among_fold};
+pub use among::{has_text, has_text_fold, is_among, is_among_fold};
 pub use base64::is_base64_value;
 pub use bytes::{Bytes, copy_of};
 pub use digits::{digits_at_most, is_digits, parse_digits};
@@ -31,3 +32,4 @@ pub use split::{parts_between, words};
 pub use token::is_token;
 pub use trim::{trim_http, trim_tab_or_space};
 pub use value::is_value;
+pub use wildcard::{AUTHORIZATION, has_wildcard, is_non_wildcard_name, is_wildcard};

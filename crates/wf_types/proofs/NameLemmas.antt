@@ -1,10 +1,12 @@
 -- The values of a name in a list of which some headers were taken out.
-use Rattle.std.proofs.Common.{◌≡◌, ◌∷◌, [], ℕ, Bool, List, filter, refl, inl, inr, arith}
+use Rattle.std.proofs.Common.{◌≡◌, ◌∷◌, [], ℕ, Bool, List, Bor, filter, map, refl, sym, ◌∙◌, inl, inr, arith}
 use Rattle.std.proofs.lemmas.Bool.{cases_Bool}
 use Rattle.std.proofs.lemmas.Grind.{common_steps}
 use Rattle.std.proofs.lemmas.Slice.Eq.{bytes_eq-Decides}
 use Rattle.std.specs.List.{list_any}
 use Rattle.std.specs.Prelude.{IsTrue, bytes_eq}
+use Rattle.std.specs.Str.{str_eq_ignore_ascii_case}
+use Rattle.wf_headers.proofs.SpellingLemmas.{fold-sym}
 use Rattle.wf_headers.specs.declared.headers.Header.{Header}
 use Rattle.wf_headers.specs.Headers.{is_named, values_of}
 use Rattle.wf_types.specs.PermittedNames.{has_name_among, only_named}
@@ -39,3 +41,21 @@ pub values-only_named : (names : List (List ℕ)) (name : List ℕ)
     → (headers : List Header) → values_of name (only_named names headers) ≡ values_of name headers
 values-only_named names name within headers =
     values-kept (has_name_among names) name (among-named names name within) headers
+
+-- the order of two names does not matter
+fold-comm : (a b : List ℕ) → str_eq_ignore_ascii_case a b ≡ str_eq_ignore_ascii_case b a
+fold-comm a b =
+    elim (cases_Bool (str_eq_ignore_ascii_case a b)) [
+      | inl same ↦ same ∙ sym (fold-sym a b same)
+      | inr differ ↦ elim (cases_Bool (str_eq_ignore_ascii_case b a)) [
+        | inl same ↦ fold-sym b a same ∙ sym same
+        | inr differ_too ↦ differ ∙ sym differ_too
+      ]
+    ]
+
+-- names behind references
+pub among_now : (names : List (Bor (List ℕ))) (header : Header)
+    → list_any (λ name. str_eq_ignore_ascii_case name.now header.name) names
+    ≡ has_name_among (map (λ name. name.now) names) header
+among_now [] header = refl
+among_now (name ∷ names) header = rw (fold-comm name.now header.name, among_now names header) refl

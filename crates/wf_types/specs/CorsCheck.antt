@@ -4,6 +4,8 @@ use Rattle.wf_headers.specs.declared.headers.Header.{Header}
 use Rattle.wf_headers.specs.Headers.{has_value}
 use Rattle.wf_types.specs.declared.mode.Credentials.{Credentials}
 use Rattle.wf_types.specs.declared.mode.Credentials.TheVariants as credentials
+use Rattle.wf_types.specs.declared.request.Request.{Request}
+use Rattle.wf_types.specs.Requests.{serialized_request_origin}
 
 -- the credentials mode is include
 abbrev pub is_include : Credentials → Bool
@@ -28,3 +30,8 @@ abbrev pub passes_cors_check : List ℕ → Bool → List Header → Bool
 passes_cors_check origin include headers =
     if include then allows_origin origin headers && allows_credentials headers
     else allows_any headers || allows_origin origin headers
+
+-- the CORS check of a request passes
+abbrev pub passes_check : Request → List Header → Bool
+passes_check request headers =
+    passes_cors_check (serialized_request_origin request) (is_include request.credentials) headers

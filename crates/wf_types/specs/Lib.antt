@@ -3,6 +3,7 @@ pub mod CorsCheck
 pub mod Errors
 pub mod Lines
 pub mod Methods
+pub mod Modes
 pub mod Names
 pub mod OriginHeader
 pub mod PermittedNames

@@ -24,3 +24,17 @@ present lines = filter_map (λ line. line) lines
 abbrev pub appended_where : List ℕ → Option (List ℕ) → List Header → List Header
 appended_where name None headers = headers
 appended_where name (Some value) headers = appended name value headers
+
+-- ---- what is sent with every request (this project's own choice)
+
+-- the user agent's name, as the value of User-Agent ("default `User-Agent` value", Fetch, section 2.2.2)
+abbrev pub user_agent : List ℕ
+user_agent = codes "fetchplay/1"
+
+-- bodies come as they are, without a coding
+abbrev pub accept_encoding : Header
+accept_encoding = header (codes "Accept-Encoding") (codes "identity")
+
+-- the connection is closed behind the answer
+abbrev pub connection_close : Header
+connection_close = header (codes "Connection") (codes "close")

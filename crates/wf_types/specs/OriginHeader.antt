@@ -5,29 +5,16 @@ use Rattle.std.specs.Prelude.{if◌then◌else◌}
 use Rattle.url.specs.Parts.{Parts, serialize}
 use Rattle.wf_origin.specs.declared.origin.Origin.{Origin}
 use Rattle.wf_origin.specs.Origins.{is_origin_of}
-use Rattle.wf_types.specs.declared.mode.Mode.{Mode}
-use Rattle.wf_types.specs.declared.mode.Mode.TheVariants as mode
 use Rattle.wf_types.specs.declared.mode.ReferrerPolicy.{ReferrerPolicy}
 use Rattle.wf_types.specs.declared.mode.ReferrerPolicy.TheVariants as policy
-use Rattle.wf_types.specs.declared.mode.Tainting.{Tainting}
-use Rattle.wf_types.specs.declared.mode.Tainting.TheVariants as tainting
 use Rattle.wf_types.specs.declared.request.Referrer.{Referrer}
 use Rattle.wf_types.specs.declared.request.Referrer.TheVariants as referrer
 use Rattle.wf_types.specs.declared.request.Request.{Request}
 use Rattle.wf_types.specs.Methods.{is_get_or_head}
+use Rattle.wf_types.specs.Modes.{is_cors_mode, is_cors_tainted}
 use Rattle.wf_types.specs.Requests.{serialized_request_origin}
 
 -- ---- Origin
-
--- the tainting is cors
-abbrev pub is_cors_tainted : Tainting → Bool
-is_cors_tainted tainting.Cors = true
-is_cors_tainted _ = false
-
--- the mode is cors
-abbrev pub is_cors_mode : Mode → Bool
-is_cors_mode mode.Cors = true
-is_cors_mode _ = false
 
 -- a text that is the scheme https
 abbrev pub is_https : List ℕ → Bool

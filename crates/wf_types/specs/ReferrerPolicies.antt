@@ -37,3 +37,8 @@ policy_where (Some value) = policy_of_value value
 -- "parse a referrer policy from a `Referrer-Policy` header": the last known token of the combined value
 abbrev pub policy_of_header : List Header → ReferrerPolicy
 policy_of_header headers = policy_where (combined (codes "Referrer-Policy") headers)
+
+-- the policy, or another one where it is empty
+abbrev pub policy_or : ReferrerPolicy → ReferrerPolicy → ReferrerPolicy
+policy_or policy.Empty other = other
+policy_or named other = named

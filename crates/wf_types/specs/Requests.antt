@@ -67,12 +67,16 @@ is_http_referrer NoReferrer = true
 is_http_referrer TheClient = true
 is_http_referrer (Address url) = is_http_url url
 
+-- so many redirects are followed
+abbrev pub most_redirects : ℕ
+most_redirects = 20
+
 -- A request that there can be: its method is a token, its URL list is not empty and its earlier URLs are http or
--- https, it was redirected at most 20 times, and a URL as its referrer is http or https.
+-- https, it was redirected at most so many times, and a URL as its referrer is http or https.
 pub record IsRequest (request : Request) : Type 0 where
   pub method : IsTrue (is_token request.method)
   pub urls : IsTrue (were_http request.urls)
-  pub redirects : request.redirects ≤ 20
+  pub redirects : request.redirects ≤ most_redirects
   pub referrer : IsTrue (is_http_referrer request.referrer)
 
 -- the current URL is http or https

@@ -3,9 +3,11 @@ use Rattle.std.specs.Prelude.{ℕ, Bool, false, not, ◌&&◌, ◌||◌, List, c
 use Rattle.wf_headers.specs.declared.headers.Header.{Header}
 use Rattle.wf_headers.specs.Headers.{has_value}
 use Rattle.wf_origin.specs.declared.origin.Origin.{Origin}
-use Rattle.wf_origin.specs.Origins.{same_origin}
+use Rattle.wf_origin.specs.Origins.{same_origin, tuple_origin}
 use Rattle.wf_origin.specs.Sites.{same_site}
+use Rattle.wf_types.specs.declared.request.Request.{Request}
 use Rattle.wf_types.specs.OriginHeader.{is_https}
+use Rattle.wf_types.specs.Requests.{current_url}
 
 -- the value of `Cross-Origin-Resource-Policy` is this text; another value than the three that there are is as none
 abbrev pub has_resource_policy : List ℕ → List Header → Bool
@@ -22,3 +24,7 @@ corp_blocks origin url headers =
     if has_resource_policy (codes "same-origin") headers then not (same_origin origin url)
     else if has_resource_policy (codes "same-site") headers then not (is_within_site origin url)
     else false
+
+-- the cross-origin resource policy check of a request fails
+abbrev pub is_blocked : Request → List Header → Bool
+is_blocked request headers = corp_blocks request.origin (tuple_origin (current_url request)) headers

@@ -1,5 +1,5 @@
 -- URLs read from texts (URL Standard, section 4.4), and what is left of a URL that is told to others.
-use Rattle.std.specs.Prelude.{◌≡◌, ℕ, true, List, [], Option, Some, None, if◌then◌else◌}
+use Rattle.std.specs.Prelude.{◌≡◌, ℕ, Bool, true, List, [], length, nat_le, Option, Some, None, if◌then◌else◌}
 use Rattle.std.specs.Result.{result_ok}
 use Rattle.std.specs.Str.{is_utf8}
 use Rattle.url.specs.Parser.{parse_url}
@@ -18,6 +18,15 @@ url_of_text base (Some text) = result_ok (parse_url base text)
 -- the URL that bytes give against a base, unless they are not UTF-8 or no URL
 abbrev pub url_against : Parts → List ℕ → Option Parts
 url_against base text = url_of_text (Some base) (utf8_text text)
+
+-- the text of the URL has at most 8,192 bytes, as that of each URL that is fetched (this project's own choice)
+abbrev pub is_short_url : Parts → Bool
+is_short_url url = nat_le (length (serialize url)) 8192
+
+-- a URL with a text that is so short
+abbrev pub unless_long : Option Parts → Option Parts
+unless_long None = None
+unless_long (Some url) = if is_short_url url then Some url else None
 
 -- the text of a URL without its fragment
 abbrev pub without_fragment : Parts → List ℕ

@@ -1,7 +1,11 @@
-ghost use Rattle.std.specs.Prelude.{◌≡◌};
+ghost use Rattle.std.specs.Prelude.{◌≡◌, IfOk};
 ghost use Rattle.wf_types.specs.CorsCheck as spec;
 
+use crate::origin::serialized_origin;
+use crate::request::Request;
+use std::alloc::Global;
 use wf_headers::HeaderList;
+use wf_text::OutOfMemory;
 
 // Whether any origin is allowed.
 fn allows_any(headers: &HeaderList) -> bool
@@ -37,4 +41,17 @@ pub fn passes_cors_check(origin: &[u8], include: bool, headers: &HeaderList) -> 
     } else {
         allows_any(headers) || allows_origin(origin, headers)
     }
+}
+
+/// "CORS check" of an answer's header list, for a request. The only error is want of memory.
+pub fn passes_check(
+    alloc: Global,
+    request: &Request,
+    headers: &HeaderList,
+) -> Result<bool, OutOfMemory>
+    ensures { IfOk result (λ passes. passes ≡ spec.passes_check request.now headers.now) }
+{
+    let origin = serialized_origin(alloc, request)?;
+    let include = request.credentials.is_include();
+    Ok(passes_cors_check(origin.as_slice(), include, headers))
 }

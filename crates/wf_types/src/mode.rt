@@ -1,5 +1,6 @@
 ghost use Rattle.std.specs.Prelude.{◌≡◌};
 ghost use Rattle.wf_types.specs.CorsCheck.{is_include};
+ghost use Rattle.wf_types.specs.Modes as modes;
 ghost use Rattle.wf_types.specs.Names.{mode_name, credentials_name, redirect_name, policy_name};
 
 /// The mode of a request (Fetch, section 2.2.5).
@@ -22,6 +23,13 @@ impl Mode {
             Mode::Cors => "cors",
             Mode::Navigate => "navigate",
         }
+    }
+
+    /// Whether the mode is cors. It takes no memory.
+    pub fn is_cors(self) -> bool
+        ensures { result ≡ modes.is_cors_mode self }
+    {
+        matches!(self, Mode::Cors)
     }
 }
 
@@ -72,6 +80,27 @@ impl RedirectMode {
             RedirectMode::Manual => "manual",
         }
     }
+
+    /// Whether the redirect mode is follow. It takes no memory.
+    pub fn is_follow(self) -> bool
+        ensures { result ≡ modes.is_follow self }
+    {
+        matches!(self, RedirectMode::Follow)
+    }
+
+    /// Whether the redirect mode is manual. It takes no memory.
+    pub fn is_manual(self) -> bool
+        ensures { result ≡ modes.is_manual_mode self }
+    {
+        matches!(self, RedirectMode::Manual)
+    }
+
+    /// Whether the redirect mode is error. It takes no memory.
+    pub fn is_error(self) -> bool
+        ensures { result ≡ modes.is_error_mode self }
+    {
+        matches!(self, RedirectMode::Error)
+    }
 }
 
 /// The response tainting of a request (Fetch, section 2.2.5).
@@ -80,6 +109,15 @@ pub enum Tainting {
     Basic,
     Cors,
     Opaque,
+}
+
+impl Tainting {
+    /// Whether the tainting is cors. It takes no memory.
+    pub fn is_cors(self) -> bool
+        ensures { result ≡ modes.is_cors_tainted self }
+    {
+        matches!(self, Tainting::Cors)
+    }
 }
 
 /// A referrer policy (Referrer Policy, section 3); `Empty` is the empty string, no policy.

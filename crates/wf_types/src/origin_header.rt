@@ -2,27 +2,13 @@ ghost use Rattle.std.specs.Prelude.{◌≡◌, option_copied, IfOk};
 ghost use Rattle.wf_types.specs.OriginHeader as spec;
 
 use crate::method::is_get_or_head;
-use crate::mode::{Mode, ReferrerPolicy, Tainting};
+use crate::mode::ReferrerPolicy;
 use crate::origin::serialized_origin;
 use crate::request::{Referrer, Request};
 use std::alloc::Global;
 use url::Url;
 use wf_origin::{Origin, is_origin_of};
 use wf_text::{Bytes, OutOfMemory};
-
-// Whether the tainting is cors.
-fn is_cors_tainted(tainting: Tainting) -> bool
-    ensures { result ≡ spec.is_cors_tainted tainting }
-{
-    matches!(tainting, Tainting::Cors)
-}
-
-// Whether the mode is cors.
-fn is_cors_mode(mode: Mode) -> bool
-    ensures { result ≡ spec.is_cors_mode mode }
-{
-    matches!(mode, Mode::Cors)
-}
 
 // Whether it goes from an https origin to a URL that is not https.
 fn is_downgrade(origin: &Origin, url: &Url) -> bool
@@ -52,7 +38,7 @@ fn hides_origin(policy: ReferrerPolicy, origin: &Origin, url: &Url) -> bool
 fn told_origin(alloc: Global, request: &Request, url: &Url) -> Result<Bytes, OutOfMemory>
     ensures { IfOk result (λ text. text ≡ spec.told_origin request.now url.now) }
 {
-    if !is_cors_mode(request.mode) && hides_origin(request.policy, &request.origin, url) {
+    if !request.mode.is_cors() && hides_origin(request.policy, &request.origin, url) {
         Bytes::of(alloc, b"null")
     } else {
         serialized_origin(alloc, request)
@@ -70,7 +56,7 @@ pub fn origin_value(
 ) -> Result<Option<Bytes>, OutOfMemory>
     ensures { IfOk result (λ value. value ≡ spec.origin_value request.now url.now) }
 {
-    if is_cors_tainted(request.tainting) {
+    if request.tainting.is_cors() {
         Ok(Some(serialized_origin(alloc, request)?))
     } else if is_get_or_head(request.method.as_slice()) {
         Ok(None)

@@ -77,3 +77,13 @@ pub fn policy_of_header(alloc: Global, headers: &HeaderList) -> Result<ReferrerP
         Some(value) => policy_of_value(alloc, value.as_slice()),
     }
 }
+
+/// The policy, or another one where it is empty. It takes no memory.
+pub fn policy_or(policy: ReferrerPolicy, other: ReferrerPolicy) -> ReferrerPolicy
+    ensures { result ≡ spec.policy_or policy other }
+{
+    match policy {
+        ReferrerPolicy::Empty => other,
+        _ => policy,
+    }
+}

@@ -8,6 +8,9 @@ use wf_headers::HeaderList;
 use wf_origin::Origin;
 use wf_text::{Bytes, Items};
 
+/// How many redirects are followed ("HTTP-redirect fetch", Fetch, section 4.4).
+pub const MOST_REDIRECTS: u32 = 20;
+
 /// The URL list of a request, in order.
 pub type Urls = Items<Url>;
 

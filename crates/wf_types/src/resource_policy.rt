@@ -1,9 +1,13 @@
-ghost use Rattle.std.specs.Prelude.{◌≡◌};
+ghost use Rattle.std.specs.Prelude.{◌≡◌, IfOk};
 ghost use Rattle.wf_types.specs.OriginHeader.{is_https};
+ghost use Rattle.wf_types.specs.Requests.{IsRequest};
 ghost use Rattle.wf_types.specs.ResourcePolicy as spec;
 
+use crate::request::Request;
+use std::alloc::Global;
 use wf_headers::HeaderList;
-use wf_origin::{Origin, same_origin, same_site};
+use wf_origin::{Origin, same_origin, same_site, tuple_origin};
+use wf_text::OutOfMemory;
 
 // Whether Cross-Origin-Resource-Policy is this text.
 fn has_resource_policy(headers: &HeaderList, text: &[u8]) -> bool
@@ -43,4 +47,18 @@ pub fn corp_blocks(origin: &Origin, url: &Origin, headers: &HeaderList) -> bool
     } else {
         false
     }
+}
+
+/// Whether Cross-Origin-Resource-Policy keeps an answer from a request, whose current URL answered. The only
+/// error is want of memory.
+pub fn is_blocked(
+    alloc: Global,
+    request: &Request,
+    headers: &HeaderList,
+) -> Result<bool, OutOfMemory>
+    requires { IsRequest request.now }
+    ensures { IfOk result (λ blocked. blocked ≡ spec.is_blocked request.now headers.now) }
+{
+    let url = tuple_origin(alloc, request.current_url())?;
+    Ok(corp_blocks(&request.origin, &url, headers))
 }

@@ -1,12 +1,15 @@
 ghost use Rattle.std.specs.Prelude.{◌≡◌, Some, None, IfOk, option_map};
 ghost use Rattle.std.specs.Result.{result_ok};
-ghost use Rattle.url.specs.Parts.{Parts};
+ghost use Rattle.url.specs.Parts.{Parts, has_credentials};
 ghost use Rattle.url.specs.Parser.{Parsed, Gives};
 ghost use Rattle.wf_types.specs.Urls as spec;
 
 use std::alloc::Global;
 use url::{ParseError, Url};
 use wf_text::OutOfMemory;
+
+/// How many bytes the text of a URL may have.
+const MOST_URL: usize = 8_192;
 
 /// The text that bytes are, or nothing where they are not UTF-8. It takes no memory.
 pub fn utf8_text(bytes: &[u8]) -> Option<&str>
@@ -45,4 +48,30 @@ pub fn url_alone(alloc: Global, text: &str) -> Result<Option<Url>, OutOfMemory>
     ensures { IfOk result (λ url. url ≡ spec.url_of_text None (Some text.now)) }
 {
     parsed(Url::parse(alloc, text))
+}
+
+/// Whether the text of the URL has at most 8,192 bytes, as that of each URL that is fetched (this
+/// project's own choice). It takes no memory.
+pub fn is_short_url(url: &Url) -> bool
+    ensures { result ≡ spec.is_short_url url.now }
+{
+    url.as_str().len() <= MOST_URL
+}
+
+/// The URL, unless its text has more than 8,192 bytes. It takes no memory.
+pub fn unless_long(url: Option<Url>) -> Option<Url>
+    ensures { result ≡ spec.unless_long url }
+{
+    match url {
+        Some(url) if is_short_url(&url) => Some(url),
+        Some(_) | None => None,
+    }
+}
+
+/// Whether the URL has a user name or a password (URL Standard, section 4.4, "includes credentials").
+/// It takes no memory.
+pub fn has_credentials(url: &Url) -> bool
+    ensures { result ≡ has_credentials url.now }
+{
+    !url.username().is_empty() || url.password().is_some()
 }

@@ -9,12 +9,13 @@ use Rattle.wf_types.specs.declared.request.Request.{Request}
 use Rattle.wf_types.specs.CorsCheck.{is_include}
 use Rattle.wf_filter.specs.declared.exposed.Exposure.{Exposure}
 use Rattle.wf_filter.specs.declared.exposed.Exposure.TheVariants.{All, Names}
-use Rattle.wf_filter.specs.Exposed.{has_star, header_names}
+use Rattle.wf_filter.specs.Exposed.{header_names}
+use Rattle.wf_text.specs.Wildcards.{has_wildcard}
 use Rattle.wf_filter.specs.Names.{is_forbidden, is_safelisted}
 
 -- what is exposed by what was extracted
 abbrev pub exposure_by : Bool → Extracted → Exposure
-exposure_by include (Items names) = if not include && has_star names then All else Names names
+exposure_by include (Items names) = if not include && has_wildcard names then All else Names names
 exposure_by include _ = Names []
 
 -- what a header list exposes, where the credentials mode is include or another

@@ -1,7 +1,8 @@
 -- What stands in a splitter of header values: the pieces of all that it was fed and of what follows.
 use Rattle.std.specs.Prelude.{ℕ, List, [], ◌∷◌, ◌++◌, map, Option, Some, None}
+use Rattle.wf_text.specs.Pieces.{with_front}
 use Rattle.wf_text.specs.Trims.{tab_or_space, trimmed}
-use Rattle.wf_headers.specs.Split.{with_front, pieces, in_quoted_string, behind_backslash}
+use Rattle.wf_headers.specs.Split.{pieces, in_quoted_string, behind_backslash}
 use Rattle.wf_headers.specs.declared.split.Place.{Place}
 use Rattle.wf_headers.specs.declared.split.Place.TheVariants.{Outside, Quoted, Escaped}
 use Rattle.wf_headers.specs.declared.split.Splitter.{Splitter}

@@ -4,6 +4,7 @@ use Rattle.wf_print.specs.declared.events.Transcript.{Transcript}
 use Rattle.wf_script.specs.declared.types.Document.{Document}
 use Rattle.wf_script.specs.declared.types.Scenario.{Scenario}
 use Rattle.wf_wire.specs.Exchanges.{Answering}
+use Rattle.wf_running.specs.Parts.{most_calls}
 use Rattle.wf_player.specs.Seats.{IsPlayed, Seat}
 use Rattle.wf_player.specs.declared.seating.Row.{Row}
 use Rattle.wf_player.specs.declared.seating.Seating.{Seating}
@@ -22,7 +23,7 @@ module _ {L P State : Type 0} (belongs : P → Type 0) (seen : Seating L P → S
     pub number_is : number < length scenario.documents
     pub belongs_to : belongs row.seating.pass
     pub document_is : (seen row.seating).document ≡ number
-    pub calls : 129024 ≤ (seen row.seating).outside.left
+    pub calls : most_calls ≤ (seen row.seating).outside.left
 
   -- it was played there
   pub record RowPlayed (by : Answering State) (scenario : Scenario) (base number : ℕ) (old new : Row L P) : Type 0 where

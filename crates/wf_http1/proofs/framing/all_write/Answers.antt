@@ -1,6 +1,6 @@
 use Rattle.std.proofs.Common.{sym, ◌∙◌}
 use Rattle.std.specs.Str.Parse.{digits_value}
-use Rattle.wf_http1.specs.Framings.{writes}
+use Rattle.wf_text.specs.Digits.{writes}
 use Rattle.wf_http1.proofs.AllLemmas.{all-goes, all-stops}
 use Rattle.wf_http1.proofs.framing.all_write.Goals as goal
 

@@ -1,7 +1,7 @@
 use Rattle.std.proofs.Common.{◌≡◌, drop}
 use Rattle.std.specs.List.{list_all}
 use Rattle.std.specs.Str.Parse.{digits_value}
-use Rattle.wf_http1.specs.Framings.{writes}
+use Rattle.wf_text.specs.Digits.{writes}
 use Rattle.wf_http1.proofs.framing.all_write.Given as goal
 
 abbrev pub invariant-loop-index : goal.invariant-loop-index

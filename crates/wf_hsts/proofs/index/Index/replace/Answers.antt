@@ -1,6 +1,7 @@
 use Rattle.std.proofs.Common.{◌≡◌, ℕ, Vec, Global, Some, None, cond, ap, refl, subst, sym, ◌∙◌}
 use Rattle.std.specs.Ordering.{is_eq}
-use Rattle.wf_hsts.specs.Hosts.{known_host, text_cmp, with_host}
+use Rattle.wf_hsts.specs.Hosts.{known_host, with_host}
+use Rattle.wf_text.specs.Orders.{text_cmp}
 use Rattle.std.specs.BTreeMap.{insert_entry}
 use Rattle.wf_hsts.specs.Private.Index.{listed, name_cmp, term_of}
 use Rattle.wf_hsts.specs.Private.Terms.{term_in}

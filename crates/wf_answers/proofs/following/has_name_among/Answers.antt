@@ -1,6 +1,0 @@
-use Rattle.std.proofs.Common.{◌∙◌}
-use Rattle.wf_filter.proofs.KeepingLemmas.{among_now}
-use Rattle.wf_answers.proofs.following.has_name_among.Goals as goal
-
-pub returns : goal.returns
-returns c = rw c.as_slice.ensures at c.is_among_fold.ensures ∙ among_now c.args.names.now c.args.header.now

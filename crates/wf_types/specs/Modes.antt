@@ -1,0 +1,33 @@
+-- Which mode, redirect mode and response tainting a request has (Fetch, section 2.2.5).
+use Rattle.std.specs.Prelude.{Bool, true, false}
+use Rattle.wf_types.specs.declared.mode.Mode.{Mode}
+use Rattle.wf_types.specs.declared.mode.Mode.TheVariants as mode
+use Rattle.wf_types.specs.declared.mode.RedirectMode.{RedirectMode}
+use Rattle.wf_types.specs.declared.mode.RedirectMode.TheVariants as redirect
+use Rattle.wf_types.specs.declared.mode.Tainting.{Tainting}
+use Rattle.wf_types.specs.declared.mode.Tainting.TheVariants as tainting
+
+-- the mode is cors
+abbrev pub is_cors_mode : Mode → Bool
+is_cors_mode mode.Cors = true
+is_cors_mode _ = false
+
+-- the redirect mode is follow
+abbrev pub is_follow : RedirectMode → Bool
+is_follow redirect.Follow = true
+is_follow _ = false
+
+-- the redirect mode is manual
+abbrev pub is_manual_mode : RedirectMode → Bool
+is_manual_mode redirect.Manual = true
+is_manual_mode _ = false
+
+-- the redirect mode is error
+abbrev pub is_error_mode : RedirectMode → Bool
+is_error_mode redirect.Error = true
+is_error_mode _ = false
+
+-- the tainting is cors
+abbrev pub is_cors_tainted : Tainting → Bool
+is_cors_tainted tainting.Cors = true
+is_cors_tainted _ = false
