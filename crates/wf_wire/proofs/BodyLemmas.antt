@@ -1,12 +1,15 @@
 -- What a reader of a body that is fed a wire's window finds in the bytes that were to come.
 use Rattle.std.proofs.Common.{◌≡◌, ℕ, ◌+◌, ◌-◌, ◌≤◌, ◌<◌, Bool, true, false, List, [], ◌++◌, length, refl, ap, sym}
 use Rattle.std.proofs.Common.{suc, take, inl, inr, subst, ◌∙◌, arith, length-append, Option, nat_le, nat_lt}
+use Rattle.std.proofs.Common.{Result, Ok, Err, IfOk, OnErr}
 use Rattle.std.specs.Prelude.{unwrap_or, if◌then◌else◌}
 use Rattle.std.proofs.lemmas.Bool.Decides.{leb_tells}
 use Rattle.std.proofs.lemmas.List.{append-nil}
 use Rattle.wf_types.specs.declared.response.BodyEnd.{BodyEnd}
 use Rattle.wf_types.specs.declared.response.BodyEnd.TheVariants as body
+use Rattle.wf_link.specs.Counts.{Rose}
 use Rattle.wf_link.specs.Sources.{Gave, IsAtEnd}
+use Rattle.wf_link.specs.declared.source.Failed.{Failed}
 use Rattle.wf_http1.specs.Bodies.{IsOpen, body_end, ended}
 use Rattle.wf_http1.specs.BodyFeeding.{IsFed}
 use Rattle.wf_http1.specs.BodyLaws.{most_open}
@@ -97,6 +100,19 @@ pub end-most : (how : Framing) (limit most : ℕ) (bytes : List ℕ) (end : Body
 end-most how limit most bytes end is le =
     has-more end limit most le (subst (λ (e : BodyEnd). HasAtMost e limit) (sym is) (body-most how limit bytes))
 
+-- ---- how long there is more to receive
+
+-- one try more, where more may come
+abbrev pub tries_left : Result Bool Failed → ℕ
+tries_left (Ok true) = 1
+tries_left _ = 0
+
+-- a fault since then is one since before
+pub rose-since : {T E : Type 0} (result : Result T E) (before since now : ℕ) → before ≤ since
+    → OnErr result (Rose since now) → OnErr result (Rose before now)
+rose-since (Ok value) before since now le rose = tt
+rose-since (Err error) before since now le rose = omega (arith, le, rose)
+
 -- ---- what was fed
 
 module _ (window : List ℕ) (left : Option (List ℕ)) (how : Framing) (limit : ℕ) (reading : BodyReading)
@@ -179,7 +195,7 @@ module _ (window : List ℕ) (left : Option (List ℕ)) (how : Framing) (limit :
       }
 
   -- fewer bytes are left to an open body than before
-  pub body-nears : (next : BodyReading) (more : List ℕ) → IsFed reading piece (bodies.More next) → 0 < length more
+  body-nears : (next : BodyReading) (more : List ℕ) → IsFed reading piece (bodies.More next) → 0 < length more
       → (most_open how limit + 1) - (length next.bytes + length more)
       < (most_open how limit + 1) - (length reading.bytes + length now)
   body-nears next more fed some =
@@ -190,3 +206,16 @@ module _ (window : List ℕ) (left : Option (List ℕ)) (how : Framing) (limit :
     where
       nears : (most a b c d : ℕ) → c ≡ a + b → c ≤ most → 0 < d → (most + 1) - (c + d) < (most + 1) - (a + b)
       nears most a b c d is few some = omega (arith, is, few, some)
+
+  -- and so do the tries that are left, where they end or a byte comes
+  pub body-tries : (next : BodyReading) (more : List ℕ) (result : Result Bool Failed)
+      → IsFed reading piece (bodies.More next) → IfOk result (λ more_is. more_is ≡ true → 0 < length more)
+      → ((most_open how limit + 1) - (length next.bytes + length more)) + tries_left result
+      < ((most_open how limit + 1) - (length reading.bytes + length now)) + 1
+  body-tries next more (Ok true) fed some =
+      let nears = body-nears next more fed (some refl) in
+      omega (arith, nears)
+  body-tries next more (Ok false) fed some =
+      omega (arith, ap length (body-read next fed), length-append reading.bytes now)
+  body-tries next more (Err failed) fed some =
+      omega (arith, ap length (body-read next fed), length-append reading.bytes now)

@@ -213,13 +213,14 @@ impl Wire {
         ensures rose { IfOk result (λ ended. IsFault ended → Rose (L.faults link.old) (L.faults link.new)) }
     {
         let mut reader = BodyReader::framed(alloc, self.framing, limit)?;
+        let mut more = Ok(true);
         loop {
             match reader.feed(self.window()) {
                 BodyStep::Over(end) => return Ok(Ended::Body(end)),
                 BodyStep::More(next) => reader = next,
             }
-            match self.refill(link, RECEIVED) {
-                Ok(true) => {}
+            match more {
+                Ok(true) => more = self.gather(link, reader.fewest()),
                 Ok(false) => return Ok(Ended::Body(reader.finish())),
                 Err(Failed) => return Ok(Ended::Fault(count_of(&reader.finish()))),
             }
