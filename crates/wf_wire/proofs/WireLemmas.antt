@@ -39,7 +39,7 @@ pub record Receives (window : List ℕ) (left : Option (List ℕ)) (read now : L
   pub gave : Gave left left' given
   pub whole : read ++ now ≡ window ++ given
 
-pub gave-nothing : (left : Option (List ℕ)) → Gave left left []
+gave-nothing : (left : Option (List ℕ)) → Gave left left []
 gave-nothing None = tt
 gave-nothing (Some rest) = (rest, refl, refl)
 

@@ -146,6 +146,7 @@ impl Wire {
         ensures gave { Gave (L.left link.old) (L.left link.new) (window_of self.new) }
         ensures some { IfOk result (λ more. more ≡ true → 0 < length (window_of self.new)) }
         ensures end { IfOk result (λ more. more ≡ false → IsAtEnd (L.left link.new)) }
+        ensures few { OnErr result (0 < length (window_of self.new) → length (window_of self.new) < fewest) }
         ensures cause { HasCause (L.faults link.old) (L.faults link.new) result }
     {
         self.from = 0;

@@ -1,27 +1,21 @@
-use Rattle.std.proofs.Common.{◌≡◌, ◌≤◌, ◌+◌, ◌-◌, false, length, IfOk, OnErr}
-use Rattle.wf_link.specs.Counts.{Rose}
-use Rattle.wf_link.specs.Sources.{IsAtEnd}
+use Rattle.std.proofs.Common.{◌≡◌, ◌≤◌, ◌+◌, ◌-◌, length}
 use Rattle.wf_http1.specs.BodyLaws.{most_open}
 use Rattle.wf_wire.specs.Wires.{window_of}
-use Rattle.wf_wire.proofs.BodyLemmas.{tries_left}
 use Rattle.wf_wire.proofs.WireLemmas.{Receives}
 use Rattle.wf_wire.proofs.wire.Wire.find_end.Given as goal
 
--- what was received was read or stands in the window, and why no more may be received
+-- what was received was read or stands in the window
 abbrev pub invariant-loop-end : goal.invariant-loop-end
 invariant-loop-end g l = record {
   received : Receives (window_of l.fn.self) (g.L.Link.left l.fn.link) l.reader.bytes (window_of l.self)
       (g.L.Link.left l.link);
   framing : l.reader.framing ≡ l.fn.self.framing;
   limit : l.reader.limit ≡ l.limit;
-  end : IfOk l.more (λ more. more ≡ false → IsAtEnd (g.L.Link.left l.link));
-  rose : OnErr l.more (Rose (g.L.Link.faults l.fn.link) (g.L.Link.faults l.link));
   state : g.L.Link.state l.link ≡ g.L.Link.state l.fn.link;
   later : g.L.Link.faults l.fn.link ≤ g.L.Link.faults l.link;
 }
 
--- as long as more may come a byte comes, and bytes that leave a body open are so many at most
+-- each receive takes a byte, and bytes that leave a body open are so many at most
 abbrev pub decreases-loop-end : goal.decreases-loop-end
 decreases-loop-end g l =
-    ((most_open l.fn.self.framing l.limit + 1) - (length l.reader.bytes + length (window_of l.self)))
-    + tries_left l.more
+    (most_open l.fn.self.framing l.limit + 1) - (length l.reader.bytes + length (window_of l.self))

@@ -26,6 +26,7 @@ loop-count-preserved g c =
           c.receive_behind.new.buffer _ c.loop-count.self.from c.loop-count.self.to c.in_ok-count.count is.front is.gave
           c.as_mut_slice.ensures.value came.kept came.gave now;
       front = is.front;
+      few = λ some. omega (arith, c.if-self-fewest.false);
       some_room = omega (arith, ap length now, came.within, c.len.ensures, c.if-self-len.false);
       framing = is.framing;
       state = came.state ∙ is.state;

@@ -8,6 +8,7 @@ abbrev pub invariant-loop-count : goal.invariant-loop-count
 invariant-loop-count g l = record {
   gave : Gave (g.L.Link.left l.fn.link) (g.L.Link.left l.link) (window_of l.self);
   front : l.self.from ≡ 0;
+  few : 0 < l.self.to → l.self.to < l.fewest;
   some_room : l.self.to < length l.self.buffer.items;
   framing : l.self.framing ≡ l.fn.self.framing;
   state : g.L.Link.state l.link ≡ g.L.Link.state l.fn.link;
