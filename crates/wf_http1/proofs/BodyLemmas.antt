@@ -252,3 +252,45 @@ opened self how limit bytes bytes' piece held held' room room' place place' foun
       ap (λ b. record { framing = how; limit = limit; bytes = b }) now,
       open-behind how limit bytes piece held held' room room' place place' found reading comes same,
     )
+
+-- ---- fewer bytes than may decide the body
+
+-- bytes that are held as they are, and leave room for more
+held-open : (how : Framing) (limit : ℕ) (bytes piece held : List ℕ) (room : ℕ) (place : Place)
+    → IsReading how limit bytes held room place
+    → ((more : List ℕ) → rest_end how limit held place (piece ++ more) ≡ rest_end how limit (held ++ piece) place more)
+    → length (held ++ piece) ≤ limit → IsWaiting how (held ++ piece) place → IsOpen how limit (bytes ++ piece)
+held-open how limit bytes piece held room place reading on within waiting =
+    stays-open how limit (bytes ++ piece) (held ++ piece) room place
+    (read-on how limit bytes piece held (held ++ piece) room room place place reading (record {
+      meaning = on;
+      within = within;
+      reserved = reading.reserved;
+      waiting = waiting;
+    })) waiting
+
+-- fewer than the length and the limit leave
+pub fewer-length : (self : BodyReading) (how : Framing) (total limit : ℕ) (bytes piece held : List ℕ) (room : ℕ)
+    (place : Place) → record { framing = how; limit = limit; bytes = bytes } ≡ self → how ≡ Length total
+    → IsReading how limit bytes held room place → length held + length piece < total
+    → length held + length piece ≤ limit → IsOpen self.framing self.limit (self.bytes ++ piece)
+fewer-length self how total limit bytes piece held room place seen is reading few within =
+    subst (λ (s : BodyReading). IsOpen s.framing s.limit (s.bytes ++ piece)) seen
+    (subst (λ (f : Framing). IsOpen f limit (bytes ++ piece)) (sym is)
+    (held-open (Length total) limit bytes piece held room place
+    (subst (λ (f : Framing). IsReading f limit bytes held room place) is reading)
+    (λ more. ap (body_end (Length total) limit) (sym (append_assoc held piece more)))
+    (omega (arith, within, length-append held piece)) (omega (arith, few, length-append held piece))))
+
+-- fewer than the limit leaves
+pub fewer-to_end : (self : BodyReading) (how : Framing) (limit : ℕ) (bytes piece held : List ℕ) (room : ℕ)
+    (place : Place) → record { framing = how; limit = limit; bytes = bytes } ≡ self → how ≡ ToEnd
+    → IsReading how limit bytes held room place → length held + length piece ≤ limit
+    → IsOpen self.framing self.limit (self.bytes ++ piece)
+fewer-to_end self how limit bytes piece held room place seen is reading within =
+    subst (λ (s : BodyReading). IsOpen s.framing s.limit (s.bytes ++ piece)) seen
+    (subst (λ (f : Framing). IsOpen f limit (bytes ++ piece)) (sym is)
+    (held-open ToEnd limit bytes piece held room place
+    (subst (λ (f : Framing). IsReading f limit bytes held room place) is reading)
+    (λ more. ap (body_end ToEnd limit) (sym (append_assoc held piece more)))
+    (omega (arith, within, length-append held piece)) tt))

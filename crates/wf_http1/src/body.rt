@@ -1,5 +1,5 @@
-ghost use Rattle.std.specs.Prelude.{◌≡◌, ◌≤◌, [], length, IfOk};
-ghost use Rattle.wf_http1.specs.Bodies.{body_end};
+ghost use Rattle.std.specs.Prelude.{◌≡◌, ◌≤◌, ◌<◌, ◌++◌, ℕ, List, [], length, IfOk};
+ghost use Rattle.wf_http1.specs.Bodies.{IsOpen, body_end};
 ghost use Rattle.wf_http1.specs.BodyFeeding.{IsFed};
 ghost use Rattle.wf_http1.specs.Private.BodyPlaces as places;
 ghost use Rattle.wf_http1.specs.Private.BodyPlaces.{IsKept, rest_end};
@@ -9,7 +9,7 @@ ghost use Rattle.wf_http1.specs.declared.place.Place.{Place};
 use crate::framing::{Framing, framing_of};
 use crate::place::Place;
 use crate::seen::Seen;
-use crate::taking::{Found, take_piece};
+use crate::taking::{Found, least, take_piece};
 use std::alloc::Global;
 use std::marker::Model;
 use wf_text::{Bytes, OutOfMemory};
@@ -104,6 +104,20 @@ impl BodyReader {
             Found::Whole => BodyStep::Over(whole(held)),
             Found::Cut => BodyStep::Over(BodyEnd::Cut(held.len() as u32)),
             Found::TooBig => BodyStep::Over(BodyEnd::TooBig),
+        }
+    }
+
+    /// How many bytes more may decide the body: fewer leave it open. It is 0 where that is not known, as it is of chunks.
+    pub fn fewest(&self) -> usize
+        ensures { (piece : List ℕ) → length piece < result
+            → IsOpen self.now.framing self.now.limit (self.now.bytes ++ piece) }
+    {
+        let held = self.held.len();
+        let beyond = self.limit as usize + 1;
+        match self.framing {
+            Framing::Length(total) => least(total, beyond) - held,
+            Framing::ToEnd => beyond - held,
+            Framing::Nothing | Framing::Broken | Framing::Chunked => 0,
         }
     }
 

@@ -78,7 +78,7 @@ fn take_length(held: &mut Vec<u8>, limit: u32, total: u64, piece: &[u8]) -> Foun
 }
 
 // The lesser of a count of bytes and of how many there are.
-fn least(count: u64, len: usize) -> usize
+pub(crate) fn least(count: u64, len: usize) -> usize
     ensures { result ≡ min count len }
 {
     count.min(len as u64) as usize

@@ -65,16 +65,6 @@ impl Short {
         piece.len() <= SHORT - self.len as usize
     }
 
-    /// An equal text.
-    pub(crate) fn copy(&self) -> Short
-        ensures { result ≡ self.now }
-    {
-        Short {
-            bytes: self.bytes,
-            len: self.len,
-        }
-    }
-
     /// Adds the bytes at the end.
     pub(crate) fn append(&mut self, piece: &[u8])
         requires { length self.old + length piece.now ≤ 23 }

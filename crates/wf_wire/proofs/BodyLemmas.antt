@@ -1,5 +1,6 @@
 -- What a reader of a body that is fed a wire's window finds in the bytes that were to come.
 use Rattle.std.proofs.Common.{◌≡◌, ℕ, ◌+◌, ◌-◌, ◌≤◌, ◌<◌, Bool, true, false, List, [], ◌++◌, length, refl, ap, sym}
+use Rattle.std.proofs.Common.{◌∷◌}
 use Rattle.std.proofs.Common.{suc, take, inl, inr, subst, ◌∙◌, arith, length-append, Option, nat_le, nat_lt}
 use Rattle.std.specs.Prelude.{unwrap_or, if◌then◌else◌}
 use Rattle.std.proofs.lemmas.Bool.Decides.{leb_tells}
@@ -7,7 +8,7 @@ use Rattle.std.proofs.lemmas.List.{append-nil}
 use Rattle.wf_types.specs.declared.response.BodyEnd.{BodyEnd}
 use Rattle.wf_types.specs.declared.response.BodyEnd.TheVariants as body
 use Rattle.wf_link.specs.Sources.{Gave, IsAtEnd}
-use Rattle.wf_http1.specs.Bodies.{IsOpen, body_end, ended}
+use Rattle.wf_http1.specs.Bodies.{IsDecided, IsOpen, body_end, ended}
 use Rattle.wf_http1.specs.BodyFeeding.{IsFed}
 use Rattle.wf_http1.specs.BodyLaws.{most_open}
 use Rattle.wf_http1.specs.BodyReading.{BodyReading}
@@ -20,7 +21,7 @@ use Rattle.wf_act.specs.declared.act.Input.TheVariants.{BodyIs}
 use Rattle.wf_wire.specs.Exchanges.{Exchange, HasBody, IsBodyRead, IsIdle, LeavesBody, count_of}
 use Rattle.wf_wire.specs.Private.Reads.{HasAtMost}
 use Rattle.wf_wire.specs.Wires.{onto_left}
-use Rattle.wf_wire.proofs.WireLemmas.{Receives, come-first, come-all, nothing-left, receives-more, receives-read}
+use Rattle.wf_wire.proofs.WireLemmas.{Receives, come-first, come-all, nothing-left, receives-more}
 use Rattle.wf_wire.proofs.WireLemmas.{uncaused}
 
 -- ---- the end of an answer is no fault
@@ -97,6 +98,24 @@ pub end-most : (how : Framing) (limit most : ℕ) (bytes : List ℕ) (end : Body
 end-most how limit most bytes end is le =
     has-more end limit most le (subst (λ (e : BodyEnd). HasAtMost e limit) (sym is) (body-most how limit bytes))
 
+-- ---- the last bytes
+
+-- the bytes decide the body, so it comes to that end behind them
+pub decided-end : (how : Framing) (limit : ℕ) (bytes piece now : List ℕ) (end : BodyEnd) → piece ≡ now
+    → IsDecided how limit (bytes ++ piece) end → end ≡ body_end how limit (bytes ++ now)
+decided-end how limit bytes piece now end same decides =
+    sym (decides []) ∙ ap (λ (l : List ℕ). body_end how limit l) (append-nil (bytes ++ piece)
+    ∙ ap (λ (p : List ℕ). bytes ++ p) same)
+
+-- no more bytes, or fewer than may decide the body, leave it open
+open-behind : (how : Framing) (limit : ℕ) (bytes more : List ℕ) (fewest : ℕ) → IsOpen how limit bytes
+    → (0 < length more → length more < fewest)
+    → ((piece : List ℕ) → length piece < fewest → IsOpen how limit (bytes ++ piece))
+    → IsOpen how limit (bytes ++ more)
+open-behind how limit bytes [] fewest waits few opens =
+    subst (λ (l : List ℕ). IsOpen how limit l) (sym (append-nil bytes)) waits
+open-behind how limit bytes (byte ∷ more) fewest waits few opens = opens (byte ∷ more) (few (omega arith))
+
 -- ---- what was fed
 
 module _ (window : List ℕ) (left : Option (List ℕ)) (how : Framing) (limit : ℕ) (reading : BodyReading)
@@ -143,40 +162,38 @@ module _ (window : List ℕ) (left : Option (List ℕ)) (how : Framing) (limit :
   body-goes-on next more left'' fed gave =
       receives-more window left reading.bytes now next.bytes more left' left'' (body-read next fed) gave so_far
 
-  -- or the answer ended
+  -- or the answer ended behind some more
   pub body-ended : (next : BodyReading) (more : List ℕ) (left'' : Option (List ℕ)) (end : BodyEnd)
-      → IsFed reading piece (bodies.More next) → Gave left' left'' more → more ≡ [] → IsAtEnd left''
-      → end ≡ body_end next.framing next.limit next.bytes → HasBody how limit (onto_left window left) end
-  body-ended next more left'' end fed gave none at_end ends =
-      let all : next.bytes ≡ (next.bytes ++ more) ++ unwrap_or left'' [] =
+      → IsFed reading piece (bodies.More next) → Gave left' left'' more → IsAtEnd left''
+      → end ≡ body_end next.framing next.limit (next.bytes ++ more) → HasBody how limit (onto_left window left) end
+  body-ended next more left'' end fed gave at_end ends =
+      let all : next.bytes ++ more ≡ (next.bytes ++ more) ++ unwrap_or left'' [] =
       sym (ap (λ (l : List ℕ). (next.bytes ++ more) ++ l) (nothing-left left'' at_end)
-      ∙ append-nil (next.bytes ++ more) ∙ ap (λ (l : List ℕ). next.bytes ++ l) none ∙ append-nil next.bytes) in
+      ∙ append-nil (next.bytes ++ more)) in
       record {
         bytes = (next.bytes ++ more) ++ unwrap_or left'' [];
         are_all = come-all window next.bytes more left left'' (body-goes-on next more left'' fed gave);
-        ends = ends ∙ ap (λ (f : Framing). body_end f next.limit next.bytes) (body-framed next fed)
-            ∙ ap (λ (l : ℕ). body_end how l next.bytes) (body-limited next fed)
+        ends = ends ∙ ap (λ (f : Framing). body_end f next.limit (next.bytes ++ more)) (body-framed next fed)
+            ∙ ap (λ (l : ℕ). body_end how l (next.bytes ++ more)) (body-limited next fed)
             ∙ ap (λ (l : List ℕ). body_end how limit l) all;
       }
 
-  -- or the link failed
-  pub body-fails : (next : BodyReading) (left'' : Option (List ℕ)) (end : BodyEnd) (n : ℕ)
-      → IsFed reading piece (bodies.More next) → left'' ≡ left'
-      → end ≡ body_end next.framing next.limit next.bytes → n ≡ count_of end
+  -- or the link failed behind fewer than may decide the body
+  pub body-fails : (next : BodyReading) (more : List ℕ) (left'' : Option (List ℕ)) (end : BodyEnd) (n fewest : ℕ)
+      → IsFed reading piece (bodies.More next) → Gave left' left'' more → (0 < length more → length more < fewest)
+      → ((bytes : List ℕ) → length bytes < fewest → IsOpen next.framing next.limit (next.bytes ++ bytes))
+      → end ≡ body_end next.framing next.limit (next.bytes ++ more) → n ≡ count_of end
       → LeavesBody how limit (onto_left window left) left'' n
-  body-fails next left'' end n fed kept ends counts =
-      let reads =
-      receives-read window left reading.bytes now next.bytes left' left'' (body-read next fed) kept so_far in
-      let all : next.bytes ++ [] ≡ next.bytes = append-nil next.bytes in
-      record {
-        bytes = next.bytes;
-        came = subst (λ (l : List ℕ). Gave (onto_left window left) left'' l) all
-            (come-first window next.bytes [] left left'' reads);
-        waits = body-open next fed;
-        count_is = counts ∙ ap count_of (ends
-            ∙ ap (λ (f : Framing). body_end f next.limit next.bytes) (body-framed next fed)
-            ∙ ap (λ (l : ℕ). body_end how l next.bytes) (body-limited next fed));
-      }
+  body-fails next more left'' end n fewest fed gave few opens ends counts = record {
+    bytes = next.bytes ++ more;
+    came = come-first window next.bytes more left left'' (body-goes-on next more left'' fed gave);
+    waits = open-behind how limit next.bytes more fewest (body-open next fed) few (λ bytes few'.
+        subst (λ (f : Framing). IsOpen f limit (next.bytes ++ bytes)) (body-framed next fed)
+        (subst (λ (l : ℕ). IsOpen next.framing l (next.bytes ++ bytes)) (body-limited next fed) (opens bytes few')));
+    count_is = counts ∙ ap count_of (ends
+        ∙ ap (λ (f : Framing). body_end f next.limit (next.bytes ++ more)) (body-framed next fed)
+        ∙ ap (λ (l : ℕ). body_end how l (next.bytes ++ more)) (body-limited next fed));
+  }
 
   -- fewer bytes are left to an open body than before
   pub body-nears : (next : BodyReading) (more : List ℕ) → IsFed reading piece (bodies.More next) → 0 < length more

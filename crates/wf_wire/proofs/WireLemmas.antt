@@ -1,8 +1,9 @@
 -- What a wire's window and its link have of the bytes that were to come.
 use Rattle.std.proofs.Common.{◌≡◌, ℕ, ◌+◌, ◌-◌, ◌≤◌, List, [], ◌++◌, take, drop, length, refl, ap, sym}
-use Rattle.std.proofs.Common.{true, false, ◌∙◌, arith, append_assoc, length-append, Option, Some, None}
+use Rattle.std.proofs.Common.{true, false, subst, ◌∙◌, arith, append_assoc, length-append, Option, Some, None}
 use Rattle.std.specs.Prelude.{slice_range, unwrap_or}
 use Rattle.std.proofs.lemmas.List.{append-nil, drop-append-le, drop-drop, drop-take, length-take, take-append-drop}
+use Rattle.std.proofs.lemmas.List.{take-take}
 use Rattle.std.proofs.Math.Seq.{drop-append-add}
 use Rattle.wf_link.specs.Sources.{Gave, GaveAtMost, IsAtEnd}
 use Rattle.wf_link.proofs.SourceLemmas.{gave-again}
@@ -133,3 +134,32 @@ module _ (window read now : List ℕ) where
 pub nothing-left : (left : Option (List ℕ)) → IsAtEnd left → unwrap_or left [] ≡ []
 nothing-left None end = refl
 nothing-left (Some rest) end = end
+
+-- ---- what is gathered at the front of the buffer
+
+front-is : (buffer : List ℕ) (from to : ℕ) → from ≡ 0 → slice_range buffer from to ≡ take to buffer
+front-is buffer from to front =
+    let all : to - 0 ≡ to = omega arith in
+    ap (λ (n : ℕ). slice_range buffer n to) front ∙ ap (λ (n : ℕ). take n buffer) all
+
+-- more was received behind it
+gathered-on : (a b c : Option (List ℕ)) (old new : List ℕ) (from to count : ℕ) → from ≡ 0
+    → Gave a b (slice_range old from to) → take to new ≡ take to old → Gave b c (take count (drop to new))
+    → Gave a c (slice_range new from (to + count))
+gathered-on a b c old new from to count front so_far kept gave =
+    let all : List ℕ = take (to + count) new in
+    let before : take to all ≡ take to old = take-take to (to + count) new (omega arith) ∙ kept in
+    let joined : all ≡ take to old ++ take count (drop to new) =
+    sym (take-append-drop to all) ∙ ap (λ (l : List ℕ). l ++ drop to all) before
+    ∙ ap (λ (l : List ℕ). take to old ++ l) (drop-take to count new) in
+    gave-again a b c (take to old) (take count (drop to new)) (slice_range new from (to + count))
+    (subst (λ (l : List ℕ). Gave a b l) (front-is old from to front) so_far) gave
+    (front-is new from (to + count) front ∙ joined)
+
+-- the same where the buffer was lent
+pub gathered-more : (a b c : Option (List ℕ)) (old lent new now : List ℕ) (from to count : ℕ) → from ≡ 0
+    → Gave a b (slice_range old from to) → lent ≡ old → take to new ≡ take to lent
+    → Gave b c (take count (drop to new)) → now ≡ new → Gave a c (slice_range now from (to + count))
+gathered-more a b c old lent new now from to count front so_far same kept gave is =
+    subst (λ (l : List ℕ). Gave a c (slice_range l from (to + count))) (sym is)
+    (gathered-on a b c old new from to count front so_far (kept ∙ ap (λ (l : List ℕ). take to l) same) gave)

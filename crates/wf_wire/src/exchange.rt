@@ -1,8 +1,9 @@
 // What is done over a wire: a request goes out, and the head and the body of its answer come in.
-ghost use Rattle.std.specs.Prelude.{◌≡◌, ◌≤◌, ◌+◌, ◌-◌, ◌^◌, length, IfOk, OnErr, IsTrue};
+ghost use Rattle.std.specs.Prelude.{◌≡◌, ◌≤◌, ◌+◌, ◌-◌, ◌^◌, ◌++◌, length, IfOk, OnErr, IsTrue};
 ghost use Rattle.wf_link.specs.Counts.{Rose};
 ghost use Rattle.wf_link.specs.Sources.{GaveAtMost};
 ghost use Rattle.wf_http1.specs.Answers.{most_bytes};
+ghost use Rattle.wf_http1.specs.Bodies.{body_end};
 ghost use Rattle.wf_act.specs.Process.{fits};
 ghost use Rattle.wf_wire.specs.Exchanges as spec;
 ghost use Rattle.wf_wire.specs.Exchanges.{IsAsked, IsBodyRead, IsHeadRead, IsSent, Refuses};
@@ -218,11 +219,25 @@ impl Wire {
                 BodyStep::Over(end) => return Ok(Ended::Body(end)),
                 BodyStep::More(next) => reader = next,
             }
-            match self.refill(link, RECEIVED) {
+            match self.gather(link, reader.fewest()) {
                 Ok(true) => {}
-                Ok(false) => return Ok(Ended::Body(reader.finish())),
-                Err(Failed) => return Ok(Ended::Fault(count_of(&reader.finish()))),
+                Ok(false) => return Ok(Ended::Body(self.last(reader))),
+                Err(Failed) => return Ok(Ended::Fault(count_of(&self.last(reader)))),
             }
+        }
+    }
+
+    // How a body comes to its end where the answer ends behind the window.
+    fn last(&self, reader: BodyReader) -> BodyEnd
+        ensures { result ≡ body_end reader.framing reader.limit (reader.bytes ++ window_of self.now) }
+    {
+        let window = self.window();
+        if window.is_empty() {
+            return reader.finish();
+        }
+        match reader.feed(window) {
+            BodyStep::Over(end) => end,
+            BodyStep::More(next) => next.finish(),
         }
     }
 }

@@ -1,4 +1,4 @@
-ghost use Rattle.std.specs.Prelude.{◌≡◌, ◌≤◌, ◌<◌, [], length, drop, take, true, false, Ok, IfOk, OnOk, OnErr};
+ghost use Rattle.std.specs.Prelude.{◌≡◌, ◌≤◌, ◌<◌, ◌+◌, [], length, drop, take, true, false, Ok, IfOk, OnOk, OnErr};
 ghost use Rattle.wf_link.specs.Counts.{HasCause};
 ghost use Rattle.wf_link.specs.Sources.{Gave, IsAtEnd};
 
@@ -38,6 +38,22 @@ fn receive<L: Link>(link: &mut L, buffer: &mut [u8], most: usize) -> Result<usiz
 {
     let room = buffer.len().min(most);
     link.recv(&mut buffer[..room])
+}
+
+// Receives bytes behind so many in the buffer, which stay, and answers how many.
+fn receive_behind<L: Link>(link: &mut L, buffer: &mut [u8], behind: usize) -> Result<usize, Failed>
+    requires { behind < length buffer.old }
+    ensures state { L.state link.new ≡ L.state link.old }
+    ensures length { length buffer.new ≡ length buffer.old }
+    ensures within { IfOk result (λ count. behind + count ≤ length buffer.new) }
+    ensures kept { take behind buffer.new ≡ take behind buffer.old }
+    ensures gave { IfOk result (λ count. Gave (L.left link.old) (L.left link.new)
+        (take count (drop behind buffer.new))) }
+    ensures end { result ≡ Ok 0 → IsAtEnd (L.left link.new) }
+    ensures failed { OnErr result (L.left link.new ≡ L.left link.old) }
+    ensures cause { HasCause (L.faults link.old) (L.faults link.new) result }
+{
+    link.recv(&mut buffer[behind..])
 }
 
 impl Wire {
@@ -119,6 +135,29 @@ impl Wire {
         self.from = 0;
         self.to = count;
         Ok(count != 0)
+    }
+
+    // Receives bytes in place of those in the window, until there are so many, or as many as the buffer holds. Answers
+    // whether more may come: not where the answer ended. What came before its end, or before the link failed, stands in
+    // the window.
+    pub(crate) fn gather<L: Link>(&mut self, link: &mut L, fewest: usize) -> Result<bool, Failed>
+        ensures state { L.state link.new ≡ L.state link.old }
+        ensures framing { self.new.framing ≡ self.old.framing }
+        ensures gave { Gave (L.left link.old) (L.left link.new) (window_of self.new) }
+        ensures some { IfOk result (λ more. more ≡ true → 0 < length (window_of self.new)) }
+        ensures end { IfOk result (λ more. more ≡ false → IsAtEnd (L.left link.new)) }
+        ensures few { OnErr result (0 < length (window_of self.new) → length (window_of self.new) < fewest) }
+        ensures cause { HasCause (L.faults link.old) (L.faults link.new) result }
+    {
+        self.from = 0;
+        self.to = 0;
+        loop {
+            let count = receive_behind(link, self.buffer.as_mut_slice(), self.to)?;
+            self.to += count;
+            if count == 0 || self.to >= fewest || self.to == self.buffer.len() {
+                return Ok(count != 0);
+            }
+        }
     }
 
     // So many bytes of the window were read, and a body of this framing follows.

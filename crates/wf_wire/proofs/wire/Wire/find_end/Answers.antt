@@ -14,21 +14,22 @@ returns-in-Over-clause-ended g c =
 pub returns-in-Ok-false-clause-ended : goal.returns-in-Ok-false-clause-ended
 returns-in-Ok-false-clause-ended g c =
     let is = c.loop-end.invariant in
-    let came = c.in-Ok-false.ensures in
+    let came = c.gather.ensures in
     body-ended (window_of c.args.self.now) (g.L.Link.left c.args.link.now) c.args.self.now.framing c.args.limit
     c.loop-end.reader c.window.result.now (window_of c.loop-end.self) (g.L.Link.left c.loop-end.link)
-    c.window.ensures is.framing is.limit is.received c.in-More.next (window_of c.refill.new.self)
-    (g.L.Link.left c.refill.new.link) c.finish.result c.in-More.ensures came.gave
-    (came.none c.in-Ok-false.field-0-test) (came.end c.in-Ok-false.field-0-test) c.finish.ensures
+    c.window.ensures is.framing is.limit is.received c.in-More.next (window_of c.gather.new.self)
+    (g.L.Link.left c.gather.new.link) c.last.result c.in-More.ensures came.gave
+    (c.in-Ok-false.ensures.end c.in-Ok-false.field-0-test) c.last.ensures
 
 pub returns-in-Err-clause-ended : goal.returns-in-Err-clause-ended
 returns-in-Err-clause-ended g c =
     let is = c.loop-end.invariant in
+    let came = c.gather.ensures in
     body-fails (window_of c.args.self.now) (g.L.Link.left c.args.link.now) c.args.self.now.framing c.args.limit
     c.loop-end.reader c.window.result.now (window_of c.loop-end.self) (g.L.Link.left c.loop-end.link)
-    c.window.ensures is.framing is.limit is.received c.in-More.next (g.L.Link.left c.refill.new.link)
-    c.finish-in-Err.result c.count_of.result c.in-More.ensures c.in-Err.ensures.failed c.finish-in-Err.ensures
-    c.count_of.ensures
+    c.window.ensures is.framing is.limit is.received c.in-More.next (window_of c.gather.new.self)
+    (g.L.Link.left c.gather.new.link) c.last-in-Err.result c.count_of.result c.fewest.result c.in-More.ensures came.gave
+    c.in-Err.ensures.few c.fewest.ensures c.last-in-Err.ensures c.count_of.ensures
 
 pub count_of-requires : goal.count_of-requires
 count_of-requires g c =
@@ -37,15 +38,15 @@ count_of-requires g c =
     body-limited (window_of c.args.self.now) (g.L.Link.left c.args.link.now) c.args.self.now.framing c.args.limit
     c.loop-end.reader c.window.result.now (window_of c.loop-end.self) (g.L.Link.left c.loop-end.link)
     c.window.ensures is.framing is.limit is.received c.in-More.next c.in-More.ensures in
-    end-most c.in-More.next.framing c.in-More.next.limit (2 ^ 32 - 1) c.in-More.next.bytes c.finish-in-Err.result
-    c.finish-in-Err.ensures (omega (arith, same, c.ranges.limit.fits))
+    end-most c.in-More.next.framing c.in-More.next.limit (2 ^ 32 - 1) _ c.last-in-Err.result
+    c.last-in-Err.ensures (omega (arith, same, c.ranges.limit.fits))
 
 pub loop-end-smaller : goal.loop-end-smaller
 loop-end-smaller g c =
     let is = c.loop-end.invariant in
     body-nears (window_of c.args.self.now) (g.L.Link.left c.args.link.now) c.args.self.now.framing c.args.limit
     c.loop-end.reader c.window.result.now (window_of c.loop-end.self) (g.L.Link.left c.loop-end.link)
-    c.window.ensures is.framing is.limit is.received c.in-More.next (window_of c.refill.new.self) c.in-More.ensures
+    c.window.ensures is.framing is.limit is.received c.in-More.next (window_of c.gather.new.self) c.in-More.ensures
     (c.in-Ok-true.ensures.some c.in-Ok-true.field-0-test)
 
 pub loop-end-preserved : goal.loop-end-preserved
@@ -56,7 +57,7 @@ loop-end-preserved g c =
       received = body-goes-on (window_of c.args.self.now) (g.L.Link.left c.args.link.now)
           c.args.self.now.framing c.args.limit c.loop-end.reader c.window.result.now (window_of c.loop-end.self)
           (g.L.Link.left c.loop-end.link) c.window.ensures is.framing is.limit is.received c.in-More.next
-          (window_of c.refill.new.self) (g.L.Link.left c.refill.new.link) c.in-More.ensures came.gave;
+          (window_of c.gather.new.self) (g.L.Link.left c.gather.new.link) c.in-More.ensures c.gather.ensures.gave;
       framing = body-framed (window_of c.args.self.now) (g.L.Link.left c.args.link.now)
           c.args.self.now.framing c.args.limit c.loop-end.reader c.window.result.now (window_of c.loop-end.self)
           (g.L.Link.left c.loop-end.link) c.window.ensures is.framing is.limit is.received c.in-More.next

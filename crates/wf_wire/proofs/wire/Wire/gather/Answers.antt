@@ -1,0 +1,34 @@
+use Rattle.std.proofs.Common.{◌∙◌, ap, length, arith}
+use Rattle.std.proofs.lemmas.List.{with_items_is}
+use Rattle.wf_wire.proofs.WireLemmas.{gathered-more}
+use Rattle.wf_wire.proofs.wire.Wire.gather.Goals as goal
+
+pub returns-then-count-eq0-clause-gave : goal.returns-then-count-eq0-clause-gave
+returns-then-count-eq0-clause-gave g c =
+    let is = c.loop-count.invariant in
+    let came = c.in_ok-count.ensures in
+    let now = with_items_is c.loop-count.self.buffer c.receive_behind.new.buffer
+    (omega (arith, came.length, ap length c.as_mut_slice.ensures.value, c.loop-count.self.buffer.ok.0)) in
+    gathered-more (g.L.Link.left c.args.link.now) (g.L.Link.left c.loop-count.link)
+    (g.L.Link.left c.receive_behind.new.link) c.loop-count.self.buffer.items c.as_mut_slice.result.now
+    c.receive_behind.new.buffer _ c.loop-count.self.from c.loop-count.self.to c.in_ok-count.count is.front is.gave
+    c.as_mut_slice.ensures.value came.kept came.gave now
+
+pub loop-count-preserved : goal.loop-count-preserved
+loop-count-preserved g c =
+    let is = c.loop-count.invariant in
+    let came = c.in_ok-count.ensures in
+    let now = with_items_is c.loop-count.self.buffer c.receive_behind.new.buffer
+    (omega (arith, came.length, ap length c.as_mut_slice.ensures.value, c.loop-count.self.buffer.ok.0)) in
+    record {
+      gave = gathered-more (g.L.Link.left c.args.link.now) (g.L.Link.left c.loop-count.link)
+          (g.L.Link.left c.receive_behind.new.link) c.loop-count.self.buffer.items c.as_mut_slice.result.now
+          c.receive_behind.new.buffer _ c.loop-count.self.from c.loop-count.self.to c.in_ok-count.count is.front is.gave
+          c.as_mut_slice.ensures.value came.kept came.gave now;
+      front = is.front;
+      few = λ some. omega (arith, c.if-self-fewest.false);
+      some_room = omega (arith, ap length now, came.within, c.len.ensures, c.if-self-len.false);
+      framing = is.framing;
+      state = came.state ∙ is.state;
+      later = omega (arith, is.later, came.cause.later);
+    }

@@ -1,0 +1,20 @@
+use Rattle.std.proofs.Common.{◌≡◌, ◌≤◌, ◌<◌, ◌-◌, length}
+use Rattle.wf_link.specs.Sources.{Gave}
+use Rattle.wf_wire.specs.Wires.{window_of}
+use Rattle.wf_wire.proofs.wire.Wire.gather.Given as goal
+
+-- what was received stands in the window, at the front of the buffer, and there is room
+abbrev pub invariant-loop-count : goal.invariant-loop-count
+invariant-loop-count g l = record {
+  gave : Gave (g.L.Link.left l.fn.link) (g.L.Link.left l.link) (window_of l.self);
+  front : l.self.from ≡ 0;
+  few : 0 < l.self.to → l.self.to < l.fewest;
+  some_room : l.self.to < length l.self.buffer.items;
+  framing : l.self.framing ≡ l.fn.self.framing;
+  state : g.L.Link.state l.link ≡ g.L.Link.state l.fn.link;
+  later : g.L.Link.faults l.fn.link ≤ g.L.Link.faults l.link;
+}
+
+-- each receive takes a byte
+abbrev pub decreases-loop-count : goal.decreases-loop-count
+decreases-loop-count g l = length l.self.buffer.items - l.self.to
