@@ -9,6 +9,15 @@ use Rattle.wf_drive.proofs.AskLemmas.{end-left, outside-is}
 use Rattle.wf_player.proofs.RunLemmas.{ending-told, run-cut, run-ended, run-stopped, run-unbegun, run-whole}
 use Rattle.wf_player.proofs.document.run_whole.Goals as goal
 
+pub returns-in_err-key-clause-began : goal.returns-in_err-key-clause-began
+returns-in_err-key-clause-began g c =
+    let lent = setting c.args.lent.now.client.now c.args.lent.now.policies.now c.args.lent.now.cookies.now in
+    let old = outside g.S.Share.own g.S.Share.left g.L.Link.state g.L.Link.faults c.args.pass.now c.args.link.now in
+    run-unbegun (over_link g.L.Link.answer g.L.Link.next) c.args.lent.now.limit
+    (g.S.Share.document c.args.pass.now)
+    (script_run lent c.args.script.now finished c.args.running.now) c.args.running.now c.from_residual.result
+    old old refl (ap (λ (p : Progress). p.shown) c.requires.base)
+
 pub returns-in_err-wire-clause-began : goal.returns-in_err-wire-clause-began
 returns-in_err-wire-clause-began g c =
     let lent = setting c.args.lent.now.client.now c.args.lent.now.policies.now c.args.lent.now.cookies.now in
@@ -16,7 +25,7 @@ returns-in_err-wire-clause-began g c =
     let new = outside g.S.Share.own g.S.Share.left g.L.Link.state g.L.Link.faults c.args.pass.now c.new.new.link in
     run-unbegun (over_link g.L.Link.answer g.L.Link.next) c.args.lent.now.limit
     (g.S.Share.document c.args.pass.now)
-    (script_run lent c.args.script.now finished c.args.running.now) c.args.running.now c.from_residual.result
+    (script_run lent c.args.script.now finished c.args.running.now) c.args.running.now c.from_residual-in_err-wire.result
     old new (outside-is new old c.new.ensures.state c.new.ensures.faults refl refl)
     (ap (λ (p : Progress). p.shown) c.requires.base)
 
