@@ -14,6 +14,7 @@ ghost use Rattle.wf_drive.specs.Asking.{CanAnswer};
 ghost use Rattle.wf_drive.specs.Private.Going.{PartNoted, WentOn, from_act};
 
 use crate::act::answer;
+use crate::held::Held;
 use crate::lent::Lent;
 use crate::shown::Shown;
 use std::alloc::Global;
@@ -85,7 +86,11 @@ fn go_on<R: Threads + Wait + Sync, S: Share, L: Link>(
     ensures belongs { S.belongs lent.now.share.now pass.new }
     ensures same { (S.document pass.new ≡ S.document pass.old) × (S.opening pass.new ≡ S.opening pass.old) }
 {
-    let input = answer(lent, pass, link, wire, &act)?;
+    let waiting = Held { value: fetching };
+    let asked = Held { value: act };
+    let input = answer(lent, pass, link, wire, &asked.value)?;
+    let fetching = waiting.into_inner();
+    let act = asked.into_inner();
     let step = take_on(lent, shown, fetching, act, input)?;
     Ok(step)
 }

@@ -1,3 +1,9 @@
+use Rattle.std.proofs.Common.{◌≡◌, ◌++◌, subst}
+use Rattle.wf_act.specs.declared.act.Act.{Act}
+use Rattle.wf_fetch.specs.declared.place.Fetching.{Fetching}
+use Rattle.wf_fetch.specs.Machine.{Does, rest}
+use Rattle.wf_run.specs.Play.{events_of}
+use Rattle.wf_drive.specs.Private.Going.{PartNoted}
 use Rattle.wf_fetch.specs.Then.{context_of}
 use Rattle.wf_wire.specs.Wires.{over_link}
 use Rattle.wf_drive.specs.Driving.{moment_of}
@@ -32,7 +38,8 @@ returns-in_err-step-clause-cut g c =
     c.answer.new.link c.answer.new.wire in
     act-cut by limit document context c.args.fetching c.args.act old c.in_ok-input.input mid
     c.in_ok-input.ensures.fits c.in_ok-input.ensures.came c.from_residual-in_err-step.result c.take_on.new.shown
-    c.in_err-step.ensures.cut
+    (subst (λ (a : Act). PartNoted a c.in_ok-input.input c.args.shown.now c.take_on.new.shown)
+    c.into_inner-act.ensures c.in_err-step.ensures.cut)
 
 pub returns-clause-went : goal.returns-clause-went
 returns-clause-went g c =
@@ -47,4 +54,9 @@ returns-clause-went g c =
     c.answer.new.link c.answer.new.wire in
     act-went by limit document context c.args.fetching c.args.act old c.in_ok-input.input mid
     c.in_ok-input.ensures.fits c.in_ok-input.ensures.came c.take_on.new.shown c.in_ok-step.step
-    c.in_ok-step.ensures.noted c.in_ok-step.ensures.process
+    (subst (λ (a : Act). c.take_on.new.shown ≡ c.args.shown.now ++ events_of a c.in_ok-input.input)
+    c.into_inner-act.ensures c.in_ok-step.ensures.noted)
+    (subst (λ (f : Fetching). Does (context_of c.args.lent.now.client.now c.args.lent.now.policies.now
+    c.args.lent.now.cookies.now f.level.now) c.in_ok-step.step (rest (context_of c.args.lent.now.client.now
+    c.args.lent.now.policies.now c.args.lent.now.cookies.now f.level.now) f c.in_ok-input.input))
+    c.into_inner-fetching.ensures c.in_ok-step.ensures.process)
