@@ -1,6 +1,6 @@
 -- The loop of a fetch.
 use Rattle.std.proofs.Common.{◌≡◌, ℕ, zero, suc, length, ◌+◌, ◌*◌, ◌-◌, ◌<◌, ◌≤◌, ◌^◌, List, [], ◌∷◌, ◌++◌, Some, IsTrue, refl, ap, sym, subst}
-use Rattle.std.proofs.Common.{◌∙◌, arith, append_assoc}
+use Rattle.std.proofs.Common.{◌∙◌, arith, append_assoc, length-append}
 use Rattle.std.proofs.lemmas.List.{append-nil}
 use Rattle.std.specs.Prelude.{Result, OnErr}
 use Rattle.wf_text.specs.declared.memory.OutOfMemory.{OutOfMemory}
@@ -27,6 +27,7 @@ use Rattle.wf_types.specs.declared.response.Outcome.{Outcome}
 use Rattle.wf_wire.specs.Exchanges.{Answering, IsIdle}
 use Rattle.wf_drive.specs.Asking.{CanAnswer}
 use Rattle.wf_drive.specs.Driving.{Drove, FetchCut, FetchedTo, IsBegun, LeadsOn, Moment, moment_of}
+use Rattle.wf_drive.specs.Private.Going.{PartNoted, WentOn, from_act}
 use Rattle.wf_drive.specs.Worlds.{Answers, Outside, Refuses, World, outside_of}
 use Rattle.wf_drive.proofs.AskLemmas.{on-err, refuses-none}
 
@@ -55,6 +56,61 @@ module _ {State : Type 0} (by : Answering State) (limit document : ℕ) where
   left-after old new ReadHead input is = omega (arith, is.left_is)
   left-after old new ReadBody input is = omega (arith, is.left_is)
   left-after old new (Tell violation) input is = omega (arith, ap (λ (w : World State). w.left) is.1)
+
+  -- ---- one act by itself
+
+  module _ (context : Context) (fetching : Fetching) (first : Act) (old : Moment State) where
+    -- memory was refused by the world
+    pub act-refused : (result : Result Step OutOfMemory) (mid : World State)
+        → Refuses (outside_of old.world) (outside_of mid)
+        → OnErr result (FetchCut by limit document (from_act context fetching first) old (moment_of mid old.events))
+    act-refused result mid refused = on-err result (record {
+      tape = [];
+      made = [];
+      missed = [];
+      few = omega arith;
+      place = from_act context fetching first;
+      last = old.world;
+      added = sym (append-nil old.events);
+      trace = stop;
+      left = refused;
+    })
+
+    module _ (input : Input) (mid : World State) (fit : IsTrue (fits first input))
+        (answered : Answers by limit document old.world first input mid) where
+      act-trace : LeadsOn by limit document (from_act context fetching first) old.world (input ∷ [])
+          (events_of first input) (rest context fetching input) mid
+      act-trace = trace-one (with_events (Answers by limit document) events_of) fetching.level.request.value first
+          (rest context fetching) input old.world mid (events_of first input) (answered, refl) fit
+
+      -- memory was refused for its events, or behind them
+      pub act-cut : (result : Result Step OutOfMemory) (events : List Event)
+          → PartNoted first input old.events events
+          → OnErr result (FetchCut by limit document (from_act context fetching first) old (moment_of mid events))
+      act-cut result events x = on-err result (record {
+        tape = input ∷ [];
+        made = x.made;
+        missed = x.missed;
+        few = omega (
+          arith,
+          events-few first input,
+          ap (λ (l : List Event). length l) x.parts,
+          length-append x.made x.missed,
+        );
+        place = rest context fetching input;
+        last = mid;
+        added = x.added;
+        trace = subst (λ (l : List Event). LeadsOn by limit document (from_act context fetching first) old.world
+            (input ∷ []) l (rest context fetching input) mid) x.parts act-trace;
+        left = refuses-none (outside_of mid);
+      })
+
+      -- and the fetch goes on
+      pub act-went : (events : List Event) (at : Step) → events ≡ old.events ++ events_of first input
+          → Does context at (rest context fetching input)
+          → WentOn by limit document context fetching first old at (moment_of mid events)
+      act-went events at noted does =
+          record { input = input; fit = fit; came = answered; noted = noted; does = does }
 
   module _ (context : Context) (whole : Process) (old : Moment State) (most slack : ℕ) where
     -- after so many acts the fetch has shown what was added to the events, and stands at this step
@@ -159,45 +215,6 @@ module _ {State : Type 0} (by : Answering State) (limit document : ℕ) where
           enough = omega (arith, is.enough, asks-here.1.enough, left-after now.world mid first input answered);
         }
 
-        -- memory was refused for the events of the act
-        unnoted : FetchCut by limit document whole old (moment_of mid now.events)
-        unnoted = record {
-          tape = is.tape ++ input ∷ [];
-          made = is.made;
-          missed = events_of first input;
-          few = events-few first input;
-          place = rest context fetching input;
-          last = mid;
-          added = is.added;
-          trace = trace-next;
-          left = refuses-none (outside_of mid);
-        }
-
-        -- or behind them
-        stuck : FetchCut by limit document whole old (moment_of mid (now.events ++ events_of first input))
-        stuck = record {
-          tape = is.tape ++ input ∷ [];
-          made = is.made ++ events_of first input;
-          missed = [];
-          few = omega arith;
-          place = rest context fetching input;
-          last = mid;
-          added = added-next;
-          trace = subst (λ (l : List Event). LeadsOn by limit document whole old.world (is.tape ++ input ∷ []) l
-              (rest context fetching input) mid) (sym (append-nil (is.made ++ events_of first input))) trace-next;
-          left = refuses-none (outside_of mid);
-        }
-
-        -- the same as the call answers it, by the events that it has
-        pub fetching-unnoted : (result : Result Outcome OutOfMemory) (events : List Event) → events ≡ now.events
-            → OnErr result (FetchCut by limit document whole old (moment_of mid events))
-        fetching-unnoted result events kept = rw kept (on-err result unnoted)
-
-        pub fetching-stuck : (result : Result Outcome OutOfMemory) (events : List Event)
-            → events ≡ now.events ++ events_of first input
-            → OnErr result (FetchCut by limit document whole old (moment_of mid events))
-        fetching-stuck result events noted = rw noted (on-err result stuck)
-
         -- and it goes on, at the time of its level
         pub fetching-on : (events : List Event) (at : Step) → events ≡ now.events ++ events_of first input
             → Does (record context { now = fetching.level.now }) at
@@ -207,29 +224,39 @@ module _ {State : Type 0} (by : Answering State) (limit document : ℕ) where
             (subst (λ (n : ℕ). Does (record context { now = n }) at (rest (record context { now = n }) fetching input))
             is.does.now does))
 
-    -- memory was refused by the world
-    refused-at : (count : ℕ) (now : Moment State) (at : Step) (mid : World State)
-        → IsFetching count now at → Refuses (outside_of now.world) (outside_of mid)
-        → FetchCut by limit document whole old (moment_of mid now.events)
-    refused-at count now at mid is refused = record {
-      tape = is.tape;
-      made = is.made;
-      missed = [];
-      few = omega arith;
-      place = is.process;
-      last = now.world;
-      added = is.added;
-      trace = subst (λ (l : List Event). LeadsOn by limit document whole old.world is.tape l is.process now.world)
-          (sym (append-nil is.made)) is.trace;
-      left = refused;
-    }
+      -- one act further
+      pub fetching-went : (mid : World State) (events : List Event) (at : Step)
+          → WentOn by limit document (record context { now = fetching.level.now }) fetching first now at
+          (moment_of mid events)
+          → IsFetching (count + 1) (moment_of mid events) at
+      fetching-went mid events at x = fetching-on x.input mid x.fit x.came events at x.noted x.does
 
-    pub fetching-refused : (result : Result Outcome OutOfMemory) (count : ℕ) (now : Moment State) (at : Step)
-        (mid : World State) → IsFetching count now at → Refuses (outside_of now.world) (outside_of mid)
-        → OnErr result (FetchCut by limit document whole old (moment_of mid now.events))
-    fetching-refused result count now at mid is refused = on-err result (refused-at count now at mid is refused)
+      -- memory was refused at this act
+      cut-here : (new : Moment State) → FetchCut by limit document (from_act context fetching first) now new
+          → FetchCut by limit document whole old new
+      unfolding trace-here
+      cut-here new x = record {
+        tape = is.tape ++ x.tape;
+        made = is.made ++ x.made;
+        missed = x.missed;
+        few = x.few;
+        place = x.place;
+        last = x.last;
+        added = x.added ∙ ap (λ (l : List Event). l ++ x.made) is.added ∙ append_assoc old.events is.made x.made;
+        trace = subst (λ (l : List Event). LeadsOn by limit document whole old.world (is.tape ++ x.tape) l x.place
+            x.last) (sym (append_assoc is.made x.made x.missed))
+            (trace-append (with_events (Answers by limit document) events_of) trace-here x.trace);
+        left = x.left;
+      }
 
-    -- or before the first act
+      pub fetching-cut : (result : Result Outcome OutOfMemory) (new : Moment State)
+          → FetchCut by limit document (from_act (record context { now = fetching.level.now }) fetching first) now new
+          → OnErr result (FetchCut by limit document whole old new)
+      fetching-cut result new x = on-err result (cut-here new
+          (subst (λ (n : ℕ). FetchCut by limit document (from_act (record context { now = n }) fetching first) now new)
+          is.does.now x))
+
+    -- memory was refused before the first act
     unbegun : FetchCut by limit document whole old old
     unbegun = record {
       tape = [];

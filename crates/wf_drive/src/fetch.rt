@@ -1,4 +1,4 @@
-ghost use Rattle.std.specs.Prelude.{◌≡◌, ◌<◌, ◌≤◌, ◌+◌, ◌^◌, [], IfOk, OnErr};
+ghost use Rattle.std.specs.Prelude.{◌≡◌, ◌<◌, ◌≤◌, ◌+◌, ◌++◌, ◌^◌, [], IfOk, IsTrue, OnErr, OnOk};
 ghost use Rattle.wf_fetch.specs.Fetch.{fetch};
 ghost use Rattle.wf_laws.specs.Laws.{most_asks};
 ghost use Rattle.wf_fetch.specs.Then.{context_of};
@@ -7,13 +7,21 @@ ghost use Rattle.wf_types.specs.Requests.{IsClient, IsRequest};
 ghost use Rattle.wf_wire.specs.Wires.{over_link};
 ghost use Rattle.wf_drive.specs.Driving.{Drove, FetchCut, FetchedTo, IsBegun, moment_of};
 ghost use Rattle.wf_drive.specs.Worlds.{outside, world_of};
+ghost use Rattle.wf_act.specs.Process.{fits};
+ghost use Rattle.wf_act.specs.Within.{asks, price_of};
+ghost use Rattle.wf_fetch.specs.Machine.{Leads, rest};
+ghost use Rattle.wf_run.specs.Play.{events_of};
+ghost use Rattle.wf_drive.specs.Asking.{CanAnswer};
+ghost use Rattle.wf_drive.specs.Private.Going.{PartNoted, WentOn, from_act};
 
 use crate::act::answer;
+use crate::held::Held;
 use crate::lent::Lent;
 use crate::shown::Shown;
 use std::alloc::Global;
 use std::sync::Wait;
 use std::thread::Threads;
+use wf_act::{Act, Input};
 use wf_book::Share;
 use wf_csp::Compiled;
 use wf_fetch::{Fetching, Step};
@@ -28,6 +36,64 @@ use wf_wire::Wire;
 pub struct FetchRun {
     pub events: Events,
     pub outcome: Outcome,
+}
+
+// Shows what came of an act, and takes the fetch on from its input.
+fn take_on<R: Threads + Wait + Sync, S: Share>(
+    lent: &Lent<'_, R, S>,
+    shown: &mut Shown,
+    fetching: Fetching,
+    act: Act,
+    input: Input,
+) -> Result<Step, OutOfMemory>
+    requires client { IsClient lent.now.client.now }
+    requires fits { IsTrue (fits fetching.last.value input) }
+    ensures process { Leads (context_of lent.now.client.now lent.now.policies.now lent.now.cookies.now
+        fetching.level.now) result
+        (rest (context_of lent.now.client.now lent.now.policies.now lent.now.cookies.now fetching.level.now) fetching
+        input) }
+    ensures noted { OnOk result (shown.new ≡ shown.old ++ events_of act input) }
+    ensures cut { OnErr result (PartNoted act input shown.old shown.new) }
+{
+    shown.add_act(act, &input)?;
+    let step = fetching.resume(lent.alloc, lent.client, lent.policies, lent.cookies, input)?;
+    Ok(step)
+}
+
+// Does the act that a fetch waits for, shows it, and takes the fetch to its next step.
+fn go_on<R: Threads + Wait + Sync, S: Share, L: Link>(
+    lent: &Lent<'_, R, S>,
+    pass: &mut S::Pass,
+    link: &mut L,
+    wire: &mut Wire,
+    shown: &mut Shown,
+    fetching: Fetching,
+    act: Act,
+) -> Result<Step, OutOfMemory>
+    requires client { IsClient lent.now.client.now }
+    requires waits { fetching.last.value ≡ act }
+    requires belongs { S.belongs lent.now.share.now pass.old }
+    requires can { CanAnswer act (S.left pass.old) }
+    ensures went { IfOk result (λ step. WentOn (over_link L.answer L.next) lent.now.limit (S.document pass.old)
+        (context_of lent.now.client.now lent.now.policies.now lent.now.cookies.now fetching.level.now) fetching act
+        (moment_of (world_of S.own S.left L.state L.left L.faults pass.old link.old wire.old) shown.old) step
+        (moment_of (world_of S.own S.left L.state L.left L.faults pass.new link.new wire.new) shown.new)) }
+    ensures cut { OnErr result (FetchCut (over_link L.answer L.next) lent.now.limit (S.document pass.old)
+        (from_act (context_of lent.now.client.now lent.now.policies.now lent.now.cookies.now fetching.level.now)
+        fetching act)
+        (moment_of (world_of S.own S.left L.state L.left L.faults pass.old link.old wire.old) shown.old)
+        (moment_of (world_of S.own S.left L.state L.left L.faults pass.new link.new wire.new) shown.new)) }
+    ensures few { S.left pass.old ≤ S.left pass.new + price_of asks act }
+    ensures belongs { S.belongs lent.now.share.now pass.new }
+    ensures same { (S.document pass.new ≡ S.document pass.old) × (S.opening pass.new ≡ S.opening pass.old) }
+{
+    let waiting = Held { value: fetching };
+    let asked = Held { value: act };
+    let input = answer(lent, pass, link, wire, &asked.value)?;
+    let fetching = waiting.into_inner();
+    let act = asked.into_inner();
+    let step = take_on(lent, shown, fetching, act, input)?;
+    Ok(step)
 }
 
 /// Plays one fetch of a request, to its outcome, at a time in seconds, which is below 2^48 (Fetch, section 4.1),
@@ -78,16 +144,8 @@ pub fn run_fetch<R: Threads + Wait + Sync, S: Share, L: Link>(
         match step {
             Step::Over(outcome) => return Ok(outcome),
             Step::Going(fetching, act) => {
-                let input = answer(lent, pass, link, wire, &act)?;
                 acts += 1;
-                shown.add_act(act, &input)?;
-                step = fetching.resume(
-                    lent.alloc,
-                    lent.client,
-                    lent.policies,
-                    lent.cookies,
-                    input,
-                )?;
+                step = go_on(lent, pass, link, wire, shown, fetching, act)?;
             }
         }
     }

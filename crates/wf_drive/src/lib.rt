@@ -3,6 +3,7 @@
 
 mod act;
 mod fetch;
+mod held;
 mod lent;
 mod shown;
 

@@ -4,8 +4,6 @@
 mod extract;
 mod headers;
 mod split;
-#[cfg(test)]
-mod tests;
 
 pub use extract::{Extracted, Rule};
 pub use headers::{Header, HeaderList, HeaderTest};

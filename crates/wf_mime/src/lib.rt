@@ -6,8 +6,6 @@ mod blocking;
 mod essence;
 mod javascript;
 mod sniffing;
-#[cfg(test)]
-mod tests;
 
 pub use blocking::{mime_blocked, nosniff_blocked};
 pub use essence::essence_of;

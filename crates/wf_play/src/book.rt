@@ -22,8 +22,9 @@ fn note_host(alloc: Global, book: &mut Book, known: &KnownHost) -> Result<(), Ou
         age: known.until,
         subdomains: known.subdomains,
     };
-    let op = Op::Note(known.host.copy(alloc)?, sts, 0);
-    book.apply(alloc, &op)?;
+    let host = known.host.copy(alloc)?;
+    let applied = book.apply(alloc, &Op::Note(host, sts, 0));
+    applied?;
     Ok(())
 }
 

@@ -2,7 +2,9 @@ ghost use Rattle.std.specs.Prelude.{◌≡◌, ◌≢◌, ◌≤◌, ◌<◌, �
 ghost use Rattle.wf_print.specs.declared.events.Ending.TheVariants.{Memory};
 ghost use Rattle.wf_script.specs.Valid.{IsValid, IsValidDocument};
 ghost use Rattle.wf_script.specs.declared.types.Document.{Document as OneDocument};
-ghost use Rattle.wf_run.specs.Runs.{beginning, document_client, document_run};
+ghost use Rattle.wf_run.specs.Runs.{beginning, document_client, document_run, finished, script_run, setting};
+ghost use Rattle.wf_commands.specs.Valid.{AreValid};
+ghost use Rattle.wf_types.specs.Requests.{IsClient};
 ghost use Rattle.wf_link.specs.Sources.{IsAtEnd};
 ghost use Rattle.wf_wire.specs.Wires.{over_link};
 ghost use Rattle.wf_player.specs.Playing.{Began, Came, Ran};
@@ -15,6 +17,7 @@ use std::alloc::Global;
 use std::sync::Wait;
 use std::thread::Threads;
 use wf_book::Share;
+use wf_commands::Script;
 use wf_csp::Compiled;
 use wf_drive::Lent;
 use wf_link::Link;
@@ -33,6 +36,42 @@ fn ended_by(ending: Option<Ending>) -> Ending
         None => Ending::Finished,
         Some(ending) => ending,
     }
+}
+
+// A script as a whole run, to its ending, with the client's key.
+fn run_whole<R: Threads + Wait + Sync, S: Share, L: Link>(
+    lent: &Lent<'_, R, S>,
+    pass: &mut S::Pass,
+    link: &mut L,
+    running: &mut Running,
+    script: &Script,
+) -> Result<(Ending, Bytes), OutOfMemory>
+    requires client { IsClient lent.now.client.now }
+    requires valid { AreValid script.now }
+    requires belongs { S.belongs lent.now.share.now pass.old }
+    requires left { 129024 ≤ S.left pass.old }
+    requires base { running.old ≡ beginning running.old.clock }
+    ensures ran { IfOk result (λ made. Ran (over_link L.answer L.next) lent.now.limit (S.document pass.old)
+        (script_run (setting lent.now.client.now lent.now.policies.now lent.now.cookies.now) script.now finished
+        running.old)
+        (outside S.own S.left L.state L.faults pass.old link.old) running.new.shown made.0 running.new.clock
+        (outside S.own S.left L.state L.faults pass.new link.new)) }
+    ensures began { OnErr result (Began (over_link L.answer L.next) lent.now.limit (S.document pass.old)
+        (script_run (setting lent.now.client.now lent.now.policies.now lent.now.cookies.now) script.now finished
+        running.old)
+        (outside S.own S.left L.state L.faults pass.old link.old) running.new.shown
+        (outside S.own S.left L.state L.faults pass.new link.new)) }
+    ensures few { S.left pass.old ≤ S.left pass.new + 129024 }
+    ensures hung_up { OnOk result (IsAtEnd (L.left link.new)) }
+    ensures has_text { IfOk result (λ made. made.0 ≢ Memory) }
+    ensures key { IfOk result (λ made. made.1 ≡ lent.now.client.now.key) }
+    ensures belongs { S.belongs lent.now.share.now pass.new }
+    ensures same { (S.document pass.new ≡ S.document pass.old) × (S.opening pass.new ≡ S.opening pass.old) }
+{
+    let key = lent.client.key.copy(lent.alloc)?;
+    let mut wire = Wire::new(lent.alloc, link)?;
+    let ending = run_script(lent, pass, link, &mut wire, running, script)?;
+    Ok((ended_by(ending), key))
 }
 
 // A document's run, to its ending, with the document's key.
@@ -68,7 +107,6 @@ fn run_document<R: Threads + Wait + Sync, S: Share, L: Link>(
 {
     let client = Client::of(alloc, &document.url, &document.top, document.policy)?;
     let policies = Compiled::of(alloc, &document.policies)?;
-    let key = client.key.copy(alloc)?;
     let lent = Lent {
         rt,
         alloc,
@@ -78,9 +116,7 @@ fn run_document<R: Threads + Wait + Sync, S: Share, L: Link>(
         cookies,
         limit,
     };
-    let mut wire = Wire::new(alloc, link)?;
-    let ending = run_script(&lent, pass, link, &mut wire, running, &document.script)?;
-    Ok((ended_by(ending), key))
+    run_whole(&lent, pass, link, running, &document.script)
 }
 
 /// Plays a document's script over a link and a share of the book, from a time in seconds on, which is at

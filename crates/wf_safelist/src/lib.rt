@@ -7,8 +7,6 @@ mod guard;
 mod range;
 mod safelisted;
 mod sets;
-#[cfg(test)]
-mod tests;
 mod unsafe_headers;
 
 pub use forbidden::is_forbidden_method;

@@ -2,6 +2,7 @@ use super::*;
 use std::alloc::Global;
 use std::io::{Read, Write};
 use std::net::TcpListener;
+use std::process::Abort;
 use std::test::Fail;
 use std::{io, thread};
 use wf_link::{Clock, Link, Links, Route, Routes, SystemClock, Target};
@@ -20,24 +21,28 @@ fn serve(listener: &TcpListener) -> io::Result<bool> {
     Ok(request.as_slice() == REQUEST)
 }
 
-// The routes of two servers: one listens at the address, and the other's address names no place.
-fn routes_to(alloc: Global, address: &[u8]) -> Result<Routes, OutOfMemory> {
-    let mut routes = Routes::new(alloc);
-    routes.push(Route {
-        origin: Bytes::of(alloc, b"http://a.test")?,
-        address: Bytes::of(alloc, address)?,
-    })?;
-    routes.push(Route {
-        origin: Bytes::of(alloc, b"http://b.test")?,
-        address: Bytes::of(alloc, b"nowhere")?,
-    })?;
-    Ok(routes)
+// Adds the route of an origin.
+fn add_route(
+    routes: &mut Routes,
+    alloc: Global,
+    origin: &[u8],
+    address: &[u8],
+) -> Result<(), OutOfMemory> {
+    let origin = Bytes::of(alloc, origin)?;
+    let address = Bytes::of(alloc, address)?;
+    routes.push(Route { origin, address })
 }
 
-fn target(alloc: Global, origin: &[u8]) -> Result<Target, OutOfMemory> {
-    Ok(Target {
-        origin: Bytes::of(alloc, origin)?,
-    })
+// Adds the routes of two servers: one listens at the address, and the other's address names no place.
+fn add_routes(routes: &mut Routes, alloc: Global, address: &[u8]) -> Result<(), OutOfMemory> {
+    add_route(routes, alloc, b"http://a.test", address)?;
+    add_route(routes, alloc, b"http://b.test", b"nowhere")
+}
+
+// Whether the request is sent to the origin.
+fn is_sent<L: Link>(alloc: Global, link: &mut L, origin: &[u8]) -> Result<bool, OutOfMemory> {
+    let origin = Bytes::of(alloc, origin)?;
+    Ok(link.ask(&Target { origin }, REQUEST).is_ok())
 }
 
 // The link of the first document.
@@ -63,29 +68,35 @@ fn received<L: Link>(alloc: Global, link: &mut L) -> Result<Bytes, Fail> {
     Ok(text)
 }
 
+// The routes of two servers: one is the listener, and nobody can listen at the other's address.
+fn routes_to(alloc: Global, listener: &TcpListener) -> Result<Routes, Fail> {
+    let address = format!(in alloc; "{}", listener.local_addr()?)?;
+    let mut routes = Routes::new(alloc);
+    add_routes(&mut routes, alloc, address.as_bytes())?;
+    Ok(routes)
+}
+
+// The answer is that of the server, which has ended, so that nobody is there to be asked again.
+fn answered<A: Abort>(rt: &A, alloc: Global, link: &mut TcpLink<HostRuntime>) -> Result<(), Fail> {
+    let answer = received(alloc, link)?;
+    assert_eq!(rt; answer.as_slice(), ANSWER);
+    assert_eq!(rt; link.faults(), 0);
+    assert!(rt; !is_sent(alloc, link, b"http://a.test")?);
+    assert!(rt; !is_sent(alloc, link, b"http://b.test")?);
+    Ok(())
+}
+
 #[test]
 fn exchanges(rt: HostRuntime) -> Result<(), Fail> {
     let alloc = rt.alloc();
     let listener = TcpListener::bind(&rt, "127.0.0.1:0")?;
-    let address = format!(in alloc; "{}", listener.local_addr()?)?;
-    let routes = routes_to(alloc, address.as_bytes())?;
+    let routes = routes_to(alloc, &listener)?;
     let mut links = TcpLinks::new(rt);
     let mut link = first_link(alloc, &mut links, &routes)?;
     let server = thread::spawn(&rt, move || serve(&listener).unwrap_or(false))?;
-    link.ask(&target(alloc, b"http://a.test")?, REQUEST)?;
-    let answer = received(alloc, &mut link)?;
+    assert!(rt; is_sent(alloc, &mut link, b"http://a.test")?);
     assert!(rt; server.join(&rt));
-    assert_eq!(rt; answer.as_slice(), ANSWER);
-    assert_eq!(rt; link.faults(), 0);
-    // Nobody listens there any more.
-    assert!(rt;
-        link.ask(&target(alloc, b"http://a.test")?, REQUEST)
-            .is_err()
-    );
-    assert!(rt;
-        link.ask(&target(alloc, b"http://b.test")?, REQUEST)
-            .is_err()
-    );
+    answered(&rt, alloc, &mut link)?;
     links.take_back(link);
     assert_eq!(rt; links.faults(), 2);
     Ok(())
@@ -96,10 +107,7 @@ fn fails_without_a_route(rt: HostRuntime) -> Result<(), Fail> {
     let alloc = rt.alloc();
     let mut links = TcpLinks::new(rt);
     let mut link = first_link(alloc, &mut links, &Routes::new(alloc))?;
-    assert!(rt;
-        link.ask(&target(alloc, b"http://a.test")?, REQUEST)
-            .is_err()
-    );
+    assert!(rt; !is_sent(alloc, &mut link, b"http://a.test")?);
     assert_eq!(rt; link.faults(), 1);
     assert_eq!(rt; link.recv(&mut [0; 8]).ok(), Some(0));
     Ok(())
