@@ -1,3 +1,4 @@
+use crate::failed::Failed;
 use crate::lessons::{lesson, question};
 use crate::texts::numbered;
 use std::alloc::Global;
@@ -60,7 +61,7 @@ fn asked(cache: &Precache, questions: &[Question], rounds: u32) -> u64 {
 
 /// Fills a preflight cache with so many keys of 64 entries each, asks it for 100 of the keys in so many rounds, and counts
 /// how often the answer was yes.
-pub fn covered(alloc: Global, keys: u32, rounds: u32) -> Result<u64, OutOfMemory> {
+pub fn covered(alloc: Global, keys: u32, rounds: u32) -> Result<u64, Failed> {
     let mut cache = Precache::new(alloc);
     fill(alloc, &mut cache, keys)?;
     Ok(asked(&cache, questions(alloc, keys)?.as_slice(), rounds))

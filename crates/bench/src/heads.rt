@@ -104,6 +104,12 @@ fn kept_in(
     Ok(kept)
 }
 
+// The same for the request that the head answers.
+fn kept_of(alloc: Global, call: Call, head: &Head, rounds: u32) -> Result<u64, Failed> {
+    let request = request(alloc, b"https://b.test/", Tainting::Cors)?;
+    Ok(kept_in(alloc, call, &request, head, rounds)?)
+}
+
 /// Makes a head of so many headers with different names that answers a request under tainting cors, exposes these names and
 /// passes the CORS check, asks for its filtered response or hides it in so many rounds, and counts the headers that are
 /// kept. The call is `filtered` or `hide`.
@@ -116,6 +122,5 @@ pub fn kept(
 ) -> Result<u64, Failed> {
     let call = call_of(call)?;
     let head = head(alloc, exposed, headers)?;
-    let request = request(alloc, b"https://b.test/", Tainting::Cors)?;
-    Ok(kept_in(alloc, call, &request, &head, rounds)?)
+    kept_of(alloc, call, &head, rounds)
 }

@@ -1,3 +1,4 @@
+use crate::failed::Failed;
 use crate::texts::numbered;
 use std::alloc::Global;
 use wf_hsts::{HstsList, Sts};
@@ -47,7 +48,7 @@ fn asked(list: &HstsList, names: &BytesList, rounds: u32) -> u64 {
 
 /// Fills a list with so many known hosts, asks it for 64 of them and for a name beside each in so many rounds, and counts
 /// how often the answer was yes.
-pub fn known(alloc: Global, hosts: u32, rounds: u32) -> Result<u64, OutOfMemory> {
+pub fn known(alloc: Global, hosts: u32, rounds: u32) -> Result<u64, Failed> {
     let mut list = HstsList::new(alloc);
     fill(alloc, &mut list, hosts)?;
     Ok(asked(&list, &names(alloc, hosts)?, rounds))

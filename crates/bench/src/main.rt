@@ -33,37 +33,44 @@ use std::thread::Threads;
 use std::{env, io};
 use wf_text::{Bytes, OutOfMemory, parse_digits};
 
-// The number that a word writes.
-fn number(word: &str) -> Result<u32, Failed> {
+// The number that a word writes, where it writes one.
+fn number(word: &str) -> Option<u32> {
     match parse_digits(word.as_bytes(), 4_294_967_296) {
-        Some(number) if number < 4_294_967_296 => Ok(number as u32),
-        _ => Err(Failed),
+        Some(number) if number < 4_294_967_296 => Some(number as u32),
+        _ => None,
     }
 }
 
-// What the work counts that the words name.
-fn counted<R: AllocGlobal + Threads + Wait + Sync>(rt: &R, words: &[&str]) -> Result<u64, Failed> {
+// The numbers among the words.
+fn numbers_of(alloc: Global, words: &[&str]) -> Result<Vec<u32>, OutOfMemory> {
+    let mut numbers = Vec::new(alloc);
+    for word in words {
+        if let Some(number) = number(word) {
+            numbers.push(number)?;
+        }
+    }
+    Ok(numbers)
+}
+
+// What the work counts that the words name, whose numbers are these.
+fn counted<R: AllocGlobal + Threads + Wait + Sync>(
+    rt: &R,
+    words: &[&str],
+    numbers: &[u32],
+) -> Result<u64, Failed> {
     let alloc = rt.alloc();
-    match *words {
-        ["precache", keys, rounds] => {
-            Ok(caches::covered(alloc, number(keys)?, number(rounds)?)?)
+    match (words, numbers) {
+        (["precache", _, _], [keys, rounds]) => caches::covered(alloc, *keys, *rounds),
+        (["hsts", _, _], [hosts, rounds]) => hosts::known(alloc, *hosts, *rounds),
+        (["http1", kind, _, _], [piece, rounds]) => readers::total(alloc, kind, *piece, *rounds),
+        (["turn", _, _, _], [threads, passes, calls]) => {
+            turns::answered(rt, alloc, *threads, *passes, *calls)
         }
-        ["hsts", hosts, rounds] => Ok(hosts::known(alloc, number(hosts)?, number(rounds)?)?),
-        ["http1", kind, piece, rounds] => {
-            readers::total(alloc, kind, number(piece)?, number(rounds)?)
+        (["csp", _, _, _, _], [policies, hosts, length, rounds]) => {
+            policies::violations(alloc, *policies, *hosts, *length, *rounds)
         }
-        ["turn", threads, passes, calls] => {
-            turns::answered(rt, alloc, number(threads)?, number(passes)?, number(calls)?)
-        }
-        ["csp", policies, hosts, length, rounds] => policies::violations(
-            alloc,
-            number(policies)?,
-            number(hosts)?,
-            number(length)?,
-            number(rounds)?,
-        ),
-        ["filter", call, exposed, headers, rounds] => {
-            heads::kept(alloc, call, exposed, number(headers)?, number(rounds)?)
+        (["filter", call, exposed, _, _], [headers, rounds]) => {
+            heads::kept(alloc, call, exposed, *headers, *rounds)
         }
         _ => Err(Failed),
     }
@@ -79,14 +86,20 @@ fn joined(alloc: Global, words: &[&str]) -> Result<Bytes, OutOfMemory> {
     Ok(text)
 }
 
+// A line of the words and what was counted.
+fn line_of(alloc: Global, words: &[&str], count: u64) -> Result<Bytes, OutOfMemory> {
+    let text = joined(alloc, words)?;
+    numbered(alloc, text.as_slice(), count, b"\n")
+}
+
 // Does the work that the words name, and prints them and what it counted.
 fn show<R: Print + AllocGlobal + Threads + Wait + Sync>(
     rt: &R,
     words: &[&str],
 ) -> Result<(), Failed> {
-    let count = counted(rt, words)?;
-    let text = joined(rt.alloc(), words)?;
-    let line = numbered(rt.alloc(), text.as_slice(), count, b"\n")?;
+    let numbers = numbers_of(rt.alloc(), words)?;
+    let count = counted(rt, words, numbers.as_slice())?;
+    let line = line_of(rt.alloc(), words, count)?;
     io::writer(rt).write_all(line.as_slice())?;
     Ok(())
 }

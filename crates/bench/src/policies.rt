@@ -89,6 +89,18 @@ fn checked(
     Ok(violations)
 }
 
+// How many violations so many checks of a request for the last host give.
+fn found(
+    alloc: Global,
+    compiled: &Compiled,
+    hosts: u32,
+    path: &[u8],
+    rounds: u32,
+) -> Result<u64, Failed> {
+    let request = request_for(alloc, hosts, path)?;
+    Ok(checked(alloc, compiled, &request, &request.origin, rounds)?)
+}
+
 /// Makes so many policies of so many host words, each ending in a path of so many bytes, of which the last word alone
 /// matches, checks a request against them in so many rounds, and counts the violations. With a path of 0 bytes the words
 /// have none.
@@ -101,6 +113,5 @@ pub fn violations(
 ) -> Result<u64, Failed> {
     let path = path(alloc, length)?;
     let compiled = made(alloc, policies, hosts, path.as_slice())?;
-    let request = request_for(alloc, hosts, path.as_slice())?;
-    Ok(checked(alloc, &compiled, &request, &request.origin, rounds)?)
+    found(alloc, &compiled, hosts, path.as_slice(), rounds)
 }
