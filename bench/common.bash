@@ -20,12 +20,10 @@ build_fetchplay() {
     "$root/bin/fetchplay" play <"$root/examples/same-origin.json" >/dev/null
 }
 
-# Makes `program` the path of a bench's own program, built by a run with these words.
+# Makes `program` the path of the benches' own program, built by a run that does a little of each work.
 build_bench() {
-    local name=$1
-    shift
-    program=$root/crates/$name/out/$name
-    (cd "$root/crates/$name" && rt run -- "$@" >/dev/null 2>&1)
+    program=$root/crates/bench/out/bench
+    (cd "$root/crates/bench" && rt run -- all >/dev/null 2>&1)
 }
 
 # The origin of a scenario, and its known hosts between commas.

@@ -4,12 +4,12 @@
 # rounds and one with a single round are counted; the difference is ten checks.
 set -eu
 source "$(dirname "${BASH_SOURCE[0]}")/common.bash"
-build_bench bench_csp 16 20 0 3
+build_bench
 
 check() {
     local many one
-    many=$(counted "$program" "$1" "$2" "$3" 11)
-    one=$(counted "$program" "$1" "$2" "$3" 1)
+    many=$(counted "$program" csp "$1" "$2" "$3" 11)
+    one=$(counted "$program" csp "$1" "$2" "$3" 1)
     printf '%2s policies of %2s words with a path of %4s bytes: %6s instructions a check\n' \
         "$1" "$2" "$3" "$(((many - one) / 10))"
 }

@@ -4,13 +4,13 @@
 # A run with 11 rounds and one with a single round are counted; the difference is ten calls.
 set -eu
 source "$(dirname "${BASH_SOURCE[0]}")/common.bash"
-build_bench bench_filter filtered '*' 16 3
+build_bench
 
 for call in filtered hide; do
     for names in '*' X-Name-2; do
         for headers in 16 64 128; do
-            many=$(counted "$program" "$call" "$names" "$headers" 11)
-            one=$(counted "$program" "$call" "$names" "$headers" 1)
+            many=$(counted "$program" filter "$call" "$names" "$headers" 11)
+            one=$(counted "$program" filter "$call" "$names" "$headers" 1)
             printf '%-8s of %3s headers that expose %-8s: %7s instructions\n' \
                 "$call" "$headers" "$names" "$(((many - one) / 10))"
         done

@@ -4,10 +4,10 @@
 # are counted; the difference is the questions'.
 set -eu
 source "$(dirname "${BASH_SOURCE[0]}")/common.bash"
-build_bench bench_hsts 1 1
+build_bench
 
 for hosts in 64 512 4096; do
-    asked=$(counted "$program" "$hosts" 10)
-    filled=$(counted "$program" "$hosts" 0)
+    asked=$(counted "$program" hsts "$hosts" 10)
+    filled=$(counted "$program" hsts "$hosts" 0)
     printf '%5s hosts: %6s instructions a question\n' "$hosts" "$(((asked - filled) / 1280))"
 done

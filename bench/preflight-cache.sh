@@ -4,10 +4,10 @@
 # such rounds and one with none are counted; the difference is the questions'.
 set -eu
 source "$(dirname "${BASH_SOURCE[0]}")/common.bash"
-build_bench bench_precache 1 1
+build_bench
 
 for keys in 1 100 10000; do
-    asked=$(counted "$program" "$keys" 10)
-    filled=$(counted "$program" "$keys" 0)
+    asked=$(counted "$program" precache "$keys" 10)
+    filled=$(counted "$program" precache "$keys" 0)
     printf '%6s keys: %6s instructions a question\n' "$keys" "$(((asked - filled) / 1000))"
 done

@@ -4,13 +4,13 @@
 # two calls, so that all of them wait all the time.
 set -eu
 source "$(dirname "${BASH_SOURCE[0]}")/common.bash"
-build_bench bench_turn 1 1 1
+build_bench
 
 # The calls a second of so many threads and passes, each of which makes so many calls.
 measure() {
     local threads=$1 passes=$2 calls=$3 best=0 seconds rate
     for _ in 1 2 3; do
-        seconds=$( { TIMEFORMAT=%R; time "$program" "$threads" "$passes" "$calls" >/dev/null; } 2>&1 )
+        seconds=$( { TIMEFORMAT=%R; time "$program" turn "$threads" "$passes" "$calls" >/dev/null; } 2>&1 )
         rate=$(awk -v n="$((passes * calls))" -v s="$seconds" 'BEGIN { printf "%d", n / (s > 0.001 ? s : 0.001) }')
         if [ "$rate" -gt "$best" ]; then best=$rate; fi
     done

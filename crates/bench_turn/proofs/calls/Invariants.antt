@@ -1,5 +1,0 @@
-use Rattle.std.proofs.Common.{◌+◌, ◌≤◌}
-use Rattle.bench_turn.proofs.calls.Given as goal
-
-abbrev pub invariant-loop-made : goal.invariant-loop-made
-invariant-loop-made g l = g.S.Share.belongs l.share l.pass × (l.count ≤ g.S.Share.left l.pass + l.made)
