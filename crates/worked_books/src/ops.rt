@@ -1,26 +1,23 @@
 ghost use Rattle.std.specs.Prelude.{◌<◌, ◌^◌, IfOk};
 ghost use Rattle.wf_book.specs.Ops.{InRange};
 
+use crate::questions::{ORIGIN, lesson_of, question_of};
 use std::alloc::Global;
 use wf_book::Op;
 use wf_hsts::Sts;
-use wf_precache::{Lesson, Question};
-use wf_text::{Bytes, BytesList, OutOfMemory};
-
-fn text(alloc: Global, from: &str) -> Result<Bytes, OutOfMemory> {
-    Bytes::of(alloc, from.as_bytes())
-}
+use wf_rows::{Failed, Row};
+use wf_text::Bytes;
 
 // Whether a host is known.
-pub(crate) fn is_known(alloc: Global, now: u64) -> Result<Op, OutOfMemory>
+pub(crate) fn is_known(alloc: Global, now: u64) -> Result<Op, Failed>
     requires { now < 2 ^ 48 }
     ensures { IfOk result (λ op. InRange op) }
 {
-    Ok(Op::Match(text(alloc, "a.b.test")?, now))
+    Ok(Op::Match(Bytes::of(alloc, b"a.b.test")?, now))
 }
 
 // A field of the host for ten seconds, with subdomains.
-pub(crate) fn note(alloc: Global, now: u64) -> Result<Op, OutOfMemory>
+pub(crate) fn note(alloc: Global, now: u64) -> Result<Op, Failed>
     requires { now < 2 ^ 48 }
     ensures { IfOk result (λ op. InRange op) }
 {
@@ -28,57 +25,40 @@ pub(crate) fn note(alloc: Global, now: u64) -> Result<Op, OutOfMemory>
         age: 10,
         subdomains: true,
     };
-    Ok(Op::Note(text(alloc, "b.test")?, sts, now))
+    Ok(Op::Note(Bytes::of(alloc, b"b.test")?, sts, now))
 }
 
 // Whether a request is covered.
-pub(crate) fn covers(alloc: Global, now: u64) -> Result<Op, OutOfMemory>
+pub(crate) fn covers(alloc: Global, now: u64) -> Result<Op, Failed>
     requires { now < 2 ^ 48 }
     ensures { IfOk result (λ op. InRange op) }
 {
-    let question = Question {
-        key: text(alloc, "k")?,
-        origin: text(alloc, "http://a.test")?,
-        url: text(alloc, "http://b.test/x")?,
-        include: false,
-        method: Some(text(alloc, "PUT")?),
-        names: BytesList::new(alloc),
-    };
-    Ok(Op::Covers(question, now))
+    let words = Row::of(alloc, b"k http://b.test/x other PUT -", b' ')?;
+    Ok(Op::Covers(question_of(alloc, &words)?, now))
 }
 
 // A lesson of it for five seconds.
-pub(crate) fn learn(alloc: Global, now: u64) -> Result<Op, OutOfMemory>
+pub(crate) fn learn(alloc: Global, now: u64) -> Result<Op, Failed>
     requires { now < 2 ^ 48 }
     ensures { IfOk result (λ op. InRange op) }
 {
-    let mut methods = BytesList::new(alloc);
-    methods.push(text(alloc, "PUT")?)?;
-    let lesson = Lesson {
-        key: text(alloc, "k")?,
-        origin: text(alloc, "http://a.test")?,
-        url: text(alloc, "http://b.test/x")?,
-        include: false,
-        age: 5,
-        methods,
-        names: BytesList::new(alloc),
-    };
-    Ok(Op::Learn(lesson, now))
+    let words = Row::of(alloc, b"k http://b.test/x other 5 PUT -", b' ')?;
+    Ok(Op::Learn(lesson_of(alloc, &words)?, now))
 }
 
 // Clears what the lesson taught.
-pub(crate) fn clear(alloc: Global, now: u64) -> Result<Op, OutOfMemory>
+pub(crate) fn clear(alloc: Global, now: u64) -> Result<Op, Failed>
     requires { now < 2 ^ 48 }
     ensures { IfOk result (λ op. InRange op) }
 {
-    let key = text(alloc, "k")?;
-    let origin = text(alloc, "http://a.test")?;
-    let url = text(alloc, "http://b.test/x")?;
+    let key = Bytes::of(alloc, b"k")?;
+    let origin = Bytes::of(alloc, ORIGIN)?;
+    let url = Bytes::of(alloc, b"http://b.test/x")?;
     Ok(Op::Clear(key, origin, url, now))
 }
 
 // A thread's op of this number, whose time is its number.
-pub(crate) fn numbered(alloc: Global, number: u64) -> Result<Op, OutOfMemory>
+pub(crate) fn numbered(alloc: Global, number: u64) -> Result<Op, Failed>
     requires { number < 2 ^ 48 }
     ensures { IfOk result (λ op. InRange op) }
 {

@@ -1,15 +1,14 @@
 ghost use Rattle.std.specs.Prelude.{◌≡◌, ◌<◌, [], IfOk, OnOk};
 ghost use Rattle.wf_turn.specs.Passes.{IsWhole, left_of, made_of};
 
-use crate::alone::write_history;
-use crate::failed::Failed;
+use crate::alone::show_entries;
 use crate::ops::{covers, learn};
 use crate::passes::{collected, two_documents};
 use std::alloc::Global;
 use std::sync::Wait;
 use std::thread::Threads;
 use wf_book::{Book, History, Share};
-use wf_text::OutOfMemory;
+use wf_rows::{Failed, Shown};
 use wf_turn::{FIRST, TurnBook, TurnPass};
 
 // One pass learns, and the other asks.
@@ -19,7 +18,7 @@ fn learn_and_ask<R: Threads + Wait + Sync>(
     book: &TurnBook,
     zero: &mut TurnPass,
     one: &mut TurnPass,
-) -> Result<(), OutOfMemory>
+) -> Result<(), Failed>
     requires zero { (zero.old.seat.table_id ≡ book.now.table.shared.table_id) × (0 < left_of zero.old) }
     requires one { (one.old.seat.table_id ≡ book.now.table.shared.table_id) × (0 < left_of one.old) }
     ensures zero { OnOk result ((zero.new.seat.table_id ≡ zero.old.seat.table_id)
@@ -38,7 +37,7 @@ fn play_passes<R: Threads + Wait + Sync>(
     alloc: Global,
     book: &TurnBook,
     mut first: TurnPass,
-) -> Result<Vec<TurnPass>, OutOfMemory>
+) -> Result<Vec<TurnPass>, Failed>
     requires belongs { first.seat.table_id ≡ book.now.table.shared.table_id }
     requires first { (first.document ≡ 4294967295) × (made_of first ≡ []) }
     ensures { IfOk result (λ passes. IsWhole book.now.table.shared.table_id passes.items) }
@@ -49,25 +48,23 @@ fn play_passes<R: Threads + Wait + Sync>(
 }
 
 // The history of two passes.
-fn history_of<R: Threads + Wait + Sync>(rt: &R, alloc: Global) -> Result<History, OutOfMemory> {
+fn history_of<R: Threads + Wait + Sync>(rt: &R, alloc: Global) -> Result<History, Failed> {
     let (book, first) = TurnBook::new(alloc, Book::new(alloc))?;
     let passes = play_passes(rt, alloc, &book, first)?;
     Ok(book.close(passes).history)
 }
 
-// Writes the entries that two passes have made.
-fn write_turns<R: Threads + Wait + Sync + Print>(rt: &R, alloc: Global) -> Result<(), Failed> {
-    let history = history_of(rt, alloc)?;
-    write_history(rt, history.as_slice())
-}
-
 // What one document learnt another is told.
-pub(crate) fn play_turns<R: Threads + Wait + Sync + Print>(
+pub(crate) fn show_passes<R: Threads + Wait + Sync>(
     rt: &R,
     alloc: Global,
+    shown: &mut Shown,
 ) -> Result<(), Failed> {
-    println!(rt; "# two passes")?;
-    write_turns(rt, alloc)?;
-    println!(rt; "the first pass is that of document {FIRST}")?;
+    shown.add(b"# two passes\n");
+    let history = history_of(rt, alloc)?;
+    show_entries(history.as_slice(), shown);
+    shown.add(b"the first pass is that of document ");
+    shown.add_number(u64::from(FIRST));
+    shown.add(b"\n");
     Ok(())
 }

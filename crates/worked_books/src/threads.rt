@@ -1,7 +1,6 @@
 ghost use Rattle.std.specs.Prelude.{◌≡◌, ◌≤◌, ◌<◌, ◌-◌, ◌^◌, [], IfOk, IfSome};
 ghost use Rattle.wf_turn.specs.Passes.{IsWhole, left_of, made_of};
 
-use crate::failed::Failed;
 use crate::ops::{is_numbered, numbered, time_of};
 use crate::passes::{collected, two_documents};
 use std::alloc::Global;
@@ -9,14 +8,14 @@ use std::sync::Wait;
 use std::thread;
 use std::thread::Threads;
 use wf_book::{Book, Entry, History, Reply, Share};
-use wf_text::OutOfMemory;
+use wf_rows::{Failed, Shown};
 use wf_turn::{TurnBook, TurnPass};
 
 /// How many calls a thread makes.
 const CALLS: u64 = 500;
 
 /// What was replied to a thread's calls: nothing to one that was refused memory.
-type Replies = Result<Vec<Option<Reply>>, OutOfMemory>;
+type Replies = Result<Vec<Option<Reply>>, Failed>;
 
 // A thread's call of this number.
 fn make_call<R: Threads + Wait + Sync>(
@@ -25,7 +24,7 @@ fn make_call<R: Threads + Wait + Sync>(
     book: &TurnBook,
     pass: &mut TurnPass,
     number: u64,
-) -> Result<Reply, OutOfMemory>
+) -> Result<Reply, Failed>
     requires belongs { pass.old.seat.table_id ≡ book.now.table.shared.table_id }
     requires left { 0 < left_of pass.old }
     requires range { number < 2 ^ 48 }
@@ -33,7 +32,7 @@ fn make_call<R: Threads + Wait + Sync>(
     ensures document { pass.new.document ≡ pass.old.document }
     ensures left { left_of pass.old - 1 ≤ left_of pass.new }
 {
-    book.call(rt, alloc, pass, numbered(alloc, number)?)
+    Ok(book.call(rt, alloc, pass, numbered(alloc, number)?)?)
 }
 
 // A thread's calls. Behind one that is refused the others are made.
@@ -99,11 +98,11 @@ fn are_calls(entries: &[Entry], document: u32, replies: &[Option<Reply>]) -> boo
 }
 
 // What a book replies to a thread's op of this number.
-fn reply_to(alloc: Global, book: &mut Book, number: u64) -> Result<Reply, OutOfMemory>
+fn reply_to(alloc: Global, book: &mut Book, number: u64) -> Result<Reply, Failed>
     requires { number < 2 ^ 48 }
 {
     let op = numbered(alloc, number)?;
-    book.apply(alloc, &op)
+    Ok(book.apply(alloc, &op)?)
 }
 
 // When the op of an entry is done, where it is a thread's op and the entry has a turn of a call, this one or a later.
@@ -119,7 +118,7 @@ fn time_at(turn: u64, entry: &Entry) -> Option<u64>
 }
 
 // Whether an entry has this turn or a later one and the reply that a book of one thread gives to its op.
-fn is_next(alloc: Global, book: &mut Book, turn: u64, entry: &Entry) -> Result<bool, OutOfMemory> {
+fn is_next(alloc: Global, book: &mut Book, turn: u64, entry: &Entry) -> Result<bool, Failed> {
     match time_at(turn, entry) {
         Some(time) => Ok(reply_to(alloc, book, time)? == entry.reply),
         None => Ok(false),
@@ -128,7 +127,7 @@ fn is_next(alloc: Global, book: &mut Book, turn: u64, entry: &Entry) -> Result<b
 
 // Whether turns rise and each entry has the reply that a book of one thread gives to its op. (So entry i of 1,000 has
 // turn i.)
-fn is_legal(alloc: Global, entries: &[Entry]) -> Result<bool, OutOfMemory> {
+fn is_legal(alloc: Global, entries: &[Entry]) -> Result<bool, Failed> {
     let mut book = Book::new(alloc);
     let mut turn = 0u64;
     for entry in entries {
@@ -172,7 +171,7 @@ fn play_passes<R: Threads + Wait + Sync>(
     alloc: Global,
     book: &TurnBook,
     mut first: TurnPass,
-) -> Result<(Vec<TurnPass>, Replies, Replies), OutOfMemory>
+) -> Result<(Vec<TurnPass>, Replies, Replies), Failed>
     requires belongs { first.seat.table_id ≡ book.now.table.shared.table_id }
     requires first { (first.document ≡ 4294967295) × (made_of first ≡ []) }
     ensures { IfOk result (λ played. IsWhole book.now.table.shared.table_id played.0.items) }
@@ -187,50 +186,62 @@ fn play_passes<R: Threads + Wait + Sync>(
 fn history_of<R: Threads + Wait + Sync>(
     rt: &R,
     alloc: Global,
-) -> Result<(History, Replies, Replies), OutOfMemory> {
+) -> Result<(History, Replies, Replies), Failed> {
     let (book, first) = TurnBook::new(alloc, Book::new(alloc))?;
     let (passes, low, high) = play_passes(rt, alloc, &book, first)?;
     Ok((book.close(passes).history, low, high))
 }
 
-// Writes whether a thread's calls are those of a document.
-fn write_calls<R: Print>(
-    rt: &R,
+// Whether a thread's calls are those of a document.
+fn show_calls(
     entries: &[Entry],
     document: u32,
     replies: &Replies,
+    shown: &mut Shown,
 ) -> Result<(), Failed> {
     let Ok(replies) = replies else {
         return Err(Failed);
     };
-    println!(rt;
-        "document {document} made its calls: {}",
-        are_calls(entries, document, replies.as_slice())
-    )?;
+    shown.add(b"document ");
+    shown.add_number(u64::from(document));
+    shown.add(b" made its calls: ");
+    add_truth(are_calls(entries, document, replies.as_slice()), shown);
     Ok(())
 }
 
-// Writes what two threads have left.
-fn write_threads<R: Print>(
-    rt: &R,
+// `true` or `false`.
+fn add_truth(answer: bool, shown: &mut Shown) {
+    shown.add(if answer {
+        b"true\n".as_slice()
+    } else {
+        b"false\n"
+    });
+}
+
+// What two threads have left.
+fn show_left(
     alloc: Global,
     entries: &[Entry],
     low: &Replies,
     high: &Replies,
+    shown: &mut Shown,
 ) -> Result<(), Failed> {
-    println!(rt; "{} entries", entries.len())?;
-    write_calls(rt, entries, 0, low)?;
-    write_calls(rt, entries, 1, high)?;
-    println!(rt; "the history is legal: {}", is_legal(alloc, entries)?)?;
+    shown.add_number(entries.len() as u64);
+    shown.add(b" entries\n");
+    show_calls(entries, 0, low, shown)?;
+    show_calls(entries, 1, high, shown)?;
+    shown.add(b"the history is legal: ");
+    add_truth(is_legal(alloc, entries)?, shown);
     Ok(())
 }
 
 // Two threads make 500 calls each on one book.
-pub(crate) fn play_threads<R: Threads + Wait + Sync + Print>(
+pub(crate) fn show_threads<R: Threads + Wait + Sync>(
     rt: &R,
     alloc: Global,
+    shown: &mut Shown,
 ) -> Result<(), Failed> {
-    println!(rt; "# two threads")?;
+    shown.add(b"# two threads\n");
     let (history, low, high) = history_of(rt, alloc)?;
-    write_threads(rt, alloc, history.as_slice(), &low, &high)
+    show_left(alloc, history.as_slice(), &low, &high, shown)
 }

@@ -1,6 +1,6 @@
 use Rattle.std.proofs.Common.{◌≡◌, ◌+◌, ◌≤◌}
 use Rattle.wf_turn.specs.Passes.{left_of}
-use Rattle.worked_turns.proofs.threads.make_calls.Given as goal
+use Rattle.worked_books.proofs.threads.make_calls.Given as goal
 
 abbrev pub invariant-loop-number : goal.invariant-loop-number
 invariant-loop-number g l =

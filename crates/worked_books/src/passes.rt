@@ -2,7 +2,7 @@ ghost use Rattle.std.specs.Prelude.{◌≡◌, [], ◌∷◌, IfOk};
 ghost use Rattle.wf_turn.specs.Passes.{left_of, made_of};
 
 use std::alloc::Global;
-use wf_text::OutOfMemory;
+use wf_rows::Failed;
 use wf_turn::{TurnBook, TurnPass};
 
 // The passes of documents 0 and 1.
@@ -10,7 +10,7 @@ pub(crate) fn two_documents(
     alloc: Global,
     book: &TurnBook,
     first: &mut TurnPass,
-) -> Result<(TurnPass, TurnPass), OutOfMemory>
+) -> Result<(TurnPass, TurnPass), Failed>
     requires belongs { first.old.seat.table_id ≡ book.now.table.shared.table_id }
     requires first { (first.old.document ≡ 4294967295) × (made_of first.old ≡ []) }
     ensures first { IfOk result (λ r. (first.new.seat.table_id ≡ book.now.table.shared.table_id)
@@ -31,7 +31,7 @@ pub(crate) fn collected(
     first: TurnPass,
     zero: TurnPass,
     one: TurnPass,
-) -> Result<Vec<TurnPass>, OutOfMemory>
+) -> Result<Vec<TurnPass>, Failed>
     ensures { IfOk result (λ passes. passes.items ≡ one ∷ first ∷ zero ∷ []) }
 {
     let mut passes = Vec::with_capacity(alloc, 3)?;
