@@ -4,12 +4,12 @@
 # by preflights is played with each of its requests for memory refused in turn, once that one alone and once each
 # later one too; two documents on threads with every 50th; `gen 64` with number 20,000, which a program that plays
 # nothing would not miss. Two threads that make 500 calls each on one book are played with every 50th: the calls that were
-# answered are its history when it is closed, and it is legal. FETCHPLAY is the path of the program, and WORKED_TURNS
+# answered are its history when it is closed, and it is legal. FETCHPLAY is the path of the program, and WORKED_BOOKS
 # that of the program of the two threads, where they are not to be built, and JOBS how many runs there are at once.
 set -eu
 source "$(dirname "${BASH_SOURCE[0]}")/common.bash"
 program=${FETCHPLAY:-}
 [ -n "$program" ] || build_fetchplay
-turns=${WORKED_TURNS:-$(build_bench worked_turns && echo "$program")}
+turns=${WORKED_BOOKS:-$(build_bench worked_books </dev/null && echo "$program")}
 cc -O2 -shared -fPIC -o "$work/refuse.so" "$root/bench/refuse.c"
 python3 "$root/bench/memory.py" "$program" "$work/refuse.so" "$work" "${JOBS:-$(nproc)}" "$turns"

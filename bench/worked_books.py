@@ -242,8 +242,16 @@ def played():
     return lines, answers
 
 
+def calls():
+    """The lines of the stored `stdout` on the calls of a book, which the program makes behind its input."""
+    with open(os.path.join(CRATE, "stdout")) as file:
+        stored = file.read().splitlines()
+    return stored[stored.index("# one book"):]
+
+
 def main():
     lines, answers = played()
+    answers += calls()
     same = True
     for name, rows in (("stdin", lines), ("stdout", answers)):
         path = os.path.join(CRATE, name)

@@ -16,19 +16,53 @@
 //     nonce=TEXT                the empty one
 //     parser=yes                no: the parser flag
 //     upload=yes                no: the use-preflight flag
-ghost use Rattle.std.specs.Prelude.{◌≡◌, ◌≤◌, IfOk, IsTrue};
+ghost use Rattle.std.specs.Prelude.{◌≡◌, ◌≤◌, IfOk, OnOk, IsTrue};
 ghost use Rattle.wf_text.specs.Tokens.{is_token};
 ghost use Rattle.wf_types.specs.Requests as spec;
 
 use crate::failed::Failed;
 use crate::urls::{origin_written, url_written};
-use crate::words::{destination_named, policy_named, value_of};
+use crate::words::{destination_named, named, policy_named, value_of, values_of};
 use std::alloc::Global;
 use url::Url;
 use wf_headers::HeaderList;
 use wf_origin::{Origin, is_http_url};
 use wf_text::{Bytes, after_byte, before_byte, is_token, parse_digits};
-use wf_types::{Credentials, Mode, RedirectMode, Referrer, Request, Tainting, Urls};
+use wf_types::{
+    Credentials, Destination, Mode, RedirectMode, Referrer, ReferrerPolicy, Request, Tainting, Urls,
+};
+
+/// The modes.
+const MODES: [(&[u8], Mode); 4] = [
+    (b"", Mode::Cors),
+    (b"cors", Mode::Cors),
+    (b"no-cors", Mode::NoCors),
+    (b"same-origin", Mode::SameOrigin),
+];
+
+/// The credentials modes.
+const CREDENTIALS: [(&[u8], Credentials); 4] = [
+    (b"", Credentials::SameOrigin),
+    (b"same-origin", Credentials::SameOrigin),
+    (b"omit", Credentials::Omit),
+    (b"include", Credentials::Include),
+];
+
+/// The redirect modes.
+const REDIRECTS: [(&[u8], RedirectMode); 4] = [
+    (b"", RedirectMode::Follow),
+    (b"follow", RedirectMode::Follow),
+    (b"error", RedirectMode::Error),
+    (b"manual", RedirectMode::Manual),
+];
+
+/// The response taintings.
+const TAINTINGS: [(&[u8], Tainting); 4] = [
+    (b"", Tainting::Basic),
+    (b"basic", Tainting::Basic),
+    (b"cors", Tainting::Cors),
+    (b"opaque", Tainting::Opaque),
+];
 
 // The method, which is a token.
 fn method_in(alloc: Global, text: &[u8]) -> Result<Bytes, Failed>
@@ -57,10 +91,8 @@ fn were_http(urls: &[Url]) -> bool
 // The URLs that the text writes.
 fn written_urls(alloc: Global, text: &[u8]) -> Result<Urls, Failed> {
     let mut urls = Urls::new(alloc);
-    for word in text.split(|byte| *byte == b' ') {
-        if before_byte(word, b'=') == b"url".as_slice() {
-            urls.push(url_written(alloc, after_byte(word, b'='))?)?;
-        }
+    for written in values_of(alloc, text, b"url")?.as_slice() {
+        urls.push(url_written(alloc, written)?)?;
     }
     Ok(urls)
 }
@@ -76,16 +108,12 @@ fn urls_in(alloc: Global, text: &[u8]) -> Result<Urls, Failed>
     Ok(urls)
 }
 
-// The header list.
-fn headers_in(alloc: Global, text: &[u8]) -> Result<HeaderList, Failed> {
-    let mut headers = HeaderList::new(alloc);
-    for word in text.split(|byte| *byte == b' ') {
-        if before_byte(word, b'=') == b"header".as_slice() {
-            let header = after_byte(word, b'=');
-            headers.append(before_byte(header, b':'), after_byte(header, b':'))?;
-        }
+// Adds the headers that the text writes.
+fn add_headers(alloc: Global, headers: &mut HeaderList, text: &[u8]) -> Result<(), Failed> {
+    for header in values_of(alloc, text, b"header")?.as_slice() {
+        headers.append(before_byte(header, b':'), after_byte(header, b':'))?;
     }
-    Ok(headers)
+    Ok(())
 }
 
 // The origin of the document.
@@ -93,46 +121,6 @@ fn origin_in(alloc: Global, text: &[u8]) -> Result<Origin, Failed> {
     match value_of(text, b"from") {
         [] => origin_written(alloc, b"http://a.test/"),
         written => origin_written(alloc, written),
-    }
-}
-
-// The mode.
-fn mode_in(text: &[u8]) -> Result<Mode, Failed> {
-    match value_of(text, b"mode") {
-        b"" | b"cors" => Ok(Mode::Cors),
-        b"no-cors" => Ok(Mode::NoCors),
-        b"same-origin" => Ok(Mode::SameOrigin),
-        _ => Err(Failed),
-    }
-}
-
-// The credentials mode.
-fn credentials_in(text: &[u8]) -> Result<Credentials, Failed> {
-    match value_of(text, b"credentials") {
-        b"" | b"same-origin" => Ok(Credentials::SameOrigin),
-        b"omit" => Ok(Credentials::Omit),
-        b"include" => Ok(Credentials::Include),
-        _ => Err(Failed),
-    }
-}
-
-// The redirect mode.
-fn redirect_in(text: &[u8]) -> Result<RedirectMode, Failed> {
-    match value_of(text, b"redirect") {
-        b"" | b"follow" => Ok(RedirectMode::Follow),
-        b"error" => Ok(RedirectMode::Error),
-        b"manual" => Ok(RedirectMode::Manual),
-        _ => Err(Failed),
-    }
-}
-
-// The response tainting.
-fn tainting_in(text: &[u8]) -> Result<Tainting, Failed> {
-    match value_of(text, b"tainting") {
-        b"" | b"basic" => Ok(Tainting::Basic),
-        b"cors" => Ok(Tainting::Cors),
-        b"opaque" => Ok(Tainting::Opaque),
-        _ => Err(Failed),
     }
 }
 
@@ -162,46 +150,104 @@ fn redirects_in(text: &[u8]) -> u32
     }
 }
 
-// Whether a flag is set.
-fn has_flag(text: &[u8], name: &[u8]) -> bool {
-    value_of(text, name) == b"yes".as_slice()
+// A request with these, and in all else as the second column says.
+fn request_with(
+    alloc: Global,
+    method: Bytes,
+    urls: Urls,
+    origin: Origin,
+    referrer: Referrer,
+) -> Request
+    requires method { IsTrue (is_token method) }
+    requires urls { IsTrue (spec.were_http urls) }
+    requires referrer { IsTrue (spec.is_http_referrer referrer) }
+    ensures valid { spec.IsRequest result }
+    ensures referrer { result.referrer ≡ referrer }
+{
+    Request {
+        method,
+        urls,
+        headers: HeaderList::new(alloc),
+        body: None,
+        origin,
+        mode: Mode::Cors,
+        credentials: Credentials::SameOrigin,
+        redirect: RedirectMode::Follow,
+        referrer,
+        policy: ReferrerPolicy::Empty,
+        integrity: Bytes::new(alloc),
+        nonce: Bytes::new(alloc),
+        parser: false,
+        unsafe_request: false,
+        use_preflight: false,
+        destination: Destination::Fetch,
+        tainting: Tainting::Basic,
+        redirects: 0,
+    }
 }
 
-// The request that a text writes, whatever its current URL is.
-fn written_request(alloc: Global, text: &[u8]) -> Result<Request, Failed>
-    ensures valid { IfOk result spec.IsRequest }
-    ensures determined { IfOk result (λ request. IsTrue (spec.is_determined request.referrer)) }
+// A request in a place of its own, where it is dropped in one step.
+fn boxed(alloc: Global, request: Request) -> Result<Box<Request>, Failed>
+    ensures { IfOk result (λ boxed. boxed.value ≡ request) }
 {
-    Ok(Request {
-        method: method_in(alloc, text)?,
-        urls: urls_in(alloc, text)?,
-        headers: headers_in(alloc, text)?,
-        body: None,
-        origin: origin_in(alloc, text)?,
-        mode: mode_in(text)?,
-        credentials: credentials_in(text)?,
-        redirect: redirect_in(text)?,
-        referrer: referrer_in(alloc, text)?,
-        policy: policy_named(value_of(text, b"policy"))?,
-        integrity: Bytes::of(alloc, value_of(text, b"integrity"))?,
-        nonce: Bytes::of(alloc, value_of(text, b"nonce"))?,
-        parser: has_flag(text, b"parser"),
-        unsafe_request: false,
-        use_preflight: has_flag(text, b"upload"),
-        destination: destination_named(value_of(text, b"to"))?,
-        tainting: tainting_in(text)?,
-        redirects: redirects_in(text),
-    })
+    match Box::new(alloc, request) {
+        Ok(boxed) => Ok(boxed),
+        Err(_) => Err(Failed),
+    }
+}
+
+// The request of the method, the URLs, the origin and the referrer that a text writes.
+fn begun(alloc: Global, text: &[u8]) -> Result<Box<Request>, Failed>
+    ensures valid { IfOk result (λ request. spec.IsRequest request.value) }
+    ensures determined { IfOk result (λ request. IsTrue (spec.is_determined request.value.referrer)) }
+{
+    let method = method_in(alloc, text)?;
+    let urls = urls_in(alloc, text)?;
+    let origin = origin_in(alloc, text)?;
+    let referrer = referrer_in(alloc, text)?;
+    boxed(alloc, request_with(alloc, method, urls, origin, referrer))
+}
+
+// Sets what is a word, a flag or a number.
+fn set_words(request: &mut Request, text: &[u8]) -> Result<(), Failed>
+    requires { spec.IsRequest request.old }
+    ensures valid { OnOk result (spec.IsRequest request.new) }
+    ensures referrer { OnOk result (request.new.referrer ≡ request.old.referrer) }
+{
+    request.mode = named(&MODES, value_of(text, b"mode"))?;
+    request.credentials = named(&CREDENTIALS, value_of(text, b"credentials"))?;
+    request.redirect = named(&REDIRECTS, value_of(text, b"redirect"))?;
+    request.policy = policy_named(value_of(text, b"policy"))?;
+    request.destination = destination_named(value_of(text, b"to"))?;
+    request.tainting = named(&TAINTINGS, value_of(text, b"tainting"))?;
+    request.parser = !value_of(text, b"parser").is_empty();
+    request.use_preflight = !value_of(text, b"upload").is_empty();
+    request.redirects = redirects_in(text);
+    Ok(())
+}
+
+// Sets the headers and the texts.
+fn set_texts(alloc: Global, request: &mut Request, text: &[u8]) -> Result<(), Failed>
+    requires { spec.IsRequest request.old }
+    ensures valid { OnOk result (spec.IsRequest request.new) }
+    ensures referrer { OnOk result (request.new.referrer ≡ request.old.referrer) }
+{
+    add_headers(alloc, &mut request.headers, text)?;
+    request.integrity.append(value_of(text, b"integrity"))?;
+    request.nonce.append(value_of(text, b"nonce"))?;
+    Ok(())
 }
 
 /// The request that a text writes, as this file says. Its current URL is http or https, and its referrer is
 /// none or a URL.
-pub fn request_of(alloc: Global, text: &[u8]) -> Result<Request, Failed>
-    ensures valid { IfOk result spec.IsRequest }
-    ensures at_http { IfOk result spec.IsAtHttp }
-    ensures determined { IfOk result (λ request. IsTrue (spec.is_determined request.referrer)) }
+pub fn request_of(alloc: Global, text: &[u8]) -> Result<Box<Request>, Failed>
+    ensures valid { IfOk result (λ request. spec.IsRequest request.value) }
+    ensures at_http { IfOk result (λ request. spec.IsAtHttp request.value) }
+    ensures determined { IfOk result (λ request. IsTrue (spec.is_determined request.value.referrer)) }
 {
-    let request = written_request(alloc, text)?;
+    let mut request = begun(alloc, text)?;
+    set_words(&mut request, text)?;
+    set_texts(alloc, &mut request, text)?;
     if !is_http_url(request.current_url()) {
         return Err(Failed);
     }

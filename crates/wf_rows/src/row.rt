@@ -1,30 +1,22 @@
-ghost use Rattle.std.specs.Prelude.{◌<◌, IfOk};
-
 use crate::failed::Failed;
+use crate::shown::Shown;
 use std::alloc::Global;
-use wf_text::{Bytes, BytesList, after_byte, before_byte, parse_digits};
+use wf_text::{Bytes, BytesList, after_byte, before_byte, parse_digits, parts_between};
 
-/// A row: its kind, and the texts that its call takes.
+/// The texts of a row, which its call takes.
 #[derive(Drop)]
 pub struct Row {
-    kind: Bytes,
     texts: BytesList,
 }
 
 impl Row {
-    /// The row of a line.
-    pub fn of(alloc: Global, line: &[u8]) -> Result<Row, Failed> {
-        let kind = Bytes::of(alloc, before_byte(line, b'\t'))?;
+    /// The row of texts with a byte between.
+    pub fn of(alloc: Global, written: &[u8], between: u8) -> Result<Row, Failed> {
         let mut texts = BytesList::new(alloc);
-        for text in after_byte(line, b'\t').split(|byte| *byte == b'\t') {
+        for text in parts_between(alloc, written, between)?.as_slice() {
             texts.push(unescaped(alloc, text)?)?;
         }
-        Ok(Row { kind, texts })
-    }
-
-    /// Whether the row is of this kind.
-    pub fn is(&self, kind: &[u8]) -> bool {
-        self.kind.as_slice() == kind
+        Ok(Row { texts })
     }
 
     /// How many texts there are.
@@ -41,91 +33,92 @@ impl Row {
         }
     }
 
-    /// The text at an index, which is UTF-8.
-    pub fn string(&self, index: usize) -> Result<&str, Failed> {
-        match str::from_utf8(self.text(index)) {
-            Ok(text) => Ok(text),
-            Err(_) => Err(Failed),
-        }
+    /// Whether the text at an index is this one.
+    pub fn has(&self, index: usize, text: &[u8]) -> bool {
+        self.text(index) == text
     }
 }
 
-// The number that the digits write.
-fn number(digits: &[u8]) -> Result<u64, Failed> {
-    match parse_digits(digits, 65_536) {
+/// The number that the digits write, which is at most the cap.
+pub fn number(digits: &[u8], cap: u64) -> Result<u64, Failed> {
+    match parse_digits(digits, cap) {
         Some(number) => Ok(number),
         None => Err(Failed),
     }
 }
 
-// The bytes of a text: `\r`, `\n`, `\t`, `\0` and `\\` stand for CR, LF, tab, NUL and a backslash, `\xHH` for
-// the byte of two hexadecimal digits, and `{COUNT UNIT}` for so many times the unit.
-fn unescaped(alloc: Global, text: &[u8]) -> Result<Bytes, Failed> {
-    let mut bytes = Bytes::new(alloc);
+/// The bytes of a text: `\r`, `\n`, `\t`, `\0` and `\\` stand for CR, LF, tab, NUL and a backslash, `\xHH` for
+/// the byte of two hexadecimal digits, and `{COUNT UNIT}` for so many times the unit.
+pub fn unescaped(alloc: Global, text: &[u8]) -> Result<Bytes, Failed> {
+    let mut bytes = Shown::new(alloc);
     let mut rest = text;
     for _ in 0..text.len() {
-        append(&mut bytes, before_byte(rest, b'{'))?;
+        add(&mut bytes, before_byte(rest, b'{'));
         let behind = after_byte(rest, b'{');
         if behind.is_empty() {
             break;
         }
-        append_repeated(&mut bytes, before_byte(behind, b'}'))?;
+        add_repeated(&mut bytes, before_byte(behind, b'}'));
         rest = after_byte(behind, b'}');
     }
-    Ok(bytes)
+    bytes.into_bytes()
 }
 
 // Adds the unit so many times.
-fn append_repeated(bytes: &mut Bytes, group: &[u8]) -> Result<(), Failed> {
-    let unit = after_byte(group, b' ');
-    for _ in 0..number(before_byte(group, b' '))? {
-        append(bytes, unit)?;
+fn add_repeated(bytes: &mut Shown, group: &[u8]) {
+    let Some(count) = parse_digits(before_byte(group, b' '), 65_536) else {
+        bytes.fail();
+        return;
+    };
+    for _ in 0..count {
+        add(bytes, after_byte(group, b' '));
     }
-    Ok(())
 }
 
 // Adds a text in which a backslash begins an escape.
-fn append(bytes: &mut Bytes, text: &[u8]) -> Result<(), Failed> {
+fn add(bytes: &mut Shown, text: &[u8]) {
     let mut rest = text;
     for _ in 0..text.len() {
         match rest {
             [] => break,
             [b'\\', b'x', high, low, after @ ..] => {
-                bytes.append(&[hex(*high)? << 4 | hex(*low)?])?;
+                bytes.add_byte(byte_of(*high, *low));
                 rest = after;
             }
             [b'\\', letter, after @ ..] => {
-                bytes.append(&[escape(*letter)?])?;
+                bytes.add_byte(escape(*letter));
                 rest = after;
             }
             [byte, after @ ..] => {
-                bytes.append(&[*byte])?;
+                bytes.add(&[*byte]);
                 rest = after;
             }
         }
     }
-    Ok(())
+}
+
+// The byte of two hexadecimal digits.
+fn byte_of(high: u8, low: u8) -> Option<u8> {
+    Some(hex(high)?.wrapping_mul(16).wrapping_add(hex(low)?))
 }
 
 // The value of a hexadecimal digit.
-fn hex(digit: u8) -> Result<u8, Failed>
-    ensures { IfOk result (λ value. value < 16) }
-{
+fn hex(digit: u8) -> Option<u8> {
     match digit {
-        b'0'..=b'9' => Ok(digit - b'0'),
-        b'a'..=b'f' => Ok(digit - b'a' + 10),
-        _ => Err(Failed),
+        b'0'..=b'9' => Some(digit - b'0'),
+        b'a'..=b'f' => Some(digit - b'a' + 10),
+        _ => None,
     }
 }
 
 // The byte that a letter behind a backslash stands for.
-fn escape(letter: u8) -> Result<u8, Failed> {
+fn escape(letter: u8) -> Option<u8> {
     match letter {
-        b'r' => Ok(b'\r'),
-        b'n' => Ok(b'\n'),
-        b't' => Ok(b'\t'),
-        b'0' => Ok(0),
-        b'\\' => Ok(b'\\'),
-        _ => Err(Failed),
+        b'r' => Some(b'\r'),
+        b'n' => Some(b'\n'),
+        b't' => Some(b'\t'),
+        b'0' => Some(0),
+        b'\\' => Some(b'\\'),
+        _ => None,
     }
 }

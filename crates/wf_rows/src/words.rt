@@ -1,44 +1,100 @@
 use crate::failed::Failed;
-use wf_text::{after_byte, before_byte};
+use std::alloc::Global;
+use wf_text::{after_byte, before_byte, parts_between};
 use wf_types::{Destination, ReferrerPolicy};
+
+/// The names of destinations; the empty one is that of `Fetch`.
+const DESTINATIONS: [(&[u8], Destination); 9] = [
+    (b"", Destination::Fetch),
+    (b"fetch", Destination::Fetch),
+    (b"image", Destination::Image),
+    (b"audio", Destination::Audio),
+    (b"video", Destination::Video),
+    (b"style", Destination::Style),
+    (b"script", Destination::Script),
+    (b"font", Destination::Font),
+    (b"manifest", Destination::Manifest),
+];
+
+/// The tokens of referrer policies.
+const POLICIES: [(&[u8], ReferrerPolicy); 9] = [
+    (b"", ReferrerPolicy::Empty),
+    (b"no-referrer", ReferrerPolicy::NoReferrer),
+    (
+        b"no-referrer-when-downgrade",
+        ReferrerPolicy::NoReferrerWhenDowngrade,
+    ),
+    (b"same-origin", ReferrerPolicy::SameOrigin),
+    (b"origin", ReferrerPolicy::Origin),
+    (b"strict-origin", ReferrerPolicy::StrictOrigin),
+    (
+        b"origin-when-cross-origin",
+        ReferrerPolicy::OriginWhenCrossOrigin,
+    ),
+    (
+        b"strict-origin-when-cross-origin",
+        ReferrerPolicy::StrictOriginWhenCrossOrigin,
+    ),
+    (b"unsafe-url", ReferrerPolicy::UnsafeUrl),
+];
+
+/// What a table has for a name.
+pub fn named<T: Copy>(table: &[(&[u8], T)], name: &[u8]) -> Result<T, Failed> {
+    for (word, value) in table {
+        if *word == name {
+            return Ok(*value);
+        }
+    }
+    Err(Failed)
+}
+
+// Whether a word begins with `NAME=`.
+fn is_named(word: &[u8], name: &[u8]) -> bool {
+    before_byte(word, b'=') == name
+}
 
 /// What stands behind `NAME=` in the first word of a text, cut at spaces, that begins so; empty where none does.
 pub fn value_of<'a>(text: &'a [u8], name: &[u8]) -> &'a [u8] {
-    for word in text.split(|byte| *byte == b' ') {
-        if before_byte(word, b'=') == name {
+    let mut rest = text;
+    for _ in 0..text.len() {
+        let word = before_byte(rest, b' ');
+        if is_named(word, name) {
             return after_byte(word, b'=');
         }
+        rest = after_byte(rest, b' ');
     }
     &[]
 }
 
-/// The destination of a name; `Fetch` for the empty one.
-pub fn destination_named(name: &[u8]) -> Result<Destination, Failed> {
-    match name {
-        b"" | b"fetch" => Ok(Destination::Fetch),
-        b"image" => Ok(Destination::Image),
-        b"audio" => Ok(Destination::Audio),
-        b"video" => Ok(Destination::Video),
-        b"style" => Ok(Destination::Style),
-        b"script" => Ok(Destination::Script),
-        b"font" => Ok(Destination::Font),
-        b"manifest" => Ok(Destination::Manifest),
-        _ => Err(Failed),
+/// What stands behind `NAME=` in each word that begins so.
+pub fn values_of<'a>(alloc: Global, text: &'a [u8], name: &[u8]) -> Result<Vec<&'a [u8]>, Failed> {
+    let mut values = Vec::new(alloc);
+    for word in parts_between(alloc, text, b' ')?.as_slice() {
+        if is_named(word, name) {
+            values.push(after_byte(word, b'='))?;
+        }
     }
+    Ok(values)
+}
+
+/// Whether a word is among those of a text, or what one begins with up to `=`.
+pub fn has_word(text: &[u8], name: &[u8]) -> bool {
+    let mut rest = text;
+    for _ in 0..text.len() {
+        if is_named(before_byte(rest, b' '), name) {
+            return true;
+        }
+        rest = after_byte(rest, b' ');
+    }
+    false
+}
+
+/// The destination of a name.
+pub fn destination_named(name: &[u8]) -> Result<Destination, Failed> {
+    named(&DESTINATIONS, name)
 }
 
 /// The referrer policy of a token.
 pub fn policy_named(name: &[u8]) -> Result<ReferrerPolicy, Failed> {
-    match name {
-        b"" => Ok(ReferrerPolicy::Empty),
-        b"no-referrer" => Ok(ReferrerPolicy::NoReferrer),
-        b"no-referrer-when-downgrade" => Ok(ReferrerPolicy::NoReferrerWhenDowngrade),
-        b"same-origin" => Ok(ReferrerPolicy::SameOrigin),
-        b"origin" => Ok(ReferrerPolicy::Origin),
-        b"strict-origin" => Ok(ReferrerPolicy::StrictOrigin),
-        b"origin-when-cross-origin" => Ok(ReferrerPolicy::OriginWhenCrossOrigin),
-        b"strict-origin-when-cross-origin" => Ok(ReferrerPolicy::StrictOriginWhenCrossOrigin),
-        b"unsafe-url" => Ok(ReferrerPolicy::UnsafeUrl),
-        _ => Err(Failed),
-    }
+    named(&POLICIES, name)
 }

@@ -1,192 +1,158 @@
-ghost use Rattle.std.specs.Prelude.{◌<◌, ◌^◌};
+// Operations on a preflight cache and a list of known hosts, in words with a space between. `questions.rt` says how
+// questions and lessons are written.
+//
+//     learn LESSON TIME                       the entries of the key after it
+//     covers QUESTION TIME                    whether it does
+//     clear KEY URL                           the entries of the key after it
+//     entries KEY                             the entries of the key
+//     note AGE SUBDOMAINS TIME HOST ..        how many hosts there are after all of them
+//     forget HOST                             how many hosts there are after it
+//     known TIME NAME ..                      whether each name is known
+ghost use Rattle.std.specs.Prelude.{◌<◌, ◌^◌, IfOk};
 
-use crate::failed::Failed;
-use crate::lines::{is_first, number, text, text_or_none, texts, words_of};
+use crate::questions::{ORIGIN, lesson_of, question_of};
 use std::alloc::Global;
 use wf_hsts::{HstsList, Sts};
-use wf_precache::{Allowed, CacheEntry, Lesson, Precache, Question};
+use wf_precache::{Allowed, CacheEntry, Precache};
+use wf_rows::{Failed, Lines, Row, Shown, named, number};
 use wf_text::Bytes;
-
-/// The origin of all requests.
-const ORIGIN: &str = "http://a.test";
 
 /// Times and ages are below this.
 const LIMIT: u64 = 1 << 48;
 
+/// The words for whether a field speaks of subdomains.
+const SUBDOMAINS: [(&[u8], bool); 2] = [(b"subdomains", true), (b"alone", false)];
+
 /// A preflight cache and a list of known hosts.
 #[derive(Drop)]
 pub(crate) struct Books {
-    alloc: Global,
     cache: Precache,
     hosts: HstsList,
 }
 
-fn yes_or_no(answer: bool) -> &'static str {
-    if answer { "yes" } else { "no" }
-}
-
-// Writes what an entry is.
-fn show(entry: &CacheEntry, shown: &mut Bytes, alloc: Global) -> Result<(), Failed> {
-    let allowed = match &entry.allowed {
-        Allowed::Method(method) => method,
-        Allowed::HeaderName(name) => name,
-    };
-    shown.append(b" ")?;
-    shown.append(entry.url.as_slice())?;
-    shown.append(b",")?;
-    shown.append(allowed.as_slice())?;
-    shown.append(b",")?;
-    shown.append(entry.made.to_string(alloc)?.as_bytes())?;
-    shown.append(b"+")?;
-    shown.append(entry.age.to_string(alloc)?.as_bytes())?;
-    if entry.include {
-        shown.append(b",include")?;
+impl Lines for Books {
+    fn answer(&mut self, alloc: Global, line: &str, shown: &mut Shown) -> Result<(), Failed> {
+        let (operation, written) = line.split_once(' ').unwrap_or((line, ""));
+        let words = Row::of(alloc, written.as_bytes(), b' ')?;
+        match operation {
+            "learn" => self.learn(alloc, &words, shown),
+            "covers" => self.covers(alloc, &words, shown),
+            "note" => self.note(alloc, &words, shown),
+            "clear" => self.clear(&words, shown),
+            "entries" => self.show_entries(words.text(0), shown),
+            "forget" => self.forget(words.text(0), shown),
+            "known" => self.known(&words, shown),
+            _ => Err(Failed),
+        }
     }
-    Ok(())
 }
 
 impl Books {
     // An empty cache and an empty list.
     pub(crate) fn new(alloc: Global) -> Books {
         Books {
-            alloc,
             cache: Precache::new(alloc),
             hosts: HstsList::new(alloc),
         }
     }
 
-    // What the operation of a line comes to.
-    pub(crate) fn answer(&mut self, line: &str) -> Result<Bytes, Failed> {
-        if line.starts_with('#') {
-            return text(self.alloc, line);
-        }
-        let words = words_of(self.alloc, line)?;
-        let [operation, rest @ ..] = words.as_slice() else {
-            return Ok(Bytes::new(self.alloc));
-        };
-        match *operation {
-            "learn" => self.learn(rest),
-            "covers" => self.covers(rest),
-            "clear" => self.clear(rest),
-            "entries" => self.entries(rest),
-            "note" => self.note(rest),
-            "forget" => self.forget(rest),
-            "known" => self.known(rest),
-            _ => Err(Failed),
-        }
+    // Learns a lesson.
+    fn learn(&mut self, alloc: Global, words: &Row, shown: &mut Shown) -> Result<(), Failed> {
+        let now = number(words.text(6), u64::MAX)?;
+        let lesson = lesson_of(alloc, words)?;
+        self.cache.learn(&lesson, now)?;
+        self.show_entries(words.text(0), shown)
     }
 
-    // `learn KEY URL CREDENTIALS AGE METHODS NAMES TIME`: the entries of the key after it.
-    fn learn(&mut self, words: &[&str]) -> Result<Bytes, Failed> {
-        let [key, url, credentials, age, methods, names, time] = words else {
-            return Err(Failed);
-        };
-        let lesson = Lesson {
-            key: text(self.alloc, key)?,
-            origin: text(self.alloc, ORIGIN)?,
-            url: text(self.alloc, url)?,
-            include: is_first(credentials, "include", "other")?,
-            age: number(age)?,
-            methods: texts(self.alloc, methods)?,
-            names: texts(self.alloc, names)?,
-        };
-        self.cache.learn(&lesson, number(time)?)?;
-        self.shown(key)
+    // Answers a question.
+    fn covers(&self, alloc: Global, words: &Row, shown: &mut Shown) -> Result<(), Failed> {
+        let now = number(words.text(5), u64::MAX)?;
+        let question = question_of(alloc, words)?;
+        shown.add_yes_or_no(self.cache.covers(&question, now));
+        Ok(())
     }
 
-    // `covers KEY URL CREDENTIALS METHOD NAMES TIME`: whether it does.
-    fn covers(&self, words: &[&str]) -> Result<Bytes, Failed> {
-        let [key, url, credentials, method, names, time] = words else {
-            return Err(Failed);
-        };
-        let question = Question {
-            key: text(self.alloc, key)?,
-            origin: text(self.alloc, ORIGIN)?,
-            url: text(self.alloc, url)?,
-            include: is_first(credentials, "include", "other")?,
-            method: text_or_none(self.alloc, method)?,
-            names: texts(self.alloc, names)?,
-        };
-        let covers = self.cache.covers(&question, number(time)?);
-        text(self.alloc, yes_or_no(covers))
-    }
-
-    // `clear KEY URL`: the entries of the key after it.
-    fn clear(&mut self, words: &[&str]) -> Result<Bytes, Failed> {
-        let [key, url] = words else {
-            return Err(Failed);
-        };
-        self.cache
-            .clear(key.as_bytes(), ORIGIN.as_bytes(), url.as_bytes());
-        self.shown(key)
-    }
-
-    // `entries KEY`: the entries of the key.
-    fn entries(&self, words: &[&str]) -> Result<Bytes, Failed> {
-        let [key] = words else {
-            return Err(Failed);
-        };
-        self.shown(key)
+    // Clears the entries of a key and a URL.
+    fn clear(&mut self, words: &Row, shown: &mut Shown) -> Result<(), Failed> {
+        self.cache.clear(words.text(0), ORIGIN, words.text(1));
+        self.show_entries(words.text(0), shown)
     }
 
     // A key and its entries, in order.
-    fn shown(&self, key: &str) -> Result<Bytes, Failed> {
-        let mut shown = text(self.alloc, key)?;
-        for entry in self.cache.entries_of(key.as_bytes()) {
-            show(entry, &mut shown, self.alloc)?;
+    fn show_entries(&self, key: &[u8], shown: &mut Shown) -> Result<(), Failed> {
+        shown.add(key);
+        for entry in self.cache.entries_of(key) {
+            show_entry(entry, shown);
         }
-        Ok(shown)
+        Ok(())
     }
 
-    // `note AGE SUBDOMAINS TIME HOST ..`: how many hosts there are after all of them.
-    fn note(&mut self, words: &[&str]) -> Result<Bytes, Failed> {
-        let [age, subdomains, time, hosts @ ..] = words else {
-            return Err(Failed);
-        };
-        let now = number(time)?;
+    // Notes a field of each host.
+    fn note(&mut self, alloc: Global, words: &Row, shown: &mut Shown) -> Result<(), Failed> {
         let sts = Sts {
-            age: number(age)?,
-            subdomains: is_first(subdomains, "subdomains", "alone")?,
+            age: time_in(words.text(0))?,
+            subdomains: named(&SUBDOMAINS, words.text(1))?,
         };
-        if now >= LIMIT || sts.age >= LIMIT {
-            return Err(Failed);
+        let now = time_in(words.text(2))?;
+        for index in 3..words.len() {
+            self.hosts
+                .note(Bytes::of(alloc, words.text(index))?, sts, now)?;
         }
-        for host in hosts {
-            self.hosts.note(text(self.alloc, host)?, sts, now)?;
-        }
-        self.count()
+        self.show_count(shown)
     }
 
-    // `forget HOST`: how many hosts there are after it.
-    fn forget(&mut self, words: &[&str]) -> Result<Bytes, Failed> {
-        let [host] = words else {
-            return Err(Failed);
-        };
-        self.hosts.forget(host.as_bytes());
-        self.count()
+    // Forgets a host.
+    fn forget(&mut self, host: &[u8], shown: &mut Shown) -> Result<(), Failed> {
+        self.hosts.forget(host);
+        self.show_count(shown)
     }
 
     // How many hosts there are.
-    fn count(&self) -> Result<Bytes, Failed> {
-        Ok(Bytes::of(
-            self.alloc,
-            self.hosts.len().to_string(self.alloc)?.as_bytes(),
-        )?)
+    fn show_count(&self, shown: &mut Shown) -> Result<(), Failed> {
+        shown.add_number(self.hosts.len() as u64);
+        Ok(())
     }
 
-    // `known TIME NAME ..`: whether each name is known.
-    fn known(&self, words: &[&str]) -> Result<Bytes, Failed> {
-        let [time, names @ ..] = words else {
-            return Err(Failed);
-        };
-        let now = number(time)?;
-        let mut known = Bytes::new(self.alloc);
-        for name in names {
-            if !known.is_empty() {
-                known.append(b" ")?;
+    // Whether each name is known, with a space between.
+    fn known(&self, words: &Row, shown: &mut Shown) -> Result<(), Failed> {
+        let now = number(words.text(0), u64::MAX)?;
+        for index in 1..words.len() {
+            if index > 1 {
+                shown.add(b" ");
             }
-            known.append(yes_or_no(self.hosts.is_known(name.as_bytes(), now)).as_bytes())?;
+            shown.add_yes_or_no(self.hosts.is_known(words.text(index), now));
         }
-        Ok(known)
+        Ok(())
+    }
+}
+
+// The time or the age that a word writes.
+fn time_in(word: &[u8]) -> Result<u64, Failed>
+    ensures { IfOk result (λ time. time < 2 ^ 48) }
+{
+    let time = number(word, u64::MAX)?;
+    if time < LIMIT { Ok(time) } else { Err(Failed) }
+}
+
+// The method or the header name that is allowed.
+fn show_allowed(allowed: &Allowed, shown: &mut Shown) {
+    match allowed {
+        Allowed::Method(method) => shown.add(method.as_slice()),
+        Allowed::HeaderName(name) => shown.add(name.as_slice()),
+    }
+}
+
+// What an entry is.
+fn show_entry(entry: &CacheEntry, shown: &mut Shown) {
+    shown.add(b" ");
+    shown.add(entry.url.as_slice());
+    shown.add(b",");
+    show_allowed(&entry.allowed, shown);
+    shown.add(b",");
+    shown.add_number(entry.made);
+    shown.add(b"+");
+    shown.add_number(entry.age);
+    if entry.include {
+        shown.add(b",include");
     }
 }

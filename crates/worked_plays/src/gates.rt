@@ -1,0 +1,92 @@
+// Documents that are played, by the program's top call with the word `net`, over links that wait for each other. Shown
+// are the status, the documents' text, and how many calls the history has, since their order is free.
+//
+// First each link gives its answer only once all documents have sent their requests. So
+// the bodies come whole only where the documents run at once, and no turn on the shared book is held during an exchange.
+// Two documents wait for each other so, and then five.
+//
+// Then the second link waits until the first document has sent its PUT, which its preflight has taught the
+// book before. So the second document's PUT is covered, and has no preflight of its own, only where they share the book.
+// These links are made only where the scenario's routes reach what makes them.
+use crate::streams::{Streams, program_words, text_of};
+use crate::waiting::{Asked, Manner, WaitingLinks};
+use std::sync::Wait;
+use std::thread::Threads;
+use wf_rows::{Failed, Shown};
+
+/// Two documents, each of which asks the book whether b.test is known, and fetches its page.
+const SCENARIO: &[u8] = b"{\"format\":1,\"documents\":[\
+    {\"url\":\"http://a.test/\",\"script\":[{\"fetch\":{\"url\":\"http://b.test/\"}}]},\
+    {\"url\":\"http://d.test/\",\"script\":[{\"fetch\":{\"url\":\"http://b.test/\"}}]}]}";
+
+/// Five documents, each of which fetches the same page.
+const CROWD: &[u8] = b"{\"format\":1,\"documents\":[\
+    {\"url\":\"https://a.test/\",\"script\":[{\"fetch\":{\"url\":\"https://e.test/\"}}]},\
+    {\"url\":\"https://b.test/\",\"script\":[{\"fetch\":{\"url\":\"https://e.test/\"}}]},\
+    {\"url\":\"https://c.test/\",\"script\":[{\"fetch\":{\"url\":\"https://e.test/\"}}]},\
+    {\"url\":\"https://d.test/\",\"script\":[{\"fetch\":{\"url\":\"https://e.test/\"}}]},\
+    {\"url\":\"https://f.test/\",\"script\":[{\"fetch\":{\"url\":\"https://e.test/\"}}]}]}";
+
+/// Two documents with one key. Each sends the same PUT, the second behind a GET.
+const LESSON: &[u8] =
+    b"{\"format\":1,\"routes\":[[\"http://b.test\",\"127.0.0.1:8080\"]],\"documents\":[\
+    {\"url\":\"http://a.test/\",\"script\":[{\"fetch\":{\"url\":\"http://b.test/x\",\"method\":\"PUT\"}}]},\
+    {\"url\":\"http://a.test/\",\"script\":[{\"fetch\":{\"url\":\"http://b.test/\"}},\
+    {\"fetch\":{\"url\":\"http://b.test/x\",\"method\":\"PUT\"}}]}]}";
+
+/// The second document waits for the first one's PUT.
+const TAUGHT: Manner = Manner {
+    method: b"PUT ",
+    first: 0,
+    others: 1,
+    address: b"127.0.0.1:8080",
+};
+
+// Each of so many documents waits for all.
+fn waiting_for(count: usize) -> Manner {
+    Manner {
+        method: b"",
+        first: count,
+        others: count,
+        address: b"",
+    }
+}
+
+// The text of the documents, up to the history, and how many calls the history has.
+fn show(text: &str, shown: &mut Shown) -> Result<(), Failed> {
+    let Some((documents, rest)) = text.split_once("history\n") else {
+        return Err(Failed);
+    };
+    shown.add(documents.as_bytes());
+    shown.add_count(b"calls ", rest.lines().count().saturating_sub(1));
+    shown.add(b"\n");
+    Ok(())
+}
+
+// Plays the documents of a scenario over links.
+fn play_over<R: Threads + Wait + Sync + AllocGlobal>(
+    rt: &R,
+    scenario: &[u8],
+    manner: Manner,
+    shown: &mut Shown,
+) -> Result<(), Failed> {
+    let alloc = rt.alloc();
+    let words = program_words(alloc, "net")?;
+    let mut streams = Streams::of(alloc, b"", scenario)?;
+    let asked = Asked::none();
+    let mut links = WaitingLinks::new(&asked, manner);
+    streams.run(rt, alloc, words.as_slice(), &mut links, 0, shown);
+    show(text_of(streams.output())?, shown)
+}
+
+// Plays all of them.
+pub(crate) fn play<R: Threads + Wait + Sync + AllocGlobal>(
+    rt: &R,
+    shown: &mut Shown,
+) -> Result<(), Failed> {
+    play_over(rt, SCENARIO, waiting_for(2), shown)?;
+    shown.add(b"\n");
+    play_over(rt, CROWD, waiting_for(5), shown)?;
+    shown.add(b"\n");
+    play_over(rt, LESSON, TAUGHT, shown)
+}

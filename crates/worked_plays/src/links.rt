@@ -1,0 +1,188 @@
+// Documents that are played over links in memory. A row is a scenario of one document, what fails of its link, and
+// the link's answers, with a tab between. What fails is written in words with a space between:
+//
+//     asks=N,N          the Nth ask fails
+//     receives=N,N      the Nth receive fails
+//
+// An answer is written as its pieces with a bar between, of which each comes by a receive of its own. Rows that stand
+// together are played one after another over one book. Of each is shown how often its link was asked and how often it
+// failed, and then the text of all of them, with the book's history.
+ghost use Rattle.std.specs.Prelude.{◌≤◌, ◌<◌, ◌+◌, ◌*◌, length, IfOk};
+ghost use Rattle.wf_script.specs.Valid.{IsValid};
+
+use crate::streams::numbers_of;
+use std::alloc::Global;
+use std::sync::Wait;
+use std::thread::Threads;
+use wf_book::{Book, History, Share, SoloBook};
+use wf_link::{MemoryLink, MemorySink};
+use wf_player::drive;
+use wf_print::{Ending, Transcript, Transcripts, has_text, write_play};
+use wf_rows::{Failed, Row, Shown};
+use wf_script::Scenario;
+use wf_text::{Bytes, BytesList, after_byte, before_byte, parts_between};
+
+/// How many rows stand together at most.
+const MOST_ROWS: usize = 64;
+
+/// How many bytes the text of rows that stand together has at most.
+const ROOM: usize = 1_048_576;
+
+/// How many bytes a link has room for of what it is asked.
+const LINK_ROOM: usize = 65_536;
+
+// An answer: its pieces.
+fn answer_of(alloc: Global, text: &[u8]) -> Result<BytesList, Failed> {
+    let mut pieces = BytesList::new(alloc);
+    for piece in parts_between(alloc, text, b'|')?.as_slice() {
+        pieces.push(Bytes::of(alloc, piece)?)?;
+    }
+    Ok(pieces)
+}
+
+// The answers of a row.
+fn answers_of(alloc: Global, row: &Row) -> Result<Vec<BytesList>, Failed> {
+    let mut answers = Vec::new(alloc);
+    for index in 1..row.len() {
+        answers.push(answer_of(alloc, row.text(index))?)?;
+    }
+    Ok(answers)
+}
+
+// The link of a row, whose first text says what fails, and the others are the answers.
+fn link_of(alloc: Global, row: &Row) -> Result<MemoryLink, Failed> {
+    let answers = answers_of(alloc, row)?;
+    let asks = numbers_of(alloc, row.text(0), b"asks")?;
+    let receives = numbers_of(alloc, row.text(0), b"receives")?;
+    Ok(MemoryLink::new(alloc, answers, LINK_ROOM, asks, receives)?)
+}
+
+// The link of a line, whose first text says what is played over it.
+pub(crate) fn link_in(alloc: Global, line: &str) -> Result<MemoryLink, Failed> {
+    let row = Row::of(alloc, after_byte(line.as_bytes(), b'\t'), b'\t')?;
+    link_of(alloc, &row)
+}
+
+// The scenario that a text has.
+fn scenario_in(alloc: Global, text: &[u8]) -> Result<Scenario, Failed>
+    ensures { IfOk result IsValid }
+{
+    match Scenario::read(alloc, text)? {
+        Ok(scenario) => Ok(scenario),
+        Err(_) => Err(Failed),
+    }
+}
+
+// The scenario of a row, which has a document.
+fn scenario_of(alloc: Global, line: &str) -> Result<Scenario, Failed>
+    ensures valid { IfOk result IsValid }
+    ensures some { IfOk result (λ scenario. 0 < length scenario.documents) }
+{
+    let scenario = scenario_in(alloc, before_byte(line.as_bytes(), b'\t'))?;
+    if scenario.documents.is_empty() {
+        Err(Failed)
+    } else {
+        Ok(scenario)
+    }
+}
+
+// How often a link was asked, and how often it failed.
+pub(crate) fn tell(alloc: Global, link: &MemoryLink, shown: &mut Shown) -> Result<(), Failed> {
+    shown.add_count(b"asked ", link.asks(alloc)?.len());
+    shown.add(b", failed ");
+    shown.add_number(link.faults());
+    shown.add(b"\n");
+    Ok(())
+}
+
+// Plays a row's document over its link.
+fn play_row<R: Threads + Wait + Sync, S: Share>(
+    rt: &R,
+    alloc: Global,
+    line: &str,
+    share: &S,
+    pass: &mut S::Pass,
+    link: &mut MemoryLink,
+) -> Result<Transcript, Failed>
+    requires belongs { S.belongs share.now pass.old }
+    requires left { 129024 ≤ S.left pass.old }
+    ensures belongs { S.belongs share.now pass.new }
+    ensures few { S.left pass.old ≤ S.left pass.new + 129024 }
+{
+    let scenario = scenario_of(alloc, line)?;
+    let base = scenario.now;
+    Ok(drive(rt, alloc, &scenario, 0, base, share, pass, link))
+}
+
+// The same, told of its link. A play that wanted for memory is refused.
+fn told<R: Threads + Wait + Sync, S: Share>(
+    rt: &R,
+    alloc: Global,
+    line: &str,
+    share: &S,
+    pass: &mut S::Pass,
+    shown: &mut Shown,
+) -> Result<Transcript, Failed>
+    requires belongs { S.belongs share.now pass.old }
+    requires left { 129024 ≤ S.left pass.old }
+    ensures belongs { S.belongs share.now pass.new }
+    ensures few { S.left pass.old ≤ S.left pass.new + 129024 }
+{
+    let mut link = link_in(alloc, line)?;
+    let transcript = play_row(rt, alloc, line, share, pass, &mut link)?;
+    tell(alloc, &link, shown)?;
+    Ok(transcript)
+}
+
+// Plays rows one after another over a share of one book.
+fn play_each<R: Threads + Wait + Sync, S: Share>(
+    rt: &R,
+    alloc: Global,
+    rows: &[&str],
+    share: &S,
+    pass: &mut S::Pass,
+    shown: &mut Shown,
+) -> Result<Transcripts, Failed>
+    requires belongs { S.belongs share.now pass.old }
+    requires left { 129024 * length rows.now ≤ S.left pass.old }
+{
+    let mut transcripts = Transcripts::new(alloc);
+    for row in rows {
+        transcripts.push(told(rt, alloc, row, share, pass, shown)?)?;
+    }
+    Ok(transcripts)
+}
+
+// The text of plays, with the history.
+pub(crate) fn show(
+    alloc: Global,
+    transcripts: &Transcripts,
+    history: &History,
+    shown: &mut Shown,
+) -> Result<(), Failed> {
+    if !has_text(transcripts) {
+        return Err(Failed);
+    }
+    let mut sink = MemorySink::new(alloc, ROOM, Vec::new(alloc), Vec::new(alloc))?;
+    if write_play(alloc, transcripts, history, &mut sink).is_err() {
+        return Err(Failed);
+    }
+    shown.add(sink.taken());
+    Ok(())
+}
+
+// Plays rows that stand together over one book that nobody has written into yet.
+pub(crate) fn play<R: Threads + Wait + Sync + AllocGlobal>(
+    rt: &R,
+    rows: &[&str],
+    shown: &mut Shown,
+) -> Result<(), Failed> {
+    if rows.len() > MOST_ROWS {
+        return Err(Failed);
+    }
+    let alloc = rt.alloc();
+    let (share, mut pass) = SoloBook::new(alloc, Book::new(alloc));
+    let transcripts = play_each(rt, alloc, rows, &share, &mut pass, shown)?;
+    let (_, history) = share.close(pass);
+    show(alloc, &transcripts, &history, shown)
+}

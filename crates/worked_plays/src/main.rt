@@ -1,0 +1,121 @@
+// Plays worked scenarios over streams and links in memory, and prints for each what it came to. A line of the input that
+// begins with `#` is a title, which is printed as it stands, and so is an empty line. The other lines are
+//
+//     a scenario, or some words, a tab and a scenario: it is played by the program's top call. `rows.rt` says how.
+//     `url=URL ..`, a tab and what a request meets: it is fetched by itself. `requests.rt` says how.
+//     `{ .. }`, a tab and what a document meets: with the lines that stand together, up to an empty line, it is played
+//     over one book. `links.rt` says how.
+//     `net=TIME`, a tab and a scenario, and behind it lines that begin with `link`, up to an empty line: it is played
+//     by the top call with the word `net`. `net.rt` says how.
+//
+// Before them it plays documents on threads, over links that wait for each other: `gates.rt`.
+#![tactic(auto)]
+
+mod gates;
+mod histories;
+mod links;
+mod net;
+mod requests;
+mod rows;
+mod streams;
+mod waiting;
+
+use std::io;
+use std::process::ExitCode;
+use std::sync::Wait;
+use std::thread::Threads;
+use wf_rows::{Failed, Shown, is_title, print_text};
+
+// Plays lines that stand together.
+fn play_together<R: Threads + Wait + Sync + AllocGlobal>(
+    rt: &R,
+    lines: &[&str],
+    shown: &mut Shown,
+) -> Result<(), Failed> {
+    match lines {
+        [first, rest @ ..] => match first.strip_prefix("net=") {
+            Some(row) => net::play(rt, row, rest, shown),
+            None => links::play(rt, lines, shown),
+        },
+        [] => Ok(()),
+    }
+}
+
+// Whether a line is played with those that stand with it.
+fn stands_together(line: &str) -> bool {
+    line.starts_with("net=")
+        || line.starts_with("link")
+        || (line.starts_with('{') && line.contains('\t'))
+}
+
+// Plays a line that stands alone.
+fn play_alone<R: Threads + Wait + Sync + AllocGlobal>(
+    rt: &R,
+    line: &str,
+    shown: &mut Shown,
+) -> Result<(), Failed> {
+    if is_title(line) {
+        shown.add(line.as_bytes());
+        shown.add(b"\n");
+        Ok(())
+    } else if line.starts_with("url=") {
+        requests::play(rt, line, shown)
+    } else {
+        rows::play(rt, line, shown)
+    }
+}
+
+// Plays a line, with those before it that stand together where it ends them.
+fn play_line<'a, R: Threads + Wait + Sync + Print + AllocGlobal>(
+    rt: &R,
+    line: &'a str,
+    together: &mut Vec<&'a str>,
+) -> Result<(), Failed> {
+    if stands_together(line) {
+        together.push(line)?;
+        return Ok(());
+    }
+    let mut shown = Shown::new(rt.alloc());
+    if line.is_empty() {
+        play_together(rt, together.as_slice(), &mut shown)?;
+        together.clear();
+    }
+    play_alone(rt, line, &mut shown)?;
+    print_text(rt, shown)
+}
+
+// Plays the documents on threads.
+fn play_threads<R: Threads + Wait + Sync + Print + AllocGlobal>(rt: &R) -> Result<(), Failed> {
+    let mut shown = Shown::new(rt.alloc());
+    gates::play(rt, &mut shown)?;
+    print_text(rt, shown)
+}
+
+// The lines, the last of which may stand together.
+fn play_lines<R: Threads + Wait + Sync + Print + AllocGlobal>(
+    rt: &R,
+    text: &str,
+) -> Result<(), Failed> {
+    let mut together = Vec::new(rt.alloc());
+    for line in text.lines() {
+        play_line(rt, line, &mut together)?;
+    }
+    let mut shown = Shown::new(rt.alloc());
+    play_together(rt, together.as_slice(), &mut shown)?;
+    print_text(rt, shown)
+}
+
+fn run<R: Threads + Wait + Sync + Print + AllocGlobal>(rt: &R, text: &str) -> Result<(), Failed> {
+    play_threads(rt)?;
+    play_lines(rt, text)
+}
+
+fn main(rt: HostRuntime) -> ExitCode {
+    let Ok(text) = io::read_to_string(rt.alloc(), rt.stdin()) else {
+        return ExitCode::FAILURE;
+    };
+    match run(&rt, text.as_str()) {
+        Ok(()) => ExitCode::SUCCESS,
+        Err(_) => ExitCode::FAILURE,
+    }
+}

@@ -1,0 +1,63 @@
+// A scenario that is played by the program's top call with the word `net`, from a time on. Each of the lines behind it
+// begins with `link` and has the link of the next document, as `links.rt` says. Shown are the status, each link that was
+// taken back, how often all failed, what was complained, and what was written.
+use crate::links::{link_in, tell};
+use crate::streams::{Streams, program_words};
+use std::alloc::Global;
+use std::sync::Wait;
+use std::thread::Threads;
+use wf_link::MemoryLinks;
+use wf_rows::{Failed, Shown, number};
+
+// The links of rows, in order.
+fn links_of(alloc: Global, rows: &[&str]) -> Result<MemoryLinks, Failed> {
+    let mut links = Vec::new(alloc);
+    for row in rows {
+        links.push(link_in(alloc, row)?)?;
+    }
+    Ok(MemoryLinks::new(alloc, links)?)
+}
+
+// Each link that was taken back, and how often all failed.
+fn tell_all(alloc: Global, links: &MemoryLinks, shown: &mut Shown) -> Result<(), Failed> {
+    for link in links.taken_back() {
+        tell(alloc, link, shown)?;
+    }
+    shown.add(b"links failed ");
+    shown.add_number(links.faults());
+    shown.add(b"\n");
+    Ok(())
+}
+
+// Plays a scenario over links.
+fn play_over<R: Threads + Wait + Sync>(
+    rt: &R,
+    alloc: Global,
+    scenario: &str,
+    now: u64,
+    links: &mut MemoryLinks,
+    shown: &mut Shown,
+) -> Result<(), Failed> {
+    let words = program_words(alloc, "net")?;
+    let mut streams = Streams::of(alloc, b"", scenario.as_bytes())?;
+    streams.run(rt, alloc, words.as_slice(), links, now, shown);
+    tell_all(alloc, links, shown)?;
+    shown.add(streams.complaints());
+    shown.add(streams.output());
+    Ok(())
+}
+
+// Plays a row, which has the time and a scenario, over the links of others.
+pub(crate) fn play<R: Threads + Wait + Sync + AllocGlobal>(
+    rt: &R,
+    row: &str,
+    rows: &[&str],
+    shown: &mut Shown,
+) -> Result<(), Failed> {
+    let Some((digits, scenario)) = row.split_once('\t') else {
+        return Err(Failed);
+    };
+    let now = number(digits.as_bytes(), u64::MAX)?;
+    let mut links = links_of(rt.alloc(), rows)?;
+    play_over(rt, rt.alloc(), scenario, now, &mut links, shown)
+}

@@ -1,0 +1,126 @@
+// A request that is fetched by itself over a link and a book of its own. A row has, with a tab between, the request, as
+// `wf_rows`'s `requests.rt` writes one, and its link, as `links.rt` does; among the words for what fails may stand
+//
+//     limit=N           the fetch reads so many bytes of a body at most, and not 262,144
+ghost use Rattle.std.specs.Prelude.{◌≤◌, IfOk};
+ghost use Rattle.wf_types.specs.Requests.{IsClient};
+
+use crate::links::{link_in, show, tell};
+use std::alloc::Global;
+use std::sync::Wait;
+use std::thread::Threads;
+use wf_book::{Book, History, Share, SoloBook};
+use wf_csp::Compiled;
+use wf_csp_text::Policies;
+use wf_link::MemoryLink;
+use wf_origin::is_http_url;
+use wf_player::{FetchRun, drive_fetch};
+use wf_print::{Ending, Event, Transcript, Transcripts};
+use wf_rows::{Failed, Shown, number, request_of, url_written, value_of};
+use wf_text::{after_byte, before_byte};
+use wf_types::{Client, Cookies, ReferrerPolicy};
+
+// The client of a request: its document, which is its own top.
+fn client_of(alloc: Global, text: &[u8]) -> Result<Client, Failed>
+    ensures { IfOk result IsClient }
+{
+    let url = url_written(alloc, value_of(text, b"from"))?;
+    if !is_http_url(&url) {
+        return Err(Failed);
+    }
+    let policy = ReferrerPolicy::StrictOriginWhenCrossOrigin;
+    Ok(Client::of(alloc, &url, &url, policy)?)
+}
+
+// How many bytes of a body are read at most.
+fn limit_of(words: &[u8]) -> Result<u32, Failed> {
+    match value_of(words, b"limit") {
+        [] => Ok(262_144),
+        digits => Ok(number(digits, 262_144)?.min(262_144) as u32),
+    }
+}
+
+// What a fetch showed and came to, as a document of which it is all.
+fn transcript_of(client: Client, run: FetchRun) -> Result<Transcript, Failed> {
+    let FetchRun {
+        mut events,
+        outcome,
+    } = run;
+    events.push(Event::Result(outcome))?;
+    Ok(Transcript {
+        document: 0,
+        key: client.key,
+        events,
+        ending: Ending::Finished,
+        clock: 0,
+    })
+}
+
+// Fetches a request for a client, which has no policies and no cookies.
+fn fetched<R: Threads + Wait + Sync, S: Share>(
+    rt: &R,
+    alloc: Global,
+    text: &[u8],
+    limit: u32,
+    client: &Client,
+    share: &S,
+    pass: &mut S::Pass,
+    link: &mut MemoryLink,
+) -> Result<FetchRun, Failed>
+    requires client { IsClient client.now }
+    requires belongs { S.belongs share.now pass.old }
+    requires left { 126 ≤ S.left pass.old }
+{
+    let policies = Compiled::of(alloc, &Policies::new(alloc))?;
+    let cookies = Cookies::new(alloc);
+    let request = Box::into_inner(request_of(alloc, text)?);
+    Ok(drive_fetch(
+        rt, alloc, request, client, &policies, &cookies, 0, limit, share, pass, link,
+    )?)
+}
+
+// The same, as a document of which it is all.
+fn played<R: Threads + Wait + Sync, S: Share>(
+    rt: &R,
+    alloc: Global,
+    line: &[u8],
+    share: &S,
+    pass: &mut S::Pass,
+    link: &mut MemoryLink,
+) -> Result<Transcript, Failed>
+    requires belongs { S.belongs share.now pass.old }
+    requires left { 126 ≤ S.left pass.old }
+{
+    let text = before_byte(line, b'\t');
+    let limit = limit_of(before_byte(after_byte(line, b'\t'), b'\t'))?;
+    let client = client_of(alloc, text)?;
+    let run = fetched(rt, alloc, text, limit, &client, share, pass, link)?;
+    transcript_of(client, run)
+}
+
+// The text of one play, with the history.
+fn show_one(
+    alloc: Global,
+    transcript: Transcript,
+    history: &History,
+    shown: &mut Shown,
+) -> Result<(), Failed> {
+    let mut transcripts = Transcripts::new(alloc);
+    transcripts.push(transcript)?;
+    show(alloc, &transcripts, history, shown)
+}
+
+// Fetches the request of a row over its link.
+pub(crate) fn play<R: Threads + Wait + Sync + AllocGlobal>(
+    rt: &R,
+    line: &str,
+    shown: &mut Shown,
+) -> Result<(), Failed> {
+    let alloc = rt.alloc();
+    let mut link = link_in(alloc, line)?;
+    let (share, mut pass) = SoloBook::new(alloc, Book::new(alloc));
+    let transcript = played(rt, alloc, line.as_bytes(), &share, &mut pass, &mut link)?;
+    tell(alloc, &link, shown)?;
+    let (_, history) = share.close(pass);
+    show_one(alloc, transcript, &history, shown)
+}

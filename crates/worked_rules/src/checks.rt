@@ -1,0 +1,116 @@
+// Rows of checks of a request; POLICIES are a document's, each text `enforce:VALUE` or `report:VALUE`:
+//
+//     upgrades POLICIES              whether http requests are upgraded
+//     reported REQUEST POLICIES      the violations of the report-only policies
+//     refused REQUEST POLICIES       those of the enforced ones
+//     response REQUEST POLICIES      whether its response is blocked, and the violations of all policies
+ghost use Rattle.wf_types.specs.Requests.{IsRequest};
+
+use std::alloc::Global;
+use wf_csp::{Compiled, Violations};
+use wf_csp_text::{Policies, parse_policies};
+use wf_rows::{Failed, Row, Shown};
+use wf_text::{after_byte, before_byte};
+use wf_types::{Request, Violation};
+
+// Adds the policies of a text.
+fn add_policies(alloc: Global, policies: &mut Policies, text: &[u8]) -> Result<(), Failed> {
+    let enforced = before_byte(text, b':') == b"enforce".as_slice();
+    for policy in parse_policies(alloc, after_byte(text, b':'), enforced)?.into_vec() {
+        policies.push(policy)?;
+    }
+    Ok(())
+}
+
+// The policies of the texts from an index on.
+fn policies_of(alloc: Global, row: &Row, from: usize) -> Result<Policies, Failed> {
+    let mut policies = Policies::new(alloc);
+    for index in from..row.len() {
+        add_policies(alloc, &mut policies, row.text(index))?;
+    }
+    Ok(policies)
+}
+
+// The same, ready for checks.
+fn compiled_of(alloc: Global, row: &Row, from: usize) -> Result<Compiled, Failed> {
+    let policies = policies_of(alloc, row, from)?;
+    if policies.len() > 1_000 {
+        return Err(Failed);
+    }
+    Ok(Compiled::of(alloc, &policies)?)
+}
+
+// Whether the row's policies upgrade http requests.
+pub(crate) fn upgrades(alloc: Global, row: &Row, shown: &mut Shown) -> Result<(), Failed> {
+    let compiled = compiled_of(alloc, row, 0)?;
+    shown.add_yes_or_no(compiled.upgrades());
+    Ok(())
+}
+
+// What the row's policies say of its request.
+pub(crate) fn asked(
+    alloc: Global,
+    kind: &str,
+    row: &Row,
+    request: &Request,
+    shown: &mut Shown,
+) -> Result<(), Failed>
+    requires { IsRequest request.now }
+{
+    let compiled = compiled_of(alloc, row, 1)?;
+    match kind {
+        "response" => response(alloc, &compiled, request, shown),
+        _ => checked(alloc, &compiled, request, kind == "refused", shown),
+    }
+}
+
+// The violations of a request by the policies of one disposition.
+fn checked(
+    alloc: Global,
+    compiled: &Compiled,
+    request: &Request,
+    enforced: bool,
+    shown: &mut Shown,
+) -> Result<(), Failed>
+    requires { IsRequest request.now }
+{
+    let found = compiled.check_request(alloc, request, &request.origin, enforced)?;
+    show_violations(&found, shown);
+    Ok(())
+}
+
+// Whether the response to a request is blocked, and the violations.
+fn response(
+    alloc: Global,
+    compiled: &Compiled,
+    request: &Request,
+    shown: &mut Shown,
+) -> Result<(), Failed>
+    requires { IsRequest request.now }
+{
+    let (found, blocked) = compiled.check_response(alloc, request, &request.origin)?;
+    shown.add(if blocked { b"blocked " } else { b"passes " });
+    show_violations(&found, shown);
+    Ok(())
+}
+
+// Violations, with a bar behind each.
+fn show_violations(violations: &Violations, shown: &mut Shown) {
+    for violation in violations.as_slice() {
+        show_violation(violation, shown);
+        shown.add(b"|");
+    }
+}
+
+// A violation: its policy's number and disposition, the directive and the URL.
+fn show_violation(violation: &Violation, shown: &mut Shown) {
+    shown.add_number(u64::from(violation.policy));
+    shown.add(if violation.enforced {
+        b" enforce "
+    } else {
+        b" report "
+    });
+    shown.add(violation.directive.name().as_bytes());
+    shown.add(b" ");
+    shown.add_escaped(violation.url.as_slice());
+}

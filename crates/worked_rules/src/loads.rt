@@ -1,0 +1,160 @@
+// Rows of the requests of loads:
+//
+//     load DOCUMENT WORDS     the request of the load, or its fault
+//
+// The words, with a space between, are `kind=DESTINATION`, `url=URL`, and `crossorigin=STATE`, `nonce=TEXT`,
+// `integrity=TEXT`, `policy=POLICY` and `parser=yes` where they are not empty.
+ghost use Rattle.std.specs.Prelude.{◌≢◌, IfOk};
+ghost use Rattle.wf_types.specs.Requests.{IsClient, IsRequest};
+
+use std::alloc::Global;
+use wf_origin::{is_http_url, same_origin};
+use wf_rows::{Failed, Row, Shown, destination_named, named, policy_named, url_written, value_of};
+use wf_send::new_load;
+use wf_text::Bytes;
+use wf_types::{
+    Client, CrossOrigin, Destination, LoadInit, Referrer, ReferrerPolicy, Request, Tainting,
+    TypeFault,
+};
+
+/// The states of the CORS settings attribute.
+const CROSS_ORIGINS: [(&[u8], CrossOrigin); 3] = [
+    (b"", CrossOrigin::Absent),
+    (b"anonymous", CrossOrigin::Anonymous),
+    (b"use-credentials", CrossOrigin::UseCredentials),
+];
+
+// The answer to a row of this kind, and whether the row is one.
+pub(crate) fn answer(
+    alloc: Global,
+    kind: &str,
+    row: &Row,
+    shown: &mut Shown,
+) -> Result<bool, Failed> {
+    if kind != "load" {
+        return Ok(false);
+    }
+    let client = client_at(alloc, row.text(0))?;
+    load(alloc, row.text(1), &client, shown)?;
+    Ok(true)
+}
+
+// The client of a document at a URL.
+fn client_at(alloc: Global, written: &[u8]) -> Result<Client, Failed>
+    ensures { IfOk result IsClient }
+{
+    let url = url_written(alloc, written)?;
+    if !is_http_url(&url) {
+        return Err(Failed);
+    }
+    let policy = ReferrerPolicy::StrictOriginWhenCrossOrigin;
+    Ok(Client::of(alloc, &url, &url, policy)?)
+}
+
+// The kind of resource, which is no `fetch`.
+fn kind_in(text: &[u8]) -> Result<Destination, Failed>
+    ensures { IfOk result (λ kind. kind ≢ Destination.Fetch) }
+{
+    match destination_named(value_of(text, b"kind"))? {
+        Destination::Fetch => Err(Failed),
+        kind => Ok(kind),
+    }
+}
+
+// What the words ask for.
+fn init_in(alloc: Global, text: &[u8]) -> Result<LoadInit, Failed>
+    ensures { IfOk result (λ init. init.kind ≢ Destination.Fetch) }
+{
+    let kind = kind_in(text)?;
+    let crossorigin = named(&CROSS_ORIGINS, value_of(text, b"crossorigin"))?;
+    let referrer_policy = policy_named(value_of(text, b"policy"))?;
+    Ok(LoadInit {
+        kind,
+        url: Bytes::of(alloc, value_of(text, b"url"))?,
+        crossorigin,
+        nonce: Bytes::of(alloc, value_of(text, b"nonce"))?,
+        integrity: Bytes::of(alloc, value_of(text, b"integrity"))?,
+        parser: value_of(text, b"parser") == b"yes".as_slice(),
+        referrer_policy,
+    })
+}
+
+// The request of a load for a client, or its fault.
+fn load(alloc: Global, text: &[u8], client: &Client, shown: &mut Shown) -> Result<(), Failed>
+    requires { IsClient client.now }
+{
+    let init = init_in(alloc, text)?;
+    match new_load(alloc, &init, client)? {
+        Ok(request) => show_load(client, &request, shown),
+        Err(TypeFault::BadUrl) => shown.add(b"type-error 1 BadUrl"),
+        Err(_) => shown.add(b"DIFFERS"),
+    }
+    Ok(())
+}
+
+// Whether what is the same in each load's request is as it should be.
+fn is_of_load(request: &Request, client: &Client) -> bool {
+    request.body.is_none()
+        && same_origin(&request.origin, &client.origin)
+        && matches!(request.referrer, Referrer::Client)
+        && !request.unsafe_request
+        && !request.use_preflight
+        && request.tainting == Tainting::Basic
+        && request.redirects == 0
+}
+
+// The parts of a load's request.
+fn show_load(client: &Client, request: &Request, shown: &mut Shown)
+    requires { IsRequest request.now }
+{
+    if !is_of_load(request, client) {
+        shown.add(b"DIFFERS");
+        return;
+    }
+    shown.add(request.method.as_slice());
+    shown.add(b" ");
+    add_short(request.current_url().as_str().as_bytes(), shown);
+    show_modes(request, shown);
+    show_texts(request, shown);
+    if request.parser {
+        shown.add(b" parser");
+    }
+    shown.add(b" ");
+    shown.add_headers(&request.headers);
+}
+
+// The modes and the destination, with a space before each.
+fn show_modes(request: &Request, shown: &mut Shown) {
+    shown.add(b" ");
+    shown.add(request.mode.name().as_bytes());
+    shown.add(b" ");
+    shown.add(request.credentials.name().as_bytes());
+    shown.add(b" ");
+    shown.add(request.redirect.name().as_bytes());
+    shown.add(b" ");
+    shown.add(request.destination.name().as_bytes());
+}
+
+// The texts that are not empty, with their names.
+fn show_texts(request: &Request, shown: &mut Shown) {
+    add_given(b"nonce", request.nonce.as_slice(), shown);
+    add_given(b"integrity", request.integrity.as_slice(), shown);
+    add_given(b"policy", request.policy.name().as_bytes(), shown);
+}
+
+// The name of a text and the text in quotation marks, unless it is empty.
+fn add_given(name: &[u8], text: &[u8], shown: &mut Shown) {
+    if !text.is_empty() {
+        shown.add_part(name, text);
+    }
+}
+
+// A text, or how many bytes one of more than 1,000 has.
+pub(crate) fn add_short(text: &[u8], shown: &mut Shown) {
+    if text.len() <= 1_000 {
+        shown.add_escaped(text);
+        return;
+    }
+    shown.add_count(b"{", text.len());
+    shown.add(b" bytes}");
+}

@@ -1,0 +1,76 @@
+// Rows of requests, as `wf_rows`'s `requests.rt` writes one in their first text:
+//
+//     origin REQUEST                the serialised origin
+//     mixed REQUEST TOP             whether the request, in a page with that URL at the top, is upgraded, and whether
+//                                   it is blocked as it stands
+//
+// `checks.rt`, `cors.rt` and `responses.rt` have the other kinds.
+ghost use Rattle.std.specs.Prelude.{IsTrue};
+ghost use Rattle.wf_types.specs.Requests.{IsAtHttp, IsRequest, is_determined};
+
+use crate::{checks, cors, responses};
+use std::alloc::Global;
+use wf_mixed::{blocked, upgrade};
+use wf_rows::{Failed, Row, Shown, origin_written, request_of, value_of};
+use wf_types::{Request, serialized_origin};
+
+// The answer to a row of a request or of policies, and whether the row is one.
+pub(crate) fn answer(
+    alloc: Global,
+    kind: &str,
+    row: &Row,
+    shown: &mut Shown,
+) -> Result<bool, Failed> {
+    if kind == "upgrades" {
+        checks::upgrades(alloc, row, shown)?;
+        return Ok(true);
+    }
+    if value_of(row.text(0), b"url").is_empty() {
+        return Ok(false);
+    }
+    let request = request_of(alloc, row.text(0))?;
+    asked(alloc, kind, row, &request, shown)?;
+    Ok(true)
+}
+
+// What a row asks of its request.
+fn asked(
+    alloc: Global,
+    kind: &str,
+    row: &Row,
+    request: &Request,
+    shown: &mut Shown,
+) -> Result<(), Failed>
+    requires valid { IsRequest request.now }
+    requires at_http { IsAtHttp request.now }
+    requires determined { IsTrue (is_determined request.now.referrer) }
+{
+    match kind {
+        "origin" => {
+            shown.add_text(Some(serialized_origin(alloc, request)?));
+            Ok(())
+        }
+        "mixed" => mixed(alloc, row, request, shown),
+        "corp" => cors::blocked(alloc, row, request, shown),
+        "preflight" => cors::preflight(alloc, row, request, shown),
+        "verdict" => cors::checked(alloc, row, request, shown),
+        "reported" | "refused" | "response" => checks::asked(alloc, kind, row, request, shown),
+        _ => responses::asked(alloc, kind, row, request, shown),
+    }
+}
+
+// Whether a request is upgraded, and whether it is blocked.
+fn mixed(alloc: Global, row: &Row, request: &Request, shown: &mut Shown) -> Result<(), Failed>
+    requires { IsRequest request.now }
+{
+    let top = origin_written(alloc, row.text(1))?;
+    let is_upgraded = upgrade(request, &request.origin, &top);
+    let is_blocked = blocked(request, &request.origin, &top);
+    shown.add(match (is_upgraded, is_blocked) {
+        (true, true) => b"upgraded blocked".as_slice(),
+        (true, false) => b"upgraded",
+        (false, true) => b"blocked",
+        (false, false) => b"neither",
+    });
+    Ok(())
+}

@@ -1,0 +1,95 @@
+// Rows of what is let through of an answer; OPS make its header list, as `wf_rows`'s `list_of` says:
+//
+//     filtered REQUEST STATUS OPS          the filtered response
+//     manual REQUEST STATUS OPS            the same of a redirect in redirect mode manual
+//     hide REQUEST STATUS OPS              what the document may learn of the answer
+//     hide_preflight REQUEST STATUS OPS    the same of an answer to a preflight
+ghost use Rattle.wf_types.specs.Requests.{IsRequest};
+
+use std::alloc::Global;
+use wf_filter::{filtered, hide};
+use wf_headers::HeaderList;
+use wf_rows::{Failed, Row, Shown, list_of, number};
+use wf_text::Bytes;
+use wf_types::{Head, Hop, Request, Response};
+
+// The head whose status is the text at an index, and whose headers the texts behind it make.
+pub(crate) fn head_of(alloc: Global, row: &Row, index: usize) -> Result<Head, Failed> {
+    let status = number(row.text(index), 999)?.min(999) as u16;
+    let headers = list_of(alloc, row, index.saturating_add(1))?;
+    Ok(Head { status, headers })
+}
+
+// What is let through of the answer of a row.
+pub(crate) fn asked(
+    alloc: Global,
+    kind: &str,
+    row: &Row,
+    request: &Request,
+    shown: &mut Shown,
+) -> Result<(), Failed>
+    requires { IsRequest request.now }
+{
+    let head = head_of(alloc, row, 1)?;
+    match kind {
+        "filtered" => return let_through(alloc, request, head, false, shown),
+        "manual" => return let_through(alloc, request, head, true, shown),
+        "hide" => show_view(hide(alloc, request, &hop(alloc, false), &head)?, shown),
+        "hide_preflight" => show_view(hide(alloc, request, &hop(alloc, true), &head)?, shown),
+        _ => return Err(Failed),
+    }
+    Ok(())
+}
+
+// The filtered response of an answer with this head.
+fn let_through(
+    alloc: Global,
+    request: &Request,
+    head: Head,
+    manual: bool,
+    shown: &mut Shown,
+) -> Result<(), Failed>
+    requires { IsRequest request.now }
+{
+    let response = filtered(alloc, request, head, manual)?;
+    show_response(&response, shown);
+    Ok(())
+}
+
+// The type of a response, its status, its URL and its headers.
+fn show_response(response: &Response, shown: &mut Shown) {
+    shown.add(response.kind.name().as_bytes());
+    shown.add(b" ");
+    shown.add_number(u64::from(response.status));
+    shown.add(b" ");
+    show_url(&response.url, shown);
+    shown.add(b" ");
+    shown.add_headers(&response.headers);
+}
+
+// The URL of a response, or `()`.
+fn show_url(url: &Option<Bytes>, shown: &mut Shown) {
+    match url {
+        Some(url) => shown.add_escaped(url.as_slice()),
+        None => shown.add(b"()"),
+    }
+}
+
+// The status and the headers of what a document may learn.
+fn show_view(view: Head, shown: &mut Shown) {
+    shown.add_number(u64::from(view.status));
+    shown.add(b" ");
+    shown.add_headers(&view.headers);
+}
+
+// An exchange, of which nothing counts here but whether it is a preflight.
+fn hop(alloc: Global, preflight: bool) -> Hop {
+    Hop {
+        preflight,
+        origin: Bytes::new(alloc),
+        url: Bytes::new(alloc),
+        method: Bytes::new(alloc),
+        headers: HeaderList::new(alloc),
+        body: None,
+    }
+}
