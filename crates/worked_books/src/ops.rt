@@ -8,6 +8,9 @@ use wf_hsts::Sts;
 use wf_rows::{Failed, Row};
 use wf_text::Bytes;
 
+// The longest age of a lesson, in seconds.
+const MOST_AGE: u64 = 7_200;
+
 // Whether a host is known.
 pub(crate) fn is_known(alloc: Global, now: u64) -> Result<Op, Failed>
     requires { now < 2 ^ 48 }
@@ -43,7 +46,9 @@ pub(crate) fn learn(alloc: Global, now: u64) -> Result<Op, Failed>
     ensures { IfOk result (λ op. InRange op) }
 {
     let words = Row::of(alloc, b"k http://b.test/x other 5 PUT -", b' ')?;
-    Ok(Op::Learn(lesson_of(alloc, &words)?, now))
+    let mut lesson = lesson_of(alloc, &words)?;
+    lesson.age = lesson.age.min(MOST_AGE);
+    Ok(Op::Learn(lesson, now))
 }
 
 // Clears what the lesson taught.
