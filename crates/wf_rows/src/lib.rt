@@ -15,7 +15,7 @@ pub use failed::Failed;
 pub use lines::{Lines, is_title, play, print_text};
 pub use lists::list_of;
 pub use requests::request_of;
-pub use row::{Row, number, unescaped};
+pub use row::{Row, number, texts_between, unescaped};
 pub use shown::Shown;
 pub use urls::{origin_written, url_written};
 pub use words::{destination_named, has_word, named, policy_named, value_of, values_of};

@@ -29,7 +29,8 @@ use wf_headers::HeaderList;
 use wf_origin::{Origin, is_http_url};
 use wf_text::{Bytes, after_byte, before_byte, is_token, parse_digits};
 use wf_types::{
-    Credentials, Destination, Mode, RedirectMode, Referrer, ReferrerPolicy, Request, Tainting, Urls,
+    Credentials, Destination, MOST_REDIRECTS, Mode, RedirectMode, Referrer, ReferrerPolicy,
+    Request, Tainting, Urls,
 };
 
 /// The modes.
@@ -92,7 +93,7 @@ fn were_http(urls: &[Url]) -> bool
 fn written_urls(alloc: Global, text: &[u8]) -> Result<Urls, Failed> {
     let mut urls = Urls::new(alloc);
     for written in values_of(alloc, text, b"url")?.as_slice() {
-        urls.push(url_written(alloc, written)?)?;
+        urls.push(url_written(alloc, written.as_slice())?)?;
     }
     Ok(urls)
 }
@@ -111,6 +112,7 @@ fn urls_in(alloc: Global, text: &[u8]) -> Result<Urls, Failed>
 // Adds the headers that the text writes.
 fn add_headers(alloc: Global, headers: &mut HeaderList, text: &[u8]) -> Result<(), Failed> {
     for header in values_of(alloc, text, b"header")?.as_slice() {
+        let header = header.as_slice();
         headers.append(before_byte(header, b':'), after_byte(header, b':'))?;
     }
     Ok(())
@@ -140,14 +142,13 @@ fn referrer_in(alloc: Global, text: &[u8]) -> Result<Referrer, Failed>
     Ok(Referrer::Address(url))
 }
 
-// The redirect count, which is at most 20.
+// The redirect count, which is at most that of a request.
 fn redirects_in(text: &[u8]) -> u32
-    ensures { result ≤ 20 }
+    ensures { result ≤ spec.most_redirects }
 {
-    match parse_digits(value_of(text, b"redirects"), 20) {
-        Some(count) if count <= 20 => count as u32,
-        _ => 0,
-    }
+    let most = u64::from(MOST_REDIRECTS);
+    let count = parse_digits(value_of(text, b"redirects"), most).unwrap_or(0);
+    count.min(most) as u32
 }
 
 // A request with these, and in all else as the second column says.

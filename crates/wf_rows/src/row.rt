@@ -13,8 +13,8 @@ impl Row {
     /// The row of texts with a byte between.
     pub fn of(alloc: Global, written: &[u8], between: u8) -> Result<Row, Failed> {
         let mut texts = BytesList::new(alloc);
-        for text in parts_between(alloc, written, between)?.as_slice() {
-            texts.push(unescaped(alloc, text)?)?;
+        for text in texts_between(alloc, written, between)?.as_slice() {
+            texts.push(unescaped(alloc, text.as_slice())?)?;
         }
         Ok(Row { texts })
     }
@@ -37,6 +37,15 @@ impl Row {
     pub fn has(&self, index: usize, text: &[u8]) -> bool {
         self.text(index) == text
     }
+}
+
+/// The texts with a byte between, as they stand.
+pub fn texts_between(alloc: Global, written: &[u8], between: u8) -> Result<BytesList, Failed> {
+    let mut texts = BytesList::new(alloc);
+    for text in parts_between(alloc, written, between)?.as_slice() {
+        texts.push(Bytes::of(alloc, text)?)?;
+    }
+    Ok(texts)
 }
 
 /// The number that the digits write, which is at most the cap.
@@ -66,7 +75,7 @@ pub fn unescaped(alloc: Global, text: &[u8]) -> Result<Bytes, Failed> {
 
 // Adds the unit so many times.
 fn add_repeated(bytes: &mut Shown, group: &[u8]) {
-    let Some(count) = parse_digits(before_byte(group, b' '), 65_536) else {
+    let Some(count) = parse_digits(before_byte(group, b' '), u64::from(u32::MAX)) else {
         bytes.fail();
         return;
     };
@@ -99,16 +108,9 @@ fn add(bytes: &mut Shown, text: &[u8]) {
 
 // The byte of two hexadecimal digits.
 fn byte_of(high: u8, low: u8) -> Option<u8> {
-    Some(hex(high)?.wrapping_mul(16).wrapping_add(hex(low)?))
-}
-
-// The value of a hexadecimal digit.
-fn hex(digit: u8) -> Option<u8> {
-    match digit {
-        b'0'..=b'9' => Some(digit - b'0'),
-        b'a'..=b'f' => Some(digit - b'a' + 10),
-        _ => None,
-    }
+    let high = char::from(high).to_digit(16)?;
+    let low = char::from(low).to_digit(16)?;
+    u8::try_from(high.wrapping_mul(16).wrapping_add(low)).ok()
 }
 
 // The byte that a letter behind a backslash stands for.

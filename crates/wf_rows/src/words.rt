@@ -1,6 +1,7 @@
 use crate::failed::Failed;
+use crate::row::texts_between;
 use std::alloc::Global;
-use wf_text::{after_byte, before_byte, parts_between};
+use wf_text::{Bytes, BytesList, after_byte, before_byte};
 use wf_types::{Destination, ReferrerPolicy};
 
 /// The names of destinations; the empty one is that of `Fetch`.
@@ -53,40 +54,42 @@ fn is_named(word: &[u8], name: &[u8]) -> bool {
     before_byte(word, b'=') == name
 }
 
-/// What stands behind `NAME=` in the first word of a text, cut at spaces, that begins so; empty where none does.
-pub fn value_of<'a>(text: &'a [u8], name: &[u8]) -> &'a [u8] {
+// The first word of a text, cut at spaces, that is a name or begins with `NAME=`.
+fn word_named<'a>(text: &'a [u8], name: &[u8]) -> Option<&'a [u8]> {
     let mut rest = text;
     for _ in 0..text.len() {
         let word = before_byte(rest, b' ');
         if is_named(word, name) {
-            return after_byte(word, b'=');
+            return Some(word);
         }
         rest = after_byte(rest, b' ');
     }
-    &[]
+    None
 }
 
-/// What stands behind `NAME=` in each word that begins so.
-pub fn values_of<'a>(alloc: Global, text: &'a [u8], name: &[u8]) -> Result<Vec<&'a [u8]>, Failed> {
-    let mut values = Vec::new(alloc);
-    for word in parts_between(alloc, text, b' ')?.as_slice() {
-        if is_named(word, name) {
-            values.push(after_byte(word, b'='))?;
-        }
+/// What stands behind `NAME=` in the first word of a text, cut at spaces, that begins so; empty where none does.
+pub fn value_of<'a>(text: &'a [u8], name: &[u8]) -> &'a [u8] {
+    match word_named(text, name) {
+        Some(word) => after_byte(word, b'='),
+        None => &[],
     }
-    Ok(values)
 }
 
 /// Whether a word is among those of a text, or what one begins with up to `=`.
 pub fn has_word(text: &[u8], name: &[u8]) -> bool {
-    let mut rest = text;
-    for _ in 0..text.len() {
-        if is_named(before_byte(rest, b' '), name) {
-            return true;
+    word_named(text, name).is_some()
+}
+
+/// What stands behind `NAME=` in each word that begins so.
+pub fn values_of(alloc: Global, text: &[u8], name: &[u8]) -> Result<BytesList, Failed> {
+    let mut values = BytesList::new(alloc);
+    for word in texts_between(alloc, text, b' ')?.as_slice() {
+        let word = word.as_slice();
+        if is_named(word, name) {
+            values.push(Bytes::of(alloc, after_byte(word, b'='))?)?;
         }
-        rest = after_byte(rest, b' ');
     }
-    false
+    Ok(values)
 }
 
 /// The destination of a name.

@@ -1,13 +1,10 @@
 // A source and a sink over a device of the system that fails, and a clock.
 ghost use Rattle.std.specs.Prelude.{◌≤◌, IfOk};
 
-use crate::failed::Failed;
-use crate::text::append_count;
-use std::alloc::Global;
 use std::io;
 use std::io::{ErrorKind, Read, Write};
 use wf_link::{Clock, FixedClock, ReaderSource, Sink, Source, WriterSink};
-use wf_text::Bytes;
+use wf_rows::Shown;
 
 /// A device that gives and takes two bytes a call, and fails at its second.
 #[derive(Drop)]
@@ -45,21 +42,20 @@ impl Write for Device {
 }
 
 // What three reads, three writes and a clock answer.
-pub(crate) fn calls(alloc: Global) -> Result<Bytes, Failed> {
-    let mut shown = Bytes::new(alloc);
+pub(crate) fn called(shown: &mut Shown) {
     let mut source = ReaderSource::new(Device { calls: 0 });
     let mut sink = WriterSink::new(Device { calls: 0 });
     for _ in 0..3 {
         match source.read(&mut [0u8; 3]) {
-            Ok(count) => append_count(&mut shown, alloc, "read ", count as u64)?,
-            Err(_) => shown.append(b"not read")?,
+            Ok(count) => shown.add_count(b"read ", count),
+            Err(_) => shown.add(b"not read"),
         }
         match sink.write(b"abc") {
-            Ok(count) => append_count(&mut shown, alloc, ", wrote ", count as u64)?,
-            Err(_) => shown.append(b", not written")?,
+            Ok(count) => shown.add_count(b", wrote ", count),
+            Err(_) => shown.add(b", not written"),
         }
-        shown.append(b", ")?;
+        shown.add(b", ");
     }
-    append_count(&mut shown, alloc, "time ", FixedClock::new(7).now())?;
-    Ok(shown)
+    shown.add(b"time ");
+    shown.add_number(FixedClock::new(7).now());
 }

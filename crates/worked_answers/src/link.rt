@@ -1,106 +1,130 @@
 // Links in memory. A row is `link ROOM ASK RECEIVE ANSWERS CALLS`: how many bytes of room there are for
 // asks, which ask and which receive fails, counted from 1, the answers, with `/` between them and `,`
 // between the pieces of one, and the calls: `ask=TEXT`, `receive=COUNT` or `hang_up`.
-use crate::failed::Failed;
-use crate::text::{append_count, number};
 use std::alloc::Global;
 use wf_link::{Link, Links, MemoryLink, MemoryLinks, Routes, Target};
+use wf_rows::{Failed, Row, Shown, named, number, texts_between};
 use wf_text::{Bytes, BytesList, after_byte, before_byte};
 
-// The texts of a list, with this byte between them.
-fn parts(alloc: Global, text: &[u8], between: u8) -> Result<BytesList, Failed> {
-    let mut parts = BytesList::new(alloc);
-    let mut rest = text;
-    for _ in 0..text.len() {
-        parts.push(Bytes::of(alloc, before_byte(rest, between))?)?;
-        rest = after_byte(rest, between);
-        if rest.is_empty() {
-            break;
-        }
+/// How many bytes a receive asks for at most.
+const BUFFER: usize = 16;
+
+/// The calls of a link.
+#[derive(Clone, Copy)]
+enum Call {
+    Ask,
+    Receive,
+    HangUp,
+}
+
+/// Their names.
+const CALLS: [(&[u8], Call); 3] = [
+    (b"ask", Call::Ask),
+    (b"receive", Call::Receive),
+    (b"hang_up", Call::HangUp),
+];
+
+// The answers of a link, each the list of its pieces.
+fn answers_in(alloc: Global, text: &[u8]) -> Result<Vec<BytesList>, Failed> {
+    let mut answers = Vec::new(alloc);
+    for answer in texts_between(alloc, text, b'/')?.as_slice() {
+        answers.push(texts_between(alloc, answer.as_slice(), b',')?)?;
     }
-    Ok(parts)
+    Ok(answers)
+}
+
+// The number of the call that fails, alone in a list.
+fn failing_in(alloc: Global, digits: &[u8]) -> Result<Vec<u64>, Failed> {
+    let mut failing = Vec::new(alloc);
+    failing.push(number(digits, u64::MAX)?)?;
+    Ok(failing)
 }
 
 // The link of a row's first four words.
-fn made(alloc: Global, words: &BytesList) -> Result<MemoryLink, Failed> {
-    if words.len() < 4 {
-        return Err(Failed);
+fn link_of(alloc: Global, row: &Row) -> Result<MemoryLink, Failed> {
+    let room = number(row.text(0), u64::from(u32::MAX))? as usize;
+    let asks = failing_in(alloc, row.text(1))?;
+    let receives = failing_in(alloc, row.text(2))?;
+    let answers = answers_in(alloc, row.text(3))?;
+    Ok(MemoryLink::new(alloc, answers, room, asks, receives)?)
+}
+
+// The links of which that of a row is the only one.
+fn links_of(alloc: Global, row: &Row) -> Result<MemoryLinks, Failed> {
+    let mut links = Vec::new(alloc);
+    links.push(link_of(alloc, row)?)?;
+    Ok(MemoryLinks::new(alloc, links)?)
+}
+
+// Asks, and shows what came of it.
+fn ask(link: &mut MemoryLink, text: &[u8], shown: &mut Shown) {
+    let Ok(origin) = Bytes::of(shown.alloc(), b"http://a") else {
+        shown.fail();
+        return;
+    };
+    match link.ask(&Target { origin }, text) {
+        Ok(()) => shown.add(b"asked, "),
+        Err(_) => shown.add(b"failed, "),
     }
-    let mut answers = Vec::new(alloc);
-    for answer in parts(alloc, words.at(3), b'/')?.as_slice() {
-        answers.push(parts(alloc, answer.as_slice(), b',')?)?;
+}
+
+// Receives so many bytes at most, and shows them and how many they are.
+fn receive(link: &mut MemoryLink, count: usize, shown: &mut Shown) {
+    let mut buffer = [0u8; BUFFER];
+    let room = count.min(BUFFER);
+    match link.recv(&mut buffer[..room]) {
+        Ok(count) => {
+            shown.add(&buffer[..count.min(room)]);
+            shown.add_count(b" ", count);
+            shown.add(b", ");
+        }
+        Err(_) => shown.add(b"failed, "),
     }
-    let ask = number(words.at(1))? as u64;
-    let receive = number(words.at(2))? as u64;
-    Ok(MemoryLink::new(
-        alloc,
-        answers,
-        number(words.at(0))? as usize,
-        Vec::from_slice(alloc, &[ask])?,
-        Vec::from_slice(alloc, &[receive])?,
-    )?)
 }
 
 // Makes a call, and shows what it answers.
-fn call(
-    alloc: Global,
-    link: &mut MemoryLink,
-    call: &[u8],
-    shown: &mut Bytes,
-) -> Result<(), Failed> {
-    let target = Target {
-        origin: Bytes::of(alloc, b"http://a")?,
-    };
-    let mut buffer = [0u8; 16];
-    match before_byte(call, b'=') {
-        b"ask" => match link.ask(&target, after_byte(call, b'=')) {
-            Ok(()) => shown.append(b"asked, ")?,
-            Err(_) => shown.append(b"failed, ")?,
-        },
-        b"receive" => {
-            let room = (number(after_byte(call, b'='))? as usize).min(buffer.len());
-            match link.recv(&mut buffer[..room]) {
-                Ok(count) => {
-                    shown.append(&buffer[..count.min(room)])?;
-                    append_count(shown, alloc, " ", count as u64)?;
-                    shown.append(b", ")?;
-                }
-                Err(_) => shown.append(b"failed, ")?,
-            }
-        }
-        b"hang_up" => link.hang_up(),
-        _ => return Err(Failed),
+fn make_call(link: &mut MemoryLink, written: &[u8], shown: &mut Shown) -> Result<(), Failed> {
+    let text = after_byte(written, b'=');
+    match named(&CALLS, before_byte(written, b'='))? {
+        Call::Ask => ask(link, text, shown),
+        Call::Receive => receive(link, number(text, BUFFER as u64)? as usize, shown),
+        Call::HangUp => link.hang_up(),
     }
     Ok(())
 }
 
-// What the calls of a row answer, how many asks were kept and faults counted, and how many links were
-// taken back: the one that was made, and none from elsewhere.
-pub(crate) fn link(alloc: Global, row: &[u8]) -> Result<Bytes, Failed> {
-    let words = parts(alloc, row, b' ')?;
-    let mut given = Vec::new(alloc);
-    given.push(made(alloc, &words)?)?;
-    let mut links = MemoryLinks::new(alloc, given)?;
+// Makes a row's calls, and shows what they answer, how many asks were kept and faults counted.
+fn make_calls(
+    alloc: Global,
+    link: &mut MemoryLink,
+    row: &Row,
+    shown: &mut Shown,
+) -> Result<(), Failed> {
+    for index in 4..row.len() {
+        make_call(link, row.text(index), shown)?;
+    }
+    shown.add_count(b"asks ", link.asks(alloc)?.len());
+    shown.add(b", faults ");
+    shown.add_number(link.faults());
+    Ok(())
+}
+
+// What the calls of a row answer, and how many links were taken back: the one that was made, and none
+// from elsewhere.
+pub(crate) fn played(alloc: Global, row: &[u8], shown: &mut Shown) -> Result<(), Failed> {
+    let row = Row::of(alloc, row, b' ')?;
+    let mut links = links_of(alloc, &row)?;
     let routes = Routes::new(alloc);
     let mut link = links.make(alloc, 0, &routes)?;
     let is_last = links.make(alloc, 1, &routes).is_err();
-    let mut shown = Bytes::new(alloc);
-    for index in 4..words.len() {
-        call(alloc, &mut link, words.at(index), &mut shown)?;
-    }
-    append_count(&mut shown, alloc, "asks ", link.asks(alloc)?.len() as u64)?;
-    append_count(&mut shown, alloc, ", faults ", link.faults())?;
+    make_calls(alloc, &mut link, &row, shown)?;
     links.take_back(link);
-    links.take_back(made(alloc, &words)?);
-    append_count(
-        &mut shown,
-        alloc,
-        ", links ",
-        links.taken_back().len() as u64,
-    )?;
-    append_count(&mut shown, alloc, " with faults ", links.faults())?;
+    links.take_back(link_of(alloc, &row)?);
+    shown.add_count(b", links ", links.taken_back().len());
+    shown.add(b" with faults ");
+    shown.add_number(links.faults());
     if !is_last {
-        shown.append(b", and more")?;
+        shown.add(b", and more");
     }
-    Ok(shown)
+    Ok(())
 }

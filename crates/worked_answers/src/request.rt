@@ -1,42 +1,47 @@
-use crate::failed::Failed;
-use crate::text::escaped;
+// Rows of requests as they are written.
 use std::alloc::Global;
 use wf_headers::HeaderList;
 use wf_http1::write_request;
+use wf_rows::{Failed, Shown, texts_between};
 use wf_text::{Bytes, after_byte, before_byte};
 use wf_types::Hop;
 
 // The headers of a text: each its name, a colon, a space and its value, with `|` between.
-fn headers(alloc: Global, text: &[u8]) -> Result<HeaderList, Failed> {
+fn headers_in(alloc: Global, text: &[u8]) -> Result<HeaderList, Failed> {
     let mut headers = HeaderList::new(alloc);
-    let mut rest = text;
-    for _ in 0..text.len() {
-        let header = before_byte(rest, b'|');
+    for header in texts_between(alloc, text, b'|')?.as_slice() {
+        let header = header.as_slice();
         let value = after_byte(after_byte(header, b':'), b' ');
         headers.append(before_byte(header, b':'), value)?;
-        rest = after_byte(rest, b'|');
-        if rest.is_empty() {
-            break;
-        }
     }
     Ok(headers)
 }
 
-// The bytes of a request of this method, target, body and headers.
-pub(crate) fn request(alloc: Global, row: &[u8]) -> Result<Bytes, Failed> {
+// The body that a word writes, if it does.
+fn body_in(alloc: Global, word: &[u8]) -> Result<Option<Bytes>, Failed> {
+    match word {
+        b"-" => Ok(None),
+        body => Ok(Some(Bytes::of(alloc, body)?)),
+    }
+}
+
+// The request of a row, of this method, target, body and headers.
+fn hop_of(alloc: Global, row: &[u8]) -> Result<Hop, Failed> {
     let rest = after_byte(row, b' ');
     let behind = after_byte(rest, b' ');
-    let body = match before_byte(behind, b' ') {
-        b"-" => None,
-        body => Some(Bytes::of(alloc, body)?),
-    };
-    let hop = Hop {
+    Ok(Hop {
         preflight: false,
         origin: Bytes::of(alloc, b"https://a.test")?,
         url: Bytes::of(alloc, before_byte(rest, b' '))?,
         method: Bytes::of(alloc, before_byte(row, b' '))?,
-        headers: headers(alloc, after_byte(behind, b' '))?,
-        body,
-    };
-    escaped(alloc, write_request(alloc, &hop)?.as_slice())
+        headers: headers_in(alloc, after_byte(behind, b' '))?,
+        body: body_in(alloc, before_byte(behind, b' '))?,
+    })
+}
+
+// The bytes of the row's request.
+pub(crate) fn written(alloc: Global, row: &[u8], shown: &mut Shown) -> Result<(), Failed> {
+    let hop = hop_of(alloc, row)?;
+    shown.add_escaped(write_request(alloc, &hop)?.as_slice());
+    Ok(())
 }

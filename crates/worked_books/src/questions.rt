@@ -4,8 +4,8 @@
 //     KEY URL CREDENTIALS AGE METHODS NAMES     a lesson
 use std::alloc::Global;
 use wf_precache::{Lesson, Question};
-use wf_rows::{Failed, Row, named, number};
-use wf_text::{Bytes, BytesList, parts_between};
+use wf_rows::{Failed, Row, named, number, texts_between};
+use wf_text::{Bytes, BytesList};
 
 /// The origin of all requests.
 pub(crate) const ORIGIN: &[u8] = b"http://a.test";
@@ -15,13 +15,10 @@ const CREDENTIALS: [(&[u8], bool); 2] = [(b"include", true), (b"other", false)];
 
 // The texts between the commas of a word, or none where it is `-`.
 fn texts(alloc: Global, word: &[u8]) -> Result<BytesList, Failed> {
-    let mut texts = BytesList::new(alloc);
-    if word != b"-".as_slice() {
-        for text in parts_between(alloc, word, b',')?.as_slice() {
-            texts.push(Bytes::of(alloc, text)?)?;
-        }
+    if word == b"-".as_slice() {
+        return Ok(BytesList::new(alloc));
     }
-    Ok(texts)
+    texts_between(alloc, word, b',')
 }
 
 // The method of a question, or none.

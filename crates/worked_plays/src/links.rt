@@ -18,9 +18,9 @@ use wf_book::{Book, History, Share, SoloBook};
 use wf_link::{MemoryLink, MemorySink};
 use wf_player::drive;
 use wf_print::{Ending, Transcript, Transcripts, has_text, write_play};
-use wf_rows::{Failed, Row, Shown};
+use wf_rows::{Failed, Row, Shown, texts_between};
 use wf_script::Scenario;
-use wf_text::{Bytes, BytesList, after_byte, before_byte, parts_between};
+use wf_text::{Bytes, BytesList, after_byte, before_byte};
 
 /// How many rows stand together at most.
 const MOST_ROWS: usize = 64;
@@ -31,20 +31,11 @@ const ROOM: usize = 1_048_576;
 /// How many bytes a link has room for of what it is asked.
 const LINK_ROOM: usize = 65_536;
 
-// An answer: its pieces.
-fn answer_of(alloc: Global, text: &[u8]) -> Result<BytesList, Failed> {
-    let mut pieces = BytesList::new(alloc);
-    for piece in parts_between(alloc, text, b'|')?.as_slice() {
-        pieces.push(Bytes::of(alloc, piece)?)?;
-    }
-    Ok(pieces)
-}
-
 // The answers of a row.
 fn answers_of(alloc: Global, row: &Row) -> Result<Vec<BytesList>, Failed> {
     let mut answers = Vec::new(alloc);
     for index in 1..row.len() {
-        answers.push(answer_of(alloc, row.text(index))?)?;
+        answers.push(texts_between(alloc, row.text(index), b'|')?)?;
     }
     Ok(answers)
 }

@@ -6,8 +6,8 @@ use std::alloc::Global;
 use std::sync::Wait;
 use std::thread::Threads;
 use wf_link::{FixedClock, Links, MemorySink, MemorySource};
-use wf_rows::{Failed, Shown, number, values_of};
-use wf_text::{Bytes, parts_between};
+use wf_rows::{Failed, Shown, number, texts_between, values_of};
+use wf_text::Bytes;
 use wf_top::fetchplay;
 
 /// How many bytes the output and the complaints each have room for.
@@ -25,16 +25,16 @@ pub(crate) struct Streams {
 pub(crate) fn numbers_of(alloc: Global, words: &[u8], name: &[u8]) -> Result<Vec<u64>, Failed> {
     let mut numbers = Vec::new(alloc);
     for value in values_of(alloc, words, name)?.as_slice() {
-        append_numbers(alloc, &mut numbers, value)?;
+        append_numbers(alloc, &mut numbers, value.as_slice())?;
     }
     Ok(numbers)
 }
 
 // Adds the numbers that stand between commas.
 fn append_numbers(alloc: Global, numbers: &mut Vec<u64>, text: &[u8]) -> Result<(), Failed> {
-    for digits in parts_between(alloc, text, b',')?.as_slice() {
+    for digits in texts_between(alloc, text, b',')?.as_slice() {
         if !digits.is_empty() {
-            numbers.push(number(digits, u64::MAX)?)?;
+            numbers.push(number(digits.as_slice(), u64::MAX)?)?;
         }
     }
     Ok(())
