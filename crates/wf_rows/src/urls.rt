@@ -1,8 +1,11 @@
+ghost use Rattle.std.specs.Prelude.{IfOk};
+ghost use Rattle.wf_types.specs.Requests.{IsClient};
+
 use crate::failed::Failed;
 use std::alloc::Global;
 use url::Url;
-use wf_origin::{Origin, origin_of};
-use wf_types::{url_alone, utf8_text};
+use wf_origin::{Origin, is_http_url, origin_of};
+use wf_types::{Client, ReferrerPolicy, url_alone, utf8_text};
 
 /// The URL that a text writes.
 pub fn url_written(alloc: Global, text: &[u8]) -> Result<Url, Failed> {
@@ -22,4 +25,16 @@ pub fn origin_written(alloc: Global, text: &[u8]) -> Result<Origin, Failed> {
         Some(origin) => Ok(origin),
         None => Err(Failed),
     }
+}
+
+/// The client of a document at the http or https URL that a text writes, which is its own top.
+pub fn client_at(alloc: Global, text: &[u8]) -> Result<Client, Failed>
+    ensures { IfOk result IsClient }
+{
+    let url = url_written(alloc, text)?;
+    if !is_http_url(&url) {
+        return Err(Failed);
+    }
+    let policy = ReferrerPolicy::StrictOriginWhenCrossOrigin;
+    Ok(Client::of(alloc, &url, &url, policy)?)
 }

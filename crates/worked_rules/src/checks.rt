@@ -47,10 +47,25 @@ pub(crate) fn upgrades(alloc: Global, row: &Row, shown: &mut Shown) -> Result<()
     Ok(())
 }
 
-// What the row's policies say of its request.
-pub(crate) fn asked(
+// The violations of a row's request by the policies of one disposition.
+pub(crate) fn checked(
     alloc: Global,
-    kind: &str,
+    row: &Row,
+    request: &Request,
+    enforced: bool,
+    shown: &mut Shown,
+) -> Result<(), Failed>
+    requires { IsRequest request.now }
+{
+    let compiled = compiled_of(alloc, row, 1)?;
+    let found = compiled.check_request(alloc, request, &request.origin, enforced)?;
+    show_violations(&found, shown);
+    Ok(())
+}
+
+// Whether the response to a row's request is blocked, and the violations.
+pub(crate) fn response(
+    alloc: Global,
     row: &Row,
     request: &Request,
     shown: &mut Shown,
@@ -58,36 +73,6 @@ pub(crate) fn asked(
     requires { IsRequest request.now }
 {
     let compiled = compiled_of(alloc, row, 1)?;
-    match kind {
-        "response" => response(alloc, &compiled, request, shown),
-        _ => checked(alloc, &compiled, request, kind == "refused", shown),
-    }
-}
-
-// The violations of a request by the policies of one disposition.
-fn checked(
-    alloc: Global,
-    compiled: &Compiled,
-    request: &Request,
-    enforced: bool,
-    shown: &mut Shown,
-) -> Result<(), Failed>
-    requires { IsRequest request.now }
-{
-    let found = compiled.check_request(alloc, request, &request.origin, enforced)?;
-    show_violations(&found, shown);
-    Ok(())
-}
-
-// Whether the response to a request is blocked, and the violations.
-fn response(
-    alloc: Global,
-    compiled: &Compiled,
-    request: &Request,
-    shown: &mut Shown,
-) -> Result<(), Failed>
-    requires { IsRequest request.now }
-{
     let (found, blocked) = compiled.check_response(alloc, request, &request.origin)?;
     shown.add(if blocked { b"blocked " } else { b"passes " });
     show_violations(&found, shown);

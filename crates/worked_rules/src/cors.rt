@@ -11,8 +11,8 @@ use crate::responses::head_of;
 use std::alloc::Global;
 use wf_cors::{Checked, corp_blocks, preflight_of, verdict};
 use wf_origin::tuple_origin;
-use wf_rows::{Failed, Row, Shown, list_of};
-use wf_text::{Bytes, BytesList, words};
+use wf_rows::{Failed, Row, Shown, list_of, texts_between};
+use wf_text::BytesList;
 use wf_types::{Hop, NetError, Request, serialized_origin};
 
 // Whether the row's headers keep an answer from a request.
@@ -33,11 +33,10 @@ pub(crate) fn blocked(
 
 // The names that a text writes.
 fn names_in(alloc: Global, text: &[u8]) -> Result<BytesList, Failed> {
-    let mut names = BytesList::new(alloc);
-    for name in words(alloc, text)?.as_slice() {
-        names.push(Bytes::of(alloc, name)?)?;
+    if text.is_empty() {
+        return Ok(BytesList::new(alloc));
     }
-    Ok(names)
+    texts_between(alloc, text, b' ')
 }
 
 // The preflight of a request.

@@ -12,9 +12,27 @@
 use crate::headers;
 use std::alloc::Global;
 use wf_headers::{Extracted, HeaderList, Rule};
-use wf_rows::{Failed, Row, Shown, list_of};
+use wf_rows::{Failed, Row, Shown, list_of, named};
 use wf_safelist::{Appended, Guard, guarded_append};
 use wf_text::{after_byte, before_byte};
+
+/// Where the list begins in the rows of a kind.
+const STARTS: [(&[u8], usize); 14] = [
+    (b"list", 0),
+    (b"essence", 0),
+    (b"nosniff", 0),
+    (b"unsafe", 0),
+    (b"policy", 0),
+    (b"get", 1),
+    (b"contains", 1),
+    (b"split", 1),
+    (b"tokens", 1),
+    (b"max_age", 1),
+    (b"single", 1),
+    (b"exposed", 1),
+    (b"has_value", 2),
+    (b"cors_check", 2),
+];
 
 // The answer to a row of a header list, and whether the row is one.
 pub(crate) fn answer(
@@ -23,7 +41,7 @@ pub(crate) fn answer(
     row: &Row,
     shown: &mut Shown,
 ) -> Result<bool, Failed> {
-    let Some(from) = start_of(kind) else {
+    let Ok(from) = named(&STARTS, kind.as_bytes()) else {
         return guarded(alloc, kind, row, shown);
     };
     let list = list_of(alloc, row, from)?;
@@ -31,16 +49,6 @@ pub(crate) fn answer(
         taken(alloc, kind, row, &list, shown)?;
     }
     Ok(true)
-}
-
-// Where the list begins in a row of this kind.
-fn start_of(kind: &str) -> Option<usize> {
-    match kind {
-        "list" | "essence" | "nosniff" | "unsafe" | "policy" => Some(0),
-        "get" | "contains" | "split" | "tokens" | "max_age" | "single" | "exposed" => Some(1),
-        "has_value" | "cors_check" => Some(2),
-        _ => None,
-    }
 }
 
 // The answer to a row that takes no memory, and whether the row is one.
@@ -66,16 +74,16 @@ fn taken(
     match kind {
         "get" => shown.add_text(list.get(alloc, name)?),
         "split" => shown.add_list(list.split_values(alloc, name)?),
-        "tokens" => show_extracted(list.extract(alloc, name, Rule::Tokens)?, shown),
-        "max_age" => show_extracted(list.extract(alloc, name, Rule::Digits)?, shown),
-        "single" => show_extracted(list.extract(alloc, name, Rule::Single)?, shown),
+        "tokens" => show_extracted(&list.extract(alloc, name, Rule::Tokens)?, shown),
+        "max_age" => show_extracted(&list.extract(alloc, name, Rule::Digits)?, shown),
+        "single" => show_extracted(&list.extract(alloc, name, Rule::Single)?, shown),
         _ => return headers::taken(alloc, kind, row, list, shown),
     }
     Ok(())
 }
 
 // The values that a rule extracts.
-fn show_extracted(extracted: Extracted, shown: &mut Shown) {
+fn show_extracted(extracted: &Extracted, shown: &mut Shown) {
     match extracted {
         Extracted::Absent => shown.add(b"absent"),
         Extracted::Failure => shown.add(b"failure"),

@@ -8,13 +8,12 @@ ghost use Rattle.std.specs.Prelude.{◌≢◌, IfOk};
 ghost use Rattle.wf_types.specs.Requests.{IsClient, IsRequest};
 
 use std::alloc::Global;
-use wf_origin::{is_http_url, same_origin};
-use wf_rows::{Failed, Row, Shown, destination_named, named, policy_named, url_written, value_of};
+use wf_origin::same_origin;
+use wf_rows::{Failed, Row, Shown, client_at, destination_named, named, policy_named, value_of};
 use wf_send::new_load;
 use wf_text::Bytes;
 use wf_types::{
-    Client, CrossOrigin, Destination, LoadInit, Referrer, ReferrerPolicy, Request, Tainting,
-    TypeFault,
+    Client, CrossOrigin, Destination, LoadInit, Referrer, Request, Tainting, TypeFault,
 };
 
 /// The states of the CORS settings attribute.
@@ -39,26 +38,15 @@ pub(crate) fn answer(
     Ok(true)
 }
 
-// The client of a document at a URL.
-fn client_at(alloc: Global, written: &[u8]) -> Result<Client, Failed>
-    ensures { IfOk result IsClient }
-{
-    let url = url_written(alloc, written)?;
-    if !is_http_url(&url) {
-        return Err(Failed);
-    }
-    let policy = ReferrerPolicy::StrictOriginWhenCrossOrigin;
-    Ok(Client::of(alloc, &url, &url, policy)?)
-}
-
 // The kind of resource, which is no `fetch`.
 fn kind_in(text: &[u8]) -> Result<Destination, Failed>
     ensures { IfOk result (λ kind. kind ≢ Destination.Fetch) }
 {
-    match destination_named(value_of(text, b"kind"))? {
-        Destination::Fetch => Err(Failed),
-        kind => Ok(kind),
+    let kind = destination_named(value_of(text, b"kind"))?;
+    if matches!(kind, Destination::Fetch) {
+        return Err(Failed);
     }
+    Ok(kind)
 }
 
 // What the words ask for.

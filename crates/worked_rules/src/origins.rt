@@ -39,8 +39,8 @@ pub(crate) fn answer(
 // The serialization of the origin of a URL, where it has one.
 fn serialized(alloc: Global, text: &[u8], shown: &mut Shown) -> Result<(), Failed> {
     let url = url_written(alloc, text)?;
-    match origin_of(alloc, &url)? {
-        Some(origin) => shown.add_text(Some(serialize(alloc, &origin)?)),
+    match &origin_of(alloc, &url)? {
+        Some(origin) => shown.add_quoted(serialize(alloc, origin)?.as_slice()),
         None => shown.add(b"none"),
     }
     Ok(())
@@ -50,11 +50,20 @@ fn serialized(alloc: Global, text: &[u8], shown: &mut Shown) -> Result<(), Faile
 fn trustworthy(alloc: Global, text: &[u8], shown: &mut Shown) -> Result<(), Failed> {
     let url = url_written(alloc, text)?;
     let answer = is_trustworthy_url(&url);
-    match origin_of(alloc, &url)? {
-        Some(origin) if is_trustworthy(&origin) != answer => shown.add(b"DIFFERS"),
-        Some(_) | None => shown.add_yes_or_no(answer),
+    match &origin_of(alloc, &url)? {
+        Some(origin) => show_both(answer, is_trustworthy(origin), shown),
+        None => shown.add_yes_or_no(answer),
     }
     Ok(())
+}
+
+// An answer that is given twice; where the other is not the same, DIFFERS.
+fn show_both(answer: bool, other: bool, shown: &mut Shown) {
+    if answer == other {
+        shown.add_yes_or_no(answer);
+    } else {
+        shown.add(b"DIFFERS");
+    }
 }
 
 // The origins of two URLs, compared as the row says.
@@ -71,8 +80,10 @@ fn show_compared(kind: &str, first: &Origin, second: &Origin, url: &Url, shown: 
     match kind {
         "same_site" => shown.add_yes_or_no(same_site(first, second)),
         "same_host" => shown.add_yes_or_no(is_host_of(first, url)),
-        _ if same_origin(first, second) != is_origin_of(first, url) => shown.add(b"DIFFERS"),
-        _ => shown.add_yes_or_no(is_origin_of(first, url)),
+        _ => {
+            let answer = is_origin_of(first, url);
+            show_both(answer, same_origin(first, second), shown);
+        }
     }
 }
 

@@ -54,7 +54,9 @@ fn asked(
         "corp" => cors::blocked(alloc, row, request, shown),
         "preflight" => cors::preflight(alloc, row, request, shown),
         "verdict" => cors::checked(alloc, row, request, shown),
-        "reported" | "refused" | "response" => checks::asked(alloc, kind, row, request, shown),
+        "reported" => checks::checked(alloc, row, request, false, shown),
+        "refused" => checks::checked(alloc, row, request, true, shown),
+        "response" => checks::response(alloc, row, request, shown),
         _ => responses::asked(alloc, kind, row, request, shown),
     }
 }
@@ -66,11 +68,11 @@ fn mixed(alloc: Global, row: &Row, request: &Request, shown: &mut Shown) -> Resu
     let top = origin_written(alloc, row.text(1))?;
     let is_upgraded = upgrade(request, &request.origin, &top);
     let is_blocked = blocked(request, &request.origin, &top);
-    shown.add(match (is_upgraded, is_blocked) {
-        (true, true) => b"upgraded blocked".as_slice(),
-        (true, false) => b"upgraded",
-        (false, true) => b"blocked",
-        (false, false) => b"neither",
-    });
+    match (is_upgraded, is_blocked) {
+        (true, true) => shown.add(b"upgraded blocked"),
+        (true, false) => shown.add(b"upgraded"),
+        (false, true) => shown.add(b"blocked"),
+        (false, false) => shown.add(b"neither"),
+    }
     Ok(())
 }

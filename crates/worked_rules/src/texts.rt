@@ -21,7 +21,7 @@
 //     metadata TEXT                              the hash expressions of an integrity text
 //     body TEXT BODY                             whether the body matches them
 use std::alloc::Global;
-use wf_csp_text::{Policies, parse_policies};
+use wf_csp_text::{Directive, Policies, parse_policies};
 use wf_headers::split_value;
 use wf_hsts::{Sts, parse_sts};
 use wf_integrity::{matches, parse_metadata};
@@ -132,18 +132,17 @@ pub(crate) fn parsed(
 
 // The age that a field says, and whether it says subdomains.
 fn show_sts(said: Option<Sts>, shown: &mut Shown) {
-    match said {
-        Some(said) if said.subdomains => {
-            shown.add_number(said.age);
-            shown.add(b" and subdomains");
-        }
-        Some(said) => shown.add_number(said.age),
-        None => shown.add(b"none"),
+    let Some(said) = said else {
+        shown.add(b"none");
+        return;
+    };
+    shown.add_number(said.age);
+    if said.subdomains {
+        shown.add(b" and subdomains");
     }
 }
 
-// Policies: of each its disposition, its directives, and a bar; of a directive its name, its words, each behind a
-// space, and a semicolon.
+// Policies: of each its disposition, its directives, and a bar.
 fn show_policies(policies: &Policies, shown: &mut Shown) {
     for policy in policies.as_slice() {
         shown.add(if policy.enforced {
@@ -151,15 +150,20 @@ fn show_policies(policies: &Policies, shown: &mut Shown) {
         } else {
             b"report "
         });
-        for directive in policy.directives.as_slice() {
-            shown.add_escaped(directive.name.as_slice());
-            for word in directive.words.as_slice() {
-                shown.add(b" ");
-                shown.add_escaped(word.as_slice());
-            }
-            shown.add(b";");
-        }
+        show_directives(policy.directives.as_slice(), shown);
         shown.add(b"|");
+    }
+}
+
+// Directives: of each its name, its words, each behind a space, and a semicolon.
+fn show_directives(directives: &[Directive], shown: &mut Shown) {
+    for directive in directives {
+        shown.add_escaped(directive.name.as_slice());
+        for word in directive.words.as_slice() {
+            shown.add(b" ");
+            shown.add_escaped(word.as_slice());
+        }
+        shown.add(b";");
     }
 }
 
