@@ -15,10 +15,33 @@ use std::alloc::Global;
 use wf_hsts::{HstsList, Sts};
 use wf_precache::{Allowed, CacheEntry, Precache};
 use wf_rows::{Failed, Lines, Row, Shown, named, number};
-use wf_text::Bytes;
+use wf_text::{Bytes, after_byte, before_byte};
 
 /// Times and ages are below this.
 const LIMIT: u64 = 1 << 48;
+
+/// The operations.
+#[derive(Clone, Copy)]
+enum Operation {
+    Learn,
+    Covers,
+    Clear,
+    Entries,
+    Note,
+    Forget,
+    Known,
+}
+
+/// Their names.
+const OPERATIONS: [(&[u8], Operation); 7] = [
+    (b"learn", Operation::Learn),
+    (b"covers", Operation::Covers),
+    (b"clear", Operation::Clear),
+    (b"entries", Operation::Entries),
+    (b"note", Operation::Note),
+    (b"forget", Operation::Forget),
+    (b"known", Operation::Known),
+];
 
 /// The words for whether a field speaks of subdomains.
 const SUBDOMAINS: [(&[u8], bool); 2] = [(b"subdomains", true), (b"alone", false)];
@@ -32,18 +55,9 @@ pub(crate) struct Books {
 
 impl Lines for Books {
     fn answer(&mut self, alloc: Global, line: &str, shown: &mut Shown) -> Result<(), Failed> {
-        let (operation, written) = line.split_once(' ').unwrap_or((line, ""));
-        let words = Row::of(alloc, written.as_bytes(), b' ')?;
-        match operation {
-            "learn" => self.learn(alloc, &words, shown),
-            "covers" => self.covers(alloc, &words, shown),
-            "note" => self.note(alloc, &words, shown),
-            "clear" => self.clear(&words, shown),
-            "entries" => self.show_entries(words.text(0), shown),
-            "forget" => self.forget(words.text(0), shown),
-            "known" => self.known(&words, shown),
-            _ => Err(Failed),
-        }
+        let operation = named(&OPERATIONS, before_byte(line.as_bytes(), b' '))?;
+        let words = Row::of(alloc, after_byte(line.as_bytes(), b' '), b' ')?;
+        self.play(alloc, operation, &words, shown)
     }
 }
 
@@ -53,6 +67,25 @@ impl Books {
         Books {
             cache: Precache::new(alloc),
             hosts: HstsList::new(alloc),
+        }
+    }
+
+    // Does an operation with the words behind it.
+    fn play(
+        &mut self,
+        alloc: Global,
+        operation: Operation,
+        words: &Row,
+        shown: &mut Shown,
+    ) -> Result<(), Failed> {
+        match operation {
+            Operation::Learn => self.learn(alloc, words, shown),
+            Operation::Covers => self.covers(alloc, words, shown),
+            Operation::Clear => self.clear(words, shown),
+            Operation::Entries => self.show_entries(words.text(0), shown),
+            Operation::Note => self.note(alloc, words, shown),
+            Operation::Forget => self.forget(words.text(0), shown),
+            Operation::Known => self.known(words, shown),
         }
     }
 
@@ -130,7 +163,7 @@ impl Books {
 fn time_in(word: &[u8]) -> Result<u64, Failed>
     ensures { IfOk result (λ time. time < 2 ^ 48) }
 {
-    let time = number(word, u64::MAX)?;
+    let time = number(word, LIMIT)?;
     if time < LIMIT { Ok(time) } else { Err(Failed) }
 }
 

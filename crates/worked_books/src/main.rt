@@ -21,7 +21,7 @@ use wf_rows::{Failed, Shown, play, print_text};
 fn play_calls<R: Threads + Wait + Sync + Print + AllocGlobal>(rt: &R) -> Result<(), Failed> {
     let alloc = rt.alloc();
     let mut shown = Shown::new(alloc);
-    alone::show_book(alloc, &mut shown)?;
+    alone::show_book(alloc, &mut shown);
     alone::show_pass(rt, alloc, &mut shown)?;
     turns::show_passes(rt, alloc, &mut shown)?;
     threads::show_threads(rt, alloc, &mut shown)?;
