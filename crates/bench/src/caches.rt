@@ -1,43 +1,40 @@
-use crate::failed::Failed;
 use crate::lessons::{lesson, question};
-use crate::texts::numbered;
+use crate::words::{count_in, numbered};
 use std::alloc::Global;
 use wf_precache::{Lesson, Precache, Question};
-use wf_text::{BytesList, OutOfMemory};
+use wf_rows::{Failed, Row};
+use wf_text::BytesList;
+
+/// How long a lesson holds, in seconds.
+const AGE: u64 = 7_200;
 
 // The header names of these numbers.
-fn names(alloc: Global, first: u32, last: u32) -> Result<BytesList, OutOfMemory> {
+fn names(alloc: Global, first: u32, last: u32) -> Result<BytesList, Failed> {
     let mut names = BytesList::new(alloc);
     for number in first..=last {
-        names.push(numbered(alloc, b"x-name-", u64::from(number), b"")?)?;
+        names.push(numbered(alloc, b"x-name-", number, b"")?)?;
     }
     Ok(names)
 }
 
 // What is taught of a key: its header names from this one to the 64th.
-fn taught(alloc: Global, key: u32, first: u32) -> Result<Lesson, OutOfMemory> {
+fn taught(alloc: Global, key: u32, first: u32) -> Result<Lesson, Failed> {
     let names = names(alloc, first, 63)?;
-    let key = numbered(alloc, b"http://key-", u64::from(key), b"")?;
-    lesson(
-        alloc,
-        key,
-        b"http://b.test/",
-        7200,
-        BytesList::new(alloc),
-        names,
-    )
+    let key = numbered(alloc, b"http://key-", key, b"")?;
+    lesson(alloc, key, AGE, BytesList::new(alloc), names)
 }
 
-// Fills a cache with so many keys of 64 entries each.
-fn fill(alloc: Global, cache: &mut Precache, keys: u32) -> Result<(), OutOfMemory> {
+// A cache of so many keys of 64 entries each.
+fn cache_of(alloc: Global, keys: u32) -> Result<Precache, Failed> {
+    let mut cache = Precache::new(alloc);
     for key in 0..keys {
         cache.learn(&taught(alloc, key, 0)?, 0)?;
     }
-    Ok(())
+    Ok(cache)
 }
 
 // A question about the last entry of each of 100 keys, from the first on to the last.
-fn questions(alloc: Global, keys: u32) -> Result<Vec<Question>, OutOfMemory> {
+fn questions_of(alloc: Global, keys: u32) -> Result<Vec<Question>, Failed> {
     let mut questions = Vec::new(alloc);
     for number in 0..100u32 {
         let key = number.saturating_mul(keys) / 100;
@@ -61,8 +58,9 @@ fn asked(cache: &Precache, questions: &[Question], rounds: u32) -> u64 {
 
 /// Fills a preflight cache with so many keys of 64 entries each, asks it for 100 of the keys in so many rounds, and counts
 /// how often the answer was yes.
-pub fn covered(alloc: Global, keys: u32, rounds: u32) -> Result<u64, Failed> {
-    let mut cache = Precache::new(alloc);
-    fill(alloc, &mut cache, keys)?;
-    Ok(asked(&cache, questions(alloc, keys)?.as_slice(), rounds))
+pub(crate) fn covered(alloc: Global, words: &Row) -> Result<u64, Failed> {
+    let keys = count_in(words, 1)?;
+    let rounds = count_in(words, 2)?;
+    let questions = questions_of(alloc, keys)?;
+    Ok(asked(&cache_of(alloc, keys)?, questions.as_slice(), rounds))
 }

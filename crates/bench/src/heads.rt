@@ -1,13 +1,15 @@
 ghost use Rattle.wf_types.specs.Requests.{IsRequest};
 
-use crate::failed::Failed;
-use crate::requests::request;
-use crate::texts::numbered;
+use crate::words::{count_in, numbered};
 use std::alloc::Global;
 use wf_filter::{filtered, hide};
 use wf_headers::HeaderList;
-use wf_text::{Bytes, OutOfMemory};
-use wf_types::{Head, Hop, Request, Tainting};
+use wf_rows::{Failed, Row, named, request_of};
+use wf_text::Bytes;
+use wf_types::{Head, Hop, Request};
+
+/// The request that the head answers.
+const REQUEST: &[u8] = b"url=https://b.test/ from=https://a.test/ tainting=cors";
 
 /// What is called.
 #[derive(Clone, Copy)]
@@ -16,50 +18,38 @@ enum Call {
     Hide,
 }
 
-// The call that a word names.
-fn call_of(word: &str) -> Result<Call, Failed> {
-    match word {
-        "filtered" => Ok(Call::Filtered),
-        "hide" => Ok(Call::Hide),
-        _ => Err(Failed),
+/// Their names.
+const CALLS: [(&[u8], Call); 2] = [(b"filtered", Call::Filtered), (b"hide", Call::Hide)];
+
+// The headers of a head: the CORS check passes, these names are exposed, and each of the others has a name of its own.
+fn headers_of(alloc: Global, exposed: &[u8], count: u32) -> Result<HeaderList, Failed> {
+    let mut headers = HeaderList::new(alloc);
+    headers.append(b"Access-Control-Allow-Origin", b"*")?;
+    headers.append(b"Access-Control-Expose-Headers", exposed)?;
+    for number in 2..count {
+        let name = numbered(alloc, b"X-Name-", number, b"")?;
+        headers.append(name.as_slice(), b"a value")?;
     }
+    Ok(headers)
 }
 
-// Adds headers with different names, so that with two before them there are so many.
-fn add(alloc: Global, list: &mut HeaderList, headers: u32) -> Result<(), OutOfMemory> {
-    for number in 2..headers {
-        list.append(
-            numbered(alloc, b"X-Name-", u64::from(number), b"")?.as_slice(),
-            b"a value",
-        )?;
-    }
-    Ok(())
-}
-
-// A head of so many headers, two at least: the CORS check passes, these names are exposed, and each of the others has a
-// name of its own.
-fn head(alloc: Global, exposed: &str, headers: u32) -> Result<Head, OutOfMemory> {
-    let mut list = HeaderList::new(alloc);
-    list.append(b"Access-Control-Allow-Origin", b"*")?;
-    list.append(b"Access-Control-Expose-Headers", exposed.as_bytes())?;
-    add(alloc, &mut list, headers)?;
-    Ok(Head {
-        status: 200,
-        headers: list,
-    })
-}
-
-// The request as it is sent.
-fn hop(alloc: Global) -> Result<Hop, OutOfMemory> {
-    let origin = Bytes::of(alloc, b"https://b.test")?;
-    let url = Bytes::of(alloc, b"/")?;
-    Ok(Hop {
+// The request as it is sent, of which nothing counts here but that it is no preflight.
+fn hop(alloc: Global) -> Hop {
+    Hop {
         preflight: false,
-        origin,
-        url,
-        method: Bytes::of(alloc, b"GET")?,
+        origin: Bytes::new(alloc),
+        url: Bytes::new(alloc),
+        method: Bytes::new(alloc),
         headers: HeaderList::new(alloc),
         body: None,
+    }
+}
+
+// A copy of a head, for the call that takes it.
+fn copy(alloc: Global, head: &Head) -> Result<Head, Failed> {
+    Ok(Head {
+        status: head.status,
+        headers: head.headers.copy(alloc)?,
     })
 }
 
@@ -70,20 +60,15 @@ fn kept_by(
     request: &Request,
     hop: &Hop,
     head: &Head,
-) -> Result<usize, OutOfMemory>
+) -> Result<usize, Failed>
     requires { IsRequest request.now }
 {
-    match call {
-        Call::Filtered => {
-            // The call takes the head, so it is given a copy.
-            let head = Head {
-                status: head.status,
-                headers: head.headers.copy(alloc)?,
-            };
-            Ok(filtered(alloc, request, head, false)?.headers.len())
-        }
-        Call::Hide => Ok(hide(alloc, request, hop, head)?.headers.len()),
-    }
+    Ok(match call {
+        Call::Filtered => filtered(alloc, request, copy(alloc, head)?, false)?
+            .headers
+            .len(),
+        Call::Hide => hide(alloc, request, hop, head)?.headers.len(),
+    })
 }
 
 // How many headers so many calls keep.
@@ -93,10 +78,10 @@ fn kept_in(
     request: &Request,
     head: &Head,
     rounds: u32,
-) -> Result<u64, OutOfMemory>
+) -> Result<u64, Failed>
     requires { IsRequest request.now }
 {
-    let hop = hop(alloc)?;
+    let hop = hop(alloc);
     let mut kept = 0u64;
     for _ in 0..rounds {
         kept = kept.saturating_add(kept_by(alloc, call, request, &hop, head)? as u64);
@@ -104,23 +89,16 @@ fn kept_in(
     Ok(kept)
 }
 
-// The same for the request that the head answers.
-fn kept_of(alloc: Global, call: Call, head: &Head, rounds: u32) -> Result<u64, Failed> {
-    let request = request(alloc, b"https://b.test/", Tainting::Cors)?;
-    Ok(kept_in(alloc, call, &request, head, rounds)?)
-}
-
 /// Makes a head of so many headers with different names that answers a request under tainting cors, exposes these names and
 /// passes the CORS check, asks for its filtered response or hides it in so many rounds, and counts the headers that are
 /// kept. The call is `filtered` or `hide`.
-pub fn kept(
-    alloc: Global,
-    call: &str,
-    exposed: &str,
-    headers: u32,
-    rounds: u32,
-) -> Result<u64, Failed> {
-    let call = call_of(call)?;
-    let head = head(alloc, exposed, headers)?;
-    kept_of(alloc, call, &head, rounds)
+pub(crate) fn kept(alloc: Global, words: &Row) -> Result<u64, Failed> {
+    let call = named(&CALLS, words.text(1))?;
+    let rounds = count_in(words, 4)?;
+    let request = request_of(alloc, REQUEST)?;
+    let head = Head {
+        status: 200,
+        headers: headers_of(alloc, words.text(2), count_in(words, 3)?)?,
+    };
+    kept_in(alloc, call, &request, &head, rounds)
 }

@@ -1,8 +1,8 @@
-use crate::failed::Failed;
-use crate::texts::numbered;
+use crate::words::{count_in, numbered};
 use std::alloc::Global;
 use wf_hsts::{HstsList, Sts};
-use wf_text::{BytesList, OutOfMemory};
+use wf_rows::{Failed, Row};
+use wf_text::BytesList;
 
 /// What each host says.
 const STS: Sts = Sts {
@@ -10,25 +10,22 @@ const STS: Sts = Sts {
     subdomains: true,
 };
 
-// Fills a list with so many hosts.
-fn fill(alloc: Global, list: &mut HstsList, hosts: u32) -> Result<(), OutOfMemory> {
-    for number in 0..hosts {
-        list.note(
-            numbered(alloc, b"www.h", u64::from(number), b".test")?,
-            STS,
-            0,
-        )?;
+// A list of so many hosts.
+fn list_of(alloc: Global, hosts: u32) -> Result<HstsList, Failed> {
+    let mut list = HstsList::new(alloc);
+    for host in 0..hosts {
+        list.note(numbered(alloc, b"www.h", host, b".test")?, STS, 0)?;
     }
-    Ok(())
+    Ok(list)
 }
 
 // 64 of the hosts, and 64 names that are not known, by turns.
-fn names(alloc: Global, hosts: u32) -> Result<BytesList, OutOfMemory> {
+fn names_of(alloc: Global, hosts: u32) -> Result<BytesList, Failed> {
     let mut names = BytesList::new(alloc);
-    for asked in 0..128u32 {
-        let label = if asked % 2 == 0 { b"www.h" } else { b"api.h" };
-        let number = (hosts / 64).saturating_mul(asked / 2);
-        names.push(numbered(alloc, label, u64::from(number), b".test")?)?;
+    for asked in 0..64u32 {
+        let host = (hosts / 64).saturating_mul(asked);
+        names.push(numbered(alloc, b"www.h", host, b".test")?)?;
+        names.push(numbered(alloc, b"api.h", host, b".test")?)?;
     }
     Ok(names)
 }
@@ -48,8 +45,9 @@ fn asked(list: &HstsList, names: &BytesList, rounds: u32) -> u64 {
 
 /// Fills a list with so many known hosts, asks it for 64 of them and for a name beside each in so many rounds, and counts
 /// how often the answer was yes.
-pub fn known(alloc: Global, hosts: u32, rounds: u32) -> Result<u64, Failed> {
-    let mut list = HstsList::new(alloc);
-    fill(alloc, &mut list, hosts)?;
-    Ok(asked(&list, &names(alloc, hosts)?, rounds))
+pub(crate) fn known(alloc: Global, words: &Row) -> Result<u64, Failed> {
+    let hosts = count_in(words, 1)?;
+    let rounds = count_in(words, 2)?;
+    let names = names_of(alloc, hosts)?;
+    Ok(asked(&list_of(alloc, hosts)?, &names, rounds))
 }

@@ -2,21 +2,21 @@ ghost use Rattle.std.specs.Prelude.{◌≡◌, IfOk};
 
 use std::alloc::Global;
 use wf_precache::{Lesson, Question};
-use wf_text::{Bytes, BytesList, OutOfMemory};
+use wf_rows::Failed;
+use wf_text::{Bytes, BytesList};
 
-/// What a preflight of http://a.test teaches of a URL under this key.
-pub fn lesson(
+/// What a preflight of http://a.test teaches of http://b.test/ under this key.
+pub(crate) fn lesson(
     alloc: Global,
     key: Bytes,
-    url: &[u8],
     age: u64,
     methods: BytesList,
     names: BytesList,
-) -> Result<Lesson, OutOfMemory>
+) -> Result<Lesson, Failed>
     ensures { IfOk result (λ lesson. lesson.age ≡ age) }
 {
     let origin = Bytes::of(alloc, b"http://a.test")?;
-    let url = Bytes::of(alloc, url)?;
+    let url = Bytes::of(alloc, b"http://b.test/")?;
     Ok(Lesson {
         key,
         origin,
@@ -29,7 +29,7 @@ pub fn lesson(
 }
 
 /// The question whether a request with this method and the lesson's names is covered.
-pub fn question(lesson: Lesson, method: Option<Bytes>) -> Question {
+pub(crate) fn question(lesson: Lesson, method: Option<Bytes>) -> Question {
     Question {
         key: lesson.key,
         origin: lesson.origin,

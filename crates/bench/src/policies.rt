@@ -1,50 +1,50 @@
-ghost use Rattle.std.specs.Prelude.{IfOk};
 ghost use Rattle.wf_types.specs.Requests.{IsRequest};
 
-use crate::failed::Failed;
-use crate::requests::request;
-use crate::texts::add_number;
+use crate::words::count_in;
 use std::alloc::Global;
 use wf_csp::Compiled;
 use wf_csp_text::{Policies, parse_policies};
-use wf_origin::Origin;
-use wf_text::{Bytes, OutOfMemory};
-use wf_types::{Request, Tainting};
+use wf_rows::{Failed, Row, Shown, request_of};
+use wf_text::Bytes;
+use wf_types::Request;
 
 // A path of so many bytes.
-fn path(alloc: Global, length: u32) -> Result<Bytes, OutOfMemory> {
-    let mut path = Bytes::new(alloc);
-    for index in 0..length {
-        path.append(if index == 0 { b"/" } else { b"x" })?;
+fn path_of(alloc: Global, length: u32) -> Result<Bytes, Failed> {
+    let mut path = Shown::new(alloc);
+    if length > 0 {
+        path.add(b"/");
     }
-    Ok(path)
+    for _ in 1..length {
+        path.add(b"x");
+    }
+    path.into_bytes()
 }
 
 // Adds the host of a number and a path.
-fn add_host(text: &mut Bytes, number: u32, path: &[u8]) -> Result<(), OutOfMemory> {
-    text.append(b"host-")?;
-    add_number(text, u64::from(number))?;
-    text.append(b".example.test")?;
-    text.append(path)
+fn add_host(text: &mut Shown, number: u32, path: &[u8]) {
+    text.add(b"host-");
+    text.add_number(u64::from(number));
+    text.add(b".example.test");
+    text.add(path);
 }
 
 // Adds a directive of so many hosts with this path.
-fn add_directive(text: &mut Bytes, hosts: u32, path: &[u8]) -> Result<(), OutOfMemory> {
-    text.append(b"connect-src")?;
+fn add_directive(text: &mut Shown, hosts: u32, path: &[u8]) {
+    text.add(b"connect-src");
     for number in 0..hosts {
-        text.append(b" ")?;
-        add_host(text, number, path)?;
+        text.add(b" ");
+        add_host(text, number, path);
     }
-    text.append(b", ")
+    text.add(b", ");
 }
 
 // The value of a header with so many policies, each of so many hosts with this path.
-fn value(alloc: Global, policies: u32, hosts: u32, path: &[u8]) -> Result<Bytes, OutOfMemory> {
-    let mut value = Bytes::new(alloc);
+fn value_of(alloc: Global, policies: u32, hosts: u32, path: &[u8]) -> Result<Bytes, Failed> {
+    let mut value = Shown::new(alloc);
     for _ in 0..policies {
-        add_directive(&mut value, hosts, path)?;
+        add_directive(&mut value, hosts, path);
     }
-    Ok(value)
+    value.into_bytes()
 }
 
 // The policies, compiled, unless there are too many of them.
@@ -57,18 +57,17 @@ fn compiled(alloc: Global, policies: &Policies) -> Result<Compiled, Failed> {
 
 // So many policies, each of so many hosts with this path.
 fn made(alloc: Global, policies: u32, hosts: u32, path: &[u8]) -> Result<Compiled, Failed> {
-    let value = value(alloc, policies, hosts, path)?;
+    let value = value_of(alloc, policies, hosts, path)?;
     compiled(alloc, &parse_policies(alloc, value.as_slice(), true)?)
 }
 
-// A request for a URL of the last host with this path.
-fn request_for(alloc: Global, hosts: u32, path: &[u8]) -> Result<Request, Failed>
-    ensures { IfOk result IsRequest }
-{
-    let mut url = Bytes::of(alloc, b"https://")?;
+// The words of a request of https://a.test for a URL of the last host with this path.
+fn request_words(alloc: Global, hosts: u32, path: &[u8]) -> Result<Bytes, Failed> {
+    let mut words = Shown::new(alloc);
+    words.add(b"from=https://a.test/ url=https://");
     let path = if path.is_empty() { b"/x" } else { path };
-    add_host(&mut url, hosts.saturating_sub(1), path)?;
-    request(alloc, url.as_slice(), Tainting::Basic)
+    add_host(&mut words, hosts.saturating_sub(1), path);
+    words.into_bytes()
 }
 
 // How many violations so many checks of the request give.
@@ -76,42 +75,27 @@ fn checked(
     alloc: Global,
     compiled: &Compiled,
     request: &Request,
-    document: &Origin,
     rounds: u32,
-) -> Result<u64, OutOfMemory>
+) -> Result<u64, Failed>
     requires { IsRequest request.now }
 {
     let mut violations = 0u64;
     for _ in 0..rounds {
-        let found = compiled.check_request(alloc, request, document, true)?;
+        let found = compiled.check_request(alloc, request, &request.origin, true)?;
         violations = violations.saturating_add(found.len() as u64);
     }
     Ok(violations)
 }
 
-// How many violations so many checks of a request for the last host give.
-fn found(
-    alloc: Global,
-    compiled: &Compiled,
-    hosts: u32,
-    path: &[u8],
-    rounds: u32,
-) -> Result<u64, Failed> {
-    let request = request_for(alloc, hosts, path)?;
-    Ok(checked(alloc, compiled, &request, &request.origin, rounds)?)
-}
-
 /// Makes so many policies of so many host words, each ending in a path of so many bytes, of which the last word alone
 /// matches, checks a request against them in so many rounds, and counts the violations. With a path of 0 bytes the words
 /// have none.
-pub fn violations(
-    alloc: Global,
-    policies: u32,
-    hosts: u32,
-    length: u32,
-    rounds: u32,
-) -> Result<u64, Failed> {
-    let path = path(alloc, length)?;
-    let compiled = made(alloc, policies, hosts, path.as_slice())?;
-    found(alloc, &compiled, hosts, path.as_slice(), rounds)
+pub(crate) fn violations(alloc: Global, words: &Row) -> Result<u64, Failed> {
+    let hosts = count_in(words, 2)?;
+    let rounds = count_in(words, 4)?;
+    let path = path_of(alloc, count_in(words, 3)?)?;
+    let request = request_words(alloc, hosts, path.as_slice())?;
+    let request = request_of(alloc, request.as_slice())?;
+    let compiled = made(alloc, count_in(words, 1)?, hosts, path.as_slice())?;
+    checked(alloc, &compiled, &request, rounds)
 }

@@ -1,10 +1,10 @@
 ghost use Rattle.std.specs.Prelude.{◌<◌};
 
-use crate::failed::Failed;
-use crate::texts::add_number;
+use crate::words::{count_in, some_in};
 use std::alloc::Global;
 use wf_http1::{BodyReader, BodyStep, Framing, HeadReader, HeadStep};
-use wf_text::{Bytes, OutOfMemory};
+use wf_rows::{Failed, Row, Shown, named};
+use wf_text::Bytes;
 use wf_types::BodyEnd;
 
 /// How many bytes a body has.
@@ -14,68 +14,49 @@ const BODY: u32 = 262_144;
 #[derive(Clone, Copy)]
 enum Kind {
     Head,
-    Body(Framing),
+    Plain,
+    Chunked,
 }
 
-// What a word names.
-fn kind_of(word: &str) -> Result<Kind, Failed> {
-    match word {
-        "head" => Ok(Kind::Head),
-        "plain" => Ok(Kind::Body(Framing::Length(BODY as u64))),
-        "chunked" => Ok(Kind::Body(Framing::Chunked)),
-        _ => Err(Failed),
-    }
-}
-
-// Adds the header line of a number to a head.
-fn add_line(bytes: &mut Bytes, number: u64) -> Result<(), OutOfMemory> {
-    bytes.append(b"X-Header-")?;
-    add_number(bytes, number)?;
-    bytes.append(b": ")?;
-    bytes.append(&[b'v'; 64])?;
-    bytes.append(b"\r\n")
-}
+/// Their names.
+const KINDS: [(&[u8], Kind); 3] = [
+    (b"head", Kind::Head),
+    (b"plain", Kind::Plain),
+    (b"chunked", Kind::Chunked),
+];
 
 // A head of 100 lines of 80 bytes.
-fn head(alloc: Global) -> Result<Bytes, OutOfMemory> {
-    let mut bytes = Bytes::of(alloc, b"HTTP/1.1 200 OK\r\n")?;
-    for number in 100..200u64 {
-        add_line(&mut bytes, number)?;
+fn head(alloc: Global) -> Result<Bytes, Failed> {
+    let mut head = Shown::new(alloc);
+    head.add(b"HTTP/1.1 200 OK\r\n");
+    for number in 100..200usize {
+        head.add_count(b"X-Header-", number);
+        head.add(b": ");
+        head.add(&[b'v'; 64]);
+        head.add(b"\r\n");
     }
-    bytes.append(b"\r\n")?;
-    Ok(bytes)
+    head.add(b"\r\n");
+    head.into_bytes()
 }
 
-// 1,024 letters of a body between these pieces.
-fn chunk(alloc: Global, front: &[u8], back: &[u8]) -> Result<Bytes, OutOfMemory> {
-    let mut bytes = Bytes::of(alloc, front)?;
-    bytes.append(&[b'b'; 1024])?;
-    bytes.append(back)?;
-    Ok(bytes)
-}
-
-// A body of 256 such pieces, and an end.
-fn body(alloc: Global, chunk: &[u8], end: &[u8]) -> Result<Bytes, OutOfMemory> {
-    let mut bytes = Bytes::new(alloc);
+// A body of 256 times 1,024 letters, with these bytes before and behind each, and an end.
+fn body(alloc: Global, front: &[u8], back: &[u8], end: &[u8]) -> Result<Bytes, Failed> {
+    let mut body = Shown::new(alloc);
     for _ in 0..256u32 {
-        bytes.append(chunk)?;
+        body.add(front);
+        body.add(&[b'b'; 1024]);
+        body.add(back);
     }
-    bytes.append(end)?;
-    Ok(bytes)
+    body.add(end);
+    body.into_bytes()
 }
 
 // The bytes that are read.
-fn bytes_of(alloc: Global, kind: Kind) -> Result<Bytes, OutOfMemory> {
+fn bytes_of(alloc: Global, kind: Kind) -> Result<Bytes, Failed> {
     match kind {
         Kind::Head => head(alloc),
-        Kind::Body(Framing::Chunked) => {
-            body(
-                alloc,
-                chunk(alloc, b"400\r\n", b"\r\n")?.as_slice(),
-                b"0\r\n\r\n",
-            )
-        }
-        Kind::Body(_) => body(alloc, chunk(alloc, b"", b"")?.as_slice(), b""),
+        Kind::Plain => body(alloc, b"", b"", b""),
+        Kind::Chunked => body(alloc, b"400\r\n", b"\r\n", b"0\r\n\r\n"),
     }
 }
 
@@ -115,39 +96,21 @@ fn read(alloc: Global, kind: Kind, bytes: &[u8], piece: usize) -> Result<u64, Fa
 {
     match kind {
         Kind::Head => lines_of(alloc, bytes, piece),
-        Kind::Body(framing) => length_of(alloc, framing, bytes, piece),
+        Kind::Plain => length_of(alloc, Framing::Length(u64::from(BODY)), bytes, piece),
+        Kind::Chunked => length_of(alloc, Framing::Chunked, bytes, piece),
     }
-}
-
-// What so many rounds read.
-fn read_in(
-    alloc: Global,
-    kind: Kind,
-    bytes: &[u8],
-    piece: usize,
-    rounds: u32,
-) -> Result<u64, Failed>
-    requires { 0 < piece }
-{
-    let mut total = 0u64;
-    for _ in 0..rounds {
-        total = total.saturating_add(read(alloc, kind, bytes, piece)?);
-    }
-    Ok(total)
 }
 
 /// Reads a head of 8 KB, or a body of 256 KB with its length or in chunks, in pieces of so many bytes and in so many
 /// rounds, and counts the header lines or the body's bytes. The kind is `head`, `plain` or `chunked`.
-pub fn total(alloc: Global, kind: &str, piece: u32, rounds: u32) -> Result<u64, Failed> {
-    if piece == 0 {
-        return Err(Failed);
+pub(crate) fn total(alloc: Global, words: &Row) -> Result<u64, Failed> {
+    let kind = named(&KINDS, words.text(1))?;
+    let piece = some_in(words, 2)?;
+    let rounds = count_in(words, 3)?;
+    let bytes = bytes_of(alloc, kind)?;
+    let mut total = 0u64;
+    for _ in 0..rounds {
+        total = total.saturating_add(read(alloc, kind, bytes.as_slice(), piece)?);
     }
-    let kind = kind_of(kind)?;
-    read_in(
-        alloc,
-        kind,
-        bytes_of(alloc, kind)?.as_slice(),
-        piece as usize,
-        rounds,
-    )
+    Ok(total)
 }

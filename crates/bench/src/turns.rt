@@ -3,41 +3,35 @@ ghost use Rattle.std.specs.List.{All};
 ghost use Rattle.wf_book.specs.Ops.{InRange};
 ghost use Rattle.wf_turn.specs.Passes.{left_of, made_of};
 
-use crate::failed::Failed;
 use crate::lessons::{lesson, question};
+use crate::words::{count_in, some_in};
 use std::alloc::Global;
 use std::sync::Wait;
 use std::thread;
 use std::thread::Threads;
 use wf_book::{Book, Op, Share};
 use wf_precache::Lesson;
-use wf_text::{Bytes, BytesList, OutOfMemory};
+use wf_rows::{Failed, Row};
+use wf_text::{Bytes, BytesList};
 use wf_turn::{TurnBook, TurnPass};
 
 /// A pass, and how many of its calls were answered.
 #[derive(Drop)]
-struct Row<P> {
+struct Played<P> {
     pass: P,
     answered: u64,
 }
 
 // What a preflight taught, with these methods.
-fn taught(alloc: Global, methods: BytesList) -> Result<Lesson, OutOfMemory>
+fn taught(alloc: Global, methods: BytesList) -> Result<Lesson, Failed>
     ensures { IfOk result (λ lesson. lesson.age ≡ 5) }
 {
     let key = Bytes::of(alloc, b"k")?;
-    lesson(
-        alloc,
-        key,
-        b"http://b.test/x",
-        5,
-        methods,
-        BytesList::new(alloc),
-    )
+    lesson(alloc, key, 5, methods, BytesList::new(alloc))
 }
 
 // A lesson for five seconds.
-fn learn(alloc: Global, now: u64) -> Result<Op, OutOfMemory>
+fn learn(alloc: Global, now: u64) -> Result<Op, Failed>
     requires { now < 2 ^ 48 }
     ensures { IfOk result (λ op. InRange op) }
 {
@@ -47,7 +41,7 @@ fn learn(alloc: Global, now: u64) -> Result<Op, OutOfMemory>
 }
 
 // Whether a request is covered by it.
-fn covers(alloc: Global, now: u64) -> Result<Op, OutOfMemory>
+fn covers(alloc: Global, now: u64) -> Result<Op, Failed>
     requires { now < 2 ^ 48 }
     ensures { IfOk result (λ op. InRange op) }
 {
@@ -57,7 +51,7 @@ fn covers(alloc: Global, now: u64) -> Result<Op, OutOfMemory>
 }
 
 // Clears what the lesson taught.
-fn clear(alloc: Global, now: u64) -> Result<Op, OutOfMemory>
+fn clear(alloc: Global, now: u64) -> Result<Op, Failed>
     requires { now < 2 ^ 48 }
     ensures { IfOk result (λ op. InRange op) }
 {
@@ -66,7 +60,7 @@ fn clear(alloc: Global, now: u64) -> Result<Op, OutOfMemory>
 }
 
 // A lesson, a question or a clear by turns, whose time is its number.
-fn numbered(alloc: Global, number: u64) -> Result<Op, OutOfMemory>
+fn numbered(alloc: Global, number: u64) -> Result<Op, Failed>
     requires { number < 2 ^ 48 }
     ensures { IfOk result (λ op. InRange op) }
 {
@@ -104,7 +98,7 @@ fn play_rows<S: Share + Sync, R: Threads + Wait + Sync>(
     rt: &R,
     alloc: Global,
     share: &S,
-    rows: &mut [Row<S::Pass>],
+    rows: &mut [Played<S::Pass>],
     threads: usize,
     count: u32,
 )
@@ -117,7 +111,7 @@ where
         rt,
         rows,
         threads,
-        &|_: usize, row: &mut Row<S::Pass>|
+        &|_: usize, row: &mut Played<S::Pass>|
             requires { S.belongs share.now row.now.pass × (count ≤ S.left row.now.pass) }
         { row.answered = calls(rt, alloc, share, &mut row.pass, count) },
     );
@@ -129,7 +123,7 @@ fn open_rows(
     book: &TurnBook,
     first: &mut TurnPass,
     documents: u32,
-) -> Result<Vec<Row<TurnPass>>, OutOfMemory>
+) -> Result<Vec<Played<TurnPass>>, Failed>
     requires belongs { first.old.seat.table_id ≡ book.now.table.shared.table_id }
     requires first { (first.old.document ≡ 4294967295) × (made_of first.old ≡ []) }
     ensures { IfOk result (λ rows. All (λ row. (row.pass.seat.table_id ≡ book.now.table.shared.table_id)
@@ -138,13 +132,13 @@ fn open_rows(
     let mut rows = Vec::new(alloc);
     for document in 0..documents {
         let pass = book.pass(alloc, first, document)?;
-        rows.push(Row { pass, answered: 0 })?;
+        rows.push(Played { pass, answered: 0 })?;
     }
     Ok(rows)
 }
 
 // How many calls were answered.
-fn answered_in<P>(rows: &[Row<P>]) -> u64 {
+fn answered_in<P>(rows: &[Played<P>]) -> u64 {
     let mut answered = 0u64;
     for row in rows {
         answered = answered.saturating_add(row.answered);
@@ -154,25 +148,16 @@ fn answered_in<P>(rows: &[Row<P>]) -> u64 {
 
 /// Spreads so many passes of a shared book over so many threads, makes so many calls on each, by turns a lesson, a question
 /// and a clear, and counts those that were answered.
-pub fn answered<R: Threads + Wait + Sync>(
+pub(crate) fn answered<R: Threads + Wait + Sync>(
     rt: &R,
     alloc: Global,
-    threads: u32,
-    passes: u32,
-    count: u32,
+    words: &Row,
 ) -> Result<u64, Failed> {
-    if threads == 0 {
-        return Err(Failed);
-    }
+    let threads = some_in(words, 1)?;
+    let passes = count_in(words, 2)?;
+    let count = count_in(words, 3)?;
     let (book, mut first) = TurnBook::new(alloc, Book::new(alloc))?;
     let mut rows = open_rows(alloc, &book, &mut first, passes)?;
-    play_rows(
-        rt,
-        alloc,
-        &book,
-        rows.as_mut_slice(),
-        threads as usize,
-        count,
-    );
+    play_rows(rt, alloc, &book, rows.as_mut_slice(), threads, count);
     Ok(answered_in(rows.as_slice()))
 }

@@ -1,0 +1,45 @@
+ghost use Rattle.std.specs.Prelude.{◌<◌, IfOk};
+
+use std::alloc::Global;
+use wf_rows::{Failed, Row, Shown, number};
+use wf_text::Bytes;
+
+/// The words with a space behind each.
+pub(crate) fn words_of(alloc: Global, words: &[String]) -> Result<Bytes, Failed> {
+    let mut text = Shown::new(alloc);
+    for word in words {
+        text.add(word.as_str().as_bytes());
+        text.add(b" ");
+    }
+    text.into_bytes()
+}
+
+/// The number of the word at an index, or the greatest that is one.
+pub(crate) fn count_in(words: &Row, index: usize) -> Result<u32, Failed> {
+    let most = u64::from(u32::MAX);
+    Ok(number(words.text(index), most)?.min(most) as u32)
+}
+
+/// The same of a word that writes one or more.
+pub(crate) fn some_in(words: &Row, index: usize) -> Result<usize, Failed>
+    ensures { IfOk result (λ count. 0 < count) }
+{
+    match count_in(words, index)? {
+        0 => Err(Failed),
+        count => Ok(count as usize),
+    }
+}
+
+/// A text with a number in decimal between its halves.
+pub(crate) fn numbered(
+    alloc: Global,
+    front: &[u8],
+    number: u32,
+    back: &[u8],
+) -> Result<Bytes, Failed> {
+    let mut text = Shown::new(alloc);
+    text.add(front);
+    text.add_number(u64::from(number));
+    text.add(back);
+    text.into_bytes()
+}
