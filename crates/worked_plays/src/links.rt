@@ -78,35 +78,18 @@ fn scenario_of(alloc: Global, line: &str) -> Result<Scenario, Failed>
 }
 
 // How often a link was asked, and how often it failed.
-pub(crate) fn tell(alloc: Global, link: &MemoryLink, shown: &mut Shown) -> Result<(), Failed> {
-    shown.add_count(b"asked ", link.asks(alloc)?.len());
+pub(crate) fn tell(link: &MemoryLink, shown: &mut Shown) {
+    match link.asks(shown.alloc()) {
+        Ok(asks) => shown.add_count(b"asked ", asks.len()),
+        Err(_) => shown.fail(),
+    }
     shown.add(b", failed ");
     shown.add_number(link.faults());
     shown.add(b"\n");
-    Ok(())
 }
 
-// Plays a row's document over its link.
+// Plays a row's document over its link, and tells of the link.
 fn play_row<R: Threads + Wait + Sync, S: Share>(
-    rt: &R,
-    alloc: Global,
-    line: &str,
-    share: &S,
-    pass: &mut S::Pass,
-    link: &mut MemoryLink,
-) -> Result<Transcript, Failed>
-    requires belongs { S.belongs share.now pass.old }
-    requires left { 129024 ≤ S.left pass.old }
-    ensures belongs { S.belongs share.now pass.new }
-    ensures few { S.left pass.old ≤ S.left pass.new + 129024 }
-{
-    let scenario = scenario_of(alloc, line)?;
-    let base = scenario.now;
-    Ok(drive(rt, alloc, &scenario, 0, base, share, pass, link))
-}
-
-// The same, told of its link. A play that wanted for memory is refused.
-fn told<R: Threads + Wait + Sync, S: Share>(
     rt: &R,
     alloc: Global,
     line: &str,
@@ -120,8 +103,10 @@ fn told<R: Threads + Wait + Sync, S: Share>(
     ensures few { S.left pass.old ≤ S.left pass.new + 129024 }
 {
     let mut link = link_in(alloc, line)?;
-    let transcript = play_row(rt, alloc, line, share, pass, &mut link)?;
-    tell(alloc, &link, shown)?;
+    let scenario = scenario_of(alloc, line)?;
+    let now = scenario.now;
+    let transcript = drive(rt, alloc, &scenario, 0, now, share, pass, &mut link);
+    tell(&link, shown);
     Ok(transcript)
 }
 
@@ -139,7 +124,7 @@ fn play_each<R: Threads + Wait + Sync, S: Share>(
 {
     let mut transcripts = Transcripts::new(alloc);
     for row in rows {
-        transcripts.push(told(rt, alloc, row, share, pass, shown)?)?;
+        transcripts.push(play_row(rt, alloc, row, share, pass, shown)?)?;
     }
     Ok(transcripts)
 }

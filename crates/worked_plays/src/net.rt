@@ -19,14 +19,13 @@ fn links_of(alloc: Global, rows: &[&str]) -> Result<MemoryLinks, Failed> {
 }
 
 // Each link that was taken back, and how often all failed.
-fn tell_all(alloc: Global, links: &MemoryLinks, shown: &mut Shown) -> Result<(), Failed> {
+fn tell_all(links: &MemoryLinks, shown: &mut Shown) {
     for link in links.taken_back() {
-        tell(alloc, link, shown)?;
+        tell(link, shown);
     }
     shown.add(b"links failed ");
     shown.add_number(links.faults());
     shown.add(b"\n");
-    Ok(())
 }
 
 // Plays a scenario over links.
@@ -41,7 +40,7 @@ fn play_over<R: Threads + Wait + Sync>(
     let words = program_words(alloc, "net")?;
     let mut streams = Streams::of(alloc, b"", scenario.as_bytes())?;
     streams.run(rt, alloc, words.as_slice(), links, now, shown);
-    tell_all(alloc, links, shown)?;
+    tell_all(links, shown);
     shown.add(streams.complaints());
     shown.add(streams.output());
     Ok(())

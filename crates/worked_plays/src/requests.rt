@@ -2,7 +2,7 @@
 // `wf_rows`'s `requests.rt` writes one, and its link, as `links.rt` does; among the words for what fails may stand
 //
 //     limit=N           the fetch reads so many bytes of a body at most, and not 262,144
-ghost use Rattle.std.specs.Prelude.{◌≤◌, IfOk};
+ghost use Rattle.std.specs.Prelude.{◌≤◌};
 ghost use Rattle.wf_types.specs.Requests.{IsClient};
 
 use crate::links::{link_in, show, tell};
@@ -13,24 +13,11 @@ use wf_book::{Book, History, Share, SoloBook};
 use wf_csp::Compiled;
 use wf_csp_text::Policies;
 use wf_link::MemoryLink;
-use wf_origin::is_http_url;
 use wf_player::{FetchRun, drive_fetch};
 use wf_print::{Ending, Event, Transcript, Transcripts};
-use wf_rows::{Failed, Shown, number, request_of, url_written, value_of};
+use wf_rows::{Failed, Held, Shown, client_at, number, request_of, value_of};
 use wf_text::{after_byte, before_byte};
-use wf_types::{Client, Cookies, ReferrerPolicy};
-
-// The client of a request: its document, which is its own top.
-fn client_of(alloc: Global, text: &[u8]) -> Result<Client, Failed>
-    ensures { IfOk result IsClient }
-{
-    let url = url_written(alloc, value_of(text, b"from"))?;
-    if !is_http_url(&url) {
-        return Err(Failed);
-    }
-    let policy = ReferrerPolicy::StrictOriginWhenCrossOrigin;
-    Ok(Client::of(alloc, &url, &url, policy)?)
-}
+use wf_types::{Client, Cookies};
 
 // How many bytes of a body are read at most.
 fn limit_of(words: &[u8]) -> Result<u32, Failed> {
@@ -71,11 +58,23 @@ fn fetched<R: Threads + Wait + Sync, S: Share>(
     requires belongs { S.belongs share.now pass.old }
     requires left { 126 ≤ S.left pass.old }
 {
-    let policies = Compiled::of(alloc, &Policies::new(alloc))?;
+    let request = request_of(alloc, text)?;
+    let policies = Held {
+        value: Compiled::of(alloc, &Policies::new(alloc))?,
+    };
     let cookies = Cookies::new(alloc);
-    let request = Box::into_inner(request_of(alloc, text)?);
     Ok(drive_fetch(
-        rt, alloc, request, client, &policies, &cookies, 0, limit, share, pass, link,
+        rt,
+        alloc,
+        Box::into_inner(request),
+        client,
+        &policies.value,
+        &cookies,
+        0,
+        limit,
+        share,
+        pass,
+        link,
     )?)
 }
 
@@ -93,7 +92,7 @@ fn played<R: Threads + Wait + Sync, S: Share>(
 {
     let text = before_byte(line, b'\t');
     let limit = limit_of(before_byte(after_byte(line, b'\t'), b'\t'))?;
-    let client = client_of(alloc, text)?;
+    let client = client_at(alloc, value_of(text, b"from"))?;
     let run = fetched(rt, alloc, text, limit, &client, share, pass, link)?;
     transcript_of(client, run)
 }
@@ -120,7 +119,7 @@ pub(crate) fn play<R: Threads + Wait + Sync + AllocGlobal>(
     let mut link = link_in(alloc, line)?;
     let (share, mut pass) = SoloBook::new(alloc, Book::new(alloc));
     let transcript = played(rt, alloc, line.as_bytes(), &share, &mut pass, &mut link)?;
-    tell(alloc, &link, shown)?;
+    tell(&link, shown);
     let (_, history) = share.close(pass);
     show_one(alloc, transcript, &history, shown)
 }
