@@ -8,7 +8,8 @@
 // Then the second link waits until the first document has sent its PUT, which its preflight has taught the
 // book before. So the second document's PUT is covered, and has no preflight of its own, only where they share the book.
 // These links are made only where the scenario's routes reach what makes them.
-use crate::streams::{Streams, program_words, text_of};
+use crate::histories::show_count;
+use crate::streams::{Streams, program_words};
 use crate::waiting::{Asked, Manner, WaitingLinks};
 use std::sync::Wait;
 use std::thread::Threads;
@@ -52,17 +53,6 @@ fn waiting_for(count: usize) -> Manner {
     }
 }
 
-// The text of the documents, up to the history, and how many calls the history has.
-fn show(text: &str, shown: &mut Shown) -> Result<(), Failed> {
-    let Some((documents, rest)) = text.split_once("history\n") else {
-        return Err(Failed);
-    };
-    shown.add(documents.as_bytes());
-    shown.add_count(b"calls ", rest.lines().count().saturating_sub(1));
-    shown.add(b"\n");
-    Ok(())
-}
-
 // Plays the documents of a scenario over links.
 fn play_over<R: Threads + Wait + Sync + AllocGlobal>(
     rt: &R,
@@ -76,7 +66,7 @@ fn play_over<R: Threads + Wait + Sync + AllocGlobal>(
     let asked = Asked::none();
     let mut links = WaitingLinks::new(&asked, manner);
     streams.run(rt, alloc, words.as_slice(), &mut links, 0, shown);
-    show(text_of(streams.output())?, shown)
+    show_count(alloc, streams.output(), b"calls ", shown)
 }
 
 // Plays all of them.

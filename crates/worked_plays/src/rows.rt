@@ -158,7 +158,12 @@ fn show_tail(text: &str, shown: &mut Shown) {
 }
 
 // What was written, as the words say.
-fn show_output(alloc: Global, words: &[u8], output: &str, shown: &mut Shown) -> Result<(), Failed> {
+fn show_output(
+    alloc: Global,
+    words: &[u8],
+    output: &[u8],
+    shown: &mut Shown,
+) -> Result<(), Failed> {
     if has_word(words, b"shared") {
         return show_shared(alloc, output, shown);
     }
@@ -166,16 +171,16 @@ fn show_output(alloc: Global, words: &[u8], output: &str, shown: &mut Shown) -> 
         return show_joint(alloc, output, shown);
     }
     if has_word(words, b"tail") {
-        show_tail(output, shown);
+        show_tail(text_of(output)?, shown);
     } else {
-        shown.add(output.as_bytes());
+        shown.add(output);
     }
     Ok(())
 }
 
 // What was written, and what was complained.
 fn show(alloc: Global, words: &[u8], streams: &Streams, shown: &mut Shown) -> Result<(), Failed> {
-    show_output(alloc, words, text_of(streams.output())?, shown)?;
+    show_output(alloc, words, streams.output(), shown)?;
     show_complaints(text_of(streams.complaints())?, shown);
     Ok(())
 }
