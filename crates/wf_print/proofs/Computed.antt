@@ -20,6 +20,7 @@ use Rattle.wf_types.specs.declared.response.ResponseKind.TheVariants.{Basic, Cor
 use Rattle.wf_print.specs.declared.events.Ending.TheVariants.{Finished, Fetches, Text}
 use Rattle.wf_print.specs.declared.events.Event.TheVariants as event
 use Rattle.wf_print.specs.declared.events.Transcript.{Transcript}
+use Rattle.wf_print.specs.Calls.{call_text}
 use Rattle.wf_print.specs.Escapes.{escaped}
 use Rattle.wf_print.specs.Summary.{summary_text}
 use Rattle.wf_print.specs.Text.{play_text, transcript_text}
@@ -267,3 +268,14 @@ no_documents = refl
 -- bytes at the edges of what stands for itself
 edges : escaped (31 ∷ 32 ∷ 92 ∷ 126 ∷ 127 ∷ 195 ∷ 169 ∷ []) ≡ codes "\\x1f \\x5c~\\x7f\\xc3\\xa9"
 edges = refl
+
+-- why the law of histories wants what it wants: a method `()` has the line of none, and a name with a comma that of two
+no_method : call_text (Covers (record method_question { method = Some (codes "()") }) 0) No
+    ≡ call_text (Covers (record method_question { method = None }) 0) No
+unfolding digits
+no_method = refl
+
+two_names : call_text (Covers (record method_question { names = codes "a,b" ∷ [] }) 0) No
+    ≡ call_text (Covers (record method_question { names = codes "a" ∷ codes "b" ∷ [] }) 0) No
+unfolding digits
+two_names = refl

@@ -152,8 +152,12 @@ abbrev pub entry_line : Entry → List ℕ
 entry_line entry =
     line (decimal entry.turn ++ codes " " ++ decimal entry.document ++ codes " " ++ call_text entry.op entry.reply)
 
+-- the text of a history: a line for each entry
+abbrev pub history_text : List Entry → List ℕ
+history_text history = flat_map entry_line history
+
 -- the text of a play: its documents, and the history
 abbrev pub play_text : List Transcript → List Entry → List ℕ
 play_text transcripts history =
     line (codes "fetchplay 1") ++ flat_map transcript_text transcripts ++ line (codes "history")
-    ++ flat_map entry_line history ++ line (codes "done")
+    ++ history_text history ++ line (codes "done")

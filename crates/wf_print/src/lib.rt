@@ -6,6 +6,7 @@ mod escape;
 mod events;
 mod failure;
 mod history;
+mod laws;
 mod length;
 mod lines;
 mod output;
@@ -14,6 +15,7 @@ mod summary;
 
 pub use events::{Ending, Event, Events, Transcript, Transcripts};
 pub use failure::Failure;
+pub use laws::law_one_history;
 pub use length::event_len;
 pub use play::{has_text, write_play};
 pub use summary::write_summary;
