@@ -13,9 +13,12 @@ use Rattle.wf_book.specs.declared.op.Reply.{Reply}
 use Rattle.wf_book.specs.Entries.{Extends}
 use Rattle.wf_book.specs.Ops.{is_answer, is_question}
 use Rattle.wf_link.specs.Sources.{IsAtEnd}
+use Rattle.wf_link.proofs.ReceivedLemmas.{received-none}
+use Rattle.wf_wire.specs.Exchanges as wire
+use Rattle.wf_wire.specs.Exchanges.{Exchange}
 use Rattle.wf_wire.specs.Wires.{onto_left}
-use Rattle.wf_drive.specs.Asking.{IsAsked}
-use Rattle.wf_drive.specs.Worlds.{Outside, Refuses}
+use Rattle.wf_drive.specs.Asking.{IsAsked, IsRefusedCall}
+use Rattle.wf_drive.specs.Worlds.{Outside, Refuses, outside_of}
 
 -- a call of a copy of the op
 pub asked_by_call : (opening : Book) (document left left' : ℕ) (op copied : Op) (answer : Reply)
@@ -46,7 +49,39 @@ fits_by_kind op copied answer same kind =
 
 -- nothing happened
 pub refuses-none : {State : Type 0} (a : Outside State) → Refuses a a
-refuses-none a = record { state_is = refl; later = omega arith; own_is = refl; fewer = omega arith }
+refuses-none a = record {
+  state_is = refl;
+  count = 0;
+  counted = received-none a.received;
+  later = omega arith;
+  own_is = refl;
+  fewer = omega arith;
+}
+
+-- no call was made
+pub refused-call : {State : Type 0} (a : Outside State) (own : List Entry) (left : ℕ)
+    → IsRefusedCall a.own own a.left left → Refuses a (record a { own = own; left = left })
+refused-call a own left is = record {
+  state_is = refl;
+  count = 0;
+  counted = received-none a.received;
+  later = omega arith;
+  own_is = is.own_is;
+  fewer = is.fewer;
+}
+
+-- nothing came of an act over the link
+pub refused-exchange : {State : Type 0} (old new : Exchange State) (own : List Entry) (left : ℕ)
+    → wire.Refuses old new → Refuses (outside_of (record { exchange = old; own = own; left = left }))
+    (outside_of (record { exchange = new; own = own; left = left }))
+refused-exchange old new own left is = record {
+  state_is = is.state_is;
+  count = is.count;
+  counted = is.counted;
+  later = is.later;
+  own_is = refl;
+  fewer = omega arith;
+}
 
 -- what holds holds where memory was refused
 pub on-err : {T : Type 0} {P : Type 0} (result : Result T OutOfMemory) → P → OnErr result P
@@ -65,9 +100,9 @@ on-err-map (Ok value) f p = tt
 on-err-map (Err refused) f p = f p
 
 -- what outlives a run, part by part
-pub outside-is : {State : Type 0} (a b : Outside State) → a.state ≡ b.state → a.faults ≡ b.faults → a.own ≡ b.own
-    → a.left ≡ b.left → a ≡ b
-outside-is a b state faults own left = rw (state, faults, own, left) refl
+pub outside-is : {State : Type 0} (a b : Outside State) → a.state ≡ b.state → a.received ≡ b.received
+    → a.faults ≡ b.faults → a.own ≡ b.own → a.left ≡ b.left → a ≡ b
+outside-is a b state received faults own left = rw (state, received, faults, own, left) refl
 
 -- where nothing is to come over a wire, the link has nothing left
 pub end-left : (window : List ℕ) (left : Option (List ℕ)) → IsAtEnd (onto_left window left) → IsAtEnd left

@@ -342,6 +342,7 @@ still old = record {
     state = old.state;
     coming = Some [];
     left = Some [];
+    received = old.received;
     framing = framing.Nothing;
     faults = old.faults;
   };

@@ -7,6 +7,7 @@ use Rattle.wf_act.specs.declared.act.Input.{Input}
 use Rattle.wf_act.specs.declared.act.Input.TheVariants.{Told}
 use Rattle.wf_book.specs.declared.entry.Entry.{Entry}
 use Rattle.wf_book.specs.declared.op.Op.{Op}
+use Rattle.wf_link.specs.Links.{Received}
 use Rattle.wf_print.specs.declared.events.Event.{Event}
 use Rattle.wf_print.specs.declared.events.Event.TheVariants.{Result, LoadFailed}
 use Rattle.wf_types.specs.Targets.{IsSendable}
@@ -24,13 +25,15 @@ pub record World (State : Type 0) : Type 0 where
 
 -- a wire over a link, and a pass, as a world
 abbrev pub world_of : {P L State : Type 0} → (P → List Entry) → (P → ℕ) → (L → Option State)
-    → (L → Option (List ℕ)) → (L → ℕ) → P → L → Wire → World State
-world_of own calls state left faults pass link wire =
-    record { exchange = exchange_of state left faults link wire; own = own pass; left = calls pass }
+    → (L → Option (List ℕ)) → (L → Option (List ℕ)) → (L → ℕ) → P → L → Wire → World State
+world_of own calls state left received faults pass link wire =
+    record { exchange = exchange_of state left received faults link wire; own = own pass; left = calls pass }
 
--- What of it outlives the run: the link's state, where told, its count of faults, and the pass.
+-- What of it outlives the run: the link's state, how many bytes of each answer were received, where told, its count of
+-- faults, and the pass.
 pub record Outside (State : Type 0) : Type 0 where
   pub state : Option State
+  pub received : Option (List ℕ)
   pub faults : ℕ
   pub own : List Entry
   pub left : ℕ
@@ -39,16 +42,22 @@ pub record Outside (State : Type 0) : Type 0 where
 abbrev pub outside_of : {State : Type 0} → World State → Outside State
 outside_of world = record {
   state = world.exchange.state;
+  received = world.exchange.received;
   faults = world.exchange.faults;
   own = world.own;
   left = world.left;
 }
 
 -- the same, of a link and a pass
-abbrev pub outside : {P L State : Type 0} → (P → List Entry) → (P → ℕ) → (L → Option State) → (L → ℕ) → P → L
-    → Outside State
-outside own calls state faults pass link =
-    record { state = state link; faults = faults link; own = own pass; left = calls pass }
+abbrev pub outside : {P L State : Type 0} → (P → List Entry) → (P → ℕ) → (L → Option State) → (L → Option (List ℕ))
+    → (L → ℕ) → P → L → Outside State
+outside own calls state received faults pass link = record {
+  state = state link;
+  received = received link;
+  faults = faults link;
+  own = own pass;
+  left = calls pass;
+}
 
 -- ---- what comes of an act
 
@@ -84,10 +93,12 @@ Settles (Result outcome) old new = IsHungUp old new
 Settles (LoadFailed error) old new = IsHungUp old new
 Settles _ old new = new ≡ old
 
--- Memory was refused: the document has made no call more, the link's state is as it was, and its count of faults has
--- not fallen.
+-- Memory was refused: the document has made no call more, the link's state is as it was, some bytes more may have been
+-- received, and its count of faults has not fallen.
 pub record Refuses {State : Type 0} (old new : Outside State) : Type 0 where
   pub state_is : new.state ≡ old.state
+  pub count : ℕ
+  pub counted : Received count old.received new.received
   pub later : old.faults ≤ new.faults
   pub own_is : new.own ≡ old.own
   pub fewer : new.left ≤ old.left

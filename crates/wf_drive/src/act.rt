@@ -50,11 +50,11 @@ pub(crate) fn answer<R: Threads + Wait + Sync, S: Share, L: Link>(
     requires belongs { S.belongs lent.now.share.now pass.old }
     requires can { CanAnswer act.now (S.left pass.old) }
     ensures came { IfOk result (λ input. Answers (over_link L.answer L.next) lent.now.limit (S.document pass.old)
-        (world_of S.own S.left L.state L.left L.faults pass.old link.old wire.old) act.now input
-        (world_of S.own S.left L.state L.left L.faults pass.new link.new wire.new)) }
+        (world_of S.own S.left L.state L.left L.received L.faults pass.old link.old wire.old) act.now input
+        (world_of S.own S.left L.state L.left L.received L.faults pass.new link.new wire.new)) }
     ensures fits { IfOk result (λ input. IsTrue (fits act.now input)) }
-    ensures refused { OnErr result (Refuses (outside S.own S.left L.state L.faults pass.old link.old)
-        (outside S.own S.left L.state L.faults pass.new link.new)) }
+    ensures refused { OnErr result (Refuses (outside S.own S.left L.state L.received L.faults pass.old link.old)
+        (outside S.own S.left L.state L.received L.faults pass.new link.new)) }
     ensures few { S.left pass.old ≤ S.left pass.new + price_of asks act.now }
     ensures belongs { S.belongs lent.now.share.now pass.new }
     ensures same { (S.document pass.new ≡ S.document pass.old) × (S.opening pass.new ≡ S.opening pass.old) }

@@ -76,13 +76,13 @@ fn go_on<R: Threads + Wait + Sync, S: Share, L: Link>(
     requires can { CanAnswer act (S.left pass.old) }
     ensures went { IfOk result (λ step. WentOn (over_link L.answer L.next) lent.now.limit (S.document pass.old)
         (context_of lent.now.client.now lent.now.policies.now lent.now.cookies.now fetching.level.now) fetching act
-        (moment_of (world_of S.own S.left L.state L.left L.faults pass.old link.old wire.old) shown.old) step
-        (moment_of (world_of S.own S.left L.state L.left L.faults pass.new link.new wire.new) shown.new)) }
+        (moment_of (world_of S.own S.left L.state L.left L.received L.faults pass.old link.old wire.old) shown.old) step
+        (moment_of (world_of S.own S.left L.state L.left L.received L.faults pass.new link.new wire.new) shown.new)) }
     ensures cut { OnErr result (FetchCut (over_link L.answer L.next) lent.now.limit (S.document pass.old)
         (from_act (context_of lent.now.client.now lent.now.policies.now lent.now.cookies.now fetching.level.now)
         fetching act)
-        (moment_of (world_of S.own S.left L.state L.left L.faults pass.old link.old wire.old) shown.old)
-        (moment_of (world_of S.own S.left L.state L.left L.faults pass.new link.new wire.new) shown.new)) }
+        (moment_of (world_of S.own S.left L.state L.left L.received L.faults pass.old link.old wire.old) shown.old)
+        (moment_of (world_of S.own S.left L.state L.left L.received L.faults pass.new link.new wire.new) shown.new)) }
     ensures few { S.left pass.old ≤ S.left pass.new + price_of asks act }
     ensures belongs { S.belongs lent.now.share.now pass.new }
     ensures same { (S.document pass.new ≡ S.document pass.old) × (S.opening pass.new ≡ S.opening pass.old) }
@@ -119,12 +119,12 @@ pub fn run_fetch<R: Threads + Wait + Sync, S: Share, L: Link>(
     requires left { most_asks ≤ S.left pass.old }
     ensures fetched { IfOk result (λ outcome. FetchedTo (over_link L.answer L.next) lent.now.limit (S.document pass.old)
         (fetch (context_of lent.now.client.now lent.now.policies.now lent.now.cookies.now now) request)
-        (moment_of (world_of S.own S.left L.state L.left L.faults pass.old link.old wire.old) shown.old) outcome
-        (moment_of (world_of S.own S.left L.state L.left L.faults pass.new link.new wire.new) shown.new)) }
+        (moment_of (world_of S.own S.left L.state L.left L.received L.faults pass.old link.old wire.old) shown.old) outcome
+        (moment_of (world_of S.own S.left L.state L.left L.received L.faults pass.new link.new wire.new) shown.new)) }
     ensures cut { OnErr result (FetchCut (over_link L.answer L.next) lent.now.limit (S.document pass.old)
         (fetch (context_of lent.now.client.now lent.now.policies.now lent.now.cookies.now now) request)
-        (moment_of (world_of S.own S.left L.state L.left L.faults pass.old link.old wire.old) shown.old)
-        (moment_of (world_of S.own S.left L.state L.left L.faults pass.new link.new wire.new) shown.new)) }
+        (moment_of (world_of S.own S.left L.state L.left L.received L.faults pass.old link.old wire.old) shown.old)
+        (moment_of (world_of S.own S.left L.state L.left L.received L.faults pass.new link.new wire.new) shown.new)) }
     ensures few { S.left pass.old ≤ S.left pass.new + most_asks }
     ensures belongs { S.belongs lent.now.share.now pass.new }
     ensures same { (S.document pass.new ≡ S.document pass.old) × (S.opening pass.new ≡ S.opening pass.old) }
@@ -179,12 +179,12 @@ pub fn drive_fetch<R: Threads + Wait + Sync, S: Share, L: Link>(
     requires left { most_asks ≤ S.left pass.old }
     ensures drove { IfOk result (λ run. Drove (over_link L.answer L.next) body_limit (S.document pass.old)
         (fetch (context_of client.now policies.now cookies.now now) request)
-        (outside S.own S.left L.state L.faults pass.old link.old) run.events run.outcome
-        (outside S.own S.left L.state L.faults pass.new link.new)) }
+        (outside S.own S.left L.state L.received L.faults pass.old link.old) run.events run.outcome
+        (outside S.own S.left L.state L.received L.faults pass.new link.new)) }
     ensures refused { OnErr result (IsBegun (over_link L.answer L.next) body_limit (S.document pass.old)
         (fetch (context_of client.now policies.now cookies.now now) request)
-        (outside S.own S.left L.state L.faults pass.old link.old)
-        (outside S.own S.left L.state L.faults pass.new link.new)) }
+        (outside S.own S.left L.state L.received L.faults pass.old link.old)
+        (outside S.own S.left L.state L.received L.faults pass.new link.new)) }
     ensures few { S.left pass.old ≤ S.left pass.new + most_asks }
     ensures hung_up { IfOk result (λ _. IsAtEnd (L.left link.new)) }
     ensures belongs { S.belongs share.now pass.new }

@@ -13,3 +13,4 @@ pub mod TakingLemmas
 pub mod BodyLemmas
 pub mod OpenLemmas
 pub mod LengthLemmas
+pub mod FewestLemmas

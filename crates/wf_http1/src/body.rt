@@ -1,5 +1,5 @@
 ghost use Rattle.std.specs.Prelude.{◌≡◌, ◌≤◌, ◌<◌, ◌++◌, ℕ, List, [], length, IfOk};
-ghost use Rattle.wf_http1.specs.Bodies.{IsOpen, body_end};
+ghost use Rattle.wf_http1.specs.Bodies.{IsOpen, body_end, fewest as fewest_behind};
 ghost use Rattle.wf_http1.specs.BodyFeeding.{IsFed};
 ghost use Rattle.wf_http1.specs.Private.BodyPlaces as places;
 ghost use Rattle.wf_http1.specs.Private.BodyPlaces.{IsKept, rest_end};
@@ -107,9 +107,11 @@ impl BodyReader {
         }
     }
 
-    /// How many bytes more may decide the body: fewer leave it open. It is 0 where that is not known, as it is of chunks.
+    /// How many bytes more may decide the body: fewer leave it open. Those are what the length or the limit
+    /// leaves, the lesser; it is 0 where that is not known, as it is of chunks.
     pub fn fewest(&self) -> usize
-        ensures { (piece : List ℕ) → length piece < result
+        ensures exact { result ≡ fewest_behind self.now.framing self.now.limit (length self.now.bytes) }
+        ensures open { (piece : List ℕ) → length piece < result
             → IsOpen self.now.framing self.now.limit (self.now.bytes ++ piece) }
     {
         let held = self.held.len();

@@ -90,8 +90,8 @@ module _ {State : Type 0} where
     input_is = refl;
     coming = record {
       bytes = answer state;
-      one = sent-coming answer state old new told is;
-      two = sent-coming answer state another different tells are;
+      one = sent-coming answer state old new told is.0;
+      two = sent-coming answer state another different tells are.0;
     };
   }
   one-sent answer state stage hop Fault other old another new different told tells is are none nothing = absurd (cc)

@@ -1,5 +1,5 @@
 -- The transcripts of a scenario with a history.
-use Rattle.std.proofs.Common.{◌≡◌, ◌+◌, ℕ, List, [], ◌∷◌, Some, map, refl, ap, sym, ◌∙◌}
+use Rattle.std.proofs.Common.{None, ◌≡◌, ◌+◌, ℕ, List, [], ◌∷◌, Some, map, refl, ap, sym, ◌∙◌}
 use Rattle.wf_book.specs.declared.entry.Entry.{Entry}
 use Rattle.wf_http1.specs.HeadLaws.{HasOneEnd}
 use Rattle.wf_print.specs.declared.events.Ending.{Ending}
@@ -63,7 +63,7 @@ tapes-once law State by scenario base history number document old new transcript
 
 -- the way to the servers
 abbrev way : List Server → Way (List Server)
-way servers = record { state = Some servers; faults = 0 }
+way servers = record { state = Some servers; received = None; faults = 0 }
 
 way-told : (servers : List Server) → IsTold (way servers) (way servers)
 way-told servers = record { state = servers; told = refl; none = refl }

@@ -1,7 +1,7 @@
 -- A play of a scenario: one history of the shared book, and the run of each document over what its link answers and
 -- over the document's own entries of that history (this project's own; what a run does is wf_run's definition, what
 -- comes of its acts wf_drive's, and a fetch is the whole one, Fetch, section 4.1).
-use Rattle.std.specs.Prelude.{◌≡◌, ℕ, ◌+◌, ◌<◌, List, [], ◌∷◌, length, map, Option, Some}
+use Rattle.std.specs.Prelude.{◌≡◌, ℕ, ◌+◌, ◌<◌, List, [], ◌∷◌, length, map, Option, Some, None}
 use Rattle.std.specs.List.{AllByRecursion}
 use Rattle.wf_book.specs.declared.book.Book.{Book}
 use Rattle.wf_book.specs.declared.entry.Entry.{Entry}
@@ -41,14 +41,22 @@ HasTurnsFrom turn (entry ∷ history) = (entry.turn ≡ turn) × HasTurnsFrom (t
 
 -- ---- documents
 
--- what is told of a document's link at one moment: its state, where it tells one, and how often it has failed
+-- what is told of a document's link at one moment: its state and how many bytes of each answer were received, where it
+-- tells them, and how often it has failed
 pub record Way (State : Type 0) : Type 0 where
   pub state : Option State
+  pub received : Option (List ℕ)
   pub faults : ℕ
 
 -- what is outside of the document then: these are its entries so far, and it may make so many calls more
 abbrev pub outside_on : {State : Type 0} → Way State → List Entry → ℕ → Outside State
-outside_on way own left = record { state = way.state; faults = way.faults; own = own; left = left }
+outside_on way own left = record {
+  state = way.state;
+  received = way.received;
+  faults = way.faults;
+  own = own;
+  left = left;
+}
 
 -- From one moment of its link to another, over its answers, whose bodies have so many bytes at most, the document's run
 -- shows these events and comes to this ending. It makes the calls of these entries, in order, and no others. (How many
@@ -102,9 +110,10 @@ by_rules = record {
   next = λ servers hop. servers;
 }
 
--- each document's way to them at each moment: they tell all, and never fail
+-- each document's way to them at each moment: they tell their state, and never fail
 abbrev pub ways_to_servers : Scenario → List (Way (List Server))
-ways_to_servers scenario = map (λ document. record { state = Some scenario.servers; faults = 0 }) scenario.documents
+ways_to_servers scenario =
+    map (λ document. record { state = Some scenario.servers; received = None; faults = 0 }) scenario.documents
 
 -- a play of the scenario over its own servers, from its own time on
 abbrev pub IsPlay : Scenario → List Transcript → List Entry → Type 0

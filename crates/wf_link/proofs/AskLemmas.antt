@@ -18,7 +18,7 @@ bytes_of-append (first ∷ sizes) size = rw (bytes_of-append sizes size) (omega 
 
 -- an ask behind the others
 pub asks_in-append : (sizes : List AskSize) (text origin request : List ℕ) → bytes_of sizes ≡ length text
-    → asks_in (sizes ++ record { origin = length origin; request = length request } ∷ []) (text
+    → asks_in (sizes ++ record { origin = length origin; request = length request; received = 0 } ∷ []) (text
     ++ (origin ++ request)) ≡ asks_in sizes text ++ record { origin = origin; request = request } ∷ []
 asks_in-append [] text origin request e =
     rw (
@@ -47,7 +47,7 @@ asks_in-append (size ∷ sizes) text origin request e =
 -- an ask that finds its room is kept
 pub keep-asks : (sizes : List AskSize) (text origin request : List ℕ) (asks : List Ask) (room : ℕ) → bytes_of sizes
     ≡ length text → asks_in sizes text ≡ asks → length origin + length request + 1 ≤ room
-    → asks_in (sizes ++ record { origin = length origin; request = length request } ∷ []) (text ++ origin ++ request)
+    → asks_in (sizes ++ record { origin = length origin; request = length request; received = 0 } ∷ []) (text ++ origin ++ request)
     ≡ asks_after room asks (record { origin = origin; request = request })
 keep-asks sizes text origin request asks room bytes same within =
     rw (

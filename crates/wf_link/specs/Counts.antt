@@ -10,6 +10,10 @@ one_more count = min (count + 1) (2 ^ 64 - 1)
 abbrev pub grown_by : ℕ → ℕ → ℕ
 grown_by count more = min (count + more) (2 ^ 64 - 1)
 
+-- so many more, as far as there is room below the greatest value
+abbrev pub counted_on : ℕ → ℕ → ℕ
+counted_on count more = count + min more ((2 ^ 64 - 1) - count)
+
 -- the count rose, or stands at its greatest value
 abbrev pub Rose : ℕ → ℕ → Type 0
 Rose before now = one_more before ≤ now

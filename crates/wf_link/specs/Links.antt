@@ -1,5 +1,6 @@
--- What a link was asked, and which links were made and taken back, where it is told.
-use Rattle.std.specs.Prelude.{◌≡◌, ◌⊎◌, ℕ, ◌+◌, ◌-◌, ◌<◌, List, [], ◌∷◌, ◌++◌, Option, Some, None}
+-- What a link was asked, how much of each answer it gave, and which links were made and taken back, where it is told.
+use Rattle.std.specs.Prelude.{◌≡◌, ◌⊎◌, ℕ, ◌+◌, ◌-◌, ◌<◌, List, [], ◌∷◌, ◌++◌, Option, Some, None, option_map}
+use Rattle.wf_link.specs.Counts.{counted_on}
 use Rattle.wf_link.specs.declared.target.Ask.{Ask}
 
 -- the asks grew by this one
@@ -10,6 +11,24 @@ Asked (Some old) new ask = new ≡ Some (old ++ ask ∷ [])
 -- they grew by this one, or stayed
 abbrev pub MayHaveAsked : Option (List Ask) → Option (List Ask) → Ask → Type 0
 MayHaveAsked old new ask = Asked old new ask ⊎ (new ≡ old)
+
+-- of how many bytes of each answer were received: an answer more, and none of it yet
+abbrev pub with_answer : List ℕ → List ℕ
+with_answer counts = counts ++ 0 ∷ []
+
+-- so many bytes more of the last answer
+abbrev pub with_bytes : ℕ → List ℕ → List ℕ
+with_bytes more [] = []
+with_bytes more (count ∷ []) = counted_on count more ∷ []
+with_bytes more (count ∷ next ∷ counts) = count ∷ with_bytes more (next ∷ counts)
+
+-- an answer more is to be received, where told
+abbrev pub Awaits : Option (List ℕ) → Option (List ℕ) → Type 0
+Awaits old new = new ≡ option_map with_answer old
+
+-- so many bytes more of it were received, where told
+abbrev pub Received : ℕ → Option (List ℕ) → Option (List ℕ) → Type 0
+Received more old new = new ≡ option_map (with_bytes more) old
 
 -- the link that was made is the one told
 abbrev pub IsTold : {Link : Type 0} → Option Link → Link → Type 0

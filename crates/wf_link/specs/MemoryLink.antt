@@ -3,6 +3,7 @@ use Rattle.std.specs.Prelude.{ℕ, Bool, ◌||◌, not, nat_le, ◌+◌, ◌-◌
 use Rattle.std.specs.Prelude.{Ok, Err, ⊤, if◌then◌else◌}
 use Rattle.std.specs.List.{concat}
 use Rattle.wf_link.specs.Counts.{is_next_in, one_more}
+use Rattle.wf_link.specs.Links.{with_answer, with_bytes}
 use Rattle.wf_link.specs.declared.source.Failed.{Failed}
 use Rattle.wf_link.specs.declared.target.Ask.{Ask}
 
@@ -13,16 +14,18 @@ pub record LinkState : Type 0 where
   pub asks : List Ask
   pub room : ℕ
 
--- the asks that were kept, and the bytes of room for more
+-- the asks that were kept, how many bytes of the answer to each were received, and the bytes of room for more
 pub record KeptState : Type 0 where
   pub asks : List Ask
+  pub received : List ℕ
   pub room : ℕ
 
--- its state, the pieces still to come of the current answer, of each kind of call how many there were
--- and the numbers of those that fail, and how often it failed
+-- its state, the pieces still to come of the current answer, how many bytes of each answer were received, of each kind
+-- of call how many there were and the numbers of those that fail, and how often it failed
 pub record MemoryLinkState : Type 0 where
   pub state : LinkState
   pub pieces : List (List ℕ)
+  pub received : List ℕ
   pub ask_calls : ℕ
   pub failing_asks : List ℕ
   pub receive_calls : ℕ
@@ -54,6 +57,10 @@ asks_after room asks ask = if finds_room room ask then asks ++ ask ∷ [] else a
 abbrev pub room_after : ℕ → Ask → ℕ
 room_after room ask = if finds_room room ask then room - needed_room ask else room
 
+-- and then an answer more is to be received
+abbrev pub received_after : ℕ → List ℕ → Ask → List ℕ
+received_after room received ask = if finds_room room ask then with_answer received else received
+
 -- the state behind an ask, which uses up an answer
 abbrev pub state_after : LinkState → List ℕ → List ℕ → LinkState
 state_after state origin request =
@@ -72,18 +79,25 @@ abbrev pub ask_answer : MemoryLinkState → List ℕ → List ℕ → Result ⊤
 ask_answer link origin request =
     if fails_ask link (record { origin = origin; request = request }) then Err (record {}) else Ok tt
 
+-- what was received of each answer, with that of an ask
+abbrev pub received_with : MemoryLinkState → List ℕ → List ℕ → List ℕ
+received_with link origin request =
+    received_after link.state.room link.received (record { origin = origin; request = request })
+
 -- what an ask with this answer leaves: the pieces of the next answer are to come, or none after a failure
 abbrev pub after_ask : MemoryLinkState → List ℕ → List ℕ → Result ⊤ Failed → MemoryLinkState
 after_ask link origin request (Ok done) =
     record link {
       state = state_after link.state origin request;
       pieces = front link.state.answers;
+      received = received_with link origin request;
       ask_calls = one_more link.ask_calls;
     }
 after_ask link origin request (Err failed) =
     record link {
       state = state_after link.state origin request;
       pieces = [];
+      received = received_with link origin request;
       ask_calls = one_more link.ask_calls;
       faults = one_more link.faults;
     }
@@ -109,6 +123,10 @@ receive_answer link room =
 -- what a receive with this answer leaves
 abbrev pub after_receive : MemoryLinkState → Result ℕ Failed → MemoryLinkState
 after_receive link (Ok n) =
-    record link { pieces = behind n (skipped link.pieces); receive_calls = one_more link.receive_calls }
+    record link {
+      pieces = behind n (skipped link.pieces);
+      received = with_bytes n link.received;
+      receive_calls = one_more link.receive_calls;
+    }
 after_receive link (Err failed) =
     record link { receive_calls = one_more link.receive_calls; faults = one_more link.faults }

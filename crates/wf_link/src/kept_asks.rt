@@ -1,16 +1,18 @@
 ghost use Rattle.std.specs.Prelude.{◌≡◌, [], length, IfOk};
-ghost use Rattle.wf_link.specs.MemoryLink.{KeptState, asks_after, finds_room, room_after};
+ghost use Rattle.wf_link.specs.Links.{with_bytes};
+ghost use Rattle.wf_link.specs.MemoryLink.{KeptState, asks_after, finds_room, received_after, room_after};
 
 use crate::target::Ask;
 use std::alloc::Global;
 use std::marker::Model;
 use wf_text::{Bytes, Items, OutOfMemory};
 
-/// How many bytes of each part of an ask were kept.
+/// How many bytes of each part of an ask were kept, and how many of its answer were received.
 #[derive(Clone, Copy)]
 pub(crate) struct AskSize {
     origin: usize,
     request: usize,
+    received: u64,
 }
 
 /// The asks that were kept, and the bytes of room left for more. Each takes its bytes and one more,
@@ -23,14 +25,18 @@ pub(crate) struct KeptAsks {
 }
 
 impl Model for KeptAsks {
-    ghost use Rattle.std.specs.Prelude.{◌≡◌, ◌+◌, ◌≤◌, length, vec_capacity, vec_len};
+    ghost use Rattle.std.specs.Prelude.{◌≡◌, ◌+◌, ◌≤◌, length, map, vec_capacity, vec_len};
     ghost use Rattle.wf_link.specs.MemoryLink.{KeptState};
 
     ghost Value = { KeptState };
 
     ghost use Rattle.wf_link.specs.Private.KeptAsks.{asks_in, bytes_of};
 
-    ghost view = { λ kept. record { asks = asks_in kept.sizes.items kept.text.items; room = kept.room } };
+    ghost view = { λ kept. record {
+      asks = asks_in kept.sizes.items kept.text.items;
+      received = map (λ size. size.received) kept.sizes.items;
+      room = kept.room;
+    } };
 
     ghost invariant = { λ kept. (vec_len kept.text + kept.room ≤ vec_capacity kept.text)
         × (vec_len kept.sizes + kept.room ≤ vec_capacity kept.sizes)
@@ -40,7 +46,7 @@ impl Model for KeptAsks {
 impl KeptAsks {
     // No ask, and so many bytes of room, which are reserved here, or `OutOfMemory`.
     pub(crate) fn new(alloc: Global, room: usize) -> Result<KeptAsks, OutOfMemory>
-        ensures { IfOk result (λ kept. kept ≡ record { asks = []; room = room }) }
+        ensures { IfOk result (λ kept. kept ≡ record { asks = []; received = []; room = room }) }
     {
         Ok(KeptAsks {
             text: Vec::with_capacity(alloc, room)?,
@@ -54,6 +60,8 @@ impl KeptAsks {
         ensures kept { result ≡ finds_room self.old.room (record { origin = origin.now; request = request.now }) }
         ensures asks { self.new.asks
             ≡ asks_after self.old.room self.old.asks (record { origin = origin.now; request = request.now }) }
+        ensures received { self.new.received
+            ≡ received_after self.old.room self.old.received (record { origin = origin.now; request = request.now }) }
         ensures room { self.new.room
             ≡ room_after self.old.room (record { origin = origin.now; request = request.now }) }
     {
@@ -64,6 +72,7 @@ impl KeptAsks {
         let size = AskSize {
             origin: origin.len(),
             request: request.len(),
+            received: 0,
         };
         match (
             self.text.extend_from_slice(origin),
@@ -75,6 +84,18 @@ impl KeptAsks {
                 true
             }
             _ => unreachable!("the room was reserved"),
+        }
+    }
+
+    // So many bytes more of the answer to the last ask were received.
+    pub(crate) fn receive(&mut self, count: usize)
+        ensures { self.new ≡ record self.old { received = with_bytes count self.old.received } }
+    {
+        if let Some(last) = self.sizes.pop() {
+            self.sizes.push_reserved(AskSize {
+                received: last.received.saturating_add(count as u64),
+                ..last
+            });
         }
     }
 

@@ -1,7 +1,7 @@
-ghost use Rattle.std.specs.Prelude.{◌≡◌, ◌<◌, ℕ, List, take, length, Option, Ok, IfOk, OnOk, OnErr, option_map};
+ghost use Rattle.std.specs.Prelude.{◌≡◌, ◌⊎◌, ◌<◌, ℕ, List, take, length, Option, Ok, IfOk, OnOk, OnErr, option_map};
 ghost use Rattle.std.specs.Io.{ReadsAtMost};
 ghost use Rattle.wf_link.specs.Counts.{HasCause};
-ghost use Rattle.wf_link.specs.Links.{Asked, MayHaveAsked};
+ghost use Rattle.wf_link.specs.Links.{Asked, Awaits, MayHaveAsked, Received};
 ghost use Rattle.wf_link.specs.Sources.{Gave, IsAtEnd};
 ghost use Rattle.wf_link.specs.declared.target.Ask.{Ask};
 
@@ -29,6 +29,10 @@ pub trait Link {
     /// What was asked so far, where told.
     ghost asks: { Self → Option (List Ask) };
 
+    /// How many bytes of each answer were received, where told: of each ask that succeeded, in order. One that
+    /// failed may stand there with none. A count stops at its greatest value.
+    ghost received: { Self → Option (List ℕ) };
+
     /// How often it failed.
     ghost faults: { Self → ℕ };
 
@@ -42,11 +46,14 @@ pub trait Link {
             (record { origin = target.now.origin; request = request.now })) }
         ensures failed { OnErr result (MayHaveAsked (asks self.old) (asks self.new)
             (record { origin = target.now.origin; request = request.now })) }
+        ensures awaits { OnOk result (Awaits (received self.old) (received self.new)) }
+        ensures may_await { OnErr result (Awaits (received self.old) (received self.new)
+            ⊎ (received self.new ≡ received self.old)) }
         ensures cause { HasCause (faults self.old) (faults self.new) result };
 
-    /// Puts the next bytes of the answer at the front of the buffer, and answers how many. 0 for a
-    /// buffer that is not empty is the end of the answer. `Failed` only where the count of faults
-    /// rose.
+    /// Puts the next bytes of the answer at the front of the buffer, and answers how many, which are
+    /// counted as received. 0 for a buffer that is not empty is the end of the answer. `Failed` only
+    /// where the count of faults rose.
     fn recv(&mut self, buf: &mut [u8]) -> Result<usize, Failed>
         ensures count { ReadsAtMost result buf.new }
         ensures gave { IfOk result (λ n. Gave (left self.old) (left self.new) (take n buf.new)) }
@@ -54,6 +61,8 @@ pub trait Link {
         ensures failed { OnErr result (left self.new ≡ left self.old) }
         ensures state { state self.new ≡ state self.old }
         ensures asks { asks self.new ≡ asks self.old }
+        ensures received { IfOk result (λ n. Received n (received self.old) (received self.new)) }
+        ensures unreceived { OnErr result (received self.new ≡ received self.old) }
         ensures cause { HasCause (faults self.old) (faults self.new) result };
 
     /// Drops the rest of the answer.
@@ -61,5 +70,6 @@ pub trait Link {
         ensures end { IsAtEnd (left self.new) }
         ensures state { state self.new ≡ state self.old }
         ensures asks { asks self.new ≡ asks self.old }
+        ensures received { received self.new ≡ received self.old }
         ensures faults { faults self.new ≡ faults self.old };
 }

@@ -1,6 +1,7 @@
-ghost use Rattle.std.specs.Prelude.{◌≡◌, ◌+◌, ℕ, Option, IfOk, OnErr, option_map};
+ghost use Rattle.std.specs.Prelude.{◌≡◌, ◌+◌, ℕ, List, Option, IfOk, OnErr, option_map};
 ghost use Rattle.wf_link.specs.Counts.{grown_by};
 ghost use Rattle.wf_link.specs.Links.{IsTold, Lent, TookBack, one_out};
+ghost use Rattle.wf_link.specs.declared.target.Route.{Route};
 
 use crate::link::Link;
 use crate::target::Routes;
@@ -13,10 +14,9 @@ use wf_text::OutOfMemory;
 pub trait Links {
     type Link: Link + Send + Drop;
 
-    /// The link that the next make gives, at 0, the one after it, at 1, and so on, as it opens,
-    /// where told. Where the links of documents 0, 1 and so on are made in this order, each has its
-    /// own number.
-    ghost opening: { Self → ℕ → Option Self.Link };
+    /// The link that the next make gives, at 0, the one after it, at 1, and so on, as it opens for a
+    /// document of a number and by routes, where told.
+    ghost opening: { Self → ℕ → ℕ → List Route → Option Self.Link };
 
     /// The links taken back, as they then stood, in order, and how many more are out, where told.
     ghost lent: { Self → Option (Lent Self.Link) };
@@ -31,9 +31,11 @@ pub trait Links {
         document: u32,
         routes: &Routes,
     ) -> Result<Self::Link, OutOfMemory>
-        ensures told { IfOk result (λ link. IsTold (opening self.old 0) link) }
-        ensures later { IfOk result (λ _. (k : ℕ) → opening self.new k ≡ opening self.old (k + 1)) }
-        ensures refused { OnErr result ((k : ℕ) → opening self.new k ≡ opening self.old k) }
+        ensures told { IfOk result (λ link. IsTold (opening self.old 0 document routes.now) link) }
+        ensures later { IfOk result (λ _. (k number : ℕ) (by : List Route)
+            → opening self.new k number by ≡ opening self.old (k + 1) number by) }
+        ensures refused { OnErr result ((k number : ℕ) (by : List Route)
+            → opening self.new k number by ≡ opening self.old k number by) }
         ensures lent { IfOk result (λ _. lent self.new ≡ option_map one_out (lent self.old)) }
         ensures kept { OnErr result (lent self.new ≡ lent self.old) }
         ensures faults { faults self.new ≡ faults self.old };
@@ -41,6 +43,6 @@ pub trait Links {
     /// Takes a link back that it made, and counts its faults.
     fn take_back(&mut self, link: Self::Link)
         ensures took { TookBack (lent self.old) (lent self.new) link }
-        ensures opening { (k : ℕ) → opening self.new k ≡ opening self.old k }
+        ensures opening { (k number : ℕ) (by : List Route) → opening self.new k number by ≡ opening self.old k number by }
         ensures faults { faults self.new ≡ grown_by (faults self.old) (Self.Link.faults link) };
 }

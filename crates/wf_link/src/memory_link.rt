@@ -1,9 +1,9 @@
-ghost use Rattle.std.specs.Prelude.{◌≡◌, ◌<◌, ◌≤◌, ◌++◌, [], take, drop, length};
+ghost use Rattle.std.specs.Prelude.{◌≡◌, ◌⊎◌, ◌<◌, ◌≤◌, ◌++◌, [], take, drop, length};
 ghost use Rattle.std.specs.Prelude.{Some, Ok, IfOk, OnOk, OnErr, option_map};
 ghost use Rattle.std.specs.Io.{ReadsAtMost};
 ghost use Rattle.std.specs.List.{concat};
 ghost use Rattle.wf_link.specs.Counts.{HasCause, one_more};
-ghost use Rattle.wf_link.specs.Links.{Asked, MayHaveAsked};
+ghost use Rattle.wf_link.specs.Links.{Asked, Awaits, MayHaveAsked, Received};
 ghost use Rattle.wf_link.specs.MemoryLink.{LinkState, after_ask, after_receive, answer_to, ask_answer, front};
 ghost use Rattle.wf_link.specs.MemoryLink.{receive_answer, skipped, state_after};
 ghost use Rattle.wf_link.specs.Sources.{Gave, IsAtEnd};
@@ -40,6 +40,7 @@ impl Model for MemoryLink {
     ghost view = { λ link. record {
       state = record { answers = link.answers.items; asks = link.kept.asks; room = link.kept.room };
       pieces = link.pieces;
+      received = link.kept.received;
       ask_calls = link.ask_calls;
       failing_asks = link.failing_asks.items;
       receive_calls = link.receive_calls;
@@ -63,6 +64,7 @@ impl MemoryLink {
         ensures { IfOk result (λ link. link ≡ record {
           state = record { answers = answers.items; asks = []; room = room };
           pieces = [];
+          received = [];
           ask_calls = 0;
           failing_asks = failed_asks.items;
           receive_calls = 0;
@@ -119,6 +121,8 @@ impl Link for MemoryLink {
 
     ghost asks = { λ link. Some link.state.asks };
 
+    ghost received = { λ link. Some link.received };
+
     ghost faults = { λ link. link.faults };
 
     /// Uses up the next answer, whose bytes are then to come: none where no answer is left. An ask
@@ -133,6 +137,9 @@ impl Link for MemoryLink {
             (record { origin = target.now.origin; request = request.now })) }
         ensures failed { OnErr result (MayHaveAsked (Some self.old.state.asks) (Some self.new.state.asks)
             (record { origin = target.now.origin; request = request.now })) }
+        ensures awaits { OnOk result (Awaits (Some self.old.received) (Some self.new.received)) }
+        ensures may_await { OnErr result (Awaits (Some self.old.received) (Some self.new.received)
+            ⊎ (Some self.new.received ≡ Some self.old.received)) }
         ensures cause { HasCause self.old.faults self.new.faults result }
         ensures answer { result ≡ ask_answer self.old target.now.origin request.now }
         ensures after { self.new ≡ after_ask self.old target.now.origin request.now result }
@@ -160,6 +167,8 @@ impl Link for MemoryLink {
         ensures failed { OnErr result (Some (concat self.new.pieces) ≡ Some (concat self.old.pieces)) }
         ensures state { Some self.new.state ≡ Some self.old.state }
         ensures asks { Some self.new.state.asks ≡ Some self.old.state.asks }
+        ensures received { IfOk result (λ n. Received n (Some self.old.received) (Some self.new.received)) }
+        ensures unreceived { OnErr result (Some self.new.received ≡ Some self.old.received) }
         ensures cause { HasCause self.old.faults self.new.faults result }
         ensures answer { result ≡ receive_answer self.old (length buf.old) }
         ensures after { self.new ≡ after_receive self.old result }
@@ -170,7 +179,9 @@ impl Link for MemoryLink {
         if self.failing_receives.contains(&self.receive_calls) {
             return Err(self.fail());
         }
-        Ok(self.pieces.give(buf))
+        let count = self.pieces.give(buf);
+        self.kept.receive(count);
+        Ok(count)
     }
 
     /// Drops the pieces that are still to come.
@@ -178,6 +189,7 @@ impl Link for MemoryLink {
         ensures end { IsAtEnd (Some (concat self.new.pieces)) }
         ensures state { Some self.new.state ≡ Some self.old.state }
         ensures asks { Some self.new.state.asks ≡ Some self.old.state.asks }
+        ensures received { Some self.new.received ≡ Some self.old.received }
         ensures faults { self.new.faults ≡ self.old.faults }
         ensures after { self.new ≡ record self.old { pieces = [] } }
     {

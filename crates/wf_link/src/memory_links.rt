@@ -1,7 +1,8 @@
-ghost use Rattle.std.specs.Prelude.{◌≡◌, ◌+◌, ℕ, [], drop, slice_get, ok_or, Some, IfOk, OnOk, OnErr, option_map};
+ghost use Rattle.std.specs.Prelude.{◌≡◌, ◌+◌, ℕ, List, [], drop, slice_get, ok_or, Some, IfOk, OnOk, OnErr, option_map};
 ghost use Rattle.wf_link.specs.Counts.{grown_by};
 ghost use Rattle.wf_link.specs.Links.{IsTold, TookBack, one_out};
 ghost use Rattle.wf_link.specs.MemoryLinks.{after_make, after_take_back};
+ghost use Rattle.wf_link.specs.declared.target.Route.{Route};
 ghost use Rattle.wf_text.specs.declared.memory.OutOfMemory.{OutOfMemory};
 
 use crate::links::Links;
@@ -71,7 +72,7 @@ impl MemoryLinks {
 impl Links for MemoryLinks {
     type Link = MemoryLink;
 
-    ghost opening = { λ links k. slice_get links.waiting k };
+    ghost opening = { λ links k _ _. slice_get links.waiting k };
 
     ghost lent = { λ links. Some links.lent };
 
@@ -85,8 +86,10 @@ impl Links for MemoryLinks {
         _routes: &Routes,
     ) -> Result<MemoryLink, OutOfMemory>
         ensures told { IfOk result (λ link. IsTold (slice_get self.old.waiting 0) link) }
-        ensures later { IfOk result (λ _. (k : ℕ) → slice_get self.new.waiting k ≡ slice_get self.old.waiting (k + 1)) }
-        ensures refused { OnErr result ((k : ℕ) → slice_get self.new.waiting k ≡ slice_get self.old.waiting k) }
+        ensures later { IfOk result (λ _. (k number : ℕ) (by : List Route)
+            → slice_get self.new.waiting k ≡ slice_get self.old.waiting (k + 1)) }
+        ensures refused { OnErr result ((k number : ℕ) (by : List Route)
+            → slice_get self.new.waiting k ≡ slice_get self.old.waiting k) }
         ensures lent { IfOk result (λ _. Some self.new.lent ≡ option_map one_out (Some self.old.lent)) }
         ensures kept { OnErr result (Some self.new.lent ≡ Some self.old.lent) }
         ensures faults { self.new.faults ≡ self.old.faults }
@@ -107,7 +110,7 @@ impl Links for MemoryLinks {
     /// links that were handed out is still out, it counts its faults alone.
     fn take_back(&mut self, link: MemoryLink)
         ensures took { TookBack (Some self.old.lent) (Some self.new.lent) link }
-        ensures opening { (k : ℕ) → slice_get self.new.waiting k ≡ slice_get self.old.waiting k }
+        ensures opening { (k number : ℕ) (by : List Route) → slice_get self.new.waiting k ≡ slice_get self.old.waiting k }
         ensures faults { self.new.faults ≡ grown_by self.old.faults link.faults }
         ensures after { self.new ≡ after_take_back self.old link }
     {

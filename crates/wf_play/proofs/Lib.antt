@@ -1,7 +1,8 @@
 pub mod Computed
+pub mod FaultLemmas
 pub mod LinkLemmas
+pub mod OverLemmas
 pub mod PassLemmas
 pub mod PlayLemmas
-pub mod RefusedLemmas
 pub mod SeatedLemmas
 pub mod StandingLemmas

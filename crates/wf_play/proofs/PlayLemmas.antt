@@ -29,7 +29,7 @@ use Rattle.wf_wire.specs.Exchanges.{Answering}
 use Rattle.wf_drive.specs.Worlds.{Outside}
 use Rattle.wf_drive.proofs.AskLemmas.{outside-is}
 use Rattle.wf_player.specs.Playing.{Came, Ran}
-use Rattle.wf_player.specs.Seats.{ArePlayed, IsPlayed, Seat}
+use Rattle.wf_player.specs.Seats.{ArePlayed, AreRefused, IsPlayed, Seat}
 use Rattle.wf_player.proofs.CallLemmas.{trace-calls}
 use Rattle.wf_player.specs.declared.seating.Seating.{Seating}
 use Rattle.wf_turn.specs.Counts.{one, times}
@@ -38,11 +38,12 @@ use Rattle.wf_turn.specs.declared.pass.TurnPass.{TurnPass}
 use Rattle.wf_turn.proofs.Count.{turns-are-places}
 use Rattle.wf_turn.proofs.Whole.{whole_of}
 use Rattle.wf_play.proofs.PassLemmas.{times-range}
-use Rattle.wf_play.specs.Links.{IsPlayOverLinks, Maker, TookBack, way_of}
+use Rattle.wf_play.specs.Links.{way_of}
 use Rattle.wf_play.specs.Passes.{ArePasses, IsNew}
-use Rattle.wf_iso.specs.Plays.{AreTranscripts, HasTurnsFrom, IsTranscript, Way, opening_book, outside_on}
+use Rattle.wf_play.specs.Refused.{HasRun, HaveRun, NoneOrAllPlayed}
+use Rattle.wf_iso.specs.Plays.{AreTranscripts, HasTurnsFrom, IsPlayOver, IsTranscript, Way, opening_book, outside_on}
 use Rattle.wf_iso.specs.Plays.{with_hosts}
-use Rattle.wf_play.specs.Private.Seated.{IsSeatedPlay, links_in, passes_in, seat_seen}
+use Rattle.wf_play.specs.Private.Seated.{links_in, passes_in, seat_seen}
 
 -- ---- the book
 
@@ -77,7 +78,8 @@ ran-of by limit document whole old events ending.Memory clock new told x = absur
 
 -- what is told of a seat's link
 abbrev pub seat_way : {State : Type 0} → Seat State → Way State
-seat_way seat = record { state = seat.outside.state; faults = seat.outside.faults }
+seat_way seat =
+    record { state = seat.outside.state; received = seat.outside.received; faults = seat.outside.faults }
 
 -- on a seat whose pass has made no call, the calls made are the pass's own
 own-calls : {State : Type 0} (by : Answering State) (scenario : Scenario) (base number : ℕ) (document : Document)
@@ -117,10 +119,10 @@ transcript-of {State} by scenario base history number document old new transcrip
         ran = subst (λ (o : Outside State). Ran by scenario.body_limit number (document_run scenario.cookies base document)
             o transcript.events transcript.ending transcript.clock
             (outside_on (seat_way new) (entries_of number history) new.outside.left))
-            (outside-is old.outside (outside_on (seat_way old) [] old.outside.left) refl refl none refl)
+            (outside-is old.outside (outside_on (seat_way old) [] old.outside.left) refl refl refl none refl)
             (subst (λ (o : Outside State). Ran by scenario.body_limit number (document_run scenario.cookies base document)
             old.outside transcript.events transcript.ending transcript.clock o)
-            (outside-is new.outside (outside_on (seat_way new) (entries_of number history) new.outside.left) refl refl
+            (outside-is new.outside (outside_on (seat_way new) (entries_of number history) new.outside.left) refl refl refl
             (sym own) refl) ran);
       };
     }
@@ -148,6 +150,45 @@ transcripts-of {State} by scenario base history {number}
     (subst (λ (d : ℕ). entries_of d history ≡ new.outside.own) is.document_is (All-head Own new news own)))
     (transcripts-of by scenario base history more (All-tail Told transcript transcripts text) (All-tail IsFresh old olds fresh)
     (All-tail Own new news own))
+
+-- the run of one document came, over the entries of the pass's own
+has-run : {State : Type 0} (by : Answering State) (scenario : Scenario) (base : ℕ) (history : List Entry)
+    (number : ℕ) (document : Document) (old new : Seat State) (transcript : Transcript)
+    → IsPlayed by scenario base number document old new transcript → old.outside.own ≡ []
+    → entries_of number history ≡ new.outside.own
+    → HasRun by scenario base history number document (seat_way old) (seat_way new)
+has-run {State} by scenario base history number document old new transcript is none own =
+    let whole = document_run scenario.cookies base document in
+    record {
+      events = transcript.events;
+      ending = transcript.ending;
+      clock = transcript.clock;
+      before = old.outside.left;
+      behind = new.outside.left;
+      came = subst (λ (o : Outside State). Came by scenario.body_limit number whole
+          o transcript.events transcript.ending transcript.clock
+          (outside_on (seat_way new) (entries_of number history) new.outside.left))
+          (outside-is old.outside (outside_on (seat_way old) [] old.outside.left) refl refl refl none refl)
+          (subst (λ (o : Outside State). Came by scenario.body_limit number whole
+          old.outside transcript.events transcript.ending transcript.clock o)
+          (outside-is new.outside (outside_on (seat_way new) (entries_of number history) new.outside.left) refl refl refl
+          (sym own) refl) is.came);
+      few = is.few;
+    }
+
+have-run : {State : Type 0} (by : Answering State) (scenario : Scenario) (base : ℕ) (history : List Entry)
+    {number : ℕ} {documents : List Document} {olds news : List (Seat State)} {transcripts : List Transcript}
+    → ArePlayed by scenario base number documents olds news transcripts → All IsFresh olds
+    → All (λ (seat : Seat State). entries_of seat.document history ≡ seat.outside.own) news
+    → HaveRun by scenario base history number documents (map seat_way olds) (map seat_way news)
+have-run by scenario base history ArePlayed.none fresh own = HaveRun.none
+have-run {State} by scenario base history {number}
+    (ArePlayed.one_more {document = document} {old = old} {new = new} {transcript = transcript} {documents = documents} {olds = olds} {news = news} {transcripts = transcripts} is more) fresh own =
+    let Own : Seat State → Type 0 = λ seat. entries_of seat.document history ≡ seat.outside.own in
+    HaveRun.one_more
+    (has-run by scenario base history number document old new transcript is (All-head IsFresh old olds fresh).own_is
+    (subst (λ (d : ℕ). entries_of d history ≡ new.outside.own) is.document_is (All-head Own new news own)))
+    (have-run by scenario base history more (All-tail IsFresh old olds fresh) (All-tail Own new news own))
 
 -- every seat's calls are its pass's own: as many were made as entries are there
 record HasCalled {State : Type 0} (seat : Seat State) : Type 0 where
@@ -288,93 +329,103 @@ named-below count first back (e ∷ es) is documents named apart = (
 
 -- ---- the whole
 
--- the passes of the seats are still those of the documents
-seated-documents : {L State : Type 0} (by : Answering State) (state : L → Option State) (faults : L → ℕ)
-    (opening : ℕ → Option L) (id : TableId) (scenario : Scenario) (base : ℕ) (passes : List TurnPass)
-    (back : List (Seating L TurnPass)) (transcripts : List Transcript)
-    → IsSeatedPlay by state faults opening id scenario base passes back transcripts
-    → map (λ (p : TurnPass). p.document) (passes_in back) ≡ range_with_len 0 (length scenario.documents)
-seated-documents {L} {State} by state faults opening id scenario base passes back transcripts seated =
-    map-map (λ (s : Seating L TurnPass). s.pass) (λ (p : TurnPass). p.document) back
-    ∙ sym (map-map (seat_seen state faults) (λ (s : Seat State). s.document) back)
-    ∙ documents-of by scenario base seated.played
+-- seats that were made with the book's passes, and their passes as they came back to a book that is closed
+module _ {L State : Type 0} (by : Answering State) (state : L → Option State)
+    (received : L → Option (List ℕ)) (faults : L → ℕ) (scenario : Scenario)
+    (base : ℕ) (id : TableId) (first : TurnPass) (made back : List (Seating L TurnPass)) (book : Book)
+    (history : List Entry) (are : ArePasses id (opening_book scenario) (length scenario.documents) first (passes_in made))
+    (documents : map (λ (p : TurnPass). p.document) (passes_in back) ≡ range_with_len 0 (length scenario.documents))
+    (closed : IsOneHistory (first ∷ passes_in back) book history) where
+  -- what is told of the links of seats
+  ways-of : (seats : List (Seating L TurnPass))
+      → map seat_way (map (seat_seen state received faults) seats) ≡ map (way_of state received faults) (links_in seats)
+  ways-of seats =
+      map-map (seat_seen state received faults) seat_way seats
+      ∙ sym (map-map (λ (s : Seating L TurnPass). s.link) (way_of state received faults) seats)
 
--- with the first pass they are all passes of the book
-pub seated-whole : {L State : Type 0} (by : Answering State) (state : L → Option State) (faults : L → ℕ)
-    (opening : ℕ → Option L) (id : TableId) (scenario : Scenario) (base : ℕ) (first : TurnPass)
-    (passes : List TurnPass) (back : List (Seating L TurnPass)) (transcripts : List Transcript)
-    (all : List TurnPass) → ArePasses id (opening_book scenario) (length scenario.documents) first passes
-    → length scenario.documents ≤ 128
-    → IsSeatedPlay by state faults opening id scenario base passes back transcripts
-    → all ≡ first ∷ passes_in back → IsWhole id all
-seated-whole by state faults opening id scenario base first passes back transcripts all are few seated same =
-    subst (IsWhole id) (sym same) (whole-passes id (opening_book scenario) (length scenario.documents) first passes
-    (passes_in back) are few seated.belong
-    (seated-documents by state faults opening id scenario base passes back transcripts seated))
+  -- no call was made on the seats at first
+  fresh-seats : All IsFresh (map (seat_seen state received faults) made)
+  fresh-seats = All-map IsFresh (seat_seen state received faults) made
+      (λ k d lt. let n = unmap (IsNew id (opening_book scenario)) (λ (s : Seating L TurnPass). s.pass) made are.new k d lt
+      in record { own_is = n.own_is; left_is = n.left_is })
 
--- what was played on the seats, with the history of the closed book, is a play
-pub closed-play : {L State : Type 0} (by : Answering State) (state : L → Option State) (faults : L → ℕ)
-    (old new : Maker L) (id : TableId) (scenario : Scenario) (base : ℕ) (first : TurnPass)
-    (passes : List TurnPass) (back : List (Seating L TurnPass)) (transcripts : List Transcript) (book : Book)
-    (history : List Entry) (all : List TurnPass)
-    → ArePasses id (opening_book scenario) (length scenario.documents) first passes
-    → IsSeatedPlay by state faults old.opening id scenario base passes back transcripts
-    → TookBack faults old new (links_in back) → all ≡ first ∷ passes_in back → IsOneHistory all book history
-    → IsPlayOverLinks by state faults old new scenario base transcripts history
-closed-play {L} {State} by state faults old new id scenario base first passes back transcripts book history all are
-    seated took same whole =
-    let closed : IsOneHistory (first ∷ passes_in back) book history =
-    subst (λ (l : List TurnPass). IsOneHistory l book history) same whole in
-    let seen : Seating L TurnPass → Seat State = seat_seen state faults in
-    let count = length scenario.documents in
-    let Own : TurnPass → Type 0 = λ p. entries_of p.document history ≡ own_of p in
-    let Legals : TurnPass → Type 0 =
-    λ p. p.document ≡ 4294967295 → Legal (opening_of p) history × (book ≡ book_after (opening_of p) history) in
-    let All_called : TurnPass → Type 0 = λ p. calls_of p ≡ length (own_of p) in
-    let made : All (IsNew id (opening_book scenario)) (map (λ (s : Seating L TurnPass). s.pass) seated.made) =
-    subst (All (IsNew id (opening_book scenario))) (sym seated.passes_are) are.new in
-    let fresh : All IsFresh (map seen seated.made) = All-map IsFresh seen seated.made
-    (λ k d lt. let n = unmap (IsNew id (opening_book scenario)) (λ (s : Seating L TurnPass). s.pass) seated.made made k d lt
-    in record { own_is = n.own_is; left_is = n.left_is }) in
-    let called : All (λ (s : Seating L TurnPass). HasCalled (seen s)) back =
-    unmap HasCalled seen back (called-of by scenario base seated.played seated.has_text fresh) in
-    let own : All Own (passes_in back) = All-tail Own first (passes_in back) closed.own in
-    let documents = seated-documents by state faults old.opening id scenario base passes back transcripts seated in
-    let legal = All-head Legals first (passes_in back) closed.legal are.first_is.document_is in
-    let nothing : entries_of 4294967295 history ≡ [] =
-    subst (λ (d : ℕ). entries_of d history ≡ own_of first) are.first_is.document_is
-    (All-head Own first (passes_in back) closed.own) ∙ are.first_is.own_is in
-    let calls : All All_called (first ∷ passes_in back) = All-cons All_called first (passes_in back)
-    (omega (arith, are.first_is.left_is, ap length are.first_is.own_is))
-    (All-map All_called (λ (s : Seating L TurnPass). s.pass) back
-    (λ k d lt. let c = called k d lt in omega (arith, c.calls, c.few))) in
-    let present : 0 < count_by (is_of 4294967295) (first ∷ passes_in back) = omega (
-      arith,
-      sum_by-cons (λ (q : TurnPass). cond (is_of 4294967295 q) 1 0) first (passes_in back),
-      ap one (eq-eqb first.document 4294967295 are.first_is.document_is),
-    ) in
-    record {
-      made = links_in seated.made;
-      back = links_in back;
-      opened = seated.opened;
-      took = took;
-      play = record {
-        legal = subst (λ (b : Book). Legal b history) are.first_is.opening_is legal.0;
-        turns = turns-from 0 history (λ i e at. turns-are-places (first ∷ passes_in back) book history closed present calls i e at
-            ∙ sym (zero_before i));
-        named = named-below count first (passes_in back) history are.first_is.document_is documents
-            (recursion_from_All (λ (e : Entry). 0 < count_by (is_of e.document) (first ∷ passes_in back)) history closed.named)
-            (none-of 4294967295 history nothing);
-        runs = rw (
-          map-map (λ (s : Seating L TurnPass). s.link) (way_of state faults) seated.made,
-          map-map (λ (s : Seating L TurnPass). s.link) (way_of state faults) back,
-        )
-            (rw (← map-map seen seat_way seated.made, ← map-map seen seat_way back)
-            (transcripts-of by scenario base history seated.played seated.has_text fresh
-            (All-map (λ (s : Seat State). entries_of s.document history ≡ s.outside.own) seen back
-            (unmap Own (λ (s : Seating L TurnPass). s.pass) back own))));
-      };
-    }
-  where
-    zero_before : (n : ℕ) → 0 + n ≡ n
-    zero_before n = omega arith
+  -- the entries of each document are its pass's own
+  own-entries : All (λ (s : Seat State). entries_of s.document history ≡ s.outside.own)
+      (map (seat_seen state received faults) back)
+  own-entries =
+      let OwnOf : TurnPass → Type 0 = λ p. entries_of p.document history ≡ own_of p in
+      All-map (λ (s : Seat State). entries_of s.document history ≡ s.outside.own) (seat_seen state received faults) back
+      (unmap OwnOf (λ (s : Seating L TurnPass). s.pass) back (All-tail OwnOf first (passes_in back) closed.own))
+
+  legal-history : Legal (opening_book scenario) history
+  legal-history =
+      let Legals : TurnPass → Type 0 =
+      λ p. p.document ≡ 4294967295 → Legal (opening_of p) history × (book ≡ book_after (opening_of p) history) in
+      subst (λ (b : Book). Legal b history) are.first_is.opening_is
+      (All-head Legals first (passes_in back) closed.legal are.first_is.document_is).0
+
+  named-history : AllByRecursion (λ (e : Entry). e.document < length scenario.documents) history
+  named-history =
+      let OwnOf : TurnPass → Type 0 = λ p. entries_of p.document history ≡ own_of p in
+      named-below (length scenario.documents) first (passes_in back) history are.first_is.document_is documents
+      (recursion_from_All (λ (e : Entry). 0 < count_by (is_of e.document) (first ∷ passes_in back)) history closed.named)
+      (none-of 4294967295 history (subst (λ (d : ℕ). entries_of d history ≡ own_of first) are.first_is.document_is
+      (All-head OwnOf first (passes_in back) closed.own) ∙ are.first_is.own_is))
+
+  -- where no document ended for memory, each call has its entry, so the turns have no gap
+  turns-of : (transcripts : List Transcript)
+      → ArePlayed by scenario base 0 scenario.documents (map (seat_seen state received faults) made)
+      (map (seat_seen state received faults) back) transcripts → HasText transcripts → HasTurnsFrom 0 history
+  turns-of transcripts played text =
+      let All_called : TurnPass → Type 0 = λ p. calls_of p ≡ length (own_of p) in
+      let called : All (λ (s : Seating L TurnPass). HasCalled (seat_seen state received faults s)) back =
+      unmap HasCalled (seat_seen state received faults) back (called-of by scenario base played text fresh-seats) in
+      let calls : All All_called (first ∷ passes_in back) = All-cons All_called first (passes_in back)
+      (omega (arith, are.first_is.left_is, ap length are.first_is.own_is))
+      (All-map All_called (λ (s : Seating L TurnPass). s.pass) back
+      (λ k d lt. let c = called k d lt in omega (arith, c.calls, c.few))) in
+      let present : 0 < count_by (is_of 4294967295) (first ∷ passes_in back) = omega (
+        arith,
+        sum_by-cons (λ (q : TurnPass). cond (is_of 4294967295 q) 1 0) first (passes_in back),
+        ap one (eq-eqb first.document 4294967295 are.first_is.document_is),
+      ) in
+      turns-from 0 history (λ i e at. turns-are-places (first ∷ passes_in back) book history closed present calls i e at
+      ∙ sym (zero_before i))
+    where
+      zero_before : (n : ℕ) → 0 + n ≡ n
+      zero_before n = omega arith
+
+  -- what was played on the seats, with the history of the closed book, is a play
+  pub closed-play : (transcripts : List Transcript)
+      → ArePlayed by scenario base 0 scenario.documents (map (seat_seen state received faults) made)
+      (map (seat_seen state received faults) back) transcripts → HasText transcripts
+      → IsPlayOver by scenario base (map (way_of state received faults) (links_in made)) (map (way_of state received faults) (links_in back))
+      transcripts history
+  closed-play transcripts played text = record {
+    legal = legal-history;
+    turns = turns-of transcripts played text;
+    named = named-history;
+    runs = rw (← ways-of made, ← ways-of back)
+        (transcripts-of by scenario base history played text fresh-seats own-entries);
+  }
+
+  -- and where memory was refused, no document was played or each was
+  pub closed-played : (transcripts : List Transcript)
+      → ArePlayed by scenario base 0 scenario.documents (map (seat_seen state received faults) made)
+      (map (seat_seen state received faults) back) transcripts
+      → NoneOrAllPlayed by scenario base (map (way_of state received faults) (links_in made))
+      (map (way_of state received faults) (links_in back))
+  closed-played transcripts played = inr (record {
+    history = history;
+    legal = legal-history;
+    named = named-history;
+    runs = rw (← ways-of made, ← ways-of back)
+        (have-run by scenario base history played fresh-seats own-entries);
+  })
+
+  pub closed-refused : AreRefused by scenario base (map (seat_seen state received faults) made)
+      (map (seat_seen state received faults) back)
+      → NoneOrAllPlayed by scenario base (map (way_of state received faults) (links_in made))
+      (map (way_of state received faults) (links_in back))
+  closed-refused (inl same) = inl (sym (ways-of back) ∙ ap (map seat_way) same ∙ ways-of made)
+  closed-refused (inr were) = closed-played were.transcripts were.played

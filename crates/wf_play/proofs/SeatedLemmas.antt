@@ -1,5 +1,5 @@
 -- Documents that are seated, each with a new pass.
-use Rattle.std.proofs.Common.{◌≡◌, ℕ, ◌≤◌, List, ◌∙◌, ap, arith, length, map, Option, subst, sym}
+use Rattle.std.proofs.Common.{◌≡◌, ℕ, ◌≤◌, List, ◌∙◌, ap, arith, length, map, Option, refl, subst, sym}
 use Rattle.std.specs.List.{All, range_with_len}
 use Rattle.std.proofs.lemmas.List.{length-map}
 use Rattle.std.proofs.lemmas.List.Elements.{All-map}
@@ -12,7 +12,7 @@ use Rattle.wf_script.specs.declared.types.Scenario.{Scenario}
 use Rattle.wf_turn.specs.declared.pass.TurnPass.{TurnPass}
 use Rattle.wf_play.specs.Passes.{IsNew}
 use Rattle.wf_iso.specs.Plays.{opening_book}
-use Rattle.wf_play.specs.Private.Seated.{passes_in, seat_seen}
+use Rattle.wf_play.specs.Private.Seated.{links_in, passes_in, seat_seen}
 use Rattle.wf_play.proofs.PlayLemmas.{map-map, unmap}
 
 -- as many items as numbers
@@ -29,17 +29,35 @@ as-seated {L} passes seats count are documents =
     sym (length-map seats (λ (s : Seating L TurnPass). s.pass)) ∙ ap length are
     ∙ as-many (λ (p : TurnPass). p.document) passes count documents
 
-module _ {L State : Type 0} (state : L → Option State) (faults : L → ℕ) (id : TableId) (scenario : Scenario)
+-- the documents of seats are those of their passes
+pub documents-in : {L : Type 0} (seats : List (Seating L TurnPass)) (count : ℕ)
+    → map (λ (s : Seating L TurnPass). s.pass.document) seats ≡ range_with_len 0 count
+    → map (λ (p : TurnPass). p.document) (passes_in seats) ≡ range_with_len 0 count
+documents-in {L} seats count is =
+    map-map (λ (s : Seating L TurnPass). s.pass) (λ (p : TurnPass). p.document) seats ∙ is
+
+-- as many links as seats at first
+pub many-links : {L : Type 0} (made back : List (Seating L TurnPass)) (count : ℕ)
+    → map (λ (p : TurnPass). p.document) (passes_in made) ≡ range_with_len 0 count
+    → map (λ (s : Seating L TurnPass). s.pass.document) back ≡ range_with_len 0 count
+    → length (links_in back) ≡ length made
+many-links {L} made back count first last =
+    length-map back (λ (s : Seating L TurnPass). s.link)
+    ∙ as-many (λ (s : Seating L TurnPass). s.pass.document) back count last
+    ∙ sym (as-seated (passes_in made) made count refl first)
+
+module _ {L State : Type 0} (state : L → Option State)
+    (received : L → Option (List ℕ)) (faults : L → ℕ) (id : TableId) (scenario : Scenario)
     (passes : List TurnPass) (seats : List (Seating L TurnPass)) where
   -- seats of new passes are ready
   pub ready-seats : All (IsNew id (opening_book scenario)) passes
       → map (λ (p : TurnPass). p.document) passes ≡ range_with_len 0 (length scenario.documents)
-      → passes_in seats ≡ passes → AreSeated scenario.documents (map (seat_seen state faults) seats)
+      → passes_in seats ≡ passes → AreSeated scenario.documents (map (seat_seen state received faults) seats)
   ready-seats new documents are = record {
-    each = map-map (seat_seen state faults) (λ (s : Seat State). s.document) seats
+    each = map-map (seat_seen state received faults) (λ (s : Seat State). s.document) seats
         ∙ sym (map-map (λ (s : Seating L TurnPass). s.pass) (λ (p : TurnPass). p.document) seats)
         ∙ ap (map (λ (p : TurnPass). p.document)) are ∙ documents;
-    calls = All-map (λ (s : Seat State). most_calls ≤ s.outside.left) (seat_seen state faults) seats
+    calls = All-map (λ (s : Seat State). most_calls ≤ s.outside.left) (seat_seen state received faults) seats
         (λ k d lt. let n = unmap (IsNew id (opening_book scenario)) (λ (s : Seating L TurnPass). s.pass) seats
         (subst (All (IsNew id (opening_book scenario))) (sym are) new) k d lt in omega (arith, n.left_is));
   }

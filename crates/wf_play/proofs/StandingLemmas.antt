@@ -21,7 +21,7 @@ use Rattle.wf_run.proofs.PlayLemmas.{play-map}
 use Rattle.wf_script.specs.declared.types.Document.{Document}
 use Rattle.wf_script.specs.declared.types.Scenario.{Scenario}
 use Rattle.wf_script.specs.declared.types.Server.{Server}
-use Rattle.wf_sim.specs.Sim.{SimState, answer_to, fault_count}
+use Rattle.wf_sim.specs.Sim.{SimState, answer_to, fault_count, told_counts}
 use Rattle.wf_sim.proofs.SimLemmas.{answers-by_parts}
 use Rattle.wf_wire.specs.Exchanges.{Answering, Exchange}
 use Rattle.wf_wire.specs.Wires.{over_link}
@@ -29,6 +29,7 @@ use Rattle.wf_wire.proofs.LawLemmas.{exchange-alike}
 use Rattle.wf_player.specs.Playing.{Ran}
 use Rattle.wf_drive.specs.Worlds.{Answers, Outside, Settles, World}
 use Rattle.wf_link.specs.Links.{IsTold}
+use Rattle.wf_link.specs.declared.target.Route.{Route}
 use Rattle.wf_play.specs.Links.{IsPlayOverLinks, Maker, way_of}
 use Rattle.wf_iso.specs.Plays.{AreTranscripts, IsPlay, RunsOver, Way, by_rules, outside_on}
 
@@ -118,39 +119,42 @@ trace-state limit document {a = a} (stepped {mid = mid} request first after inpu
 
 -- what a link to the servers tells
 abbrev servers_way : Scenario → Way (List Server)
-servers_way scenario = record { state = Some scenario.servers; faults = 0 }
+servers_way scenario = record { state = Some scenario.servers; received = None; faults = 0 }
+
+-- nor does it tell what was received, and it never fails
+abbrev pub IsQuiet : Way (List Server) → Type 0
+IsQuiet way = (way.received ≡ None) × (way.faults ≡ 0)
 
 -- such a link tells the same at the end of a run
 way-behind : (limit document : ℕ) (old new : Way (List Server)) (entries : List Entry) (whole : Play)
     (events : List Event) (ending : Ending) (clock : ℕ) (servers : List Server) → old.state ≡ Some servers
-    → new.faults ≡ 0 → RunsOver by_bytes limit document old new entries whole events ending clock
-    → new ≡ record { state = Some servers; faults = 0 }
-way-behind limit document old new entries whole events ending clock servers is never run =
-    way-is new (record { state = Some servers; faults = 0 })
+    → IsQuiet new → RunsOver by_bytes limit document old new entries whole events ending clock
+    → new ≡ record { state = Some servers; received = None; faults = 0 }
+way-behind limit document old new entries whole events ending clock servers is quiet run =
+    way-is new (record { state = Some servers; received = None; faults = 0 })
     (sym (ap (λ (o : Outside (List Server)). o.state) run.ran.to)
-    ∙ trace-state limit document run.ran.trace ∙ ap (λ (o : Outside (List Server)). o.state) run.ran.from ∙ is) never
+    ∙ trace-state limit document run.ran.trace ∙ ap (λ (o : Outside (List Server)). o.state) run.ran.from ∙ is) quiet.0 quiet.1
   where
-    way-is : (a b : Way (List Server)) → a.state ≡ b.state → a.faults ≡ b.faults → a ≡ b
-    way-is a b s f = rw (s, f) refl
+    way-is : (a b : Way (List Server)) → a.state ≡ b.state → a.received ≡ b.received → a.faults ≡ b.faults → a ≡ b
+    way-is a b s r f = rw (s, r, f) refl
 
 transcripts-by-rules : (scenario : Scenario) (base : ℕ) (history : List Entry) {number : ℕ}
     {documents : List Document} {olds news : List (Way (List Server))} {transcripts : List Transcript}
     → AreTranscripts by_bytes scenario base history number documents olds news transcripts
     → All (λ (w : Way (List Server)). w ≡ servers_way scenario) olds
-    → All (λ (w : Way (List Server)). w.faults ≡ 0) news
+    → All IsQuiet news
     → AreTranscripts by_rules scenario base history number documents
     (map (λ (d : Document). servers_way scenario) documents) (map (λ (d : Document). servers_way scenario) documents)
     transcripts
-transcripts-by-rules scenario base history AreTranscripts.none opened never = AreTranscripts.none
+transcripts-by-rules scenario base history AreTranscripts.none opened quiet = AreTranscripts.none
 transcripts-by-rules scenario base history {number} (AreTranscripts.one_more {document = document} {old = old}
-    {new = new} {transcript = transcript} {olds = olds} {news = news} is more) opened never =
+    {new = new} {transcript = transcript} {olds = olds} {news = news} is more) opened quiet =
     let Opened : Way (List Server) → Type 0 = λ w. w ≡ servers_way scenario in
-    let Never : Way (List Server) → Type 0 = λ w. w.faults ≡ 0 in
     let whole = document_run scenario.cookies base document in
     let first = All-head Opened old olds opened in
     let last = way-behind scenario.body_limit number old new (entries_of number history) whole transcript.events
     transcript.ending transcript.clock scenario.servers (ap (λ (w : Way (List Server)). w.state) first)
-    (All-head Never new news never) is.run_is in
+    (All-head IsQuiet new news quiet) is.run_is in
     AreTranscripts.one_more (record {
       document_is = is.document_is;
       key_is = is.key_is;
@@ -168,15 +172,17 @@ transcripts-by-rules scenario base history {number} (AreTranscripts.one_more {do
             (outside_on new (entries_of number history) is.run_is.behind)) first is.run_is.ran));
       };
     })
-    (transcripts-by-rules scenario base history more (All-tail Opened old olds opened) (All-tail Never new news never))
+    (transcripts-by-rules scenario base history more (All-tail Opened old olds opened) (All-tail IsQuiet new news quiet))
 
 -- a play over links to the scenario's servers is one over the servers
 pub scripted-play : (scenario : Scenario) (transcripts : List Transcript) (history : List Entry) (link : SimState)
-    (old new : Maker SimState) → link.servers ≡ scenario.servers → ((k : ℕ) → old.opening k ≡ Some link)
-    → IsPlayOverLinks by_bytes (λ (l : SimState). Some l.servers) (λ (l : SimState). fault_count) old new scenario
-    scenario.now transcripts history → IsPlay scenario transcripts history
+    (old new : Maker SimState) → link.servers ≡ scenario.servers
+    → ((k number : ℕ) (by : List Route) → old.opening k number by ≡ Some link)
+    → IsPlayOverLinks by_bytes (λ (l : SimState). Some l.servers) (λ (l : SimState). told_counts)
+    (λ (l : SimState). fault_count) old new scenario scenario.now transcripts history → IsPlay scenario transcripts history
 scripted-play scenario transcripts history link old new servers opens x =
-    let way : SimState → Way (List Server) = way_of (λ (l : SimState). Some l.servers) (λ (l : SimState). fault_count) in
+    let way : SimState → Way (List Server) = way_of (λ (l : SimState). Some l.servers)
+    (λ (l : SimState). told_counts) (λ (l : SimState). fault_count) in
     record {
       legal = x.play.legal;
       turns = x.play.turns;
@@ -184,10 +190,10 @@ scripted-play scenario transcripts history link old new servers opens x =
       runs = transcripts-by-rules scenario scenario.now history x.play.runs
           (All-map (λ (w : Way (List Server)). w ≡ servers_way scenario) way x.made
           (λ k d lt. let told : get_or x.made k d ≡ link =
-          subst (λ (o : Option SimState). IsTold o (get_or x.made k d)) (opens k)
+          subst (λ (o : Option SimState). IsTold o (get_or x.made k d)) (opens k k scenario.routes)
           (x.opened k (get_or x.made k d) (read x.made k d lt)) in
-          ap way told ∙ ap (λ (s : List Server). record { state = Some s; faults = 0 }) servers))
-          (All-map (λ (w : Way (List Server)). w.faults ≡ 0) way x.back (λ k d lt. refl));
+          ap way told ∙ ap (λ (s : List Server). record { state = Some s; received = None; faults = 0 }) servers))
+          (All-map IsQuiet way x.back (λ k d lt. (refl, refl)));
     }
   where
     read : (links : List SimState) (k : ℕ) (d : SimState) → k < length links

@@ -1,3 +1,5 @@
+pub mod Faults
 pub mod Links
 pub mod Passes
 pub mod Private
+pub mod Refused

@@ -1,31 +1,38 @@
 -- A play over the links that are made for its documents, in their order, and that are taken back in the same order.
-use Rattle.std.specs.Prelude.{◌≡◌, ℕ, List, [], ◌∷◌, ◌++◌, map, slice_get, Option, Some, None}
+use Rattle.std.specs.Prelude.{◌≡◌, ℕ, ◌≤◌, List, [], ◌∷◌, ◌++◌, length, map, slice_get, Option, Some, None}
 use Rattle.wf_book.specs.declared.entry.Entry.{Entry}
 use Rattle.wf_link.specs.Counts.{grown_by}
 use Rattle.wf_link.specs.Links.{IsTold, Lent}
+use Rattle.wf_link.specs.declared.target.Route.{Route}
 use Rattle.wf_print.specs.declared.events.Transcript.{Transcript}
 use Rattle.wf_script.specs.declared.types.Scenario.{Scenario}
 use Rattle.wf_wire.specs.Exchanges.{Answering}
-use Rattle.wf_player.specs.Seats.{AreRefused, Seat}
 use Rattle.wf_iso.specs.Plays.{IsPlayOver, Way}
+use Rattle.wf_play.specs.Faults.{AllAreTold, all_faults}
+use Rattle.wf_play.specs.Refused.{NoneOrAllPlayed}
 
 -- what is told of a link
-abbrev pub way_of : {L State : Type 0} → (L → Option State) → (L → ℕ) → L → Way State
-way_of state faults link = record { state = state link; faults = faults link }
+abbrev pub way_of : {L State : Type 0} → (L → Option State) → (L → Option (List ℕ)) → (L → ℕ) → L → Way State
+way_of state received faults link = record { state = state link; received = received link; faults = faults link }
 
--- What is told of what makes the links: the link that it makes next, at 0, the one after it, at 1, and so on; those that
--- it took back, and how many more are out; and how often those had failed.
+-- What is told of what makes the links: the link that it makes next, at 0, the one after it, at 1, and so on, for a
+-- document of a number and by routes; those that it took back, and how many more are out; and how often those had failed.
 pub record Maker (L : Type 0) : Type 0 where
-  pub opening : ℕ → Option L
+  pub opening : ℕ → ℕ → List Route → Option L
   pub lent : Option (Lent L)
   pub faults : ℕ
 
 -- what makes links, as it tells
-abbrev pub maker_of : {N L : Type 0} → (N → ℕ → Option L) → (N → Option (Lent L)) → (N → ℕ) → N → Maker L
+abbrev pub maker_of : {N L : Type 0} → (N → ℕ → ℕ → List Route → Option L) → (N → Option (Lent L)) → (N → ℕ) → N
+    → Maker L
 maker_of opening lent faults links =
     record { opening = opening links; lent = lent links; faults = faults links }
 
 -- ---- links that are made
+
+-- the next links that are made are for the documents 0, 1 and so on, by these routes
+abbrev pub for_documents : {L : Type 0} → (ℕ → ℕ → List Route → Option L) → List Route → ℕ → Option L
+for_documents opening routes k = opening k k routes
 
 -- the links are those that were to be made, where told: the first at 0, and so on
 abbrev pub AreOpened : {L : Type 0} → (ℕ → Option L) → List L → Type 0
@@ -55,31 +62,30 @@ pub record HasTakenBack {L : Type 0} (faults : L → ℕ) (old new : Maker L) : 
 
 -- ---- the play
 
--- A play over links as they were made for the documents, one for each, and as they were taken back.
-pub record IsPlayOverLinks {L State : Type 0} (by : Answering State) (state : L → Option State) (faults : L → ℕ)
+-- A play over links as they were made for the documents, one for each, and as they were taken back. Each document's
+-- outcomes show the faults in its run, and its link's count rose by as many at least; so did the count of what made the
+-- links, by all of them.
+pub record IsPlayOverLinks {L State : Type 0} (by : Answering State) (state : L → Option State)
+    (received : L → Option (List ℕ)) (faults : L → ℕ)
     (old new : Maker L) (scenario : Scenario) (base : ℕ) (transcripts : List Transcript) (history : List Entry)
     : Type 0 where
   pub made : List L
   pub back : List L
-  pub opened : AreOpened old.opening made
+  pub opened : AreOpened (for_documents old.opening scenario.routes) made
   pub took : TookBack faults old new back
-  pub play : IsPlayOver by scenario base (map (way_of state faults) made) (map (way_of state faults) back)
+  pub play : IsPlayOver by scenario base (map (way_of state received faults) made) (map (way_of state received faults) back)
       transcripts history
+  pub told : AllAreTold play.runs
+  pub counted : grown_by old.faults (all_faults play.runs) ≤ new.faults
 
--- what is told of a seat's link
-abbrev pub way_of_seat : {State : Type 0} → Seat State → Way State
-way_of_seat seat = record { state = seat.outside.state; faults = seat.outside.faults }
-
--- A play that was refused, over links as they were made for documents, and as they were taken back, in the same order: no
--- document was played, and its seat is as it was; or each was, and its link is as its run has left it.
-pub record WasRefused {L State : Type 0} (by : Answering State) (state : L → Option State) (faults : L → ℕ)
+-- A play that was refused, over links as they were made for documents, for each one at most, and as they were taken back,
+-- in the same order: no document was played, and each link came back as it was made; or each was, over one legal history.
+pub record WasRefused {L State : Type 0} (by : Answering State) (state : L → Option State)
+    (received : L → Option (List ℕ)) (faults : L → ℕ)
     (old new : Maker L) (scenario : Scenario) (base : ℕ) : Type 0 where
   pub made : List L
   pub back : List L
-  pub opened : AreOpened old.opening made
+  pub opened : AreOpened (for_documents old.opening scenario.routes) made
+  pub few : length made ≤ length scenario.documents
   pub took : TookBack faults old new back
-  pub olds : List (Seat State)
-  pub news : List (Seat State)
-  pub from : map way_of_seat olds ≡ map (way_of state faults) made
-  pub to : map way_of_seat news ≡ map (way_of state faults) back
-  pub left : AreRefused by scenario base olds news
+  pub left : NoneOrAllPlayed by scenario base (map (way_of state received faults) made) (map (way_of state received faults) back)

@@ -1,15 +1,12 @@
 // A play: the book is opened, the documents are seated and played, and the book is closed.
-ghost use Rattle.std.specs.Prelude.{◌≡◌, ◌≤◌, ◌^◌, [], length, map, option_map, vec_capacity, vec_len, IfOk, OnErr};
+ghost use Rattle.std.specs.Prelude.{◌≤◌, ◌+◌, ◌^◌, vec_capacity, vec_len, IfOk, OnErr};
 ghost use Rattle.wf_print.specs.Text.{HasText};
 ghost use Rattle.wf_script.specs.Valid.{IsValid};
-ghost use Rattle.wf_turn.specs.Passes.{IsOneHistory, opening_of};
 ghost use Rattle.wf_wire.specs.Wires.{over_link};
 ghost use Rattle.wf_play.specs.Links.{IsPlayOverLinks, WasRefused, maker_of};
-ghost use Rattle.wf_play.specs.Passes.{IsNew};
-ghost use Rattle.wf_iso.specs.Plays.{IsPlay, opening_book};
-ghost use Rattle.wf_play.specs.Private.Lendings.{out_more};
-ghost use Rattle.wf_play.specs.Private.Seated.{IsSeatedPlay, IsSeatedRefusal};
-ghost use Rattle.std.specs.List.{All, range_with_len};
+ghost use Rattle.wf_play.specs.Private.Seated.{AreReady, AreUnseated};
+ghost use Rattle.wf_play.specs.Refused.{NoneOrAllPlayed};
+ghost use Rattle.wf_iso.specs.Plays.{IsPlay, IsPlayOver};
 
 use crate::book::opened;
 use crate::passes::passes_of;
@@ -18,6 +15,7 @@ use std::alloc::Global;
 use std::sync::Wait;
 use std::thread::Threads;
 use wf_book::History;
+use wf_faults::{law_faults_counted, law_faults_shown};
 use wf_link::Links;
 use wf_player::{Seating, play_all};
 use wf_print::{Transcripts, has_text};
@@ -33,36 +31,38 @@ pub struct Played {
     pub history: History,
 }
 
-// Makes the documents' links, and plays each document on its pass and link.
+// Plays each document on its seat, takes the links back, in order of documents, and closes the book.
 fn play_seated<R: Threads + Wait + Sync, N: Links>(
     rt: &R,
     alloc: Global,
     scenario: &Scenario,
     base: u64,
-    book: &TurnBook,
-    passes: Vec<TurnPass>,
+    book: TurnBook,
+    mut seats: Vec<Seating<N::Link, TurnPass>>,
+    mut passes: Vec<TurnPass>,
     links: &mut N,
-    seats: &mut Vec<Seating<N::Link, TurnPass>>,
-) -> Result<Transcripts, OutOfMemory>
+) -> Result<Played, OutOfMemory>
     requires valid { IsValid scenario.now }
     requires base { base ≤ 2 ^ 40 }
-    requires passes { All (IsNew book.now.table.shared.table_id (opening_book scenario.now)) passes.items }
-    requires documents { map (λ pass. pass.document) passes.items ≡ range_with_len 0 (length scenario.now.documents) }
-    requires none { seats.old.items ≡ [] }
-    requires room { vec_len passes ≤ vec_capacity seats.old }
-    ensures played { IfOk result (λ transcripts. IsSeatedPlay (over_link N.Link.answer N.Link.next) N.Link.state
-        N.Link.faults (N.opening links.old) book.now.table.shared.table_id scenario.entry.now base passes.items
-        seats.new.items transcripts) }
-    ensures refused { OnErr result (IsSeatedRefusal (over_link N.Link.answer N.Link.next) N.Link.state N.Link.faults
-        (N.opening links.old) scenario.entry.now base seats.new.items) }
-    ensures few { length seats.new.items ≤ length scenario.entry.now.documents }
-    ensures out { N.lent links.new ≡ option_map (out_more (length seats.new.items)) (N.lent links.old) }
-    ensures faults { N.faults links.new ≡ N.faults links.old }
+    requires ready { AreReady book.table.shared.table_id scenario.now passes.items seats.items }
+    requires room { vec_len seats + vec_len passes ≤ vec_capacity passes }
+    ensures played { IfOk result (λ played. AreUnseated N.Link.state N.Link.received N.Link.faults (N.lent links.old) (N.lent links.new)
+        (N.faults links.old) (N.faults links.new) seats.items (λ olds news. IsPlayOver
+        (over_link N.Link.answer N.Link.next) scenario.entry.now base olds news played.transcripts played.history)) }
+    ensures refused { OnErr result (AreUnseated N.Link.state N.Link.received N.Link.faults (N.lent links.old) (N.lent links.new)
+        (N.faults links.old) (N.faults links.new) seats.items (NoneOrAllPlayed (over_link N.Link.answer N.Link.next)
+        scenario.entry.now base)) }
+    ensures has_text { IfOk result (λ played. HasText played.transcripts) }
 {
-    seat_all(alloc, scenario, passes, links, seats)?;
-    let transcripts = play_all(rt, alloc, scenario, base, book, seats)?;
+    let played = play_all(rt, alloc, scenario, base, &book, &mut seats);
+    unseat(seats, links, &mut passes);
+    let Closed { book: _, history } = book.close(passes);
+    let transcripts = played?;
     if has_text(&transcripts) {
-        Ok(transcripts)
+        Ok(Played {
+            transcripts,
+            history,
+        })
     } else {
         Err(OutOfMemory)
     }
@@ -73,9 +73,9 @@ fn play_seated<R: Threads + Wait + Sync, N: Links>(
 /// opens with the scenario's hosts. The links are made in order of documents, and taken back in the same
 /// order, also where memory was refused.
 ///
-/// `OutOfMemory` where memory was refused, to a document or to what surrounds them, or where no link could
+/// `OutOfMemory` where memory was refused, to a document or to what surrounds them, or where a link could not
 /// be made; then the links that were made were taken back in order of documents: as they were made, or, where
-/// the documents were played, as their runs have left them.
+/// the documents were played, as their runs have left them. Their calls are then one legal history too.
 pub fn play_over<R: Threads + Wait + Sync, N: Links>(
     rt: &R,
     alloc: Global,
@@ -85,14 +85,16 @@ pub fn play_over<R: Threads + Wait + Sync, N: Links>(
 ) -> Result<Played, OutOfMemory>
     requires valid { IsValid scenario.now }
     requires base { base ≤ 2 ^ 40 }
-    ensures played { IfOk result (λ played. IsPlayOverLinks (over_link N.Link.answer N.Link.next) N.Link.state N.Link.faults
+    ensures played { IfOk result (λ played. IsPlayOverLinks (over_link N.Link.answer N.Link.next) N.Link.state N.Link.received N.Link.faults
         (maker_of N.opening N.lent N.faults links.old) (maker_of N.opening N.lent N.faults links.new)
         scenario.entry.now base played.transcripts played.history) }
-    ensures refused { OnErr result (WasRefused (over_link N.Link.answer N.Link.next) N.Link.state N.Link.faults
+    ensures refused { OnErr result (WasRefused (over_link N.Link.answer N.Link.next) N.Link.state N.Link.received N.Link.faults
         (maker_of N.opening N.lent N.faults links.old) (maker_of N.opening N.lent N.faults links.new)
         scenario.entry.now base) }
     ensures has_text { IfOk result (λ played. HasText played.transcripts) }
 {
+    law_faults_shown();
+    law_faults_counted::<N::Link>();
     let opening = opened(alloc, scenario.hosts.as_slice())?;
     let (book, mut first) = TurnBook::new(alloc, opening)?;
     let count = scenario.documents.len();
@@ -100,14 +102,13 @@ pub fn play_over<R: Threads + Wait + Sync, N: Links>(
     let mut seats = Vec::with_capacity(alloc, count)?;
     let mut back = Vec::with_capacity(alloc, count + 1)?;
     back.push_reserved(first);
-    let played = play_seated(rt, alloc, scenario, base, &book, passes, links, &mut seats);
-    unseat(seats, links, &mut back);
-    let transcripts = played?;
-    let Closed { book: _, history } = book.close(back);
-    Ok(Played {
-        transcripts,
-        history,
-    })
+    match seat_all(alloc, &scenario.routes, passes, links, &mut seats) {
+        Ok(()) => play_seated(rt, alloc, scenario, base, book, seats, back, links),
+        Err(OutOfMemory) => {
+            unseat(seats, links, &mut back);
+            Err(OutOfMemory)
+        }
+    }
 }
 
 /// Plays a scenario over its own servers, from its own time on.

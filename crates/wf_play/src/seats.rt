@@ -1,20 +1,19 @@
 // The seats of the documents: each has a pass of the shared book, and a link.
 ghost use Rattle.std.specs.Prelude.{◌≡◌, ◌≤◌, ◌+◌, ◌++◌, [], length, map, option_map, vec_capacity, vec_len, OnOk};
-ghost use Rattle.wf_play.specs.Links.{AreOpened, grown_by_all};
+ghost use Rattle.wf_play.specs.Links.{AreOpened, for_documents, grown_by_all};
 ghost use Rattle.wf_play.specs.Private.Lendings.{AreTaken, out_more};
 ghost use Rattle.wf_play.specs.Private.Seated.{links_in};
 
 use std::alloc::Global;
-use wf_link::Links;
+use wf_link::{Links, Routes};
 use wf_player::Seating;
-use wf_script::Scenario;
 use wf_text::OutOfMemory;
 use wf_turn::TurnPass;
 
-// Makes the link of each document, in order, and puts it beside the document's pass.
+// Makes the link of each document by these routes, in order, and puts it beside the document's pass.
 pub(crate) fn seat_all<N: Links>(
     alloc: Global,
-    scenario: &Scenario,
+    routes: &Routes,
     passes: Vec<TurnPass>,
     links: &mut N,
     seats: &mut Vec<Seating<N::Link, TurnPass>>,
@@ -23,14 +22,15 @@ pub(crate) fn seat_all<N: Links>(
     requires room { vec_len passes ≤ vec_capacity seats.old }
     requires few { vec_len passes ≤ 128 }
     ensures passes { OnOk result (map (λ s. s.pass) seats.new.items ≡ passes.items) }
-    ensures opened { AreOpened (N.opening links.old) (map (λ s. s.link) seats.new.items) }
+    ensures opened { AreOpened (for_documents (N.opening links.old) routes.entry.now)
+        (map (λ s. s.link) seats.new.items) }
     ensures few { length seats.new.items ≤ vec_len passes }
     ensures out { N.lent links.new ≡ option_map (out_more (length seats.new.items)) (N.lent links.old) }
     ensures faults { N.faults links.new ≡ N.faults links.old }
 {
     let mut number = 0u32;
     for pass in passes {
-        let link = links.make(alloc, number, &scenario.routes)?;
+        let link = links.make(alloc, number, routes)?;
         seats.push_reserved(Seating { pass, link });
         number += 1;
     }

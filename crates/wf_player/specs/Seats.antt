@@ -23,11 +23,11 @@ pub record Seat (State : Type 0) : Type 0 where
   pub outside : Outside State
 
 abbrev pub seat_of : {P L State : Type 0} → (P → ℕ) → (P → Book) → (P → List Entry) → (P → ℕ) → (L → Option State)
-    → (L → ℕ) → Seating L P → Seat State
-seat_of document opening own calls state faults seating = record {
+    → (L → Option (List ℕ)) → (L → ℕ) → Seating L P → Seat State
+seat_of document opening own calls state received faults seating = record {
   document = document seating.pass;
   opening = opening seating.pass;
-  outside = outside own calls state faults seating.pass seating.link;
+  outside = outside own calls state received faults seating.pass seating.link;
 }
 
 -- one seat for each document, in their order, each with calls enough for a whole script

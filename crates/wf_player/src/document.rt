@@ -54,13 +54,13 @@ fn run_whole<R: Threads + Wait + Sync, S: Share, L: Link>(
     ensures ran { IfOk result (λ made. Ran (over_link L.answer L.next) lent.now.limit (S.document pass.old)
         (script_run (setting lent.now.client.now lent.now.policies.now lent.now.cookies.now) script.now finished
         running.old)
-        (outside S.own S.left L.state L.faults pass.old link.old) running.new.shown made.0 running.new.clock
-        (outside S.own S.left L.state L.faults pass.new link.new)) }
+        (outside S.own S.left L.state L.received L.faults pass.old link.old) running.new.shown made.0 running.new.clock
+        (outside S.own S.left L.state L.received L.faults pass.new link.new)) }
     ensures began { OnErr result (Began (over_link L.answer L.next) lent.now.limit (S.document pass.old)
         (script_run (setting lent.now.client.now lent.now.policies.now lent.now.cookies.now) script.now finished
         running.old)
-        (outside S.own S.left L.state L.faults pass.old link.old) running.new.shown
-        (outside S.own S.left L.state L.faults pass.new link.new)) }
+        (outside S.own S.left L.state L.received L.faults pass.old link.old) running.new.shown
+        (outside S.own S.left L.state L.received L.faults pass.new link.new)) }
     ensures few { S.left pass.old ≤ S.left pass.new + 129024 }
     ensures hung_up { OnOk result (IsAtEnd (L.left link.new)) }
     ensures has_text { IfOk result (λ made. made.0 ≢ Memory) }
@@ -92,12 +92,12 @@ fn run_document<R: Threads + Wait + Sync, S: Share, L: Link>(
     requires base { running.old ≡ beginning running.old.clock }
     ensures ran { IfOk result (λ made. Ran (over_link L.answer L.next) limit (S.document pass.old)
         (document_run cookies.now running.old.clock document.now)
-        (outside S.own S.left L.state L.faults pass.old link.old) running.new.shown made.0 running.new.clock
-        (outside S.own S.left L.state L.faults pass.new link.new)) }
+        (outside S.own S.left L.state L.received L.faults pass.old link.old) running.new.shown made.0 running.new.clock
+        (outside S.own S.left L.state L.received L.faults pass.new link.new)) }
     ensures began { OnErr result (Began (over_link L.answer L.next) limit (S.document pass.old)
         (document_run cookies.now running.old.clock document.now)
-        (outside S.own S.left L.state L.faults pass.old link.old) running.new.shown
-        (outside S.own S.left L.state L.faults pass.new link.new)) }
+        (outside S.own S.left L.state L.received L.faults pass.old link.old) running.new.shown
+        (outside S.own S.left L.state L.received L.faults pass.new link.new)) }
     ensures few { S.left pass.old ≤ S.left pass.new + most_calls }
     ensures hung_up { OnOk result (IsAtEnd (L.left link.new)) }
     ensures has_text { IfOk result (λ made. made.0 ≢ Memory) }
@@ -145,8 +145,8 @@ pub fn drive<R: Threads + Wait + Sync, S: Share, L: Link>(
     requires left { most_calls ≤ S.left pass.old }
     ensures came { (one : OneDocument) → slice_get scenario.entry.now.documents document ≡ Some one
         → Came (over_link L.answer L.next) scenario.entry.now.body_limit (S.document pass.old)
-        (document_run scenario.entry.now.cookies base one) (outside S.own S.left L.state L.faults pass.old link.old)
-        result.events result.ending result.clock (outside S.own S.left L.state L.faults pass.new link.new) }
+        (document_run scenario.entry.now.cookies base one) (outside S.own S.left L.state L.received L.faults pass.old link.old)
+        result.events result.ending result.clock (outside S.own S.left L.state L.received L.faults pass.new link.new) }
     ensures few { S.left pass.old ≤ S.left pass.new + most_calls }
     ensures hung_up { result.ending ≢ Memory → IsAtEnd (L.left link.new) }
     ensures number { result.document ≡ document }

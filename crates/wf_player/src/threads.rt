@@ -30,8 +30,8 @@ fn play_row<R: Threads + Wait + Sync, S: Share, L: Link>(
 )
     requires scenario { IsValid scenario.now }
     requires base { base ≤ 2 ^ 40 }
-    requires row { CanPlay (S.belongs share.now) (seat_of S.document S.opening S.own S.left L.state L.faults) scenario.now number row.old }
-    ensures { RowPlayed (S.belongs share.now) (seat_of S.document S.opening S.own S.left L.state L.faults)
+    requires row { CanPlay (S.belongs share.now) (seat_of S.document S.opening S.own S.left L.state L.received L.faults) scenario.now number row.old }
+    ensures { RowPlayed (S.belongs share.now) (seat_of S.document S.opening S.own S.left L.state L.received L.faults)
         (over_link L.answer L.next) scenario.entry.now base number row.old row.new }
 {
     let seat = &mut row.seating;
@@ -61,10 +61,10 @@ where
     requires scenario { IsValid scenario.now }
     requires base { base ≤ 2 ^ 40 }
     requires rows { (i : ℕ) (d : _) → i < length rows.old
-        → CanPlay (S.belongs share.now) (seat_of S.document S.opening S.own S.left L.state L.faults) scenario.now i
+        → CanPlay (S.belongs share.now) (seat_of S.document S.opening S.own S.left L.state L.received L.faults) scenario.now i
         (slice_index_or rows.old i d) }
     ensures { (i : ℕ) (d : _) → i < length rows.old
-        → RowPlayed (S.belongs share.now) (seat_of S.document S.opening S.own S.left L.state L.faults)
+        → RowPlayed (S.belongs share.now) (seat_of S.document S.opening S.own S.left L.state L.received L.faults)
         (over_link L.answer L.next) scenario.entry.now base i (slice_index_or rows.old i d) (slice_index_or rows.new i d) }
 {
     let threads = rows.len();
@@ -77,8 +77,8 @@ where
         threads,
         &|number: usize, row: &mut Row<L, S::Pass>|
             requires { IsValid scenario.now × (base ≤ 2 ^ 40) × CanPlay (S.belongs share.now)
-                (seat_of S.document S.opening S.own S.left L.state L.faults) scenario.now number row.now }
-            ensures { RowPlayed (S.belongs share.entry.now) (seat_of S.document S.opening S.own S.left L.state L.faults)
+                (seat_of S.document S.opening S.own S.left L.state L.received L.faults) scenario.now number row.now }
+            ensures { RowPlayed (S.belongs share.entry.now) (seat_of S.document S.opening S.own S.left L.state L.received L.faults)
                 (over_link L.answer L.next) scenario.entry.now base number row.entry.now row.exit.now }
         { play_row(rt, alloc, scenario, number as u32, base, share, row) },
     );
@@ -160,14 +160,14 @@ where
     requires scenario { IsValid scenario.now }
     requires base { base ≤ 2 ^ 40 }
     requires seats { AreSeated scenario.now.documents
-        (map (seat_of S.document S.opening S.own S.left L.state L.faults) seats.old.items) }
+        (map (seat_of S.document S.opening S.own S.left L.state L.received L.faults) seats.old.items) }
     requires belong { All (λ s. S.belongs share.now s.pass) seats.old.items }
     ensures played { IfOk result (λ transcripts. ArePlayed (over_link L.answer L.next) scenario.entry.now base 0
-        scenario.entry.now.documents (map (seat_of S.document S.opening S.own S.left L.state L.faults) seats.old.items)
-        (map (seat_of S.document S.opening S.own S.left L.state L.faults) seats.new.items) transcripts) }
+        scenario.entry.now.documents (map (seat_of S.document S.opening S.own S.left L.state L.received L.faults) seats.old.items)
+        (map (seat_of S.document S.opening S.own S.left L.state L.received L.faults) seats.new.items) transcripts) }
     ensures refused { OnErr result (AreRefused (over_link L.answer L.next) scenario.entry.now base
-        (map (seat_of S.document S.opening S.own S.left L.state L.faults) seats.old.items)
-        (map (seat_of S.document S.opening S.own S.left L.state L.faults) seats.new.items)) }
+        (map (seat_of S.document S.opening S.own S.left L.state L.received L.faults) seats.old.items)
+        (map (seat_of S.document S.opening S.own S.left L.state L.received L.faults) seats.new.items)) }
     ensures belong { All (λ s. S.belongs share.now s.pass) seats.new.items }
     ensures documents { map (λ s. S.document s.pass) seats.new.items
         ≡ range_with_len 0 (length scenario.entry.now.documents) }

@@ -74,11 +74,12 @@ fn end_fetch<L: Link>(
     event: Event,
 ) -> Result<(), OutOfMemory>
     ensures ended { OnOk result ((running.new ≡ after_events (event ∷ []) running.old)
-        × IsIdle (exchange_of L.state L.left L.faults link.new wire.new)) }
+        × IsIdle (exchange_of L.state L.left L.received L.faults link.new wire.new)) }
     ensures unshown { OnErr result ((running.new ≡ running.old)
-        × (exchange_of L.state L.left L.faults link.new wire.new
-        ≡ exchange_of L.state L.left L.faults link.old wire.old)) }
+        × (exchange_of L.state L.left L.received L.faults link.new wire.new
+        ≡ exchange_of L.state L.left L.received L.faults link.old wire.old)) }
     ensures state { L.state link.new ≡ L.state link.old }
+    ensures received { L.received link.new ≡ L.received link.old }
     ensures faults { L.faults link.new ≡ L.faults link.old }
 {
     running.show(event)?;
@@ -103,12 +104,12 @@ fn run_request<R: Threads + Wait + Sync, S: Share, L: Link>(
     requires end { IsAtEnd (L.left link.old) }
     ensures played { OnOk result (Played (over_link L.answer L.next) lent.now.limit (S.document pass.old)
         (fetched (setting lent.now.client.now lent.now.policies.now lent.now.cookies.now) kind made)
-        (standing_of (world_of S.own S.left L.state L.left L.faults pass.old link.old wire.old) running.old) None
-        (standing_of (world_of S.own S.left L.state L.left L.faults pass.new link.new wire.new) running.new)) }
+        (standing_of (world_of S.own S.left L.state L.left L.received L.faults pass.old link.old wire.old) running.old) None
+        (standing_of (world_of S.own S.left L.state L.left L.received L.faults pass.new link.new wire.new) running.new)) }
     ensures cut { OnErr result (Cut (over_link L.answer L.next) lent.now.limit (S.document pass.old)
         (fetched (setting lent.now.client.now lent.now.policies.now lent.now.cookies.now) kind made)
-        (standing_of (world_of S.own S.left L.state L.left L.faults pass.old link.old wire.old) running.old)
-        (standing_of (world_of S.own S.left L.state L.left L.faults pass.new link.new wire.new) running.new)) }
+        (standing_of (world_of S.own S.left L.state L.left L.received L.faults pass.old link.old wire.old) running.old)
+        (standing_of (world_of S.own S.left L.state L.left L.received L.faults pass.new link.new wire.new) running.new)) }
     ensures few { S.left pass.old ≤ S.left pass.new + most_asks }
     ensures hung_up { OnOk result (IsAtEnd (L.left link.new)) }
     ensures fetches { running.new.fetches ≡ running.old.fetches }
@@ -147,13 +148,13 @@ fn run_asked<R: Threads + Wait + Sync, S: Share, L: Link>(
     ensures played { OnOk result (Played (over_link L.answer L.next) lent.now.limit (S.document pass.old)
         (λ next progress. asked (setting lent.now.client.now lent.now.policies.now lent.now.cookies.now) kind made next
         (started progress))
-        (standing_of (world_of S.own S.left L.state L.left L.faults pass.old link.old wire.old) running.old) None
-        (standing_of (world_of S.own S.left L.state L.left L.faults pass.new link.new wire.new) running.new)) }
+        (standing_of (world_of S.own S.left L.state L.left L.received L.faults pass.old link.old wire.old) running.old) None
+        (standing_of (world_of S.own S.left L.state L.left L.received L.faults pass.new link.new wire.new) running.new)) }
     ensures cut { OnErr result (Cut (over_link L.answer L.next) lent.now.limit (S.document pass.old)
         (λ next progress. asked (setting lent.now.client.now lent.now.policies.now lent.now.cookies.now) kind made next
         (started progress))
-        (standing_of (world_of S.own S.left L.state L.left L.faults pass.old link.old wire.old) running.old)
-        (standing_of (world_of S.own S.left L.state L.left L.faults pass.new link.new wire.new) running.new)) }
+        (standing_of (world_of S.own S.left L.state L.left L.received L.faults pass.old link.old wire.old) running.old)
+        (standing_of (world_of S.own S.left L.state L.left L.received L.faults pass.new link.new wire.new) running.new)) }
     ensures spent { IsSpent (S.left pass.old) running.old (S.left pass.new) running.new }
     ensures hung_up { OnOk result (IsAtEnd (L.left link.new)) }
     ensures belongs { S.belongs lent.now.share.now pass.new }
@@ -185,12 +186,12 @@ pub fn run_fetch_command<R: Threads + Wait + Sync, S: Share, L: Link>(
     requires end { IsAtEnd (L.left link.old) }
     ensures played { OnOk result (Played (over_link L.answer L.next) lent.now.limit (S.document pass.old)
         (command_started (setting lent.now.client.now lent.now.policies.now lent.now.cookies.now) (fetch init.now))
-        (standing_of (world_of S.own S.left L.state L.left L.faults pass.old link.old wire.old) running.old) None
-        (standing_of (world_of S.own S.left L.state L.left L.faults pass.new link.new wire.new) running.new)) }
+        (standing_of (world_of S.own S.left L.state L.left L.received L.faults pass.old link.old wire.old) running.old) None
+        (standing_of (world_of S.own S.left L.state L.left L.received L.faults pass.new link.new wire.new) running.new)) }
     ensures cut { OnErr result (Cut (over_link L.answer L.next) lent.now.limit (S.document pass.old)
         (command_started (setting lent.now.client.now lent.now.policies.now lent.now.cookies.now) (fetch init.now))
-        (standing_of (world_of S.own S.left L.state L.left L.faults pass.old link.old wire.old) running.old)
-        (standing_of (world_of S.own S.left L.state L.left L.faults pass.new link.new wire.new) running.new)) }
+        (standing_of (world_of S.own S.left L.state L.left L.received L.faults pass.old link.old wire.old) running.old)
+        (standing_of (world_of S.own S.left L.state L.left L.received L.faults pass.new link.new wire.new) running.new)) }
     ensures spent { IsSpent (S.left pass.old) running.old (S.left pass.new) running.new }
     ensures hung_up { OnOk result (IsAtEnd (L.left link.new)) }
     ensures belongs { S.belongs lent.now.share.now pass.new }
@@ -218,12 +219,12 @@ pub fn run_load_command<R: Threads + Wait + Sync, S: Share, L: Link>(
     requires end { IsAtEnd (L.left link.old) }
     ensures played { OnOk result (Played (over_link L.answer L.next) lent.now.limit (S.document pass.old)
         (command_started (setting lent.now.client.now lent.now.policies.now lent.now.cookies.now) (load init.now))
-        (standing_of (world_of S.own S.left L.state L.left L.faults pass.old link.old wire.old) running.old) None
-        (standing_of (world_of S.own S.left L.state L.left L.faults pass.new link.new wire.new) running.new)) }
+        (standing_of (world_of S.own S.left L.state L.left L.received L.faults pass.old link.old wire.old) running.old) None
+        (standing_of (world_of S.own S.left L.state L.left L.received L.faults pass.new link.new wire.new) running.new)) }
     ensures cut { OnErr result (Cut (over_link L.answer L.next) lent.now.limit (S.document pass.old)
         (command_started (setting lent.now.client.now lent.now.policies.now lent.now.cookies.now) (load init.now))
-        (standing_of (world_of S.own S.left L.state L.left L.faults pass.old link.old wire.old) running.old)
-        (standing_of (world_of S.own S.left L.state L.left L.faults pass.new link.new wire.new) running.new)) }
+        (standing_of (world_of S.own S.left L.state L.left L.received L.faults pass.old link.old wire.old) running.old)
+        (standing_of (world_of S.own S.left L.state L.left L.received L.faults pass.new link.new wire.new) running.new)) }
     ensures spent { IsSpent (S.left pass.old) running.old (S.left pass.new) running.new }
     ensures hung_up { OnOk result (IsAtEnd (L.left link.new)) }
     ensures belongs { S.belongs lent.now.share.now pass.new }

@@ -38,6 +38,10 @@ pub record SimState : Type 0 where
 abbrev pub told_asks : Option (List Ask)
 told_asks = None
 
+-- nor how many bytes of each answer were received
+abbrev pub told_counts : Option (List ℕ)
+told_counts = None
+
 -- nor do links to them tell which of them are out
 abbrev pub not_lent : Option (Lent SimState)
 not_lent = None

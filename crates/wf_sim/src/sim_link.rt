@@ -1,18 +1,19 @@
-ghost use Rattle.std.specs.Prelude.{◌≡◌, ◌<◌, ◌≤◌, ◌++◌, [], List, take, drop, length, Some, Ok, IfOk, OnOk, OnErr};
+ghost use Rattle.std.specs.Prelude.{◌≡◌, ◌⊎◌, ◌<◌, ◌≤◌, ◌++◌, [], List, take, drop, length, Some, Ok, IfOk, OnOk, OnErr};
 ghost use Rattle.std.specs.Io.{ReadsAtMost};
 ghost use Rattle.wf_link.specs.Counts.{HasCause};
-ghost use Rattle.wf_link.specs.Links.{Asked, MayHaveAsked};
+ghost use Rattle.wf_link.specs.Links.{Asked, Awaits, MayHaveAsked, Received};
 ghost use Rattle.wf_link.specs.Sources.{Gave, IsAtEnd};
 ghost use Rattle.wf_script.specs.Valid.{IsValid};
 ghost use Rattle.wf_script.specs.declared.types.Server.{Server};
-ghost use Rattle.wf_sim.specs.Sim.{after_receive, answer_to, fault_count, received, told_asks};
+ghost use Rattle.wf_sim.specs.Sim.{after_receive, answer_to, fault_count, received, told_asks, told_counts};
 
 use crate::request::{method_of, target_of};
 use std::marker::Model;
 use wf_link::{Failed, Link, Target};
 use wf_script::{Scenario, Servers};
 
-/// A link to the scripted servers of a scenario. It never fails, takes no memory, and tells no asks.
+/// A link to the scripted servers of a scenario. It never fails, takes no memory, and tells neither
+/// what it was asked nor how much of each answer was received.
 #[derive(Drop)]
 pub struct SimLink<'a> {
     servers: &'a Servers,
@@ -67,6 +68,8 @@ impl<'a> Link for SimLink<'a> {
 
     ghost asks = { λ _. told_asks };
 
+    ghost received = { λ _. told_counts };
+
     ghost faults = { λ _. fault_count };
 
     /// Asks the scripted server of the target's origin. The answer is then to come: that of the
@@ -79,6 +82,8 @@ impl<'a> Link for SimLink<'a> {
             (record { origin = target.now.origin; request = request.now })) }
         ensures failed { OnErr result (MayHaveAsked told_asks told_asks
             (record { origin = target.now.origin; request = request.now })) }
+        ensures awaits { OnOk result (Awaits told_counts told_counts) }
+        ensures may_await { OnErr result (Awaits told_counts told_counts ⊎ (told_counts ≡ told_counts)) }
         ensures cause { HasCause fault_count fault_count result }
         ensures answer { result ≡ Ok tt }
         ensures after { self.new
@@ -99,6 +104,8 @@ impl<'a> Link for SimLink<'a> {
         ensures failed { OnErr result (Some self.new.left ≡ Some self.old.left) }
         ensures state { Some self.new.servers ≡ Some self.old.servers }
         ensures asks { told_asks ≡ told_asks }
+        ensures received { IfOk result (λ n. Received n told_counts told_counts) }
+        ensures unreceived { OnErr result (told_counts ≡ told_counts) }
         ensures cause { HasCause fault_count fault_count result }
         ensures answer { result ≡ Ok (received self.old (length buf.old)) }
         ensures after { self.new ≡ after_receive self.old (received self.old (length buf.old)) }
@@ -116,6 +123,7 @@ impl<'a> Link for SimLink<'a> {
         ensures end { IsAtEnd (Some self.new.left) }
         ensures state { Some self.new.servers ≡ Some self.old.servers }
         ensures asks { told_asks ≡ told_asks }
+        ensures received { told_counts ≡ told_counts }
         ensures faults { fault_count ≡ fault_count }
         ensures after { self.new ≡ record self.old { left = [] } }
     {

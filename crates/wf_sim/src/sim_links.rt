@@ -1,6 +1,7 @@
-ghost use Rattle.std.specs.Prelude.{◌≡◌, ◌+◌, ℕ, [], Ok, Some, IfOk, OnErr, option_map};
+ghost use Rattle.std.specs.Prelude.{◌≡◌, ◌+◌, ℕ, List, [], Ok, Some, IfOk, OnErr, option_map};
 ghost use Rattle.wf_link.specs.Counts.{grown_by};
 ghost use Rattle.wf_link.specs.Links.{IsTold, TookBack, one_out};
+ghost use Rattle.wf_link.specs.declared.target.Route.{Route};
 ghost use Rattle.wf_script.specs.Valid.{IsValid};
 ghost use Rattle.wf_sim.specs.Sim.{fault_count, not_lent};
 
@@ -47,7 +48,7 @@ impl<'a> SimLinks<'a> {
 impl<'a> Links for SimLinks<'a> {
     type Link = SimLink<'a>;
 
-    ghost opening = { λ links k. Some links };
+    ghost opening = { λ links _ _ _. Some links };
 
     ghost lent = { λ _. not_lent };
 
@@ -61,8 +62,8 @@ impl<'a> Links for SimLinks<'a> {
         _routes: &Routes,
     ) -> Result<SimLink<'a>, OutOfMemory>
         ensures told { IfOk result (λ link. IsTold (Some self.old) link) }
-        ensures later { IfOk result (λ _. (k : ℕ) → Some self.new ≡ Some self.old) }
-        ensures refused { OnErr result ((k : ℕ) → Some self.new ≡ Some self.old) }
+        ensures later { IfOk result (λ _. (k number : ℕ) (by : List Route) → Some self.new ≡ Some self.old) }
+        ensures refused { OnErr result ((k number : ℕ) (by : List Route) → Some self.new ≡ Some self.old) }
         ensures lent { IfOk result (λ _. not_lent ≡ option_map one_out not_lent) }
         ensures kept { OnErr result (not_lent ≡ not_lent) }
         ensures faults { fault_count ≡ fault_count }

@@ -2,22 +2,24 @@ ghost use Rattle.std.specs.Prelude.{◌≡◌, ◌≤◌, [], false, None, Ok, I
 ghost use Rattle.std.specs.Io.{ReadsAtMost};
 ghost use Rattle.wf_link.specs.Counts.{HasCause, one_more};
 ghost use Rattle.wf_tcp.specs.Routes.{address_of};
-ghost use Rattle.wf_tcp.specs.TcpLink.{after_ask, after_receive};
+ghost use Rattle.wf_tcp.specs.TcpLink.{after_ask, after_receive, opened};
 
 use crate::routes::address_of;
 use std::io::{Read, Write};
 use std::marker::Model;
 use std::net::{Net, TcpStream};
 use std::str;
-use wf_link::{Failed, Link, Route, Routes, Target};
+use wf_link::{Failed, Link, Routes, Target};
 
 /// A link over TCP. Each request is sent on a connection of its own, to the address of the first route
 /// of its target's origin. It tells nothing of what a peer sends.
 #[derive(Drop)]
 pub struct TcpLink<R: Net> {
     network: R,
+    document: u32,
     routes: Routes,
     stream: Option<R::Stream>,
+    tried: u64,
     faults: u64,
 }
 
@@ -28,35 +30,44 @@ impl<R: Net> Model for TcpLink<R> {
     ghost Value = { TcpLinkState };
 
     ghost view = { λ link. record {
+      document = link.document;
       routes = link.routes;
       is_open = is_some link.stream;
+      tried = link.tried;
       faults = link.faults;
     } };
 }
 
-// A connection to the address of the origin's first route, on which the request was sent: one write
-// where the system takes it whole. None where the origin has no route, where its address names no
-// place, where nobody listens there, and where the write failed.
-fn send<R: Net>(network: &R, routes: &[Route], origin: &[u8], request: &[u8]) -> Option<R::Stream>
-    ensures { IsNone (address_of routes.now origin.now) → IsNone result }
-{
-    let address = str::from_utf8(address_of(routes, origin)?).ok()?;
+// A connection to an address, on which the request was sent: one write where the system takes it
+// whole. None where the address names no place, where nobody listens there, and where the write
+// failed.
+fn send<R: Net>(network: &R, address: &[u8], request: &[u8]) -> Option<R::Stream> {
+    let address = str::from_utf8(address).ok()?;
     let mut stream = TcpStream::connect(network, address).ok()?;
     stream.write_all(request).ok()?;
     Some(stream)
 }
 
 impl<R: Net> TcpLink<R> {
-    // A link by these routes, with no connection yet.
-    pub(crate) fn new(network: R, routes: Routes) -> TcpLink<R>
-        ensures { result ≡ record { routes = routes; is_open = false; faults = 0 } }
+    // A link for a document by these routes, with no connection yet.
+    pub(crate) fn new(network: R, document: u32, routes: Routes) -> TcpLink<R>
+        ensures { result ≡ opened document routes }
     {
         TcpLink {
             network,
+            document,
             routes,
             stream: None,
+            tried: 0,
             faults: 0,
         }
+    }
+
+    /// The number of the document that it is for.
+    pub fn document(&self) -> u32
+        ensures { result ≡ self.now.document }
+    {
+        self.document
     }
 
     /// How often it failed.
@@ -89,20 +100,26 @@ impl<R: Net> Link for TcpLink<R> {
 
     ghost asks = { λ _. None };
 
+    ghost received = { λ _. None };
+
     ghost faults = { λ link. link.faults };
 
     /// Closes the connection of the ask before it, opens one to the address of the first route of the
-    /// target's origin, and writes the request. It fails where the origin has no route, where its
-    /// address names no place or nobody listens there, and where the write failed or memory was
-    /// refused to the system's calls; no connection is open then.
+    /// target's origin, and writes the request. It fails where the origin has no route, and then no
+    /// connection was tried; where its address names no place or nobody listens there; and where the
+    /// write failed or memory was refused to the system's calls. No connection is open then.
     fn ask(&mut self, target: &Target, request: &[u8]) -> Result<(), Failed>
         ensures cause { HasCause self.old.faults self.new.faults result }
-        ensures unrouted { IsNone (address_of self.old.routes target.now.origin) → IsErr result }
-        ensures after { self.new ≡ after_ask self.old result }
+        ensures unrouted { IsNone (address_of self.old.routes target.now.origin)
+            → IsErr result × (self.new.tried ≡ self.old.tried) }
+        ensures after { self.new ≡ after_ask self.old target.now.origin result }
     {
         self.hang_up();
-        let routes = self.routes.as_slice();
-        match send(&self.network, routes, target.origin.as_slice(), request) {
+        let Some(address) = address_of(self.routes.as_slice(), target.origin.as_slice()) else {
+            return Err(self.fail());
+        };
+        self.tried = self.tried.saturating_add(1);
+        match send(&self.network, address, request) {
             Some(stream) => {
                 self.stream = Some(stream);
                 Ok(())

@@ -1,5 +1,6 @@
-ghost use Rattle.std.specs.Prelude.{◌≡◌, false, IfOk, None};
+ghost use Rattle.std.specs.Prelude.{◌≡◌, IfOk, None, Some};
 ghost use Rattle.wf_link.specs.Counts.{grown_by};
+ghost use Rattle.wf_tcp.specs.TcpLink.{opened};
 
 use crate::link::TcpLink;
 use crate::routes::copy_of;
@@ -9,7 +10,8 @@ use std::net::Net;
 use wf_link::{Links, Routes};
 use wf_text::OutOfMemory;
 
-/// Links over TCP, seen as how often those taken back had failed. It tells nothing of the links.
+/// Links over TCP, seen as how often those taken back had failed. It tells each link that
+/// it makes, and not those that it took back.
 #[derive(Drop)]
 pub struct TcpLinks<R: Net> {
     network: R,
@@ -46,24 +48,23 @@ where
 {
     type Link = TcpLink<R>;
 
-    ghost opening = { λ _ _. None };
+    ghost opening = { λ _ _ document routes. Some (opened document routes) };
 
     ghost lent = { λ _. None };
 
     ghost faults = { λ links. links };
 
-    /// A link with a copy of the routes, whatever document it is for, or `OutOfMemory`. It is not
-    /// connected yet.
+    /// A link for the document, with a copy of the routes, or `OutOfMemory`. It is not connected yet.
     fn make(
         &mut self,
         alloc: Global,
-        _document: u32,
+        document: u32,
         routes: &Routes,
     ) -> Result<TcpLink<R>, OutOfMemory>
-        ensures made { IfOk result (λ link. link ≡ record { routes = routes.now; is_open = false; faults = 0 }) }
+        ensures made { IfOk result (λ link. link ≡ opened document routes.now) }
         ensures unchanged { self.new ≡ self.old }
     {
-        Ok(TcpLink::new(self.network, copy_of(alloc, routes)?))
+        Ok(TcpLink::new(self.network, document, copy_of(alloc, routes)?))
     }
 
     /// Counts the faults of the link, and closes its connection.

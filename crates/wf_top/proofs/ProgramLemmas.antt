@@ -408,18 +408,18 @@ summary-outcome count of output output' (Err failure.TookNothing) took part faul
 
 -- ---- links and clock
 
-module _ {L State : Type 0} (by : Answering State) (state : L → Option State) (faults : L → ℕ) where
+module _ {L State : Type 0} (by : Answering State) (state : L → Option State) (received : L → Option (List ℕ)) (faults : L → ℕ) where
   -- where no scenario was read they are as they were
   pub over-unread : (net : Net L) (input input' : Source) (output : Sink) (verdict : Status)
       → IsUnread input input' verdict
-      → IsPlayedOver by state faults net net input input' output output verdict
+      → IsPlayedOver by state received faults net net input input' output output verdict
   unfolding unread-played
   over-unread net input input' output verdict u = record {
-    played = unread-played (IsLinked by state faults net net) input input' output verdict u;
+    played = unread-played (IsLinked by state received faults net net) input input' output verdict u;
     left = left verdict u.why;
   }
     where
-      left : (v : Status) → IsWhyNone u.bytes input input' v → AreLeft by state faults net net u.bytes input' v
+      left : (v : Status) → IsWhyNone u.bytes input input' v → AreLeft by state received faults net net u.bytes input' v
       left status.Ok why = absurd why
       left status.Usage why = absurd why
       left (status.Scenario place) why = refl
@@ -432,11 +432,11 @@ module _ {L State : Type 0} (by : Answering State) (state : L → Option State) 
     -- a play over them was refused
     pub over-refused : (input input' : Source) (output : Sink) (scenario : Scenario) (base : ℕ)
         → IsRead input input' scenario → IsBase net.time base
-        → WasRefused by state faults net.links net'.links scenario base
-        → IsPlayedOver by state faults net net' input input' output output status.OutOfMemory
+        → WasRefused by state received faults net.links net'.links scenario base
+        → IsPlayedOver by state received faults net net' input input' output output status.OutOfMemory
     unfolding refused-played
     over-refused input input' output scenario base r base_is refused = record {
-      played = refused-played (IsLinked by state faults net net') input input' output scenario r;
+      played = refused-played (IsLinked by state received faults net net') input input' output scenario r;
       left = inr (inl (record {
         whole = r.whole;
         scenario = scenario;
@@ -450,17 +450,17 @@ module _ {L State : Type 0} (by : Answering State) (state : L → Option State) 
     -- they were played over
     pub over-written : (input input' : Source) (output output' : Sink) (scenario : Scenario)
         (transcripts : List Transcript) (history : List Entry) (verdict : Status) → IsRead input input' scenario
-        → IsLinked by state faults net net' scenario transcripts history
+        → IsLinked by state received faults net net' scenario transcripts history
         → IsWritten transcripts history output output' verdict
-        → IsPlayedOver by state faults net net' input input' output output' verdict
+        → IsPlayedOver by state received faults net net' input input' output output' verdict
     unfolding written-played
     over-written input input' output output' scenario transcripts history verdict r linked w = record {
-      played = written-played (IsLinked by state faults net net') input input' output output' scenario transcripts
+      played = written-played (IsLinked by state received faults net net') input input' output output' scenario transcripts
           history verdict r linked w;
       left = left verdict w;
     }
       where
-        played : HasPlayed by state faults net net' r.bytes input'
+        played : HasPlayed by state received faults net net' r.bytes input'
         played = (
           r.whole,
           record {
@@ -473,7 +473,7 @@ module _ {L State : Type 0} (by : Answering State) (state : L → Option State) 
         )
 
         left : (v : Status) → IsWritten transcripts history output output' v
-            → AreLeft by state faults net net' r.bytes input' v
+            → AreLeft by state received faults net net' r.bytes input' v
         left status.Ok w = played
         left status.Usage w = absurd w
         left (status.Scenario place) w = absurd w
@@ -484,16 +484,16 @@ module _ {L State : Type 0} (by : Answering State) (state : L → Option State) 
 
     -- each link that was made was taken back
     left-back : (bytes : List ℕ) (input' : Source) (verdict : Status)
-        → AreLeft by state faults net net' bytes input' verdict → HasTakenBack faults net.links net'.links
+        → AreLeft by state received faults net net' bytes input' verdict → HasTakenBack faults net.links net'.links
     left-back bytes input' verdict left = back verdict left
       where
         same : net' ≡ net → HasTakenBack faults net.links net'.links
         same is = subst (λ (n : Net L). HasTakenBack faults net.links n.links) (sym is) (none-taken faults net.links)
 
-        played : HasPlayed by state faults net net' bytes input' → HasTakenBack faults net.links net'.links
+        played : HasPlayed by state received faults net net' bytes input' → HasTakenBack faults net.links net'.links
         played p = record { back = p.1.play.over.back; took = p.1.play.over.took }
 
-        back : (v : Status) → AreLeft by state faults net net' bytes input' v
+        back : (v : Status) → AreLeft by state received faults net net' bytes input' v
             → HasTakenBack faults net.links net'.links
         back status.Ok left = played left
         back status.WriteFault left = played left
@@ -511,33 +511,34 @@ module _ {L State : Type 0} (by : Answering State) (state : L → Option State) 
 
 -- ---- the verdict
 
-module _ {L State : Type 0} (by : Answering State) (state : L → Option State) (faults : L → ℕ) (net net' : Net L) where
+module _ {L State : Type 0} (by : Answering State) (state : L → Option State)
+    (received : L → Option (List ℕ)) (faults : L → ℕ) (net net' : Net L) where
   -- the verdict by other words that are equal
   verdict-at : (asked other : Option Subcommand) (input input' : Source) (output output' : Sink) (verdict : Status)
-      → asked ≡ other → IsVerdict by state faults net net' asked input input' output output' verdict
-      → IsVerdict by state faults net net' other input input' output output' verdict
+      → asked ≡ other → IsVerdict by state received faults net net' asked input input' output output' verdict
+      → IsVerdict by state received faults net net' other input input' output output' verdict
   verdict-at asked other input input' output output' verdict is v =
-      subst (λ (a : Option Subcommand). IsVerdict by state faults net net' a input input' output output' verdict) is v
+      subst (λ (a : Option Subcommand). IsVerdict by state received faults net net' a input input' output output' verdict) is v
 
   usage-of : (asked : Option Subcommand) (input input' : Source) (output output' : Sink) (verdict : Status)
-      → asked ≡ None → IsVerdict by state faults net net' asked input input' output output' verdict
+      → asked ≡ None → IsVerdict by state received faults net net' asked input input' output output' verdict
       → verdict ≡ status.Usage
   usage-of asked input input' output output' verdict is v =
       (verdict-at asked None input input' output output' verdict is v).0
 
   not_accepted-of : (asked : Option Subcommand) (input input' : Source) (output output' : Sink) (verdict : Status)
-      → verdict ≡ status.Usage → IsVerdict by state faults net net' asked input input' output output' verdict
+      → verdict ≡ status.Usage → IsVerdict by state received faults net net' asked input input' output output' verdict
       → asked ≡ None
   not_accepted-of None input input' output output' verdict is v = refl
   not_accepted-of (Some Play) input input' output output' verdict is v =
       absurd (input-usage IsScripted input input' output output' verdict v.0 is)
   not_accepted-of (Some Over) input input' output output' verdict is v =
-      absurd (input-usage (IsLinked by state faults net net') input input' output output' verdict v.played is)
+      absurd (input-usage (IsLinked by state received faults net net') input input' output output' verdict v.played is)
   not_accepted-of (Some (Gen count)) input input' output output' verdict is v =
       absurd (summed-usage count output output' verdict v.0 is)
 
   verdict-write : (asked : Option Subcommand) (input input' : Source) (output output' : Sink) (verdict : Status)
-      → verdict ≡ status.WriteFault → IsVerdict by state faults net net' asked input input' output output' verdict
+      → verdict ≡ status.WriteFault → IsVerdict by state received faults net net' asked input input' output output' verdict
       → Failed output output'
   verdict-write None input input' output output' verdict is v = absurd (other (sym v.0 ∙ is))
     where
@@ -546,12 +547,12 @@ module _ {L State : Type 0} (by : Answering State) (state : L → Option State) 
   verdict-write (Some Play) input input' output output' verdict is v =
       input-write IsScripted input input' output output' verdict v.0 is
   verdict-write (Some Over) input input' output output' verdict is v =
-      input-write (IsLinked by state faults net net') input input' output output' verdict v.played is
+      input-write (IsLinked by state received faults net net') input input' output output' verdict v.played is
   verdict-write (Some (Gen count)) input input' output output' verdict is v =
       summed-write count output output' verdict v.0 is
 
   kept-of : (asked : Option Subcommand) (input input' : Source) (output output' : Sink) (verdict : Status)
-      → IsVerdict by state faults net net' asked input input' output output' verdict → asked ≢ Some Over → net' ≡ net
+      → IsVerdict by state received faults net net' asked input input' output output' verdict → asked ≢ Some Over → net' ≡ net
   kept-of None input input' output output' verdict v other = v.3
   kept-of (Some Play) input input' output output' verdict v other = v.1
   kept-of (Some Over) input input' output output' verdict v other = absurd (other refl)
@@ -560,42 +561,43 @@ module _ {L State : Type 0} (by : Answering State) (state : L → Option State) 
 -- ---- the whole
 
 -- the account of an answer says what the program promises
-pub answers : {L State : Type 0} (by : Answering State) (state : L → Option State) (faults : L → ℕ)
+pub answers : {L State : Type 0} (by : Answering State) (state : L → Option State)
+    (received : L → Option (List ℕ)) (faults : L → ℕ)
     (words : List (List ℕ)) (input input' : Source) (output output' c c' : Sink) (net net' : Net L) (answer : Status)
-    → IsAnswer by state faults words input input' output output' c c' net net' answer
-    → Answers by state faults words input input' output output' c c' net net' answer
-answers by state faults words input input' output output' c c' net net' answer a =
+    → IsAnswer by state received faults words input input' output output' c c' net net' answer
+    → Answers by state received faults words input input' output output' c c' net net' answer
+answers by state received faults words input input' output output' c c' net net' answer a =
     let asked = subcommand_of words in
     let told = told-answer c c' a.verdict answer a.is_told in
     record {
       is_answer = a;
-      usage = λ is. not_accepted-of by state faults net net' asked input input' output output' a.verdict
+      usage = λ is. not_accepted-of by state received faults net net' asked input input' output output' a.verdict
           (told-same c c' a.verdict answer a.is_told (λ h. usage_write (sym is ∙ h)) ∙ is) a.is_verdict;
       not_accepted = λ no_words. elim told [
-        | inl e ↦ inl (e ∙ usage-of by state faults net net' asked input input' output output' a.verdict no_words
+        | inl e ↦ inl (e ∙ usage-of by state received faults net net' asked input input' output output' a.verdict no_words
             a.is_verdict)
         | inr x ↦ inr x
       ];
       play = λ is.
-          let v = verdict-at by state faults net net' asked (Some Play) input input' output output' a.verdict is
+          let v = verdict-at by state received faults net net' asked (Some Play) input input' output output' a.verdict is
           a.is_verdict in
           input-answers IsScripted input input' output output' c c' a.verdict answer v.0 a.is_told;
       net = λ is.
-          let v = verdict-at by state faults net net' asked (Some Over) input input' output output' a.verdict is
+          let v = verdict-at by state received faults net net' asked (Some Over) input input' output output' a.verdict is
           a.is_verdict in
-          input-answers (IsLinked by state faults net net') input input' output output' c c' a.verdict answer v.played
+          input-answers (IsLinked by state received faults net net') input input' output output' c c' a.verdict answer v.played
           a.is_told;
       gen = λ count is.
-          let v = verdict-at by state faults net net' asked (Some (Gen count)) input input' output output' a.verdict is
+          let v = verdict-at by state received faults net net' asked (Some (Gen count)) input input' output output' a.verdict is
           a.is_verdict in
           count-answers count input input' output output' c c' a.verdict answer v.1 v.0 a.is_told;
-      kept = kept-of by state faults net net' asked input input' output output' a.verdict a.is_verdict;
+      kept = kept-of by state received faults net net' asked input input' output output' a.verdict a.is_verdict;
       back = λ is.
-          let v = verdict-at by state faults net net' asked (Some Over) input input' output output' a.verdict is
+          let v = verdict-at by state received faults net net' asked (Some Over) input input' output output' a.verdict is
           a.is_verdict in
-          left-back by state faults net net' v.played.bytes input' a.verdict v.left;
+          left-back by state received faults net net' v.played.bytes input' a.verdict v.left;
       write_fault = λ is. elim told [
-        | inl e ↦ inl (verdict-write by state faults net net' asked input input' output output' a.verdict (sym e ∙ is)
+        | inl e ↦ inl (verdict-write by state received faults net net' asked input input' output output' a.verdict (sym e ∙ is)
             a.is_verdict)
         | inr x ↦ inr x.1
       ];

@@ -51,15 +51,16 @@ IsBase None base = base ≤ most_base
 IsBase (Some time) base = base ≡ min time most_base
 
 -- Over links:
-module _ {L State : Type 0} (by : Answering State) (state : L → Option State) (faults : L → ℕ) (old new : Net L) where
+module _ {L State : Type 0} (by : Answering State) (state : L → Option State)
+    (received : L → Option (List ℕ)) (faults : L → ℕ) (old new : Net L) where
   -- A play of the scenario over the links that are made for its documents, from the clock's time on, in which what each
   -- document sends and sees is what it would alone.
   pub record IsLinked (scenario : Scenario) (transcripts : List Transcript) (history : List Entry) : Type 0 where
     pub base : ℕ
     pub base_is : IsBase old.time base
-    pub over : IsPlayOverLinks by state faults old.links new.links scenario base transcripts history
-    pub alone : AreAlone by scenario base history 0 scenario.documents (map (way_of state faults) over.made)
-        (map (way_of state faults) over.back) transcripts
+    pub over : IsPlayOverLinks by state received faults old.links new.links scenario base transcripts history
+    pub alone : AreAlone by scenario base history 0 scenario.documents (map (way_of state received faults) over.made)
+        (map (way_of state received faults) over.back) transcripts
 
   -- A play of the scenario that the bytes of a whole input are was refused for want of memory.
   pub record HasRefused (bytes : List ℕ) (input' : Source) : Type 0 where
@@ -68,7 +69,7 @@ module _ {L State : Type 0} (by : Answering State) (state : L → Option State) 
     pub read : scenario_of bytes ≡ Ok scenario
     pub base : ℕ
     pub base_is : IsBase old.time base
-    pub refused : WasRefused by state faults old.links new.links scenario base
+    pub refused : WasRefused by state received faults old.links new.links scenario base
 
 -- ---- a scenario that is read
 
@@ -122,10 +123,11 @@ module _ (Plays : Scenario → List Transcript → List Entry → Type 0) where
 
 -- ---- what is left of links and clock
 
-module _ {L State : Type 0} (by : Answering State) (state : L → Option State) (faults : L → ℕ) (old new : Net L) where
+module _ {L State : Type 0} (by : Answering State) (state : L → Option State)
+    (received : L → Option (List ℕ)) (faults : L → ℕ) (old new : Net L) where
   -- the scenario that the bytes of a whole input are was played over the links
   abbrev pub HasPlayed : List ℕ → Source → Type 0
-  HasPlayed bytes input' = IsWhole bytes input' × PlayOf (IsLinked by state faults old new) bytes
+  HasPlayed bytes input' = IsWhole bytes input' × PlayOf (IsLinked by state received faults old new) bytes
 
   -- What is left of them where the input gave these bytes: as they were, where nothing was played; else the links were
   -- taken back.
@@ -133,12 +135,12 @@ module _ {L State : Type 0} (by : Answering State) (state : L → Option State) 
   AreLeft bytes input' status.Ok = HasPlayed bytes input'
   AreLeft bytes input' status.WriteFault = HasPlayed bytes input'
   AreLeft bytes input' status.OutOfMemory =
-      (new ≡ old) ⊎ HasRefused by state faults old new bytes input' ⊎ HasPlayed bytes input'
+      (new ≡ old) ⊎ HasRefused by state received faults old new bytes input' ⊎ HasPlayed bytes input'
   AreLeft bytes input' verdict = new ≡ old
 
   -- the verdict on an input that is played over links, and what is left of them
   pub record IsPlayedOver (input input' : Source) (output output' : Sink) (verdict : Status) : Type 0 where
-    pub played : IsPlayed (IsLinked by state faults old new) input input' output output' verdict
+    pub played : IsPlayed (IsLinked by state received faults old new) input input' output output' verdict
     pub left : AreLeft played.bytes input' verdict
 
 -- ---- a generated scenario
@@ -172,7 +174,8 @@ IsSummed count output output' status.InputTooLong = ⊥
 -- ---- the whole
 
 -- By what answers over the links, what a link tells of itself, and the links and the clock at first and at last:
-module _ {L State : Type 0} (by : Answering State) (state : L → Option State) (faults : L → ℕ) (net net' : Net L) where
+module _ {L State : Type 0} (by : Answering State) (state : L → Option State)
+    (received : L → Option (List ℕ)) (faults : L → ℕ) (net net' : Net L) where
   -- The verdict, by what the words ask for: Usage exactly where they are not accepted, and then nothing was read or
   -- written; with `gen` nothing was read. With `net` alone links and the clock are used.
   abbrev pub IsVerdict : Option Subcommand → Source → Source → Sink → Sink → Status → Type 0
@@ -181,7 +184,7 @@ module _ {L State : Type 0} (by : Answering State) (state : L → Option State) 
   IsVerdict (Some Play) input input' output output' verdict =
       IsPlayed IsScripted input input' output output' verdict × (net' ≡ net)
   IsVerdict (Some Over) input input' output output' verdict =
-      IsPlayedOver by state faults net net' input input' output output' verdict
+      IsPlayedOver by state received faults net net' input input' output output' verdict
   IsVerdict (Some (Gen count)) input input' output output' verdict =
       IsSummed count output output' verdict × (input' ≡ input) × (net' ≡ net)
 
@@ -198,11 +201,12 @@ IsTold old new status.Ok answer = (answer ≡ status.Ok) × (new ≡ old)
 IsTold old new verdict answer = IsComplained old new verdict answer
 
 -- How the program came to its answer: it came to a verdict first, and told it then.
-pub record IsAnswer {L State : Type 0} (by : Answering State) (state : L → Option State) (faults : L → ℕ)
+pub record IsAnswer {L State : Type 0} (by : Answering State) (state : L → Option State)
+    (received : L → Option (List ℕ)) (faults : L → ℕ)
     (words : List (List ℕ)) (input input' : Source) (output output' complaints complaints' : Sink) (net net' : Net L)
     (answer : Status) : Type 0 where
   pub verdict : Status
-  pub is_verdict : IsVerdict by state faults net net' (subcommand_of words) input input' output output' verdict
+  pub is_verdict : IsVerdict by state received faults net net' (subcommand_of words) input input' output output' verdict
   pub is_told : IsTold complaints complaints' verdict answer
 
 -- the other answers that a play without a fault of its scenario can have: memory was refused, or the complaints or
@@ -268,10 +272,11 @@ pub record AnswersCount (count : ℕ) (input input' : Source) (output output' co
 
 -- What the program promises of its answer. The first field says all; the others are what it says of each
 -- status.
-pub record Answers {L State : Type 0} (by : Answering State) (state : L → Option State) (faults : L → ℕ)
+pub record Answers {L State : Type 0} (by : Answering State) (state : L → Option State)
+    (received : L → Option (List ℕ)) (faults : L → ℕ)
     (words : List (List ℕ)) (input input' : Source) (output output' complaints complaints' : Sink) (outer outer' : Net L)
     (answer : Status) : Type 0 where
-  pub is_answer : IsAnswer by state faults words input input' output output' complaints complaints' outer outer' answer
+  pub is_answer : IsAnswer by state received faults words input input' output output' complaints complaints' outer outer' answer
   -- Usage only where the words are not accepted, and there always, unless the complaints failed
   pub usage : answer ≡ status.Usage → subcommand_of words ≡ None
   pub not_accepted : subcommand_of words ≡ None
@@ -280,7 +285,7 @@ pub record Answers {L State : Type 0} (by : Answering State) (state : L → Opti
   pub play : subcommand_of words ≡ Some Play
       → AnswersInput IsScripted input input' output output' complaints complaints' answer
   pub net : subcommand_of words ≡ Some Over
-      → AnswersInput (IsLinked by state faults outer outer') input input' output output' complaints complaints' answer
+      → AnswersInput (IsLinked by state received faults outer outer') input input' output output' complaints complaints' answer
   pub gen : (count : ℕ) → subcommand_of words ≡ Some (Gen count)
       → AnswersCount count input input' output output' complaints complaints' answer
   -- with other words than `net` links and clock are left as they were, and with `net` each link that was made was

@@ -57,7 +57,7 @@ pub fn fetchplay<R: Threads + Wait + Sync, S: Source, K: Sink, E: Sink, N: Links
     links: &mut N,
     clock: &mut C,
 ) -> Status
-    ensures { Answers (over_link N.Link.answer N.Link.next) N.Link.state N.Link.faults (texts words.now)
+    ensures { Answers (over_link N.Link.answer N.Link.next) N.Link.state N.Link.received N.Link.faults (texts words.now)
         (source_of S.left S.faults input.old) (source_of S.left S.faults input.new)
         (sink_of K.taken K.faults K.zeros output.old) (sink_of K.taken K.faults K.zeros output.new)
         (sink_of E.taken E.faults E.zeros complaints.old) (sink_of E.taken E.faults E.zeros complaints.new)
@@ -78,7 +78,7 @@ fn verdict<R: Threads + Wait + Sync, S: Source, K: Sink, N: Links, C: Clock>(
     links: &mut N,
     clock: &mut C,
 ) -> Status
-    ensures { IsVerdict (over_link N.Link.answer N.Link.next) N.Link.state N.Link.faults
+    ensures { IsVerdict (over_link N.Link.answer N.Link.next) N.Link.state N.Link.received N.Link.faults
         (net_of (maker_of N.opening N.lent N.faults links.old) C.next clock.old)
         (net_of (maker_of N.opening N.lent N.faults links.new) C.next clock.new)
         (spec.subcommand_of (texts words.now))
@@ -152,7 +152,7 @@ fn play_linked<R: Threads + Wait + Sync, S: Source, K: Sink, N: Links, C: Clock>
     links: &mut N,
     clock: &mut C,
 ) -> Status
-    ensures { IsPlayedOver (over_link N.Link.answer N.Link.next) N.Link.state N.Link.faults
+    ensures { IsPlayedOver (over_link N.Link.answer N.Link.next) N.Link.state N.Link.received N.Link.faults
         (net_of (maker_of N.opening N.lent N.faults links.old) C.next clock.old)
         (net_of (maker_of N.opening N.lent N.faults links.new) C.next clock.new)
         (source_of S.left S.faults input.old) (source_of S.left S.faults input.new)

@@ -19,10 +19,10 @@ use Rattle.wf_http1.specs.declared.framing.Framing.TheVariants.{Nothing, Chunked
 use Rattle.wf_http1.proofs.OpenLemmas.{bodies-short}
 use Rattle.wf_act.specs.declared.act.Input.TheVariants.{BodyIs}
 use Rattle.wf_wire.specs.Exchanges.{Exchange, HasBody, IsBodyRead, IsIdle, LeavesBody, count_of}
-use Rattle.wf_wire.specs.Private.Reads.{HasAtMost}
+use Rattle.wf_wire.specs.Private.Reads.{GivesSome, HasAtMost}
 use Rattle.wf_wire.specs.Wires.{onto_left}
 use Rattle.wf_wire.proofs.WireLemmas.{Receives, come-first, come-all, nothing-left, receives-more}
-use Rattle.wf_wire.proofs.WireLemmas.{uncaused}
+use Rattle.wf_wire.proofs.WireLemmas.{hung-up, uncaused}
 
 -- ---- the end of an answer is no fault
 
@@ -41,30 +41,38 @@ body-no-fault Chunked limit bytes n is =
     no-fault (nat_lt limit (length (decoded bytes).data_is)) (decoded bytes).complete (decoded bytes).data_is n is
 
 -- a body came to its end, and nothing is to come then
-pub body-is-read : {State : Type 0} (limit : ℕ) (old new : Exchange State) (end : BodyEnd)
-    → HasBody old.framing limit old.coming end → IsIdle new → new.state ≡ old.state → old.faults ≤ new.faults
-    → IsBodyRead limit old (BodyIs end) new
-body-is-read limit old new body.Null has idle state later = record {
+pub body-is-read : {State : Type 0} (limit : ℕ) (old new : Exchange State) (end : BodyEnd) (left : Option (List ℕ))
+    → HasBody old.framing limit old.coming end → GivesSome old.left left old.received new.received → IsIdle new
+    → new.state ≡ old.state → old.faults ≤ new.faults → IsBodyRead limit old (BodyIs end) new
+body-is-read limit old new body.Null left has gives idle state later = record {
   body_is = (has, idle);
+  count = gives.count;
+  gives = hung-up old new (BodyIs body.Null) left refl gives;
   state_is = state;
   caused = uncaused (BodyIs body.Null) old.faults new.faults later refl;
 }
-body-is-read limit old new (body.Whole bytes) has idle state later = record {
+body-is-read limit old new (body.Whole bytes) left has gives idle state later = record {
   body_is = (has, idle);
+  count = gives.count;
+  gives = hung-up old new (BodyIs (body.Whole bytes)) left refl gives;
   state_is = state;
   caused = uncaused (BodyIs (body.Whole bytes)) old.faults new.faults later refl;
 }
-body-is-read limit old new (body.Cut n) has idle state later = record {
+body-is-read limit old new (body.Cut n) left has gives idle state later = record {
   body_is = (has, idle);
+  count = gives.count;
+  gives = hung-up old new (BodyIs (body.Cut n)) left refl gives;
   state_is = state;
   caused = uncaused (BodyIs (body.Cut n)) old.faults new.faults later refl;
 }
-body-is-read limit old new body.TooBig has idle state later = record {
+body-is-read limit old new body.TooBig left has gives idle state later = record {
   body_is = (has, idle);
+  count = gives.count;
+  gives = hung-up old new (BodyIs body.TooBig) left refl gives;
   state_is = state;
   caused = uncaused (BodyIs body.TooBig) old.faults new.faults later refl;
 }
-body-is-read limit old new (body.Fault n) has idle state later =
+body-is-read limit old new (body.Fault n) left has gives idle state later =
     absurd (body-no-fault old.framing limit has.bytes n (sym has.ends))
 
 -- ---- a body has no more bytes than its limit
@@ -138,7 +146,7 @@ module _ (window : List ℕ) (left : Option (List ℕ)) (how : Framing) (limit :
       }
 
   -- they leave it open, and the reader has them
-  body-read : (next : BodyReading) → IsFed reading piece (bodies.More next) → next.bytes ≡ reading.bytes ++ now
+  pub body-read : (next : BodyReading) → IsFed reading piece (bodies.More next) → next.bytes ≡ reading.bytes ++ now
   body-read next fed =
       ap (λ (r : BodyReading). r.bytes) fed.0 ∙ ap (λ (p : List ℕ). reading.bytes ++ p) same
 

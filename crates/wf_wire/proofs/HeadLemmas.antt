@@ -1,23 +1,24 @@
 -- What a reader of heads that is fed a wire's window finds in the bytes that were to come.
-use Rattle.std.proofs.Common.{◌≡◌, ℕ, ◌+◌, ◌-◌, ◌≤◌, ◌<◌, List, [], ◌++◌, length, inl, inr, refl, ap, sym}
+use Rattle.std.proofs.Common.{◌≡◌, ℕ, ◌+◌, ◌-◌, ◌≤◌, ◌<◌, List, [], ◌++◌, drop, length, inl, inr, refl, ap, sym}
 use Rattle.std.proofs.Common.{subst, ◌∙◌, arith, length-append, Option}
 use Rattle.std.specs.Prelude.{unwrap_or}
 use Rattle.std.proofs.lemmas.List.{append-nil}
 use Rattle.wf_types.specs.declared.hop.Head.{Head}
 use Rattle.wf_link.specs.Sources.{Gave, IsAtEnd}
-use Rattle.wf_http1.specs.Answers.{HasBadBlock, IsFinal, IsTooLong, IsUnfinished}
+use Rattle.wf_http1.specs.Answers.{HasBadBlock, IsFinal, IsTooLong, IsUnfinished, most_bytes}
+use Rattle.wf_http1.specs.Framings.{framing_of}
 use Rattle.wf_http1.specs.HeadFeeding.{IsFed}
 use Rattle.wf_http1.specs.declared.head.HeadStep.{HeadStep}
 use Rattle.wf_http1.specs.declared.head.HeadStep.TheVariants as heads
 use Rattle.wf_http1.proofs.AnswerLemmas.{bad-more, final-more, long-more}
-use Rattle.wf_act.specs.declared.act.Input.TheVariants.{HeadLong}
+use Rattle.wf_act.specs.declared.act.Input.TheVariants.{HeadIs, HeadLong}
 use Rattle.wf_wire.specs.declared.exchange.Found.{Found}
 use Rattle.wf_wire.specs.declared.exchange.Found.TheVariants as found
-use Rattle.wf_wire.specs.Exchanges.{Exchange, IsHeadRead, IsIdle}
-use Rattle.wf_wire.specs.Private.Reads.{Finds}
+use Rattle.wf_wire.specs.Exchanges.{Exchange, HasHead, IsHeadRead, IsIdle}
+use Rattle.wf_wire.specs.Private.Reads.{Finds, GivesAtMost}
 use Rattle.wf_wire.specs.Wires.{onto_left}
 use Rattle.wf_wire.proofs.WireLemmas.{Receives, come-behind, come-first, come-all, nothing-left, receives-more}
-use Rattle.wf_wire.proofs.WireLemmas.{receives-read, uncaused}
+use Rattle.wf_wire.proofs.WireLemmas.{hung-up, receives-read, uncaused}
 
 -- what a step came to, of the window that was fed
 fed : (read piece now : List ℕ) (step is : HeadStep) → piece ≡ now → step ≡ is → IsFed read piece step
@@ -68,6 +69,9 @@ module _ (window : List ℕ) (left : Option (List ℕ)) (read piece now : List �
   head-open : (next : List ℕ) → step ≡ heads.More next → (next ≡ read ++ now) × IsUnfinished (read ++ now)
   head-open next came = fed read piece now step (heads.More next) same came feeds
 
+  pub head-read : (next : List ℕ) → step ≡ heads.More next → next ≡ read ++ now
+  head-read next came = (head-open next came).0
+
   -- and more was received
   pub head-goes-on : (next more : List ℕ) (left'' : Option (List ℕ)) → step ≡ heads.More next → Gave left' left'' more
       → Receives window left next more left''
@@ -108,10 +112,32 @@ module _ (window : List ℕ) (left : Option (List ℕ)) (read piece now : List �
 
 -- too long a head came, and nothing is to come then
 pub read-long : {State : Type 0} (old new : Exchange State) (it : Found) (window : List ℕ) (left : Option (List ℕ))
-    → it ≡ found.Long → Finds old.coming it window left → IsIdle new → new.state ≡ old.state
+    → it ≡ found.Long → Finds old.coming it window left
+    → GivesAtMost old.left left old.received new.received (most_bytes + 1) → IsIdle new → new.state ≡ old.state
     → old.faults ≤ new.faults → IsHeadRead old HeadLong new
-read-long old new it window left is finds idle state later = record {
+read-long old new it window left is finds few idle state later = record {
   head_is = (subst (λ (f : Found). Finds old.coming f window left) is finds, idle);
+  count = few.gives.count;
+  few = few.few;
+  gives = hung-up old new HeadLong left refl few.gives;
   state_is = state;
   caused = uncaused HeadLong old.faults new.faults later refl;
 }
+
+-- the final head came, and what stands behind it is to come
+pub read-final : {State : Type 0} (old new : Exchange State) (it : Found) (window : List ℕ) (head : Head) (n : ℕ)
+    → it ≡ found.Head head n → Finds old.coming it window new.left
+    → GivesAtMost old.left new.left old.received new.received (most_bytes + 1)
+    → new.coming ≡ onto_left (drop n window) new.left → new.framing ≡ framing_of head → new.state ≡ old.state
+    → old.faults ≤ new.faults → IsHeadRead old (HeadIs head) new
+read-final old new it window head n is finds few behind framed state later =
+    let here : Finds old.coming (found.Head head n) window new.left =
+    subst (λ (f : Found). Finds old.coming f window new.left) is finds in
+    record {
+      head_is = (subst (λ (c : Option (List ℕ)). HasHead old.coming head c) (sym behind) here.1, framed);
+      count = few.gives.count;
+      few = few.few;
+      gives = record { counted = few.gives.counted; gone = λ (open_ : _). few.gives.gone };
+      state_is = state;
+      caused = uncaused (HeadIs head) old.faults new.faults later refl;
+    }

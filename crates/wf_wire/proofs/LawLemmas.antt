@@ -18,7 +18,7 @@ module _ {State : Type 0} (answer answer' : State → List ℕ) (next next' : St
     (old new : Exchange State) (answers : (state : State) → answer state ≡ answer' state)
     (nexts : (state : State) → next state ≡ next' state) where
   answered-alike : (input : Input) → IsAnswered answer old input new → IsAnswered answer' old input new
-  answered-alike Sent is = is ∙ map-alike answer answer' old.state answers
+  answered-alike Sent is = (is.0 ∙ map-alike answer answer' old.state answers, is.1)
   answered-alike Fault is = is
   answered-alike (Replied reply) is = is
   answered-alike (HeadIs head) is = is
@@ -32,6 +32,7 @@ module _ {State : Type 0} (answer answer' : State → List ℕ) (next next' : St
     answered = answered-alike input is.answered;
     framing_is = is.framing_is;
     state_is = is.state_is ∙ map-alike next next' old.state nexts;
+    awaited = is.awaited;
     caused = is.caused;
   }
 

@@ -5,10 +5,13 @@ use Rattle.std.specs.Prelude.{slice_range, unwrap_or}
 use Rattle.std.proofs.lemmas.List.{append-nil, drop-append-le, drop-drop, drop-take, length-take, take-append-drop}
 use Rattle.std.proofs.lemmas.List.{take-take}
 use Rattle.std.proofs.Math.Seq.{drop-append-add}
-use Rattle.wf_link.specs.Sources.{Gave, GaveAtMost, IsAtEnd}
+use Rattle.wf_link.specs.Links.{Received}
+use Rattle.wf_link.specs.Sources.{Gave, GaveJust, IsAtEnd}
+use Rattle.wf_link.proofs.ReceivedLemmas.{received-none, received-on}
 use Rattle.wf_link.proofs.SourceLemmas.{gave-again}
 use Rattle.wf_act.specs.declared.act.Input.{Input}
-use Rattle.wf_wire.specs.Exchanges.{AreToCome, IsCaused, is_fault}
+use Rattle.wf_wire.specs.Exchanges.{AreToCome, Exchange, Gives, IsCaused, Refuses, ends_answer, is_fault}
+use Rattle.wf_wire.specs.Private.Reads.{GivesAtMost, GivesSome}
 use Rattle.wf_wire.specs.Wires.{onto_left}
 
 -- no bytes before what a link has left
@@ -39,7 +42,7 @@ pub record Receives (window : List ℕ) (left : Option (List ℕ)) (read now : L
   pub gave : Gave left left' given
   pub whole : read ++ now ≡ window ++ given
 
-gave-nothing : (left : Option (List ℕ)) → Gave left left []
+pub gave-nothing : (left : Option (List ℕ)) → Gave left left []
 gave-nothing None = tt
 gave-nothing (Some rest) = (rest, refl, refl)
 
@@ -64,15 +67,6 @@ pub receives-read : (window : List ℕ) (left : Option (List ℕ)) (read now nex
 receives-read window left read now next left' left'' is same so_far =
     receives-more window left read now next [] left' left'' is
     (rw same (gave-nothing left')) so_far
-
--- no more was received than was read and stands in the window
-pub received-most : (window : List ℕ) (left : Option (List ℕ)) (read now : List ℕ) (left' : Option (List ℕ))
-    (most : ℕ) → length read + length now ≤ most → Receives window left read now left' → GaveAtMost left left' most
-received-most window left read now left' most few so_far = record {
-  given = so_far.given;
-  gave = so_far.gave;
-  within = omega (arith, ap length so_far.whole, length-append read now, length-append window so_far.given, few);
-}
 
 -- ---- what was to come
 
@@ -163,3 +157,117 @@ pub gathered-more : (a b c : Option (List ℕ)) (old lent new now : List ℕ) (f
 gathered-more a b c old lent new now from to count front so_far same kept gave is =
     subst (λ (l : List ℕ). Gave a c (slice_range l from (to + count))) (sym is)
     (gathered-on a b c old new from to count front so_far (kept ∙ ap (λ (l : List ℕ). take to l) same) gave)
+
+-- ---- what was received is counted
+
+-- So many bytes were received since there were a window and counts: they were read, or stand in the window now.
+pub record Counts (window : List ℕ) (received : Option (List ℕ)) (read now : List ℕ) (received' : Option (List ℕ))
+    : Type 0 where
+  pub count : ℕ
+  pub counted : Received count received received'
+  pub whole : length window + count ≡ length read + length now
+
+pub counts-none : (window : List ℕ) (received : Option (List ℕ)) → Counts window received [] window received
+counts-none window received = record { count = 0; counted = received-none received; whole = omega arith }
+
+-- the window was read, and so many bytes more were received
+pub counts-more : (window : List ℕ) (received : Option (List ℕ)) (read now next more : List ℕ)
+    (received' received'' : Option (List ℕ)) → next ≡ read ++ now → Received (length more) received' received''
+    → Counts window received read now received' → Counts window received next more received''
+counts-more window received read now next more received' received'' is counted so_far = record {
+  count = so_far.count + length more;
+  counted = received-on so_far.count (length more) received received' received'' so_far.counted counted;
+  whole = omega (arith, so_far.whole, ap length is, length-append read now);
+}
+
+-- so many bytes were given, and they were counted
+given-counted : (window : List ℕ) (left received : Option (List ℕ)) (read now : List ℕ)
+    (left' received' : Option (List ℕ)) → Receives window left read now left'
+    → (counts : Counts window received read now received') → GaveJust left left' counts.count
+given-counted window left received read now left' received' so_far counts = record {
+  given = so_far.given;
+  gave = so_far.gave;
+  just = omega (arith, ap length so_far.whole, length-append read now, length-append window so_far.given, counts.whole);
+}
+
+pub gives-counted : (window : List ℕ) (left received : Option (List ℕ)) (read now : List ℕ)
+    (left' received' : Option (List ℕ)) → Receives window left read now left'
+    → Counts window received read now received' → GivesSome left left' received received'
+gives-counted window left received read now left' received' so_far counts = record {
+  count = counts.count;
+  gone = given-counted window left received read now left' received' so_far counts;
+  counted = counts.counted;
+}
+
+-- nothing was given
+pub gives-none : (left received : Option (List ℕ)) → GivesSome left left received received
+gives-none left received = record {
+  count = 0;
+  gone = record { given = []; gave = gave-nothing left; just = refl };
+  counted = received-none received;
+}
+
+pub few-none : (left received : Option (List ℕ)) (most : ℕ) → GivesAtMost left left received received most
+few-none left received most =
+    let few : 0 ≤ most = omega arith in
+    record {
+      gives = record {
+        count = 0;
+        gone = record { given = []; gave = gave-nothing left; just = refl };
+        counted = received-none received;
+      };
+      few = few;
+    }
+
+-- nothing more was
+pub few-on : (left left' left'' received received' received'' : Option (List ℕ)) (most : ℕ) → left'' ≡ left'
+    → received'' ≡ received' → GivesAtMost left left' received received' most
+    → GivesAtMost left left'' received received'' most
+few-on left left' left'' received received' received'' most same alike few = rw (same, alike) few
+
+-- and they are not more than were read and stand in the window
+pub gives-few : (window : List ℕ) (left received : Option (List ℕ)) (read now : List ℕ)
+    (left' received' : Option (List ℕ)) (most : ℕ) → length read + length now ≤ most
+    → Receives window left read now left' → Counts window received read now received'
+    → GivesAtMost left left' received received' most
+gives-few window left received read now left' received' most few so_far counts =
+    let fewer : counts.count ≤ most = omega (arith, counts.whole, few) in
+    record {
+      gives = record {
+        count = counts.count;
+        gone = given-counted window left received read now left' received' so_far counts;
+        counted = counts.counted;
+      };
+      few = fewer;
+    }
+
+-- memory was refused, and nothing was received
+pub refuses_none : {State : Type 0} (exchange : Exchange State) → Refuses exchange exchange
+refuses_none exchange =
+    record { state_is = refl; count = 0; counted = received-none exchange.received; later = omega arith }
+
+-- ---- an act's bytes
+
+-- the link was hung up then
+pub hung-up : {State : Type 0} (old new : Exchange State) (input : Input) (left : Option (List ℕ))
+    → ends_answer input ≡ true → (gives : GivesSome old.left left old.received new.received)
+    → Gives old input new gives.count
+hung-up old new input left ends gives = record {
+  counted = gives.counted;
+  gone = λ (open_ : ends_answer input ≡ false). absurd (cc);
+}
+
+-- ---- what is gathered is counted
+
+front-length : (buffer : List ℕ) (from to : ℕ) → from ≡ 0 → to ≤ length buffer → length (slice_range buffer from to) ≡ to
+front-length buffer from to front within =
+    omega (arith, ap length (front-is buffer from to front), length-take to buffer, within)
+
+-- and more was received behind what stands there
+pub gathered-counted : (a b c : Option (List ℕ)) (old now : List ℕ) (from to count : ℕ) → from ≡ 0 → to ≤ length old
+    → to + count ≤ length now → Received (length (slice_range old from to)) a b → Received count b c
+    → Received (length (slice_range now from (to + count))) a c
+gathered-counted a b c old now from to count front before within so_far more =
+    subst (λ (n : ℕ). Received n a c) (sym (front-length now from (to + count) front within))
+    (received-on to count a b c
+    (subst (λ (n : ℕ). Received n a b) (front-length old from to front before) so_far) more)

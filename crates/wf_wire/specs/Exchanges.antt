@@ -1,14 +1,15 @@
 -- What comes of the acts of a fetch over a link (RFC 9112): a request is sent, and the head and the body are read
 -- of the bytes of its answer, or the link fails. A link may tell its state and the bytes to come, or not: of bytes
 -- that are not told it is said that there are some, and not which.
-use Rattle.std.specs.Prelude.{◌≡◌, ℕ, ◌≤◌, Bool, true, false, List, take, length, Option, Some, None, option_map}
+use Rattle.std.specs.Prelude.{◌≡◌, ◌⊎◌, ℕ, ◌+◌, ◌≤◌, Bool, true, false, List, take, length, Option, Some, None, option_map}
 use Rattle.wf_types.specs.declared.hop.Head.{Head}
 use Rattle.wf_types.specs.declared.hop.Hop.{Hop}
 use Rattle.wf_types.specs.declared.response.BodyEnd.{BodyEnd}
 use Rattle.wf_types.specs.declared.response.BodyEnd.TheVariants as body
 use Rattle.wf_link.specs.Counts.{Rose}
-use Rattle.wf_link.specs.Sources.{Gave, IsAtEnd}
-use Rattle.wf_http1.specs.Answers.{HeadEnd, IsHeadEnd, IsUnfinished, final, bad, long}
+use Rattle.wf_link.specs.Links.{Awaits, Received}
+use Rattle.wf_link.specs.Sources.{Gave, GaveJust, IsAtEnd}
+use Rattle.wf_http1.specs.Answers.{HeadEnd, IsHeadEnd, IsUnfinished, final, bad, long, most_bytes}
 use Rattle.wf_http1.specs.Bodies.{IsOpen, body_end}
 use Rattle.wf_http1.specs.Framings.{framing_of}
 use Rattle.wf_http1.specs.declared.framing.Framing.{Framing}
@@ -24,11 +25,13 @@ pub record Answering (State : Type 0) : Type 0 where
   pub next : State → Hop → State
 
 -- Where an exchange stands: the state, where told; the bytes of the answer still to come, where told, and those of
--- them that the link itself has left; how its body is framed, where its head was read; and how often the link failed.
+-- them that the link itself has left; how many bytes of each answer were received of it, where told; how the body is
+-- framed, where its head was read; and how often the link failed.
 pub record Exchange (State : Type 0) : Type 0 where
   pub state : Option State
   pub coming : Option (List ℕ)
   pub left : Option (List ℕ)
+  pub received : Option (List ℕ)
   pub framing : Framing
   pub faults : ℕ
 
@@ -62,11 +65,16 @@ pub record IsCaused (input : Input) (before now : ℕ) : Type 0 where
 
 -- ---- the request
 
--- the answer is to come, or nothing where the link failed
+-- the whole answer is to come, and nothing of it was received; or nothing is to come where the link failed
 abbrev pub IsAnswered : {State : Type 0} → (State → List ℕ) → Exchange State → Input → Exchange State → Type 0
-IsAnswered answer old Sent new = new.coming ≡ option_map answer old.state
+IsAnswered answer old Sent new = (new.coming ≡ option_map answer old.state) × (new.left ≡ new.coming)
 IsAnswered answer old Fault new = IsAtEnd new.coming
 IsAnswered answer old _ new = ⊥
+
+-- what was received of an answer more is counted then; where the link failed it may be
+abbrev pub IsAwaited : Input → Option (List ℕ) → Option (List ℕ) → Type 0
+IsAwaited Sent old new = Awaits old new
+IsAwaited _ old new = Awaits old new ⊎ (new ≡ old)
 
 -- A request was sent, or the link failed. In both the state goes on.
 pub record IsAsked {State : Type 0} (answer : State → List ℕ) (next : State → State) (old : Exchange State)
@@ -74,11 +82,28 @@ pub record IsAsked {State : Type 0} (answer : State → List ℕ) (next : State 
   pub answered : IsAnswered answer old input new
   pub framing_is : new.framing ≡ framing.Nothing
   pub state_is : new.state ≡ option_map next old.state
+  pub awaited : IsAwaited input old.received new.received
   pub caused : IsCaused input old.faults new.faults
 
 -- the request of a hop was sent, or the link failed
 abbrev pub IsSent : {State : Type 0} → Answering State → Exchange State → Hop → Input → Exchange State → Type 0
 IsSent by old hop input new = IsAsked (λ state. by.answer state hop) (λ state. by.next state hop) old input new
+
+-- ---- what is received
+
+-- with this input the answer is over, and the link is hung up
+abbrev pub ends_answer : Input → Bool
+ends_answer HeadBad = true
+ends_answer HeadLong = true
+ends_answer (BodyIs (body.Fault n)) = false
+ends_answer (BodyIs end) = true
+ends_answer _ = false
+
+-- The link gave so many bytes of its answer, which were counted; where it was not hung up they are gone from what it
+-- has left.
+pub record Gives {State : Type 0} (old : Exchange State) (input : Input) (new : Exchange State) (count : ℕ) : Type 0 where
+  pub counted : Received count old.received new.received
+  pub gone : ends_answer input ≡ false → GaveJust old.left new.left count
 
 -- ---- the head
 
@@ -110,9 +135,12 @@ FindsHead old HeadLong new = HasNoHead old.coming long × IsIdle new
 FindsHead old Fault new = LeavesHead old.coming new.left × IsBrokenOff new
 FindsHead old _ new = ⊥
 
--- The head was read, or the link failed.
+-- The head was read, or the link failed. It gave 65,537 bytes at most.
 pub record IsHeadRead {State : Type 0} (old : Exchange State) (input : Input) (new : Exchange State) : Type 0 where
   pub head_is : FindsHead old input new
+  pub count : ℕ
+  pub few : count ≤ most_bytes + 1
+  pub gives : Gives old input new count
   pub state_is : new.state ≡ old.state
   pub caused : IsCaused input old.faults new.faults
 
@@ -157,6 +185,8 @@ FindsBody limit old _ new = ⊥
 pub record IsBodyRead {State : Type 0} (limit : ℕ) (old : Exchange State) (input : Input) (new : Exchange State)
     : Type 0 where
   pub body_is : FindsBody limit old input new
+  pub count : ℕ
+  pub gives : Gives old input new count
   pub state_is : new.state ≡ old.state
   pub caused : IsCaused input old.faults new.faults
 
@@ -171,7 +201,10 @@ Exchanges by limit old ReadBody input new = IsBodyRead limit old input new
 Exchanges by limit old (Ask op) input new = ⊥
 Exchanges by limit old (Tell violation) input new = ⊥
 
--- Where memory was refused the state is as it was, and the count of faults has not fallen.
+-- Where memory was refused the state is as it was, some bytes may have been received, and the count of faults has not
+-- fallen.
 pub record Refuses {State : Type 0} (old new : Exchange State) : Type 0 where
   pub state_is : new.state ≡ old.state
+  pub count : ℕ
+  pub counted : Received count old.received new.received
   pub later : old.faults ≤ new.faults

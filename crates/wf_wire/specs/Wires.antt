@@ -24,14 +24,15 @@ onto_left window left = option_map (λ rest. window ++ rest) left
 abbrev pub coming_of : {L : Type 0} → (L → Option (List ℕ)) → L → Wire → Option (List ℕ)
 coming_of left link wire = onto_left (window_of wire) (left link)
 
--- what the link tells of its state, the bytes to come, those that the link has left, the framing, and the link's
--- count of faults
-abbrev pub exchange_of : {L State : Type 0} → (L → Option State) → (L → Option (List ℕ)) → (L → ℕ) → L → Wire
-    → Exchange State
-exchange_of state left faults link wire = record {
+-- what the link tells of its state, the bytes to come, those that the link has left, how many bytes of each answer were
+-- received, the framing, and the link's count of faults
+abbrev pub exchange_of : {L State : Type 0} → (L → Option State) → (L → Option (List ℕ)) → (L → Option (List ℕ))
+    → (L → ℕ) → L → Wire → Exchange State
+exchange_of state left received faults link wire = record {
   state = state link;
   coming = coming_of left link wire;
   left = left link;
+  received = received link;
   framing = wire.framing;
   faults = faults link;
 }

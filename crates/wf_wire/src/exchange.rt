@@ -1,13 +1,12 @@
 // What is done over a wire: a request goes out, and the head and the body of its answer come in.
 ghost use Rattle.std.specs.Prelude.{◌≡◌, ◌≤◌, ◌+◌, ◌-◌, ◌^◌, ◌++◌, length, IfOk, OnErr, IsTrue};
 ghost use Rattle.wf_link.specs.Counts.{Rose};
-ghost use Rattle.wf_link.specs.Sources.{GaveAtMost};
 ghost use Rattle.wf_http1.specs.Answers.{most_bytes};
 ghost use Rattle.wf_http1.specs.Bodies.{body_end};
 ghost use Rattle.wf_act.specs.Process.{fits};
 ghost use Rattle.wf_wire.specs.Exchanges as spec;
 ghost use Rattle.wf_wire.specs.Exchanges.{IsAsked, IsBodyRead, IsHeadRead, IsSent, Refuses};
-ghost use Rattle.wf_wire.specs.Private.Reads.{Finds, HasAtMost, IsFault, Reads};
+ghost use Rattle.wf_wire.specs.Private.Reads.{Finds, GivesAtMost, GivesSome, HasAtMost, IsFault, Reads};
 ghost use Rattle.wf_wire.specs.Wires.{coming_of, exchange_of, over_link, window_of};
 
 use crate::wire::{RECEIVED, Wire};
@@ -69,6 +68,7 @@ impl Wire {
     /// Sends a request (RFC 9112, section 3). Its answer is to come, and nothing of the one before. `Fault`
     /// only where the link's count of faults rose; then the link is hung up. Where memory was refused
     /// nothing is sent, and all is as it was.
+    #[tactic(auto, using(crate::proofs::WireLemmas::refuses_none))]
     pub fn send<L: Link>(
         &mut self,
         link: &mut L,
@@ -76,13 +76,13 @@ impl Wire {
         hop: &Hop,
     ) -> Result<Input, OutOfMemory>
         ensures sent { IfOk result (λ input. IsSent (over_link L.answer L.next)
-            (exchange_of L.state L.left L.faults link.old self.old) hop.now input
-            (exchange_of L.state L.left L.faults link.new self.new)) }
+            (exchange_of L.state L.left L.received L.faults link.old self.old) hop.now input
+            (exchange_of L.state L.left L.received L.faults link.new self.new)) }
         ensures fits { IfOk result (λ input. IsTrue (fits (Act.Send hop.now) input)) }
-        ensures refused { OnErr result (Refuses (exchange_of L.state L.left L.faults link.old self.old)
-            (exchange_of L.state L.left L.faults link.new self.new)) }
-        ensures kept { OnErr result (exchange_of L.state L.left L.faults link.new self.new
-            ≡ exchange_of L.state L.left L.faults link.old self.old) }
+        ensures refused { OnErr result (Refuses (exchange_of L.state L.left L.received L.faults link.old self.old)
+            (exchange_of L.state L.left L.received L.faults link.new self.new)) }
+        ensures kept { OnErr result (exchange_of L.state L.left L.received L.faults link.new self.new
+            ≡ exchange_of L.state L.left L.received L.faults link.old self.old) }
     {
         let request = write_request(alloc, hop)?;
         let target = Target {
@@ -96,8 +96,8 @@ impl Wire {
     fn ask<L: Link>(&mut self, link: &mut L, target: &Target, request: &[u8]) -> Input
         ensures { IsAsked (λ state. L.answer state target.now.origin request.now)
             (λ state. L.next state target.now.origin request.now)
-            (exchange_of L.state L.left L.faults link.old self.old)
-            result (exchange_of L.state L.left L.faults link.new self.new) }
+            (exchange_of L.state L.left L.received L.faults link.old self.old)
+            result (exchange_of L.state L.left L.received L.faults link.new self.new) }
     {
         self.hang_up(link);
         match link.ask(target, request) {
@@ -110,16 +110,17 @@ impl Wire {
     }
 
     /// Reads the head of the answer to the last request (RFC 9112, section 4): the final head, or what came
-    /// is none, or it is longer than 65,536 bytes; then the link is hung up. `Fault` only where the link's count of faults rose while the head was open; then
-    /// what was received is dropped. Where memory was refused nothing is said of what is to come.
+    /// is none, or it is longer than 65,536 bytes; then the link is hung up. It takes 65,537 bytes of the link
+    /// at most. `Fault` only where the link's count of faults rose while the head was open; then what was
+    /// received is dropped. Where memory was refused nothing is said of what is to come.
     #[tactic(auto, using(crate::proofs::WireLemmas::onto_nothing))]
     pub fn read_head<L: Link>(&mut self, link: &mut L, alloc: Global) -> Result<Input, OutOfMemory>
         ensures read { IfOk result (λ input. IsHeadRead
-            (exchange_of L.state L.left L.faults link.old self.old) input
-            (exchange_of L.state L.left L.faults link.new self.new)) }
+            (exchange_of L.state L.left L.received L.faults link.old self.old) input
+            (exchange_of L.state L.left L.received L.faults link.new self.new)) }
         ensures fits { IfOk result (λ input. IsTrue (fits Act.ReadHead input)) }
-        ensures refused { OnErr result (Refuses (exchange_of L.state L.left L.faults link.old self.old)
-            (exchange_of L.state L.left L.faults link.new self.new)) }
+        ensures refused { OnErr result (Refuses (exchange_of L.state L.left L.received L.faults link.old self.old)
+            (exchange_of L.state L.left L.received L.faults link.new self.new)) }
     {
         match self.find_head(link, alloc)? {
             Found::Head(head, count) => {
@@ -151,7 +152,8 @@ impl Wire {
         ensures later { L.faults link.old ≤ L.faults link.new }
         ensures rose { IfOk result (λ found. found ≡ Found.Fault
             → Rose (L.faults link.old) (L.faults link.new)) }
-        ensures few { GaveAtMost (L.left link.old) (L.left link.new) (most_bytes + 1) }
+        ensures few { GivesAtMost (L.left link.old) (L.left link.new) (L.received link.old) (L.received link.new)
+            (most_bytes + 1) }
     {
         let mut reader = HeadReader::new(alloc)?;
         loop {
@@ -182,11 +184,11 @@ impl Wire {
         limit: u32,
     ) -> Result<Input, OutOfMemory>
         ensures read { IfOk result (λ input. IsBodyRead limit
-            (exchange_of L.state L.left L.faults link.old self.old)
-            input (exchange_of L.state L.left L.faults link.new self.new)) }
+            (exchange_of L.state L.left L.received L.faults link.old self.old)
+            input (exchange_of L.state L.left L.received L.faults link.new self.new)) }
         ensures fits { IfOk result (λ input. IsTrue (fits Act.ReadBody input)) }
-        ensures refused { OnErr result (Refuses (exchange_of L.state L.left L.faults link.old self.old)
-            (exchange_of L.state L.left L.faults link.new self.new)) }
+        ensures refused { OnErr result (Refuses (exchange_of L.state L.left L.received L.faults link.old self.old)
+            (exchange_of L.state L.left L.received L.faults link.new self.new)) }
     {
         match self.find_end(link, alloc, limit)? {
             Ended::Body(end) => {
@@ -212,6 +214,7 @@ impl Wire {
         ensures state { L.state link.new ≡ L.state link.old }
         ensures later { L.faults link.old ≤ L.faults link.new }
         ensures rose { IfOk result (λ ended. IsFault ended → Rose (L.faults link.old) (L.faults link.new)) }
+        ensures gives { GivesSome (L.left link.old) (L.left link.new) (L.received link.old) (L.received link.new) }
     {
         let mut reader = BodyReader::framed(alloc, self.framing, limit)?;
         loop {

@@ -1,5 +1,6 @@
 ghost use Rattle.std.specs.Prelude.{◌≡◌, ◌≤◌, ◌<◌, ◌+◌, [], length, drop, take, true, false, Ok, IfOk, OnOk, OnErr};
 ghost use Rattle.wf_link.specs.Counts.{HasCause};
+ghost use Rattle.wf_link.specs.Links.{Received};
 ghost use Rattle.wf_link.specs.Sources.{Gave, IsAtEnd};
 
 use std::alloc::Global;
@@ -34,6 +35,8 @@ fn receive<L: Link>(link: &mut L, buffer: &mut [u8], most: usize) -> Result<usiz
     ensures gave { IfOk result (λ count. Gave (L.left link.old) (L.left link.new) (take count buffer.new)) }
     ensures end { result ≡ Ok 0 → IsAtEnd (L.left link.new) }
     ensures failed { OnErr result (L.left link.new ≡ L.left link.old) }
+    ensures received { IfOk result (λ count. Received count (L.received link.old) (L.received link.new)) }
+    ensures unreceived { OnErr result (L.received link.new ≡ L.received link.old) }
     ensures cause { HasCause (L.faults link.old) (L.faults link.new) result }
 {
     let room = buffer.len().min(most);
@@ -51,6 +54,8 @@ fn receive_behind<L: Link>(link: &mut L, buffer: &mut [u8], behind: usize) -> Re
         (take count (drop behind buffer.new))) }
     ensures end { result ≡ Ok 0 → IsAtEnd (L.left link.new) }
     ensures failed { OnErr result (L.left link.new ≡ L.left link.old) }
+    ensures received { IfOk result (λ count. Received count (L.received link.old) (L.received link.new)) }
+    ensures unreceived { OnErr result (L.received link.new ≡ L.received link.old) }
     ensures cause { HasCause (L.faults link.old) (L.faults link.new) result }
 {
     link.recv(&mut buffer[behind..])
@@ -62,8 +67,9 @@ impl Wire {
 
     /// A wire over a link, with a buffer of 4,096 bytes. Nothing is to come: the link is hung up.
     pub fn new<L: Link>(alloc: Global, link: &mut L) -> Result<Wire, OutOfMemory>
-        ensures idle { IfOk result (λ wire. IsIdle (exchange_of L.state L.left L.faults link.new wire)) }
+        ensures idle { IfOk result (λ wire. IsIdle (exchange_of L.state L.left L.received L.faults link.new wire)) }
         ensures state { L.state link.new ≡ L.state link.old }
+        ensures received { L.received link.new ≡ L.received link.old }
         ensures faults { L.faults link.new ≡ L.faults link.old }
     {
         let mut wire = Wire {
@@ -79,11 +85,13 @@ impl Wire {
     /// Hangs up: nothing is to come any more.
     #[tactic(auto, using(crate::proofs::WireLemmas::onto_nothing))]
     pub fn close<L: Link>(&mut self, link: &mut L)
-        ensures idle { IsIdle (exchange_of L.state L.left L.faults link.new self.new) }
-        ensures state { (exchange_of L.state L.left L.faults link.new self.new).state
-            ≡ (exchange_of L.state L.left L.faults link.old self.old).state }
-        ensures faults { (exchange_of L.state L.left L.faults link.new self.new).faults
-            ≡ (exchange_of L.state L.left L.faults link.old self.old).faults }
+        ensures idle { IsIdle (exchange_of L.state L.left L.received L.faults link.new self.new) }
+        ensures state { (exchange_of L.state L.left L.received L.faults link.new self.new).state
+            ≡ (exchange_of L.state L.left L.received L.faults link.old self.old).state }
+        ensures received { (exchange_of L.state L.left L.received L.faults link.new self.new).received
+            ≡ (exchange_of L.state L.left L.received L.faults link.old self.old).received }
+        ensures faults { (exchange_of L.state L.left L.received L.faults link.new self.new).faults
+            ≡ (exchange_of L.state L.left L.received L.faults link.old self.old).faults }
     {
         self.hang_up(link);
     }
@@ -94,6 +102,7 @@ impl Wire {
         ensures end { IsAtEnd (L.left link.new) }
         ensures framing { self.new.framing ≡ Framing.Nothing }
         ensures state { L.state link.new ≡ L.state link.old }
+        ensures received { L.received link.new ≡ L.received link.old }
         ensures faults { L.faults link.new ≡ L.faults link.old }
     {
         link.hang_up();
@@ -129,6 +138,9 @@ impl Wire {
         ensures none { IfOk result (λ more. more ≡ false → window_of self.new ≡ []) }
         ensures end { IfOk result (λ more. more ≡ false → IsAtEnd (L.left link.new)) }
         ensures failed { OnErr result (L.left link.new ≡ L.left link.old) }
+        ensures received { OnOk result (Received (length (window_of self.new)) (L.received link.old)
+            (L.received link.new)) }
+        ensures unreceived { OnErr result (L.received link.new ≡ L.received link.old) }
         ensures cause { HasCause (L.faults link.old) (L.faults link.new) result }
     {
         let count = receive(link, self.buffer.as_mut_slice(), most)?;
@@ -147,6 +159,7 @@ impl Wire {
         ensures some { IfOk result (λ more. more ≡ true → 0 < length (window_of self.new)) }
         ensures end { IfOk result (λ more. more ≡ false → IsAtEnd (L.left link.new)) }
         ensures few { OnErr result (0 < length (window_of self.new) → length (window_of self.new) < fewest) }
+        ensures received { Received (length (window_of self.new)) (L.received link.old) (L.received link.new) }
         ensures cause { HasCause (L.faults link.old) (L.faults link.new) result }
     {
         self.from = 0;

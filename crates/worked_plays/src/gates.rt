@@ -16,7 +16,7 @@ use std::thread::Threads;
 use wf_rows::{Failed, Shown};
 
 /// Two documents, each of which asks the book whether b.test is known, and fetches its page.
-const SCENARIO: &[u8] = b"{\"format\":1,\"documents\":[\
+pub(crate) const SCENARIO: &[u8] = b"{\"format\":1,\"documents\":[\
     {\"url\":\"http://a.test/\",\"script\":[{\"fetch\":{\"url\":\"http://b.test/\"}}]},\
     {\"url\":\"http://d.test/\",\"script\":[{\"fetch\":{\"url\":\"http://b.test/\"}}]}]}";
 
@@ -44,7 +44,7 @@ const TAUGHT: Manner = Manner {
 };
 
 // Each of so many documents waits for all.
-fn waiting_for(count: usize) -> Manner {
+pub(crate) fn waiting_for(count: usize) -> Manner {
     Manner {
         method: b"",
         first: count,

@@ -8,7 +8,8 @@
 //     `net=TIME`, a tab and a scenario, and behind it lines that begin with `link`, up to an empty line: it is played
 //     by the top call with the word `net`. `net.rt` says how.
 //
-// Before them it plays documents on threads, over links that wait for each other: `gates.rt`.
+// Before them it plays documents on threads, over links that wait for each other: `gates.rt` by the top call, `seats.rt` by
+// `play_all` itself.
 #![tactic(auto)]
 
 mod gates;
@@ -17,6 +18,7 @@ mod links;
 mod net;
 mod requests;
 mod rows;
+mod seats;
 mod streams;
 mod waiting;
 
@@ -88,6 +90,8 @@ fn play_line<'a, R: Threads + Wait + Sync + Print + AllocGlobal>(
 fn play_threads<R: Threads + Wait + Sync + Print + AllocGlobal>(rt: &R) -> Result<(), Failed> {
     let mut shown = Shown::new(rt.alloc());
     gates::play(rt, &mut shown)?;
+    shown.add(b"\n");
+    seats::play(rt, &mut shown)?;
     print_text(rt, shown)
 }
 

@@ -106,6 +106,8 @@ impl<'a> Link for WaitingLink<'a> {
 
     ghost asks = { λ _. None };
 
+    ghost received = { λ _. None };
+
     ghost faults = { λ link. link.faults };
 
     fn ask(&mut self, _target: &Target, request: &[u8]) -> Result<(), Failed> {
@@ -169,7 +171,7 @@ fn is_reached(routes: &Routes, address: &[u8]) -> bool {
 impl<'a> Links for WaitingLinks<'a> {
     type Link = WaitingLink<'a>;
 
-    ghost opening = { λ _ _. None };
+    ghost opening = { λ _ _ _ _. None };
 
     ghost lent = { λ _. None };
 

@@ -1,20 +1,20 @@
--- Documents that were seated, each with its pass of the shared book and its link, and played.
-use Rattle.std.specs.Prelude.{◌≡◌, ℕ, List, map, Option}
-use Rattle.std.specs.List.{All}
+-- Documents that are seated, each with its pass of the shared book and its link, and whose links are taken back.
+use Rattle.std.specs.Prelude.{◌≡◌, ℕ, List, [], ◌∷◌, length, map, Option}
 use Rattle.atomic_table.specs.Seated.{TableId}
-use Rattle.wf_player.specs.Seats.{ArePlayed, AreRefused, Seat, seat_of}
+use Rattle.wf_link.specs.Links.{Lent}
+use Rattle.wf_player.specs.Seats.{Seat, seat_of}
 use Rattle.wf_player.specs.declared.seating.Seating.{Seating}
-use Rattle.wf_print.specs.declared.events.Transcript.{Transcript}
-use Rattle.wf_print.specs.Text.{HasText}
 use Rattle.wf_script.specs.declared.types.Scenario.{Scenario}
 use Rattle.wf_turn.specs.Passes.{left_of, opening_of, own_of}
 use Rattle.wf_turn.specs.declared.pass.TurnPass.{TurnPass}
-use Rattle.wf_wire.specs.Exchanges.{Answering}
-use Rattle.wf_play.specs.Links.{AreOpened}
+use Rattle.wf_iso.specs.Plays.{Way, opening_book}
+use Rattle.wf_play.specs.Links.{grown_by_all, way_of}
+use Rattle.wf_play.specs.Passes.{ArePasses}
+use Rattle.wf_play.specs.Private.Lendings.{AreTaken}
 
 -- what is seen of a seat with a pass of the shared book
-abbrev pub seat_seen : {L State : Type 0} → (L → Option State) → (L → ℕ) → Seating L TurnPass → Seat State
-seat_seen state faults seating = seat_of (λ pass. pass.document) opening_of own_of left_of state faults seating
+abbrev pub seat_seen : {L State : Type 0} → (L → Option State) → (L → Option (List ℕ)) → (L → ℕ) → Seating L TurnPass → Seat State
+seat_seen state received faults seating = seat_of (λ pass. pass.document) opening_of own_of left_of state received faults seating
 
 abbrev pub passes_in : {L : Type 0} → List (Seating L TurnPass) → List TurnPass
 passes_in seats = map (λ seating. seating.pass) seats
@@ -22,22 +22,21 @@ passes_in seats = map (λ seating. seating.pass) seats
 abbrev pub links_in : {L : Type 0} → List (Seating L TurnPass) → List L
 links_in seats = map (λ seating. seating.link) seats
 
--- Seats were made of these passes and of links as they were to be made, and each document was played on its own. The
--- passes are still of this book, and no document has run out of memory.
-pub record IsSeatedPlay {L State : Type 0} (by : Answering State) (state : L → Option State) (faults : L → ℕ)
-    (opening : ℕ → Option L) (id : TableId) (scenario : Scenario) (base : ℕ) (passes : List TurnPass)
-    (back : List (Seating L TurnPass)) (transcripts : List Transcript) : Type 0 where
-  pub made : List (Seating L TurnPass)
-  pub passes_are : passes_in made ≡ passes
-  pub opened : AreOpened opening (links_in made)
-  pub played : ArePlayed by scenario base 0 scenario.documents (map (seat_seen state faults) made)
-      (map (seat_seen state faults) back) transcripts
-  pub belong : All (λ pass. pass.seat.table_id ≡ id) (passes_in back)
-  pub has_text : HasText transcripts
+-- The passes are the first one of this book alone, and each document has a seat, with the pass that was made for it.
+pub record AreReady {L : Type 0} (id : TableId) (scenario : Scenario) (passes : List TurnPass)
+    (seats : List (Seating L TurnPass)) : Type 0 where
+  pub first : TurnPass
+  pub alone : passes ≡ first ∷ []
+  pub made : ArePasses id (opening_book scenario) (length scenario.documents) first (passes_in seats)
 
--- Seats were made of links as they were to be made, and none was played, or each was.
-pub record IsSeatedRefusal {L State : Type 0} (by : Answering State) (state : L → Option State) (faults : L → ℕ)
-    (opening : ℕ → Option L) (scenario : Scenario) (base : ℕ) (back : List (Seating L TurnPass)) : Type 0 where
-  pub made : List (Seating L TurnPass)
-  pub opened : AreOpened opening (links_in made)
-  pub left : AreRefused by scenario base (map (seat_seen state faults) made) (map (seat_seen state faults) back)
+-- The links of these seats were taken back, in order, and their faults were counted. What is told of each link, as it
+-- was and as it came back, is so.
+pub record AreUnseated {L State : Type 0} (state : L → Option State)
+    (received : L → Option (List ℕ)) (faults : L → ℕ) (lent lent' : Option (Lent L))
+    (count count' : ℕ) (seats : List (Seating L TurnPass)) (AreSo : List (Way State) → List (Way State) → Type 0)
+    : Type 0 where
+  pub back : List L
+  pub many : length back ≡ length seats
+  pub taken : AreTaken lent lent' back
+  pub counted : count' ≡ grown_by_all count (map faults back)
+  pub are_so : AreSo (map (way_of state received faults) (links_in seats)) (map (way_of state received faults) back)

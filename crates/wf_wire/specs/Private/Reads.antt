@@ -2,6 +2,8 @@
 use Rattle.std.specs.Prelude.{ℕ, ◌≤◌, List, drop, length, Option}
 use Rattle.wf_types.specs.declared.response.BodyEnd.{BodyEnd}
 use Rattle.wf_types.specs.declared.response.BodyEnd.TheVariants as body
+use Rattle.wf_link.specs.Links.{Received}
+use Rattle.wf_link.specs.Sources.{GaveJust}
 use Rattle.wf_http1.specs.Answers.{bad, long}
 use Rattle.wf_http1.specs.declared.framing.Framing.{Framing}
 use Rattle.wf_wire.specs.declared.exchange.Ended.{Ended}
@@ -19,6 +21,17 @@ Finds coming (found.Head head count) window left =
 Finds coming found.Bad window left = HasNoHead coming bad
 Finds coming found.Long window left = HasNoHead coming long
 Finds coming found.Fault window left = LeavesHead coming left
+
+-- A link gave so many bytes, where told, and they were counted.
+pub record GivesSome (left left' received received' : Option (List ℕ)) : Type 0 where
+  pub count : ℕ
+  pub gone : GaveJust left left' count
+  pub counted : Received count received received'
+
+-- It gave so many at most.
+pub record GivesAtMost (left left' received received' : Option (List ℕ)) (most : ℕ) : Type 0 where
+  pub gives : GivesSome left left' received received'
+  pub few : gives.count ≤ most
 
 -- the end of a body of so many bytes at most, or of one that has none
 abbrev pub HasAtMost : BodyEnd → ℕ → Type 0

@@ -18,9 +18,9 @@ returns-in_err-input-clause-cut g c =
     let document = g.S.Share.document c.args.pass.now in
     let context = context_of c.args.lent.now.client.now c.args.lent.now.policies.now c.args.lent.now.cookies.now
     c.args.fetching.level.now in
-    let old = moment_of (world_of g.S.Share.own g.S.Share.left g.L.Link.state g.L.Link.left g.L.Link.faults
+    let old = moment_of (world_of g.S.Share.own g.S.Share.left g.L.Link.state g.L.Link.left g.L.Link.received g.L.Link.faults
     c.args.pass.now c.args.link.now c.args.wire.now) c.args.shown.now in
-    let mid = world_of g.S.Share.own g.S.Share.left g.L.Link.state g.L.Link.left g.L.Link.faults c.answer.new.pass
+    let mid = world_of g.S.Share.own g.S.Share.left g.L.Link.state g.L.Link.left g.L.Link.received g.L.Link.faults c.answer.new.pass
     c.answer.new.link c.answer.new.wire in
     act-refused by limit document context c.args.fetching c.args.act old c.from_residual.result mid
     c.in_err-input.ensures.refused
@@ -32,9 +32,9 @@ returns-in_err-step-clause-cut g c =
     let document = g.S.Share.document c.args.pass.now in
     let context = context_of c.args.lent.now.client.now c.args.lent.now.policies.now c.args.lent.now.cookies.now
     c.args.fetching.level.now in
-    let old = moment_of (world_of g.S.Share.own g.S.Share.left g.L.Link.state g.L.Link.left g.L.Link.faults
+    let old = moment_of (world_of g.S.Share.own g.S.Share.left g.L.Link.state g.L.Link.left g.L.Link.received g.L.Link.faults
     c.args.pass.now c.args.link.now c.args.wire.now) c.args.shown.now in
-    let mid = world_of g.S.Share.own g.S.Share.left g.L.Link.state g.L.Link.left g.L.Link.faults c.answer.new.pass
+    let mid = world_of g.S.Share.own g.S.Share.left g.L.Link.state g.L.Link.left g.L.Link.received g.L.Link.faults c.answer.new.pass
     c.answer.new.link c.answer.new.wire in
     act-cut by limit document context c.args.fetching c.args.act old c.in_ok-input.input mid
     c.in_ok-input.ensures.fits c.in_ok-input.ensures.came c.from_residual-in_err-step.result c.take_on.new.shown
@@ -48,9 +48,9 @@ returns-clause-went g c =
     let document = g.S.Share.document c.args.pass.now in
     let context = context_of c.args.lent.now.client.now c.args.lent.now.policies.now c.args.lent.now.cookies.now
     c.args.fetching.level.now in
-    let old = moment_of (world_of g.S.Share.own g.S.Share.left g.L.Link.state g.L.Link.left g.L.Link.faults
+    let old = moment_of (world_of g.S.Share.own g.S.Share.left g.L.Link.state g.L.Link.left g.L.Link.received g.L.Link.faults
     c.args.pass.now c.args.link.now c.args.wire.now) c.args.shown.now in
-    let mid = world_of g.S.Share.own g.S.Share.left g.L.Link.state g.L.Link.left g.L.Link.faults c.answer.new.pass
+    let mid = world_of g.S.Share.own g.S.Share.left g.L.Link.state g.L.Link.left g.L.Link.received g.L.Link.faults c.answer.new.pass
     c.answer.new.link c.answer.new.wire in
     act-went by limit document context c.args.fetching c.args.act old c.in_ok-input.input mid
     c.in_ok-input.ensures.fits c.in_ok-input.ensures.came c.take_on.new.shown c.in_ok-step.step

@@ -21,7 +21,7 @@ returns-in_err-step-clause-cut g c =
     c.args.now in
     fetching-unbegun (over_link g.L.Link.answer g.L.Link.next) c.args.lent.now.limit
     (g.S.Share.document c.args.pass.now) context (fetch context c.args.request)
-    (moment_of (world_of g.S.Share.own g.S.Share.left g.L.Link.state g.L.Link.left g.L.Link.faults c.args.pass.now
+    (moment_of (world_of g.S.Share.own g.S.Share.left g.L.Link.state g.L.Link.left g.L.Link.received g.L.Link.faults c.args.pass.now
     c.args.link.now c.args.wire.now) c.args.shown.now)
     (fetch_price acts context c.args.request) (g.S.Share.left c.args.pass.now - 126) c.from_residual.result
 
@@ -32,7 +32,7 @@ loop-step-init g c =
     record {
       fetching = fetching-start (over_link g.L.Link.answer g.L.Link.next) c.args.lent.now.limit
           (g.S.Share.document c.args.pass.now) context (fetch context c.args.request)
-          (moment_of (world_of g.S.Share.own g.S.Share.left g.L.Link.state g.L.Link.left g.L.Link.faults
+          (moment_of (world_of g.S.Share.own g.S.Share.left g.L.Link.state g.L.Link.left g.L.Link.received g.L.Link.faults
           c.args.pass.now c.args.link.now c.args.wire.now) c.args.shown.now)
           (fetch_price acts context c.args.request) (g.S.Share.left c.args.pass.now - 126) 126 c.in_ok-step.step
           c.in_ok-step.ensures.process (fetch-within acts context c.args.request c.requires.timely)
@@ -53,9 +53,9 @@ overflow_add-acts g c =
     let limit = c.args.lent.now.limit in
     let document = g.S.Share.document c.args.pass.now in
     let whole = fetch context c.args.request in
-    let old = moment_of (world_of g.S.Share.own g.S.Share.left g.L.Link.state g.L.Link.left g.L.Link.faults
+    let old = moment_of (world_of g.S.Share.own g.S.Share.left g.L.Link.state g.L.Link.left g.L.Link.received g.L.Link.faults
     c.args.pass.now c.args.link.now c.args.wire.now) c.args.shown.now in
-    let now = moment_of (world_of g.S.Share.own g.S.Share.left g.L.Link.state g.L.Link.left g.L.Link.faults
+    let now = moment_of (world_of g.S.Share.own g.S.Share.left g.L.Link.state g.L.Link.left g.L.Link.received g.L.Link.faults
     c.loop-step.pass c.loop-step.link c.loop-step.wire) c.loop-step.shown in
     let most = fetch_price acts context c.args.request in
     let slack = g.S.Share.left c.args.pass.now - 126 in
@@ -73,15 +73,15 @@ returns-in_err-step-in-Going-clause-cut g c =
     let limit = c.args.lent.now.limit in
     let document = g.S.Share.document c.args.pass.now in
     let whole = fetch context c.args.request in
-    let old = moment_of (world_of g.S.Share.own g.S.Share.left g.L.Link.state g.L.Link.left g.L.Link.faults
+    let old = moment_of (world_of g.S.Share.own g.S.Share.left g.L.Link.state g.L.Link.left g.L.Link.received g.L.Link.faults
     c.args.pass.now c.args.link.now c.args.wire.now) c.args.shown.now in
-    let now = moment_of (world_of g.S.Share.own g.S.Share.left g.L.Link.state g.L.Link.left g.L.Link.faults
+    let now = moment_of (world_of g.S.Share.own g.S.Share.left g.L.Link.state g.L.Link.left g.L.Link.received g.L.Link.faults
     c.loop-step.pass c.loop-step.link c.loop-step.wire) c.loop-step.shown in
     let most = fetch_price acts context c.args.request in
     let slack = g.S.Share.left c.args.pass.now - 126 in
     let here = subst (λ (s : Step). IsFetching by limit document context whole old most slack c.loop-step.acts now s)
     c.in-Going.is c.loop-step.invariant.fetching in
-    let mid = world_of g.S.Share.own g.S.Share.left g.L.Link.state g.L.Link.left g.L.Link.faults c.go_on.new.pass
+    let mid = world_of g.S.Share.own g.S.Share.left g.L.Link.state g.L.Link.left g.L.Link.received g.L.Link.faults c.go_on.new.pass
     c.go_on.new.link c.go_on.new.wire in
     let lent = context_of c.args.lent.now.client.now c.args.lent.now.policies.now c.args.lent.now.cookies.now
     c.in-Going.fetching.level.now in
@@ -98,15 +98,15 @@ loop-step-preserved g c =
     let limit = c.args.lent.now.limit in
     let document = g.S.Share.document c.args.pass.now in
     let whole = fetch context c.args.request in
-    let old = moment_of (world_of g.S.Share.own g.S.Share.left g.L.Link.state g.L.Link.left g.L.Link.faults
+    let old = moment_of (world_of g.S.Share.own g.S.Share.left g.L.Link.state g.L.Link.left g.L.Link.received g.L.Link.faults
     c.args.pass.now c.args.link.now c.args.wire.now) c.args.shown.now in
-    let now = moment_of (world_of g.S.Share.own g.S.Share.left g.L.Link.state g.L.Link.left g.L.Link.faults
+    let now = moment_of (world_of g.S.Share.own g.S.Share.left g.L.Link.state g.L.Link.left g.L.Link.received g.L.Link.faults
     c.loop-step.pass c.loop-step.link c.loop-step.wire) c.loop-step.shown in
     let most = fetch_price acts context c.args.request in
     let slack = g.S.Share.left c.args.pass.now - 126 in
     let here = subst (λ (s : Step). IsFetching by limit document context whole old most slack c.loop-step.acts now s)
     c.in-Going.is c.loop-step.invariant.fetching in
-    let mid = world_of g.S.Share.own g.S.Share.left g.L.Link.state g.L.Link.left g.L.Link.faults c.go_on.new.pass
+    let mid = world_of g.S.Share.own g.S.Share.left g.L.Link.state g.L.Link.left g.L.Link.received g.L.Link.faults c.go_on.new.pass
     c.go_on.new.link c.go_on.new.wire in
     let lent = context_of c.args.lent.now.client.now c.args.lent.now.policies.now c.args.lent.now.cookies.now
     c.in-Going.fetching.level.now in
@@ -128,9 +128,9 @@ returns-in-Over-clause-fetched g c =
     let limit = c.args.lent.now.limit in
     let document = g.S.Share.document c.args.pass.now in
     let whole = fetch context c.args.request in
-    let old = moment_of (world_of g.S.Share.own g.S.Share.left g.L.Link.state g.L.Link.left g.L.Link.faults
+    let old = moment_of (world_of g.S.Share.own g.S.Share.left g.L.Link.state g.L.Link.left g.L.Link.received g.L.Link.faults
     c.args.pass.now c.args.link.now c.args.wire.now) c.args.shown.now in
-    let now = moment_of (world_of g.S.Share.own g.S.Share.left g.L.Link.state g.L.Link.left g.L.Link.faults
+    let now = moment_of (world_of g.S.Share.own g.S.Share.left g.L.Link.state g.L.Link.left g.L.Link.received g.L.Link.faults
     c.loop-step.pass c.loop-step.link c.loop-step.wire) c.loop-step.shown in
     let most = fetch_price acts context c.args.request in
     let slack = g.S.Share.left c.args.pass.now - 126 in
@@ -146,9 +146,9 @@ returns-in_err-step-in-Going-clause-few g c =
     let limit = c.args.lent.now.limit in
     let document = g.S.Share.document c.args.pass.now in
     let whole = fetch context c.args.request in
-    let old = moment_of (world_of g.S.Share.own g.S.Share.left g.L.Link.state g.L.Link.left g.L.Link.faults
+    let old = moment_of (world_of g.S.Share.own g.S.Share.left g.L.Link.state g.L.Link.left g.L.Link.received g.L.Link.faults
     c.args.pass.now c.args.link.now c.args.wire.now) c.args.shown.now in
-    let now = moment_of (world_of g.S.Share.own g.S.Share.left g.L.Link.state g.L.Link.left g.L.Link.faults
+    let now = moment_of (world_of g.S.Share.own g.S.Share.left g.L.Link.state g.L.Link.left g.L.Link.received g.L.Link.faults
     c.loop-step.pass c.loop-step.link c.loop-step.wire) c.loop-step.shown in
     let most = fetch_price acts context c.args.request in
     let slack = g.S.Share.left c.args.pass.now - 126 in
@@ -165,9 +165,9 @@ returns-in-Over-clause-few g c =
     let limit = c.args.lent.now.limit in
     let document = g.S.Share.document c.args.pass.now in
     let whole = fetch context c.args.request in
-    let old = moment_of (world_of g.S.Share.own g.S.Share.left g.L.Link.state g.L.Link.left g.L.Link.faults
+    let old = moment_of (world_of g.S.Share.own g.S.Share.left g.L.Link.state g.L.Link.left g.L.Link.received g.L.Link.faults
     c.args.pass.now c.args.link.now c.args.wire.now) c.args.shown.now in
-    let now = moment_of (world_of g.S.Share.own g.S.Share.left g.L.Link.state g.L.Link.left g.L.Link.faults
+    let now = moment_of (world_of g.S.Share.own g.S.Share.left g.L.Link.state g.L.Link.left g.L.Link.received g.L.Link.faults
     c.loop-step.pass c.loop-step.link c.loop-step.wire) c.loop-step.shown in
     let most = fetch_price acts context c.args.request in
     let slack = g.S.Share.left c.args.pass.now - 126 in

@@ -16,10 +16,10 @@ invariant-loop-step g l =
     record {
       fetching : IsFetching (over_link g.L.Link.answer g.L.Link.next) l.lent.limit (g.S.Share.document l.fn.pass) context
           (fetch context l.fn.request)
-          (moment_of (world_of g.S.Share.own g.S.Share.left g.L.Link.state g.L.Link.left g.L.Link.faults l.fn.pass
+          (moment_of (world_of g.S.Share.own g.S.Share.left g.L.Link.state g.L.Link.left g.L.Link.received g.L.Link.faults l.fn.pass
           l.fn.link l.fn.wire) l.fn.shown)
           (fetch_price acts context l.fn.request) (g.S.Share.left l.fn.pass - 126) l.acts
-          (moment_of (world_of g.S.Share.own g.S.Share.left g.L.Link.state g.L.Link.left g.L.Link.faults l.pass l.link
+          (moment_of (world_of g.S.Share.own g.S.Share.left g.L.Link.state g.L.Link.left g.L.Link.received g.L.Link.faults l.pass l.link
           l.wire) l.shown) l.step;
       belongs : g.S.Share.belongs l.lent.share.now l.pass;
       document : g.S.Share.document l.pass ≡ g.S.Share.document l.fn.pass;

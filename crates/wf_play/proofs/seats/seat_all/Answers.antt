@@ -1,5 +1,7 @@
-use Rattle.std.proofs.Common.{◌≡◌, ℕ, ◌+◌, [], ◌∷◌, ◌++◌, ◌∙◌, ap, arith, length, length-append, map}
-use Rattle.std.proofs.lemmas.List.{map_push}
+use Rattle.std.proofs.Common.{◌≡◌, ℕ, ◌+◌, [], ◌∷◌, ◌++◌, ◌∙◌, ap, arith, length, length-append, map, subst}
+use Rattle.std.proofs.lemmas.List.{length-map, map_push}
+use Rattle.wf_link.specs.Links.{IsTold}
+use Rattle.wf_play.specs.Links.{for_documents}
 use Rattle.wf_play.proofs.LinkLemmas.{out-one}
 use Rattle.wf_play.proofs.PassLemmas.{opened-more}
 use Rattle.wf_play.proofs.seats.seat_all.Goals as goal
@@ -13,12 +15,18 @@ loop-pass-preserved g c =
     let seats = c.loop-pass.seats.items in
     let links = map (λ s. s.link) seats in
     let opening = g.N.Links.opening c.args.links.now in
+    let routes = c.args.routes.now in
+    let number : c.loop-pass.number ≡ 0 + length links =
+    omega (arith, i.number, i.count, length-map seats (λ s. s.link)) in
     let pushed = ap (map (λ s. s.link)) p.items ∙ map_push (λ s. s.link) seats (record { pass = c.in-Some.pass; link = link }) in
     record {
       passes = ap (map (λ s. s.pass)) p.items ∙ map_push (λ s. s.pass) seats (record { pass = c.in-Some.pass; link = link })
           ∙ ap (λ l. l ++ c.in-Some.pass ∷ []) i.passes;
-      opened = rw pushed (opened-more opening (g.N.Links.opening c.loop-pass.links) links link i.opened i.later e.told);
-      later = λ k. e.later k ∙ i.later (k + 1) ∙ ap opening (further k (length links)
+      opened = rw pushed (opened-more (for_documents opening routes)
+          (λ k. g.N.Links.opening c.loop-pass.links k (k + length links) routes) links link i.opened
+          (λ k. i.later k (k + length links) routes)
+          (subst (λ n. IsTold (g.N.Links.opening c.loop-pass.links 0 n routes) link) number e.told));
+      later = λ k n by. e.later k n by ∙ i.later (k + 1) n by ∙ ap (λ m. opening m n by) (further k (length links)
           (length (map (λ s. s.link) c.push_reserved.new.self.items))
           (ap length pushed ∙ length-append links (link ∷ [])));
       count = omega (arith, p.len, i.count, length-append c.loop-pass.yielded (c.in-Some.pass ∷ []));

@@ -1,6 +1,7 @@
-use Rattle.std.proofs.Common.{◌≡◌, ℕ, ◌+◌, ◌≤◌, length, map, option_map, vec_capacity, vec_len}
+use Rattle.std.proofs.Common.{◌≡◌, ℕ, ◌+◌, ◌≤◌, List, length, map, option_map, vec_capacity, vec_len}
 use Rattle.std.specs.Vec.Iter.{into_iter_len}
-use Rattle.wf_play.specs.Links.{AreOpened}
+use Rattle.wf_link.specs.declared.target.Route.{Route}
+use Rattle.wf_play.specs.Links.{AreOpened, for_documents}
 use Rattle.wf_play.specs.Private.Lendings.{out_more}
 use Rattle.wf_play.proofs.seats.seat_all.Given as goal
 
@@ -8,8 +9,10 @@ use Rattle.wf_play.proofs.seats.seat_all.Given as goal
 abbrev pub invariant-loop-pass : goal.invariant-loop-pass
 invariant-loop-pass g l = record {
   passes : map (λ s. s.pass) l.seats.items ≡ l.yielded;
-  opened : AreOpened (g.N.Links.opening l.initial.links) (map (λ s. s.link) l.seats.items);
-  later : (k : ℕ) → g.N.Links.opening l.links k ≡ g.N.Links.opening l.initial.links (k + length (map (λ s. s.link) l.seats.items));
+  opened : AreOpened (for_documents (g.N.Links.opening l.initial.links) l.fn.routes)
+      (map (λ s. s.link) l.seats.items);
+  later : (k number : ℕ) (by : List Route) → g.N.Links.opening l.links k number by
+      ≡ g.N.Links.opening l.initial.links (k + length (map (λ s. s.link) l.seats.items)) number by;
   count : vec_len l.seats ≡ length l.yielded;
   number : l.number ≡ length l.yielded;
   left : length l.yielded + into_iter_len l.pass-iterator ≡ vec_len l.fn.passes;

@@ -12,7 +12,7 @@ use Rattle.wf_player.proofs.document.run_whole.Goals as goal
 pub returns-in_err-key-clause-began : goal.returns-in_err-key-clause-began
 returns-in_err-key-clause-began g c =
     let lent = setting c.args.lent.now.client.now c.args.lent.now.policies.now c.args.lent.now.cookies.now in
-    let old = outside g.S.Share.own g.S.Share.left g.L.Link.state g.L.Link.faults c.args.pass.now c.args.link.now in
+    let old = outside g.S.Share.own g.S.Share.left g.L.Link.state g.L.Link.received g.L.Link.faults c.args.pass.now c.args.link.now in
     run-unbegun (over_link g.L.Link.answer g.L.Link.next) c.args.lent.now.limit
     (g.S.Share.document c.args.pass.now)
     (script_run lent c.args.script.now finished c.args.running.now) c.args.running.now c.from_residual.result
@@ -21,12 +21,12 @@ returns-in_err-key-clause-began g c =
 pub returns-in_err-wire-clause-began : goal.returns-in_err-wire-clause-began
 returns-in_err-wire-clause-began g c =
     let lent = setting c.args.lent.now.client.now c.args.lent.now.policies.now c.args.lent.now.cookies.now in
-    let old = outside g.S.Share.own g.S.Share.left g.L.Link.state g.L.Link.faults c.args.pass.now c.args.link.now in
-    let new = outside g.S.Share.own g.S.Share.left g.L.Link.state g.L.Link.faults c.args.pass.now c.new.new.link in
+    let old = outside g.S.Share.own g.S.Share.left g.L.Link.state g.L.Link.received g.L.Link.faults c.args.pass.now c.args.link.now in
+    let new = outside g.S.Share.own g.S.Share.left g.L.Link.state g.L.Link.received g.L.Link.faults c.args.pass.now c.new.new.link in
     run-unbegun (over_link g.L.Link.answer g.L.Link.next) c.args.lent.now.limit
     (g.S.Share.document c.args.pass.now)
     (script_run lent c.args.script.now finished c.args.running.now) c.args.running.now c.from_residual-in_err-wire.result
-    old new (outside-is new old c.new.ensures.state c.new.ensures.faults refl refl)
+    old new (outside-is new old c.new.ensures.state c.new.ensures.received c.new.ensures.faults refl refl)
     (ap (λ (p : Progress). p.shown) c.requires.base)
 
 pub returns-in_err-ending-clause-began : goal.returns-in_err-ending-clause-began
@@ -35,15 +35,15 @@ returns-in_err-ending-clause-began g c =
     let limit = c.args.lent.now.limit in
     let document = g.S.Share.document c.args.pass.now in
     let lent = setting c.args.lent.now.client.now c.args.lent.now.policies.now c.args.lent.now.cookies.now in
-    let old = outside g.S.Share.own g.S.Share.left g.L.Link.state g.L.Link.faults c.args.pass.now c.args.link.now in
-    let first = world_of g.S.Share.own g.S.Share.left g.L.Link.state g.L.Link.left g.L.Link.faults c.args.pass.now
+    let old = outside g.S.Share.own g.S.Share.left g.L.Link.state g.L.Link.received g.L.Link.faults c.args.pass.now c.args.link.now in
+    let first = world_of g.S.Share.own g.S.Share.left g.L.Link.state g.L.Link.left g.L.Link.received g.L.Link.faults c.args.pass.now
     c.new.new.link c.in_ok-wire.wire in
-    let now = standing_of (world_of g.S.Share.own g.S.Share.left g.L.Link.state g.L.Link.left g.L.Link.faults
+    let now = standing_of (world_of g.S.Share.own g.S.Share.left g.L.Link.state g.L.Link.left g.L.Link.received g.L.Link.faults
     c.run_script.new.pass c.run_script.new.link c.run_script.new.wire) c.run_script.new.running in
     run-cut by limit document (script_run lent c.args.script.now finished c.args.running.now) first old
-    (outside g.S.Share.own g.S.Share.left g.L.Link.state g.L.Link.faults c.run_script.new.pass c.run_script.new.link)
+    (outside g.S.Share.own g.S.Share.left g.L.Link.state g.L.Link.received g.L.Link.faults c.run_script.new.pass c.run_script.new.link)
     c.args.running.now now c.from_residual-in_err-ending.result c.in_ok-wire.ensures.idle
-    (outside-is (outside_of first) old c.new.ensures.state c.new.ensures.faults refl refl) refl
+    (outside-is (outside_of first) old c.new.ensures.state c.new.ensures.received c.new.ensures.faults refl refl) refl
     (ap (λ (p : Progress). p.shown) c.requires.base)
     (run-stopped by limit document lent c.args.script.now (standing_of first c.args.running.now) now
     c.in_err-ending.ensures.cut)
@@ -54,15 +54,15 @@ returns-clause-ran g c =
     let limit = c.args.lent.now.limit in
     let document = g.S.Share.document c.args.pass.now in
     let lent = setting c.args.lent.now.client.now c.args.lent.now.policies.now c.args.lent.now.cookies.now in
-    let old = outside g.S.Share.own g.S.Share.left g.L.Link.state g.L.Link.faults c.args.pass.now c.args.link.now in
-    let first = world_of g.S.Share.own g.S.Share.left g.L.Link.state g.L.Link.left g.L.Link.faults c.args.pass.now
+    let old = outside g.S.Share.own g.S.Share.left g.L.Link.state g.L.Link.received g.L.Link.faults c.args.pass.now c.args.link.now in
+    let first = world_of g.S.Share.own g.S.Share.left g.L.Link.state g.L.Link.left g.L.Link.received g.L.Link.faults c.args.pass.now
     c.new.new.link c.in_ok-wire.wire in
-    let now = standing_of (world_of g.S.Share.own g.S.Share.left g.L.Link.state g.L.Link.left g.L.Link.faults
+    let now = standing_of (world_of g.S.Share.own g.S.Share.left g.L.Link.state g.L.Link.left g.L.Link.received g.L.Link.faults
     c.run_script.new.pass c.run_script.new.link c.run_script.new.wire) c.run_script.new.running in
     run-whole by limit document (script_run lent c.args.script.now finished c.args.running.now) first old
-    (outside g.S.Share.own g.S.Share.left g.L.Link.state g.L.Link.faults c.run_script.new.pass c.run_script.new.link)
+    (outside g.S.Share.own g.S.Share.left g.L.Link.state g.L.Link.received g.L.Link.faults c.run_script.new.pass c.run_script.new.link)
     c.args.running.now c.ended_by.result now c.in_ok-wire.ensures.idle
-    (outside-is (outside_of first) old c.new.ensures.state c.new.ensures.faults refl refl) refl
+    (outside-is (outside_of first) old c.new.ensures.state c.new.ensures.received c.new.ensures.faults refl refl) refl
     (ap (λ (p : Progress). p.shown) c.requires.base)
     (run-ended by limit document lent c.args.script.now c.in_ok-ending.ending c.ended_by.result
     (standing_of first c.args.running.now) now c.ended_by.ensures c.in_ok-ending.ensures.played)

@@ -17,8 +17,8 @@ run_choice-returns-then-holds-clause-played g t c = if-ok-map c.run_script.resul
     chosen-played (over_link g.L.Link.answer g.L.Link.next) c.args.lent.now.limit (g.S.Share.document c.args.pass.now)
     (setting c.args.lent.now.client.now c.args.lent.now.policies.now c.args.lent.now.cookies.now) c.args.test.now (script_run (setting c.args.lent.now.client.now c.args.lent.now.policies.now c.args.lent.now.cookies.now) c.args.part.now)
     (script_run (setting c.args.lent.now.client.now c.args.lent.now.policies.now c.args.lent.now.cookies.now) c.args.other.now) ending
-    (standing_of (world_of g.S.Share.own g.S.Share.left g.L.Link.state g.L.Link.left g.L.Link.faults c.args.pass.now c.args.link.now c.args.wire.now) c.args.running.now)
-    (standing_of (world_of g.S.Share.own g.S.Share.left g.L.Link.state g.L.Link.left g.L.Link.faults c.run_script.new.pass c.run_script.new.link c.run_script.new.wire) c.run_script.new.running)
+    (standing_of (world_of g.S.Share.own g.S.Share.left g.L.Link.state g.L.Link.left g.L.Link.received g.L.Link.faults c.args.pass.now c.args.link.now c.args.wire.now) c.args.running.now)
+    (standing_of (world_of g.S.Share.own g.S.Share.left g.L.Link.state g.L.Link.left g.L.Link.received g.L.Link.faults c.run_script.new.pass c.run_script.new.link c.run_script.new.wire) c.run_script.new.running)
     (sym (c.holds.ensures ∙ ap (holds c.args.test.now) c.last.ensures) ∙ c.if-holds.true) x)
     c.run_script.ensures.played
 
@@ -27,8 +27,8 @@ run_choice-returns-then-holds-clause-cut g t c = on-err-map c.run_script.result 
     chosen-cut (over_link g.L.Link.answer g.L.Link.next) c.args.lent.now.limit (g.S.Share.document c.args.pass.now)
     (setting c.args.lent.now.client.now c.args.lent.now.policies.now c.args.lent.now.cookies.now) c.args.test.now (script_run (setting c.args.lent.now.client.now c.args.lent.now.policies.now c.args.lent.now.cookies.now) c.args.part.now)
     (script_run (setting c.args.lent.now.client.now c.args.lent.now.policies.now c.args.lent.now.cookies.now) c.args.other.now)
-    (standing_of (world_of g.S.Share.own g.S.Share.left g.L.Link.state g.L.Link.left g.L.Link.faults c.args.pass.now c.args.link.now c.args.wire.now) c.args.running.now)
-    (standing_of (world_of g.S.Share.own g.S.Share.left g.L.Link.state g.L.Link.left g.L.Link.faults c.run_script.new.pass c.run_script.new.link c.run_script.new.wire) c.run_script.new.running)
+    (standing_of (world_of g.S.Share.own g.S.Share.left g.L.Link.state g.L.Link.left g.L.Link.received g.L.Link.faults c.args.pass.now c.args.link.now c.args.wire.now) c.args.running.now)
+    (standing_of (world_of g.S.Share.own g.S.Share.left g.L.Link.state g.L.Link.left g.L.Link.received g.L.Link.faults c.run_script.new.pass c.run_script.new.link c.run_script.new.wire) c.run_script.new.running)
     (sym (c.holds.ensures ∙ ap (holds c.args.test.now) c.last.ensures) ∙ c.if-holds.true) x)
     c.run_script.ensures.cut
 
@@ -37,8 +37,8 @@ run_choice-returns-else-holds-clause-played g t c = if-ok-map c.run_script-else-
     other-played (over_link g.L.Link.answer g.L.Link.next) c.args.lent.now.limit (g.S.Share.document c.args.pass.now)
     (setting c.args.lent.now.client.now c.args.lent.now.policies.now c.args.lent.now.cookies.now) c.args.test.now (script_run (setting c.args.lent.now.client.now c.args.lent.now.policies.now c.args.lent.now.cookies.now) c.args.part.now)
     (script_run (setting c.args.lent.now.client.now c.args.lent.now.policies.now c.args.lent.now.cookies.now) c.args.other.now) ending
-    (standing_of (world_of g.S.Share.own g.S.Share.left g.L.Link.state g.L.Link.left g.L.Link.faults c.args.pass.now c.args.link.now c.args.wire.now) c.args.running.now)
-    (standing_of (world_of g.S.Share.own g.S.Share.left g.L.Link.state g.L.Link.left g.L.Link.faults c.run_script-else-holds.new.pass c.run_script-else-holds.new.link c.run_script-else-holds.new.wire) c.run_script-else-holds.new.running)
+    (standing_of (world_of g.S.Share.own g.S.Share.left g.L.Link.state g.L.Link.left g.L.Link.received g.L.Link.faults c.args.pass.now c.args.link.now c.args.wire.now) c.args.running.now)
+    (standing_of (world_of g.S.Share.own g.S.Share.left g.L.Link.state g.L.Link.left g.L.Link.received g.L.Link.faults c.run_script-else-holds.new.pass c.run_script-else-holds.new.link c.run_script-else-holds.new.wire) c.run_script-else-holds.new.running)
     (sym (c.holds.ensures ∙ ap (holds c.args.test.now) c.last.ensures) ∙ c.if-holds.false) x)
     c.run_script-else-holds.ensures.played
 
@@ -47,15 +47,15 @@ run_choice-returns-else-holds-clause-cut g t c = on-err-map c.run_script-else-ho
     other-cut (over_link g.L.Link.answer g.L.Link.next) c.args.lent.now.limit (g.S.Share.document c.args.pass.now)
     (setting c.args.lent.now.client.now c.args.lent.now.policies.now c.args.lent.now.cookies.now) c.args.test.now (script_run (setting c.args.lent.now.client.now c.args.lent.now.policies.now c.args.lent.now.cookies.now) c.args.part.now)
     (script_run (setting c.args.lent.now.client.now c.args.lent.now.policies.now c.args.lent.now.cookies.now) c.args.other.now)
-    (standing_of (world_of g.S.Share.own g.S.Share.left g.L.Link.state g.L.Link.left g.L.Link.faults c.args.pass.now c.args.link.now c.args.wire.now) c.args.running.now)
-    (standing_of (world_of g.S.Share.own g.S.Share.left g.L.Link.state g.L.Link.left g.L.Link.faults c.run_script-else-holds.new.pass c.run_script-else-holds.new.link c.run_script-else-holds.new.wire) c.run_script-else-holds.new.running)
+    (standing_of (world_of g.S.Share.own g.S.Share.left g.L.Link.state g.L.Link.left g.L.Link.received g.L.Link.faults c.args.pass.now c.args.link.now c.args.wire.now) c.args.running.now)
+    (standing_of (world_of g.S.Share.own g.S.Share.left g.L.Link.state g.L.Link.left g.L.Link.received g.L.Link.faults c.run_script-else-holds.new.pass c.run_script-else-holds.new.link c.run_script-else-holds.new.wire) c.run_script-else-holds.new.running)
     (sym (c.holds.ensures ∙ ap (holds c.args.test.now) c.last.ensures) ∙ c.if-holds.false) x)
     c.run_script-else-holds.ensures.cut
 
 pub run_command-returns-in-Wait-clause-played : goal.run_command-returns-in-Wait-clause-played
 run_command-returns-in-Wait-clause-played g t c = rw c.in-Wait.is (command-waited (over_link g.L.Link.answer g.L.Link.next) c.args.lent.now.limit (g.S.Share.document c.args.pass.now)
     (setting c.args.lent.now.client.now c.args.lent.now.policies.now c.args.lent.now.cookies.now) c.in-Wait.seconds
-    (world_of g.S.Share.own g.S.Share.left g.L.Link.state g.L.Link.left g.L.Link.faults c.args.pass.now c.args.link.now c.args.wire.now)
+    (world_of g.S.Share.own g.S.Share.left g.L.Link.state g.L.Link.left g.L.Link.received g.L.Link.faults c.args.pass.now c.args.link.now c.args.wire.now)
     c.args.running.now c.wait.new.self c.wait.ensures)
 
 pub run_command-returns-in-Repeat-clause-played : goal.run_command-returns-in-Repeat-clause-played
@@ -63,18 +63,18 @@ run_command-returns-in-Repeat-clause-played g t c = rw c.in-Repeat.is (if-ok-map
     started-played (over_link g.L.Link.answer g.L.Link.next) c.args.lent.now.limit (g.S.Share.document c.args.pass.now)
     (setting c.args.lent.now.client.now c.args.lent.now.policies.now c.args.lent.now.cookies.now)
     (repeated c.in-Repeat.times (script_run (setting c.args.lent.now.client.now c.args.lent.now.policies.now c.args.lent.now.cookies.now) c.in-Repeat.part)) ending
-    (world_of g.S.Share.own g.S.Share.left g.L.Link.state g.L.Link.left g.L.Link.faults c.args.pass.now c.args.link.now c.args.wire.now)
+    (world_of g.S.Share.own g.S.Share.left g.L.Link.state g.L.Link.left g.L.Link.received g.L.Link.faults c.args.pass.now c.args.link.now c.args.wire.now)
     c.args.running.now c.start.new.self
-    (standing_of (world_of g.S.Share.own g.S.Share.left g.L.Link.state g.L.Link.left g.L.Link.faults c.run_repeat.new.pass c.run_repeat.new.link c.run_repeat.new.wire) c.run_repeat.new.running) c.start.ensures x) c.run_repeat.ensures.played)
+    (standing_of (world_of g.S.Share.own g.S.Share.left g.L.Link.state g.L.Link.left g.L.Link.received g.L.Link.faults c.run_repeat.new.pass c.run_repeat.new.link c.run_repeat.new.wire) c.run_repeat.new.running) c.start.ensures x) c.run_repeat.ensures.played)
 
 pub run_command-returns-in-Repeat-clause-cut : goal.run_command-returns-in-Repeat-clause-cut
 run_command-returns-in-Repeat-clause-cut g t c = rw c.in-Repeat.is (on-err-map c.run_repeat.result (λ x.
     started-cut (over_link g.L.Link.answer g.L.Link.next) c.args.lent.now.limit (g.S.Share.document c.args.pass.now)
     (setting c.args.lent.now.client.now c.args.lent.now.policies.now c.args.lent.now.cookies.now)
     (repeated c.in-Repeat.times (script_run (setting c.args.lent.now.client.now c.args.lent.now.policies.now c.args.lent.now.cookies.now) c.in-Repeat.part))
-    (world_of g.S.Share.own g.S.Share.left g.L.Link.state g.L.Link.left g.L.Link.faults c.args.pass.now c.args.link.now c.args.wire.now)
+    (world_of g.S.Share.own g.S.Share.left g.L.Link.state g.L.Link.left g.L.Link.received g.L.Link.faults c.args.pass.now c.args.link.now c.args.wire.now)
     c.args.running.now c.start.new.self
-    (standing_of (world_of g.S.Share.own g.S.Share.left g.L.Link.state g.L.Link.left g.L.Link.faults c.run_repeat.new.pass c.run_repeat.new.link c.run_repeat.new.wire) c.run_repeat.new.running) c.start.ensures x) c.run_repeat.ensures.cut)
+    (standing_of (world_of g.S.Share.own g.S.Share.left g.L.Link.state g.L.Link.left g.L.Link.received g.L.Link.faults c.run_repeat.new.pass c.run_repeat.new.link c.run_repeat.new.wire) c.run_repeat.new.running) c.start.ensures x) c.run_repeat.ensures.cut)
 
 pub run_command-returns-in-If-clause-played : goal.run_command-returns-in-If-clause-played
 run_command-returns-in-If-clause-played g t c = rw c.in-If.is (if-ok-map c.run_choice.result (λ ending x.
@@ -82,9 +82,9 @@ run_command-returns-in-If-clause-played g t c = rw c.in-If.is (if-ok-map c.run_c
     (setting c.args.lent.now.client.now c.args.lent.now.policies.now c.args.lent.now.cookies.now)
     (chosen c.in-If.test (script_run (setting c.args.lent.now.client.now c.args.lent.now.policies.now c.args.lent.now.cookies.now) c.in-If.part)
     (script_run (setting c.args.lent.now.client.now c.args.lent.now.policies.now c.args.lent.now.cookies.now) c.in-If.other)) ending
-    (world_of g.S.Share.own g.S.Share.left g.L.Link.state g.L.Link.left g.L.Link.faults c.args.pass.now c.args.link.now c.args.wire.now)
+    (world_of g.S.Share.own g.S.Share.left g.L.Link.state g.L.Link.left g.L.Link.received g.L.Link.faults c.args.pass.now c.args.link.now c.args.wire.now)
     c.args.running.now c.start-in-If.new.self
-    (standing_of (world_of g.S.Share.own g.S.Share.left g.L.Link.state g.L.Link.left g.L.Link.faults c.run_choice.new.pass c.run_choice.new.link c.run_choice.new.wire) c.run_choice.new.running) c.start-in-If.ensures x) c.run_choice.ensures.played)
+    (standing_of (world_of g.S.Share.own g.S.Share.left g.L.Link.state g.L.Link.left g.L.Link.received g.L.Link.faults c.run_choice.new.pass c.run_choice.new.link c.run_choice.new.wire) c.run_choice.new.running) c.start-in-If.ensures x) c.run_choice.ensures.played)
 
 pub run_command-returns-in-If-clause-cut : goal.run_command-returns-in-If-clause-cut
 run_command-returns-in-If-clause-cut g t c = rw c.in-If.is (on-err-map c.run_choice.result (λ x.
@@ -92,15 +92,15 @@ run_command-returns-in-If-clause-cut g t c = rw c.in-If.is (on-err-map c.run_cho
     (setting c.args.lent.now.client.now c.args.lent.now.policies.now c.args.lent.now.cookies.now)
     (chosen c.in-If.test (script_run (setting c.args.lent.now.client.now c.args.lent.now.policies.now c.args.lent.now.cookies.now) c.in-If.part)
     (script_run (setting c.args.lent.now.client.now c.args.lent.now.policies.now c.args.lent.now.cookies.now) c.in-If.other))
-    (world_of g.S.Share.own g.S.Share.left g.L.Link.state g.L.Link.left g.L.Link.faults c.args.pass.now c.args.link.now c.args.wire.now)
+    (world_of g.S.Share.own g.S.Share.left g.L.Link.state g.L.Link.left g.L.Link.received g.L.Link.faults c.args.pass.now c.args.link.now c.args.wire.now)
     c.args.running.now c.start-in-If.new.self
-    (standing_of (world_of g.S.Share.own g.S.Share.left g.L.Link.state g.L.Link.left g.L.Link.faults c.run_choice.new.pass c.run_choice.new.link c.run_choice.new.wire) c.run_choice.new.running) c.start-in-If.ensures x) c.run_choice.ensures.cut)
+    (standing_of (world_of g.S.Share.own g.S.Share.left g.L.Link.state g.L.Link.left g.L.Link.received g.L.Link.faults c.run_choice.new.pass c.run_choice.new.link c.run_choice.new.wire) c.run_choice.new.running) c.start-in-If.ensures x) c.run_choice.ensures.cut)
 
 pub run_repeat-loop-i-init : goal.run_repeat-loop-i-init
 run_repeat-loop-i-init g t c = record {
   played = round-start (over_link g.L.Link.answer g.L.Link.next) c.args.lent.now.limit (g.S.Share.document c.args.pass.now)
       (setting c.args.lent.now.client.now c.args.lent.now.policies.now c.args.lent.now.cookies.now) c.args.times (script_run (setting c.args.lent.now.client.now c.args.lent.now.policies.now c.args.lent.now.cookies.now) c.args.part.now)
-      (standing_of (world_of g.S.Share.own g.S.Share.left g.L.Link.state g.L.Link.left g.L.Link.faults c.args.pass.now c.args.link.now c.args.wire.now) c.args.running.now);
+      (standing_of (world_of g.S.Share.own g.S.Share.left g.L.Link.state g.L.Link.left g.L.Link.received g.L.Link.faults c.args.pass.now c.args.link.now c.args.wire.now) c.args.running.now);
   spent = (omega arith, c.requires.room.1);
   belongs = c.requires.belongs;
   document = refl;
@@ -112,37 +112,37 @@ pub run_repeat-returns-in_err-ending-clause-cut : goal.run_repeat-returns-in_err
 run_repeat-returns-in_err-ending-clause-cut g t c =
     round-cut (over_link g.L.Link.answer g.L.Link.next) c.args.lent.now.limit (g.S.Share.document c.args.pass.now)
     (setting c.args.lent.now.client.now c.args.lent.now.policies.now c.args.lent.now.cookies.now) c.args.times (script_run (setting c.args.lent.now.client.now c.args.lent.now.policies.now c.args.lent.now.cookies.now) c.args.part.now) c.loop-i._i
-    (standing_of (world_of g.S.Share.own g.S.Share.left g.L.Link.state g.L.Link.left g.L.Link.faults c.args.pass.now c.args.link.now c.args.wire.now) c.args.running.now)
-    (standing_of (world_of g.S.Share.own g.S.Share.left g.L.Link.state g.L.Link.left g.L.Link.faults c.loop-i.pass c.loop-i.link c.loop-i.wire) c.loop-i.running)
-    (standing_of (world_of g.S.Share.own g.S.Share.left g.L.Link.state g.L.Link.left g.L.Link.faults c.run_script.new.pass c.run_script.new.link c.run_script.new.wire) c.run_script.new.running)
+    (standing_of (world_of g.S.Share.own g.S.Share.left g.L.Link.state g.L.Link.left g.L.Link.received g.L.Link.faults c.args.pass.now c.args.link.now c.args.wire.now) c.args.running.now)
+    (standing_of (world_of g.S.Share.own g.S.Share.left g.L.Link.state g.L.Link.left g.L.Link.received g.L.Link.faults c.loop-i.pass c.loop-i.link c.loop-i.wire) c.loop-i.running)
+    (standing_of (world_of g.S.Share.own g.S.Share.left g.L.Link.state g.L.Link.left g.L.Link.received g.L.Link.faults c.run_script.new.pass c.run_script.new.link c.run_script.new.wire) c.run_script.new.running)
     c.from_residual.result c.loop-i-test.true c.loop-i.invariant.played
     (subst (λ (d : ℕ). Cut (over_link g.L.Link.answer g.L.Link.next) c.args.lent.now.limit d (script_run (setting c.args.lent.now.client.now c.args.lent.now.policies.now c.args.lent.now.cookies.now) c.args.part.now)
-    (standing_of (world_of g.S.Share.own g.S.Share.left g.L.Link.state g.L.Link.left g.L.Link.faults c.loop-i.pass c.loop-i.link c.loop-i.wire) c.loop-i.running)
-    (standing_of (world_of g.S.Share.own g.S.Share.left g.L.Link.state g.L.Link.left g.L.Link.faults c.run_script.new.pass c.run_script.new.link c.run_script.new.wire) c.run_script.new.running)) c.loop-i.invariant.document c.in_err-ending.ensures.cut)
+    (standing_of (world_of g.S.Share.own g.S.Share.left g.L.Link.state g.L.Link.left g.L.Link.received g.L.Link.faults c.loop-i.pass c.loop-i.link c.loop-i.wire) c.loop-i.running)
+    (standing_of (world_of g.S.Share.own g.S.Share.left g.L.Link.state g.L.Link.left g.L.Link.received g.L.Link.faults c.run_script.new.pass c.run_script.new.link c.run_script.new.wire) c.run_script.new.running)) c.loop-i.invariant.document c.in_err-ending.ensures.cut)
 
 pub run_repeat-returns-then-is_some-clause-played : goal.run_repeat-returns-then-is_some-clause-played
 run_repeat-returns-then-is_some-clause-played g t c =
     round-ended (over_link g.L.Link.answer g.L.Link.next) c.args.lent.now.limit (g.S.Share.document c.args.pass.now)
     (setting c.args.lent.now.client.now c.args.lent.now.policies.now c.args.lent.now.cookies.now) c.args.times (script_run (setting c.args.lent.now.client.now c.args.lent.now.policies.now c.args.lent.now.cookies.now) c.args.part.now) c.loop-i._i c.in_ok-ending.ending
-    (standing_of (world_of g.S.Share.own g.S.Share.left g.L.Link.state g.L.Link.left g.L.Link.faults c.args.pass.now c.args.link.now c.args.wire.now) c.args.running.now)
-    (standing_of (world_of g.S.Share.own g.S.Share.left g.L.Link.state g.L.Link.left g.L.Link.faults c.loop-i.pass c.loop-i.link c.loop-i.wire) c.loop-i.running)
-    (standing_of (world_of g.S.Share.own g.S.Share.left g.L.Link.state g.L.Link.left g.L.Link.faults c.run_script.new.pass c.run_script.new.link c.run_script.new.wire) c.run_script.new.running)
+    (standing_of (world_of g.S.Share.own g.S.Share.left g.L.Link.state g.L.Link.left g.L.Link.received g.L.Link.faults c.args.pass.now c.args.link.now c.args.wire.now) c.args.running.now)
+    (standing_of (world_of g.S.Share.own g.S.Share.left g.L.Link.state g.L.Link.left g.L.Link.received g.L.Link.faults c.loop-i.pass c.loop-i.link c.loop-i.wire) c.loop-i.running)
+    (standing_of (world_of g.S.Share.own g.S.Share.left g.L.Link.state g.L.Link.left g.L.Link.received g.L.Link.faults c.run_script.new.pass c.run_script.new.link c.run_script.new.wire) c.run_script.new.running)
     c.loop-i-test.true (sym c.is_some.ensures ∙ c.if-is_some.true) c.loop-i.invariant.played
     (subst (λ (d : ℕ). Played (over_link g.L.Link.answer g.L.Link.next) c.args.lent.now.limit d (script_run (setting c.args.lent.now.client.now c.args.lent.now.policies.now c.args.lent.now.cookies.now) c.args.part.now)
-    (standing_of (world_of g.S.Share.own g.S.Share.left g.L.Link.state g.L.Link.left g.L.Link.faults c.loop-i.pass c.loop-i.link c.loop-i.wire) c.loop-i.running) c.in_ok-ending.ending
-    (standing_of (world_of g.S.Share.own g.S.Share.left g.L.Link.state g.L.Link.left g.L.Link.faults c.run_script.new.pass c.run_script.new.link c.run_script.new.wire) c.run_script.new.running)) c.loop-i.invariant.document c.in_ok-ending.ensures.played)
+    (standing_of (world_of g.S.Share.own g.S.Share.left g.L.Link.state g.L.Link.left g.L.Link.received g.L.Link.faults c.loop-i.pass c.loop-i.link c.loop-i.wire) c.loop-i.running) c.in_ok-ending.ending
+    (standing_of (world_of g.S.Share.own g.S.Share.left g.L.Link.state g.L.Link.left g.L.Link.received g.L.Link.faults c.run_script.new.pass c.run_script.new.link c.run_script.new.wire) c.run_script.new.running)) c.loop-i.invariant.document c.in_ok-ending.ensures.played)
 
 pub run_repeat-loop-i-preserved : goal.run_repeat-loop-i-preserved
 run_repeat-loop-i-preserved g t c = record {
   played = round-next (over_link g.L.Link.answer g.L.Link.next) c.args.lent.now.limit (g.S.Share.document c.args.pass.now)
       (setting c.args.lent.now.client.now c.args.lent.now.policies.now c.args.lent.now.cookies.now) c.args.times (script_run (setting c.args.lent.now.client.now c.args.lent.now.policies.now c.args.lent.now.cookies.now) c.args.part.now) c.loop-i._i c.in_ok-ending.ending
-      (standing_of (world_of g.S.Share.own g.S.Share.left g.L.Link.state g.L.Link.left g.L.Link.faults c.args.pass.now c.args.link.now c.args.wire.now) c.args.running.now)
-      (standing_of (world_of g.S.Share.own g.S.Share.left g.L.Link.state g.L.Link.left g.L.Link.faults c.loop-i.pass c.loop-i.link c.loop-i.wire) c.loop-i.running)
-      (standing_of (world_of g.S.Share.own g.S.Share.left g.L.Link.state g.L.Link.left g.L.Link.faults c.run_script.new.pass c.run_script.new.link c.run_script.new.wire) c.run_script.new.running)
+      (standing_of (world_of g.S.Share.own g.S.Share.left g.L.Link.state g.L.Link.left g.L.Link.received g.L.Link.faults c.args.pass.now c.args.link.now c.args.wire.now) c.args.running.now)
+      (standing_of (world_of g.S.Share.own g.S.Share.left g.L.Link.state g.L.Link.left g.L.Link.received g.L.Link.faults c.loop-i.pass c.loop-i.link c.loop-i.wire) c.loop-i.running)
+      (standing_of (world_of g.S.Share.own g.S.Share.left g.L.Link.state g.L.Link.left g.L.Link.received g.L.Link.faults c.run_script.new.pass c.run_script.new.link c.run_script.new.wire) c.run_script.new.running)
       c.loop-i-test.true (sym c.is_some.ensures ∙ c.if-is_some.false) c.loop-i.invariant.played
       (subst (λ (d : ℕ). Played (over_link g.L.Link.answer g.L.Link.next) c.args.lent.now.limit d (script_run (setting c.args.lent.now.client.now c.args.lent.now.policies.now c.args.lent.now.cookies.now) c.args.part.now)
-      (standing_of (world_of g.S.Share.own g.S.Share.left g.L.Link.state g.L.Link.left g.L.Link.faults c.loop-i.pass c.loop-i.link c.loop-i.wire) c.loop-i.running) c.in_ok-ending.ending
-      (standing_of (world_of g.S.Share.own g.S.Share.left g.L.Link.state g.L.Link.left g.L.Link.faults c.run_script.new.pass c.run_script.new.link c.run_script.new.wire) c.run_script.new.running)) c.loop-i.invariant.document c.in_ok-ending.ensures.played);
+      (standing_of (world_of g.S.Share.own g.S.Share.left g.L.Link.state g.L.Link.left g.L.Link.received g.L.Link.faults c.loop-i.pass c.loop-i.link c.loop-i.wire) c.loop-i.running) c.in_ok-ending.ending
+      (standing_of (world_of g.S.Share.own g.S.Share.left g.L.Link.state g.L.Link.left g.L.Link.received g.L.Link.faults c.run_script.new.pass c.run_script.new.link c.run_script.new.wire) c.run_script.new.running)) c.loop-i.invariant.document c.in_ok-ending.ensures.played);
   spent = (
     omega (arith, c.loop-i.invariant.spent.0, c.in_ok-ending.ensures.spent.0),
     c.in_ok-ending.ensures.spent.1,
@@ -157,15 +157,15 @@ pub run_repeat-returns-clause-played : goal.run_repeat-returns-clause-played
 run_repeat-returns-clause-played g t c =
     round-over (over_link g.L.Link.answer g.L.Link.next) c.args.lent.now.limit (g.S.Share.document c.args.pass.now)
     (setting c.args.lent.now.client.now c.args.lent.now.policies.now c.args.lent.now.cookies.now) c.args.times (script_run (setting c.args.lent.now.client.now c.args.lent.now.policies.now c.args.lent.now.cookies.now) c.args.part.now) c.loop-i._i
-    (standing_of (world_of g.S.Share.own g.S.Share.left g.L.Link.state g.L.Link.left g.L.Link.faults c.args.pass.now c.args.link.now c.args.wire.now) c.args.running.now)
-    (standing_of (world_of g.S.Share.own g.S.Share.left g.L.Link.state g.L.Link.left g.L.Link.faults c.loop-i.pass c.loop-i.link c.loop-i.wire) c.loop-i.running)
+    (standing_of (world_of g.S.Share.own g.S.Share.left g.L.Link.state g.L.Link.left g.L.Link.received g.L.Link.faults c.args.pass.now c.args.link.now c.args.wire.now) c.args.running.now)
+    (standing_of (world_of g.S.Share.own g.S.Share.left g.L.Link.state g.L.Link.left g.L.Link.received g.L.Link.faults c.loop-i.pass c.loop-i.link c.loop-i.wire) c.loop-i.running)
     c.loop-i-test.false c.loop-i.invariant.played
 
 pub run_script-loop-command-init : goal.run_script-loop-command-init
 run_script-loop-command-init g t c = record {
   played = script-start (over_link g.L.Link.answer g.L.Link.next) c.args.lent.now.limit (g.S.Share.document c.args.pass.now)
       (setting c.args.lent.now.client.now c.args.lent.now.policies.now c.args.lent.now.cookies.now) c.as_slice-command-items.result.now
-      (standing_of (world_of g.S.Share.own g.S.Share.left g.L.Link.state g.L.Link.left g.L.Link.faults c.args.pass.now c.args.link.now c.args.wire.now) c.args.running.now);
+      (standing_of (world_of g.S.Share.own g.S.Share.left g.L.Link.state g.L.Link.left g.L.Link.received g.L.Link.faults c.args.pass.now c.args.link.now c.args.wire.now) c.args.running.now);
   spent = (omega arith, c.requires.room.1);
   belongs = c.requires.belongs;
   document = refl;
@@ -178,8 +178,8 @@ run_script-returns-then-is_some-clause-played g t c =
     script-limited (over_link g.L.Link.answer g.L.Link.next) c.args.lent.now.limit (g.S.Share.document c.args.pass.now)
     (setting c.args.lent.now.client.now c.args.lent.now.policies.now c.args.lent.now.cookies.now) c.args.script.now c.as_slice-command-items.result.now c.loop-command.command-index c.command-item.result
     c.limit_before-limit.result
-    (standing_of (world_of g.S.Share.own g.S.Share.left g.L.Link.state g.L.Link.left g.L.Link.faults c.args.pass.now c.args.link.now c.args.wire.now) c.args.running.now)
-    (standing_of (world_of g.S.Share.own g.S.Share.left g.L.Link.state g.L.Link.left g.L.Link.faults c.loop-command.pass c.loop-command.link c.loop-command.wire) c.loop-command.running)
+    (standing_of (world_of g.S.Share.own g.S.Share.left g.L.Link.state g.L.Link.left g.L.Link.received g.L.Link.faults c.args.pass.now c.args.link.now c.args.wire.now) c.args.running.now)
+    (standing_of (world_of g.S.Share.own g.S.Share.left g.L.Link.state g.L.Link.left g.L.Link.received g.L.Link.faults c.loop-command.pass c.loop-command.link c.loop-command.wire) c.loop-command.running)
     c.as_slice-command-items.ensures c.loop-command-test.true c.command-item.is c.limit_before-limit.ensures
     (sym c.is_some.ensures ∙ c.if-is_some.true) c.loop-command.invariant.played
 
@@ -231,42 +231,42 @@ run_script-returns-in_err-ending-clause-cut g t c =
     script-cut (over_link g.L.Link.answer g.L.Link.next) c.args.lent.now.limit (g.S.Share.document c.args.pass.now)
     (setting c.args.lent.now.client.now c.args.lent.now.policies.now c.args.lent.now.cookies.now) c.args.script.now c.as_slice-command-items.result.now c.loop-command.command-index c.command-item.result
     c.limit_before-limit.result
-    (standing_of (world_of g.S.Share.own g.S.Share.left g.L.Link.state g.L.Link.left g.L.Link.faults c.args.pass.now c.args.link.now c.args.wire.now) c.args.running.now)
-    (standing_of (world_of g.S.Share.own g.S.Share.left g.L.Link.state g.L.Link.left g.L.Link.faults c.loop-command.pass c.loop-command.link c.loop-command.wire) c.loop-command.running)
-    (standing_of (world_of g.S.Share.own g.S.Share.left g.L.Link.state g.L.Link.left g.L.Link.faults c.run_command.new.pass c.run_command.new.link c.run_command.new.wire) c.run_command.new.running)
+    (standing_of (world_of g.S.Share.own g.S.Share.left g.L.Link.state g.L.Link.left g.L.Link.received g.L.Link.faults c.args.pass.now c.args.link.now c.args.wire.now) c.args.running.now)
+    (standing_of (world_of g.S.Share.own g.S.Share.left g.L.Link.state g.L.Link.left g.L.Link.received g.L.Link.faults c.loop-command.pass c.loop-command.link c.loop-command.wire) c.loop-command.running)
+    (standing_of (world_of g.S.Share.own g.S.Share.left g.L.Link.state g.L.Link.left g.L.Link.received g.L.Link.faults c.run_command.new.pass c.run_command.new.link c.run_command.new.wire) c.run_command.new.running)
     c.from_residual.result c.as_slice-command-items.ensures c.loop-command-test.true c.command-item.is
     c.limit_before-limit.ensures (sym c.is_some.ensures ∙ c.if-is_some.false) c.loop-command.invariant.played
     (subst (λ (d : ℕ). Cut (over_link g.L.Link.answer g.L.Link.next) c.args.lent.now.limit d (command_started (setting c.args.lent.now.client.now c.args.lent.now.policies.now c.args.lent.now.cookies.now) (step_of c.command-item.result))
-    (standing_of (world_of g.S.Share.own g.S.Share.left g.L.Link.state g.L.Link.left g.L.Link.faults c.loop-command.pass c.loop-command.link c.loop-command.wire) c.loop-command.running)
-    (standing_of (world_of g.S.Share.own g.S.Share.left g.L.Link.state g.L.Link.left g.L.Link.faults c.run_command.new.pass c.run_command.new.link c.run_command.new.wire) c.run_command.new.running)) c.loop-command.invariant.document c.in_err-ending.ensures.cut)
+    (standing_of (world_of g.S.Share.own g.S.Share.left g.L.Link.state g.L.Link.left g.L.Link.received g.L.Link.faults c.loop-command.pass c.loop-command.link c.loop-command.wire) c.loop-command.running)
+    (standing_of (world_of g.S.Share.own g.S.Share.left g.L.Link.state g.L.Link.left g.L.Link.received g.L.Link.faults c.run_command.new.pass c.run_command.new.link c.run_command.new.wire) c.run_command.new.running)) c.loop-command.invariant.document c.in_err-ending.ensures.cut)
 
 pub run_script-returns-then-is_some-2-clause-played : goal.run_script-returns-then-is_some-2-clause-played
 run_script-returns-then-is_some-2-clause-played g t c =
     script-ended (over_link g.L.Link.answer g.L.Link.next) c.args.lent.now.limit (g.S.Share.document c.args.pass.now)
     (setting c.args.lent.now.client.now c.args.lent.now.policies.now c.args.lent.now.cookies.now) c.args.script.now c.as_slice-command-items.result.now c.loop-command.command-index c.command-item.result
     c.limit_before-limit.result c.in_ok-ending.ending
-    (standing_of (world_of g.S.Share.own g.S.Share.left g.L.Link.state g.L.Link.left g.L.Link.faults c.args.pass.now c.args.link.now c.args.wire.now) c.args.running.now)
-    (standing_of (world_of g.S.Share.own g.S.Share.left g.L.Link.state g.L.Link.left g.L.Link.faults c.loop-command.pass c.loop-command.link c.loop-command.wire) c.loop-command.running)
-    (standing_of (world_of g.S.Share.own g.S.Share.left g.L.Link.state g.L.Link.left g.L.Link.faults c.run_command.new.pass c.run_command.new.link c.run_command.new.wire) c.run_command.new.running)
+    (standing_of (world_of g.S.Share.own g.S.Share.left g.L.Link.state g.L.Link.left g.L.Link.received g.L.Link.faults c.args.pass.now c.args.link.now c.args.wire.now) c.args.running.now)
+    (standing_of (world_of g.S.Share.own g.S.Share.left g.L.Link.state g.L.Link.left g.L.Link.received g.L.Link.faults c.loop-command.pass c.loop-command.link c.loop-command.wire) c.loop-command.running)
+    (standing_of (world_of g.S.Share.own g.S.Share.left g.L.Link.state g.L.Link.left g.L.Link.received g.L.Link.faults c.run_command.new.pass c.run_command.new.link c.run_command.new.wire) c.run_command.new.running)
     c.as_slice-command-items.ensures c.loop-command-test.true c.command-item.is c.limit_before-limit.ensures (sym c.is_some.ensures ∙ c.if-is_some.false)
     (sym c.is_some-in-loop-command.ensures ∙ c.if-is_some-2.true) c.loop-command.invariant.played
     (subst (λ (d : ℕ). Played (over_link g.L.Link.answer g.L.Link.next) c.args.lent.now.limit d (command_started (setting c.args.lent.now.client.now c.args.lent.now.policies.now c.args.lent.now.cookies.now) (step_of c.command-item.result))
-    (standing_of (world_of g.S.Share.own g.S.Share.left g.L.Link.state g.L.Link.left g.L.Link.faults c.loop-command.pass c.loop-command.link c.loop-command.wire) c.loop-command.running) c.in_ok-ending.ending
-    (standing_of (world_of g.S.Share.own g.S.Share.left g.L.Link.state g.L.Link.left g.L.Link.faults c.run_command.new.pass c.run_command.new.link c.run_command.new.wire) c.run_command.new.running)) c.loop-command.invariant.document c.in_ok-ending.ensures.played)
+    (standing_of (world_of g.S.Share.own g.S.Share.left g.L.Link.state g.L.Link.left g.L.Link.received g.L.Link.faults c.loop-command.pass c.loop-command.link c.loop-command.wire) c.loop-command.running) c.in_ok-ending.ending
+    (standing_of (world_of g.S.Share.own g.S.Share.left g.L.Link.state g.L.Link.left g.L.Link.received g.L.Link.faults c.run_command.new.pass c.run_command.new.link c.run_command.new.wire) c.run_command.new.running)) c.loop-command.invariant.document c.in_ok-ending.ensures.played)
 
 pub run_script-loop-command-preserved : goal.run_script-loop-command-preserved
 run_script-loop-command-preserved g t c = record {
   played = script-next (over_link g.L.Link.answer g.L.Link.next) c.args.lent.now.limit (g.S.Share.document c.args.pass.now)
       (setting c.args.lent.now.client.now c.args.lent.now.policies.now c.args.lent.now.cookies.now) c.as_slice-command-items.result.now c.loop-command.command-index c.command-item.result
       c.limit_before-limit.result c.in_ok-ending.ending
-      (standing_of (world_of g.S.Share.own g.S.Share.left g.L.Link.state g.L.Link.left g.L.Link.faults c.args.pass.now c.args.link.now c.args.wire.now) c.args.running.now)
-      (standing_of (world_of g.S.Share.own g.S.Share.left g.L.Link.state g.L.Link.left g.L.Link.faults c.loop-command.pass c.loop-command.link c.loop-command.wire) c.loop-command.running)
-      (standing_of (world_of g.S.Share.own g.S.Share.left g.L.Link.state g.L.Link.left g.L.Link.faults c.run_command.new.pass c.run_command.new.link c.run_command.new.wire) c.run_command.new.running)
+      (standing_of (world_of g.S.Share.own g.S.Share.left g.L.Link.state g.L.Link.left g.L.Link.received g.L.Link.faults c.args.pass.now c.args.link.now c.args.wire.now) c.args.running.now)
+      (standing_of (world_of g.S.Share.own g.S.Share.left g.L.Link.state g.L.Link.left g.L.Link.received g.L.Link.faults c.loop-command.pass c.loop-command.link c.loop-command.wire) c.loop-command.running)
+      (standing_of (world_of g.S.Share.own g.S.Share.left g.L.Link.state g.L.Link.left g.L.Link.received g.L.Link.faults c.run_command.new.pass c.run_command.new.link c.run_command.new.wire) c.run_command.new.running)
       c.loop-command-test.true c.command-item.is c.limit_before-limit.ensures (sym c.is_some.ensures ∙ c.if-is_some.false)
       (sym c.is_some-in-loop-command.ensures ∙ c.if-is_some-2.false) c.loop-command.invariant.played
       (subst (λ (d : ℕ). Played (over_link g.L.Link.answer g.L.Link.next) c.args.lent.now.limit d (command_started (setting c.args.lent.now.client.now c.args.lent.now.policies.now c.args.lent.now.cookies.now) (step_of c.command-item.result))
-      (standing_of (world_of g.S.Share.own g.S.Share.left g.L.Link.state g.L.Link.left g.L.Link.faults c.loop-command.pass c.loop-command.link c.loop-command.wire) c.loop-command.running) c.in_ok-ending.ending
-      (standing_of (world_of g.S.Share.own g.S.Share.left g.L.Link.state g.L.Link.left g.L.Link.faults c.run_command.new.pass c.run_command.new.link c.run_command.new.wire) c.run_command.new.running)) c.loop-command.invariant.document c.in_ok-ending.ensures.played);
+      (standing_of (world_of g.S.Share.own g.S.Share.left g.L.Link.state g.L.Link.left g.L.Link.received g.L.Link.faults c.loop-command.pass c.loop-command.link c.loop-command.wire) c.loop-command.running) c.in_ok-ending.ending
+      (standing_of (world_of g.S.Share.own g.S.Share.left g.L.Link.state g.L.Link.left g.L.Link.received g.L.Link.faults c.run_command.new.pass c.run_command.new.link c.run_command.new.wire) c.run_command.new.running)) c.loop-command.invariant.document c.in_ok-ending.ensures.played);
   spent = (
     omega (arith, c.loop-command.invariant.spent.0, c.in_ok-ending.ensures.spent.0),
     c.in_ok-ending.ensures.spent.1,
@@ -281,6 +281,6 @@ pub run_script-returns-clause-played : goal.run_script-returns-clause-played
 run_script-returns-clause-played g t c =
     script-over (over_link g.L.Link.answer g.L.Link.next) c.args.lent.now.limit (g.S.Share.document c.args.pass.now)
     (setting c.args.lent.now.client.now c.args.lent.now.policies.now c.args.lent.now.cookies.now) c.args.script.now c.as_slice-command-items.result.now c.loop-command.command-index
-    (standing_of (world_of g.S.Share.own g.S.Share.left g.L.Link.state g.L.Link.left g.L.Link.faults c.args.pass.now c.args.link.now c.args.wire.now) c.args.running.now)
-    (standing_of (world_of g.S.Share.own g.S.Share.left g.L.Link.state g.L.Link.left g.L.Link.faults c.loop-command.pass c.loop-command.link c.loop-command.wire) c.loop-command.running)
+    (standing_of (world_of g.S.Share.own g.S.Share.left g.L.Link.state g.L.Link.left g.L.Link.received g.L.Link.faults c.args.pass.now c.args.link.now c.args.wire.now) c.args.running.now)
+    (standing_of (world_of g.S.Share.own g.S.Share.left g.L.Link.state g.L.Link.left g.L.Link.received g.L.Link.faults c.loop-command.pass c.loop-command.link c.loop-command.wire) c.loop-command.running)
     c.as_slice-command-items.ensures c.loop-command-test.false c.loop-command.invariant.played

@@ -27,9 +27,9 @@ abbrev pub invariant-run_script-loop-command : goal.invariant-run_script-loop-co
 invariant-run_script-loop-command g l = record {
   played : IsAt (over_link g.L.Link.answer g.L.Link.next) l.lent.limit (g.S.Share.document l.fn.pass)
       (setting l.lent.client.now l.lent.policies.now l.lent.cookies.now) l.command-items l.command-index
-      (standing_of (world_of g.S.Share.own g.S.Share.left g.L.Link.state g.L.Link.left g.L.Link.faults l.fn.pass
+      (standing_of (world_of g.S.Share.own g.S.Share.left g.L.Link.state g.L.Link.left g.L.Link.received g.L.Link.faults l.fn.pass
       l.fn.link l.fn.wire) l.fn.running)
-      (standing_of (world_of g.S.Share.own g.S.Share.left g.L.Link.state g.L.Link.left g.L.Link.faults l.pass l.link
+      (standing_of (world_of g.S.Share.own g.S.Share.left g.L.Link.state g.L.Link.left g.L.Link.received g.L.Link.faults l.pass l.link
       l.wire) l.running);
   spent : IsSpent (g.S.Share.left l.fn.pass) l.fn.running (g.S.Share.left l.pass) l.running;
   belongs : g.S.Share.belongs l.lent.share.now l.pass;
@@ -43,9 +43,9 @@ abbrev pub invariant-run_repeat-loop-i : goal.invariant-run_repeat-loop-i
 invariant-run_repeat-loop-i g l = record {
   played : IsRound (over_link g.L.Link.answer g.L.Link.next) l.lent.limit (g.S.Share.document l.fn.pass)
       (setting l.lent.client.now l.lent.policies.now l.lent.cookies.now) l.times (script_run (setting l.lent.client.now l.lent.policies.now l.lent.cookies.now) l.part) l._i
-      (standing_of (world_of g.S.Share.own g.S.Share.left g.L.Link.state g.L.Link.left g.L.Link.faults l.fn.pass
+      (standing_of (world_of g.S.Share.own g.S.Share.left g.L.Link.state g.L.Link.left g.L.Link.received g.L.Link.faults l.fn.pass
       l.fn.link l.fn.wire) l.fn.running)
-      (standing_of (world_of g.S.Share.own g.S.Share.left g.L.Link.state g.L.Link.left g.L.Link.faults l.pass l.link
+      (standing_of (world_of g.S.Share.own g.S.Share.left g.L.Link.state g.L.Link.left g.L.Link.received g.L.Link.faults l.pass l.link
       l.wire) l.running);
   spent : IsSpent (g.S.Share.left l.fn.pass) l.fn.running (g.S.Share.left l.pass) l.running;
   belongs : g.S.Share.belongs l.lent.share.now l.pass;

@@ -10,24 +10,24 @@ use Rattle.wf_player.proofs.threads.play_all.Goals as goal
 
 pub returns-in_err-transcripts-clause-documents : goal.returns-in_err-transcripts-clause-documents
 returns-in_err-transcripts-clause-documents g c =
-    documents-before (seat_of g.S.Share.document g.S.Share.opening g.S.Share.own g.S.Share.left g.L.Link.state g.L.Link.faults)
+    documents-before (seat_of g.S.Share.document g.S.Share.opening g.S.Share.own g.S.Share.left g.L.Link.state g.L.Link.received g.L.Link.faults)
     c.args.scenario.now c.args.seats.now.items c.requires.seats
 
 pub returns-in_err-rows-clause-documents : goal.returns-in_err-rows-clause-documents
 returns-in_err-rows-clause-documents g c =
     rw c.in_err-rows.ensures.err (documents-before
-    (seat_of g.S.Share.document g.S.Share.opening g.S.Share.own g.S.Share.left g.L.Link.state g.L.Link.faults)
+    (seat_of g.S.Share.document g.S.Share.opening g.S.Share.own g.S.Share.left g.L.Link.state g.L.Link.received g.L.Link.faults)
     c.args.scenario.now c.args.seats.now.items c.requires.seats)
 
 pub play_rows-requires-clause-rows : goal.play_rows-requires-clause-rows
 play_rows-requires-clause-rows g c κs within =
-    let seen = seat_of g.S.Share.document g.S.Share.opening g.S.Share.own g.S.Share.left g.L.Link.state g.L.Link.faults in
+    let seen = seat_of g.S.Share.document g.S.Share.opening g.S.Share.own g.S.Share.left g.L.Link.state g.L.Link.received g.L.Link.faults in
     rw c.as_mut_slice.ensures.value (ready (g.S.Share.belongs c.args.share.now) seen c.args.scenario.now
     c.in_ok-rows.rows.items c.args.seats.now.items c.in_ok-rows.ensures.ok.0 c.requires.seats c.requires.belong)
 
 pub returns-clause-played : goal.returns-clause-played
 returns-clause-played g c =
-    let seen = seat_of g.S.Share.document g.S.Share.opening g.S.Share.own g.S.Share.left g.L.Link.state g.L.Link.faults in
+    let seen = seat_of g.S.Share.document g.S.Share.opening g.S.Share.own g.S.Share.left g.L.Link.state g.L.Link.received g.L.Link.faults in
     let belongs = g.S.Share.belongs c.args.share.now in
     let by = over_link g.L.Link.answer g.L.Link.next in
     let w = c.as_mut_slice.ensures in let f = c.from_rows.ensures in
@@ -44,20 +44,20 @@ returns-clause-played g c =
 
 pub returns-in_err-rows-clause-refused : goal.returns-in_err-rows-clause-refused
 returns-in_err-rows-clause-refused g c =
-    let seen = seat_of g.S.Share.document g.S.Share.opening g.S.Share.own g.S.Share.left g.L.Link.state g.L.Link.faults in
+    let seen = seat_of g.S.Share.document g.S.Share.opening g.S.Share.own g.S.Share.left g.L.Link.state g.L.Link.received g.L.Link.faults in
     on-err c.from_residual-in_err-rows.result (none-played (over_link g.L.Link.answer g.L.Link.next) c.args.scenario.now
     c.args.base (map seen c.args.seats.now.items) (map seen c.to_rows.new.seats.items)
     (ap (map seen) c.in_err-rows.ensures.err))
 
 pub returns-in_err-transcripts-clause-refused : goal.returns-in_err-transcripts-clause-refused
 returns-in_err-transcripts-clause-refused g c =
-    let seen = seat_of g.S.Share.document g.S.Share.opening g.S.Share.own g.S.Share.left g.L.Link.state g.L.Link.faults in
+    let seen = seat_of g.S.Share.document g.S.Share.opening g.S.Share.own g.S.Share.left g.L.Link.state g.L.Link.received g.L.Link.faults in
     on-err c.from_residual.result (none-played (over_link g.L.Link.answer g.L.Link.next) c.args.scenario.now c.args.base
     (map seen c.args.seats.now.items) (map seen c.args.seats.now.items) refl)
 
 pub returns-clause-refused : goal.returns-clause-refused
 returns-clause-refused g c =
-    let seen = seat_of g.S.Share.document g.S.Share.opening g.S.Share.own g.S.Share.left g.L.Link.state g.L.Link.faults in
+    let seen = seat_of g.S.Share.document g.S.Share.opening g.S.Share.own g.S.Share.left g.L.Link.state g.L.Link.received g.L.Link.faults in
     let belongs = g.S.Share.belongs c.args.share.now in
     let by = over_link g.L.Link.answer g.L.Link.next in
     let w = c.as_mut_slice.ensures in let f = c.from_rows.ensures in
@@ -74,7 +74,7 @@ returns-clause-refused g c =
 
 pub returns-clause-belong : goal.returns-clause-belong
 returns-clause-belong g c =
-    let seen = seat_of g.S.Share.document g.S.Share.opening g.S.Share.own g.S.Share.left g.L.Link.state g.L.Link.faults in
+    let seen = seat_of g.S.Share.document g.S.Share.opening g.S.Share.own g.S.Share.left g.L.Link.state g.L.Link.received g.L.Link.faults in
     let belongs = g.S.Share.belongs c.args.share.now in
     let by = over_link g.L.Link.answer g.L.Link.next in
     let w = c.as_mut_slice.ensures in let f = c.from_rows.ensures in
@@ -86,7 +86,7 @@ returns-clause-belong g c =
 
 pub returns-clause-documents : goal.returns-clause-documents
 returns-clause-documents g c =
-    let seen = seat_of g.S.Share.document g.S.Share.opening g.S.Share.own g.S.Share.left g.L.Link.state g.L.Link.faults in
+    let seen = seat_of g.S.Share.document g.S.Share.opening g.S.Share.own g.S.Share.left g.L.Link.state g.L.Link.received g.L.Link.faults in
     let belongs = g.S.Share.belongs c.args.share.now in
     let by = over_link g.L.Link.answer g.L.Link.next in
     let w = c.as_mut_slice.ensures in let f = c.from_rows.ensures in

@@ -6,7 +6,7 @@ use Rattle.wf_top.proofs.ProgramLemmas.{answers}
 use Rattle.wf_top.proofs.program.fetchplay.Goals as goal
 
 pub returns : goal.returns
-returns g c = answers (over_link g.N.Link.Link.answer g.N.Link.Link.next) g.N.Link.Link.state g.N.Link.Link.faults
+returns g c = answers (over_link g.N.Link.Link.answer g.N.Link.Link.next) g.N.Link.Link.state g.N.Link.Link.received g.N.Link.Link.faults
     (texts c.args.words.now)
     (source_of g.S.Source.left g.S.Source.faults c.args.input.now)
     (source_of g.S.Source.left g.S.Source.faults c.verdict-verdict.new.input)

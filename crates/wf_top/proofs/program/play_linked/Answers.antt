@@ -10,9 +10,9 @@ returns g c =
     let scenario = c.in-Ok.scenario in
     let played = c.in-Ok-play_over.played in
     let by = over_link g.N.Link.Link.answer g.N.Link.Link.next in
-    let way = way_of g.N.Link.Link.state g.N.Link.Link.faults in
+    let way = way_of g.N.Link.Link.state g.N.Link.Link.received g.N.Link.Link.faults in
     let over = c.in-Ok-play_over.ensures.played in
-    over-written by g.N.Link.Link.state g.N.Link.Link.faults
+    over-written by g.N.Link.Link.state g.N.Link.Link.received g.N.Link.Link.faults
     (net_of (maker_of g.N.Links.opening g.N.Links.lent g.N.Links.faults c.args.links.now) g.C.Clock.next
     c.args.clock.now)
     (net_of (maker_of g.N.Links.opening g.N.Links.lent g.N.Links.faults c.play_over.new.links) g.C.Clock.next
@@ -33,7 +33,7 @@ returns g c =
 
 pub returns-in-Err-play_over : goal.returns-in-Err-play_over
 returns-in-Err-play_over g c =
-    over-refused (over_link g.N.Link.Link.answer g.N.Link.Link.next) g.N.Link.Link.state g.N.Link.Link.faults
+    over-refused (over_link g.N.Link.Link.answer g.N.Link.Link.next) g.N.Link.Link.state g.N.Link.Link.received g.N.Link.Link.faults
     (net_of (maker_of g.N.Links.opening g.N.Links.lent g.N.Links.faults c.args.links.now) g.C.Clock.next
     c.args.clock.now)
     (net_of (maker_of g.N.Links.opening g.N.Links.lent g.N.Links.faults c.play_over.new.links) g.C.Clock.next

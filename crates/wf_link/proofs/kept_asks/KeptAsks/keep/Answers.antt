@@ -23,7 +23,7 @@ invariant_of-self c = (
   rw (
     c.in-Ok-Ok-Ok.ensures''.items,
     bytes_of-append c.self.inside.sizes.items
-        (record { origin = length c.args.origin.now; request = length c.args.request.now }),
+        (record { origin = length c.args.origin.now; request = length c.args.request.now; received = 0 }),
   )
       (omega (
         arith,

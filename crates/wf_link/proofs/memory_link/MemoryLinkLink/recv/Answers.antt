@@ -6,13 +6,13 @@ pub returns-clause-gave : goal.returns-clause-gave
 returns-clause-gave c = (
   _,
   refl,
-  rw (← c.self.view_is, c.give.ensures.left)
-      (gave-piece c.self.inside.pieces c.give.result (length c.args.buf.now) c.give.new.buf c.args.buf.now
-      c.give.ensures.count c.give.ensures.given),
+  rw (← c.self.view_is, c.give-count.ensures.left)
+      (gave-piece c.self.inside.pieces c.give-count.result (length c.args.buf.now) c.give-count.new.buf c.args.buf.now
+      c.give-count.ensures.count c.give-count.ensures.given),
 )
 
 pub returns-clause-end : goal.returns-clause-end
 returns-clause-end c =
-    λ none some. rw c.give.ensures.left
-    (concat-end c.self.inside.pieces c.give.result (length c.args.buf.now) c.give.ensures.count (cc)
-    (omega (arith, some, c.give.auto.buf)))
+    λ none some. rw c.give-count.ensures.left
+    (concat-end c.self.inside.pieces c.give-count.result (length c.args.buf.now) c.give-count.ensures.count (cc)
+    (omega (arith, some, c.give-count.auto.buf)))

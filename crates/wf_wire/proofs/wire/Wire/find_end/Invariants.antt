@@ -1,7 +1,7 @@
 use Rattle.std.proofs.Common.{◌≡◌, ◌≤◌, ◌+◌, ◌-◌, length}
 use Rattle.wf_http1.specs.BodyLaws.{most_open}
 use Rattle.wf_wire.specs.Wires.{window_of}
-use Rattle.wf_wire.proofs.WireLemmas.{Receives}
+use Rattle.wf_wire.proofs.WireLemmas.{Counts, Receives}
 use Rattle.wf_wire.proofs.wire.Wire.find_end.Given as goal
 
 -- what was received was read or stands in the window
@@ -9,6 +9,8 @@ abbrev pub invariant-loop-end : goal.invariant-loop-end
 invariant-loop-end g l = record {
   received : Receives (window_of l.fn.self) (g.L.Link.left l.fn.link) l.reader.bytes (window_of l.self)
       (g.L.Link.left l.link);
+  counts : Counts (window_of l.fn.self) (g.L.Link.received l.fn.link) l.reader.bytes (window_of l.self)
+      (g.L.Link.received l.link);
   framing : l.reader.framing ≡ l.fn.self.framing;
   limit : l.reader.limit ≡ l.limit;
   state : g.L.Link.state l.link ≡ g.L.Link.state l.fn.link;

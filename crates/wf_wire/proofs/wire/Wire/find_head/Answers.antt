@@ -1,8 +1,8 @@
-use Rattle.std.proofs.Common.{◌∙◌, ◌+◌, ◌≤◌, length, arith}
+use Rattle.std.proofs.Common.{◌∙◌, ◌+◌, ◌≤◌, length, arith, refl}
 use Rattle.wf_http1.specs.Answers.{most_bytes}
 use Rattle.wf_wire.specs.Wires.{window_of}
-use Rattle.wf_wire.proofs.HeadLemmas.{finds-bad, finds-end, finds-fault, finds-head, finds-long, head-goes-on}
-use Rattle.wf_wire.proofs.WireLemmas.{received-most}
+use Rattle.wf_wire.proofs.HeadLemmas.{finds-bad, finds-end, finds-fault, finds-head, finds-long, head-goes-on, head-read}
+use Rattle.wf_wire.proofs.WireLemmas.{counts-more, counts-none, few-none, gives-few, receives-none}
 use Rattle.wf_wire.proofs.wire.Wire.find_head.Goals as goal
 
 pub returns-in-Final-clause-found : goal.returns-in-Final-clause-found
@@ -45,12 +45,52 @@ loop-head-preserved g c =
     c.window.result.now (window_of c.loop-head.self) (g.L.Link.left c.loop-head.link) c.in_ok-head.field-0
     c.window.ensures c.in_ok-head.ensures c.loop-head.invariant.received c.in-More.next
     (window_of c.refill.new.self) (g.L.Link.left c.refill.new.link) c.in-More.is received.gave in
+    let read = head-read (window_of c.args.self.now) (g.L.Link.left c.args.link.now) c.loop-head.reader
+    c.window.result.now (window_of c.loop-head.self) (g.L.Link.left c.loop-head.link) c.in_ok-head.field-0
+    c.window.ensures c.in_ok-head.ensures c.loop-head.invariant.received c.in-More.next c.in-More.is in
+    let counts = counts-more (window_of c.args.self.now) (g.L.Link.received c.args.link.now) c.loop-head.reader
+    (window_of c.loop-head.self) c.in-More.next (window_of c.refill.new.self) (g.L.Link.received c.loop-head.link)
+    (g.L.Link.received c.refill.new.link) read received.received c.loop-head.invariant.counts in
     let few : length c.in-More.next + length (window_of c.refill.new.self) ≤ most_bytes + 1 =
     omega (arith, received.few, c.min.ensures, c.seen_bytes.ensures.value, c.seen_bytes.ensures.few) in
     record {
       received = on;
-      few = received-most (window_of c.args.self.now) (g.L.Link.left c.args.link.now) c.in-More.next
-          (window_of c.refill.new.self) (g.L.Link.left c.refill.new.link) (most_bytes + 1) few on;
+      counts = counts;
+      few = gives-few (window_of c.args.self.now) (g.L.Link.left c.args.link.now)
+          (g.L.Link.received c.args.link.now) c.in-More.next (window_of c.refill.new.self)
+          (g.L.Link.left c.refill.new.link) (g.L.Link.received c.refill.new.link) (most_bytes + 1) few on counts;
       state = received.state ∙ c.loop-head.invariant.state;
       later = omega (arith, c.loop-head.invariant.later, received.cause.later);
     }
+
+pub returns-in_err-reader-clause-few : goal.returns-in_err-reader-clause-few
+returns-in_err-reader-clause-few g c =
+    few-none (g.L.Link.left c.args.link.now) (g.L.Link.received c.args.link.now) (most_bytes + 1)
+
+pub loop-head-init : goal.loop-head-init
+loop-head-init g c = record {
+  received = rw c.in_ok-reader.ensures (receives-none (window_of c.args.self.now) (g.L.Link.left c.args.link.now));
+  counts = rw c.in_ok-reader.ensures (counts-none (window_of c.args.self.now) (g.L.Link.received c.args.link.now));
+  few = few-none (g.L.Link.left c.args.link.now) (g.L.Link.received c.args.link.now) (most_bytes + 1);
+  state = refl;
+  later = omega arith;
+}
+
+pub returns-in-Ok-false-clause-few : goal.returns-in-Ok-false-clause-few
+returns-in-Ok-false-clause-few g c =
+    let received = c.in-Ok-false.ensures in
+    let on = head-goes-on (window_of c.args.self.now) (g.L.Link.left c.args.link.now) c.loop-head.reader
+    c.window.result.now (window_of c.loop-head.self) (g.L.Link.left c.loop-head.link) c.in_ok-head.field-0
+    c.window.ensures c.in_ok-head.ensures c.loop-head.invariant.received c.in-More.next
+    (window_of c.refill.new.self) (g.L.Link.left c.refill.new.link) c.in-More.is received.gave in
+    let read = head-read (window_of c.args.self.now) (g.L.Link.left c.args.link.now) c.loop-head.reader
+    c.window.result.now (window_of c.loop-head.self) (g.L.Link.left c.loop-head.link) c.in_ok-head.field-0
+    c.window.ensures c.in_ok-head.ensures c.loop-head.invariant.received c.in-More.next c.in-More.is in
+    let few : length c.in-More.next + length (window_of c.refill.new.self) ≤ most_bytes + 1 =
+    omega (arith, received.few, c.min.ensures, c.seen_bytes.ensures.value, c.seen_bytes.ensures.few) in
+    gives-few (window_of c.args.self.now) (g.L.Link.left c.args.link.now) (g.L.Link.received c.args.link.now)
+    c.in-More.next (window_of c.refill.new.self) (g.L.Link.left c.refill.new.link)
+    (g.L.Link.received c.refill.new.link) (most_bytes + 1) few on
+    (counts-more (window_of c.args.self.now) (g.L.Link.received c.args.link.now) c.loop-head.reader
+    (window_of c.loop-head.self) c.in-More.next (window_of c.refill.new.self) (g.L.Link.received c.loop-head.link)
+    (g.L.Link.received c.refill.new.link) read received.received c.loop-head.invariant.counts)

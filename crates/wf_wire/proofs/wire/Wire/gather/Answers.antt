@@ -1,6 +1,7 @@
-use Rattle.std.proofs.Common.{◌∙◌, ap, length, arith}
+use Rattle.std.proofs.Common.{◌∙◌, ap, length, arith, refl}
 use Rattle.std.proofs.lemmas.List.{with_items_is}
-use Rattle.wf_wire.proofs.WireLemmas.{gathered-more}
+use Rattle.wf_link.proofs.ReceivedLemmas.{received-none}
+use Rattle.wf_wire.proofs.WireLemmas.{gathered-counted, gathered-more, gave-nothing}
 use Rattle.wf_wire.proofs.wire.Wire.gather.Goals as goal
 
 pub returns-then-count-eq0-clause-gave : goal.returns-then-count-eq0-clause-gave
@@ -25,6 +26,10 @@ loop-count-preserved g c =
           (g.L.Link.left c.receive_behind.new.link) c.loop-count.self.buffer.items c.as_mut_slice.result.now
           c.receive_behind.new.buffer _ c.loop-count.self.from c.loop-count.self.to c.in_ok-count.count is.front is.gave
           c.as_mut_slice.ensures.value came.kept came.gave now;
+      received = gathered-counted (g.L.Link.received c.args.link.now) (g.L.Link.received c.loop-count.link)
+          (g.L.Link.received c.receive_behind.new.link) c.loop-count.self.buffer.items _ c.loop-count.self.from
+          c.loop-count.self.to c.in_ok-count.count is.front (omega (arith, is.some_room))
+          (omega (arith, ap length now, came.within)) is.received came.received;
       front = is.front;
       few = λ some. omega (arith, c.if-self-fewest.false);
       some_room = omega (arith, ap length now, came.within, c.len.ensures, c.if-self-len.false);
@@ -32,3 +37,26 @@ loop-count-preserved g c =
       state = came.state ∙ is.state;
       later = omega (arith, is.later, came.cause.later);
     }
+
+pub returns-then-count-eq0-clause-received : goal.returns-then-count-eq0-clause-received
+returns-then-count-eq0-clause-received g c =
+    let is = c.loop-count.invariant in
+    let came = c.in_ok-count.ensures in
+    let now = with_items_is c.loop-count.self.buffer c.receive_behind.new.buffer
+    (omega (arith, came.length, ap length c.as_mut_slice.ensures.value, c.loop-count.self.buffer.ok.0)) in
+    gathered-counted (g.L.Link.received c.args.link.now) (g.L.Link.received c.loop-count.link)
+    (g.L.Link.received c.receive_behind.new.link) c.loop-count.self.buffer.items _ c.loop-count.self.from
+    c.loop-count.self.to c.in_ok-count.count is.front (omega (arith, is.some_room))
+    (omega (arith, ap length now, came.within)) is.received came.received
+
+pub loop-count-init : goal.loop-count-init
+loop-count-init g c = record {
+  gave = gave-nothing (g.L.Link.left c.args.link.now);
+  received = received-none (g.L.Link.received c.args.link.now);
+  front = refl;
+  few = λ some. omega (arith, some);
+  some_room = c.args.self.now.room;
+  framing = refl;
+  state = refl;
+  later = omega arith;
+}

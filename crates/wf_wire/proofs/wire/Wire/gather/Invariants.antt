@@ -1,4 +1,5 @@
 use Rattle.std.proofs.Common.{◌≡◌, ◌≤◌, ◌<◌, ◌-◌, length}
+use Rattle.wf_link.specs.Links.{Received}
 use Rattle.wf_link.specs.Sources.{Gave}
 use Rattle.wf_wire.specs.Wires.{window_of}
 use Rattle.wf_wire.proofs.wire.Wire.gather.Given as goal
@@ -7,6 +8,7 @@ use Rattle.wf_wire.proofs.wire.Wire.gather.Given as goal
 abbrev pub invariant-loop-count : goal.invariant-loop-count
 invariant-loop-count g l = record {
   gave : Gave (g.L.Link.left l.fn.link) (g.L.Link.left l.link) (window_of l.self);
+  received : Received (length (window_of l.self)) (g.L.Link.received l.fn.link) (g.L.Link.received l.link);
   front : l.self.from ≡ 0;
   few : 0 < l.self.to → l.self.to < l.fewest;
   some_room : l.self.to < length l.self.buffer.items;

@@ -1,13 +1,25 @@
-use Rattle.std.proofs.Common.{◌∙◌, arith}
-use Rattle.wf_wire.specs.Wires.{exchange_of, window_of}
-use Rattle.wf_wire.proofs.HeadLemmas.{read-long}
+use Rattle.std.proofs.Common.{◌∙◌, ℕ, List, ap, arith, refl}
+use Rattle.wf_wire.specs.Wires.{exchange_of, onto_left, window_of}
+use Rattle.wf_wire.proofs.HeadLemmas.{read-final, read-long}
+use Rattle.wf_wire.proofs.WireLemmas.{few-on}
 use Rattle.wf_wire.proofs.wire.Wire.read_head.Goals as goal
 
 pub returns-in-Long-clause-read : goal.returns-in-Long-clause-read
 returns-in-Long-clause-read g c =
     let closed = c.close-in-Long.ensures in
     let found = c.in_ok-head.ensures in
-    read-long (exchange_of g.L.Link.state g.L.Link.left g.L.Link.faults c.args.link.now c.args.self.now)
-    (exchange_of g.L.Link.state g.L.Link.left g.L.Link.faults c.close-in-Long.new.link c.close-in-Long.new.self)
+    read-long (exchange_of g.L.Link.state g.L.Link.left g.L.Link.received g.L.Link.faults c.args.link.now c.args.self.now)
+    (exchange_of g.L.Link.state g.L.Link.left g.L.Link.received g.L.Link.faults c.close-in-Long.new.link c.close-in-Long.new.self)
     c.in_ok-head.field-0 (window_of c.find_head.new.self) (g.L.Link.left c.find_head.new.link) c.in-Long.is found.found
-    closed.idle (closed.state ∙ found.state) (omega (arith, closed.faults, found.later))
+    (few-on _ _ _ _ _ _ _ refl closed.received found.few) closed.idle (closed.state ∙ found.state) (omega (arith, closed.faults, found.later))
+
+pub returns-in_ok-framing-in-Head-clause-read : goal.returns-in_ok-framing-in-Head-clause-read
+returns-in_ok-framing-in-Head-clause-read g c =
+    let begun = c.begin_body.ensures in
+    let found = c.in_ok-head.ensures in
+    read-final (exchange_of g.L.Link.state g.L.Link.left g.L.Link.received g.L.Link.faults c.args.link.now c.args.self.now)
+    (exchange_of g.L.Link.state g.L.Link.left g.L.Link.received g.L.Link.faults c.find_head.new.link
+    c.begin_body.new.self) c.in_ok-head.field-0 (window_of c.find_head.new.self) c.in-Head.head c.in-Head.count
+    c.in-Head.is found.found found.few
+    (ap (λ (l : List ℕ). onto_left l (g.L.Link.left c.find_head.new.link)) begun.window)
+    (begun.framing ∙ c.in_ok-framing-in-Head.ensures) found.state found.later

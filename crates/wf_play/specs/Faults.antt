@@ -1,0 +1,43 @@
+-- Faults of the links of a play: they come only where outcomes show them, and there are at most as many as were counted
+-- (this project's own; how an outcome shows one is wf_faults's definition).
+use Rattle.std.specs.Prelude.{ℕ, ◌+◌, ◌≤◌, List, Some, None}
+use Rattle.wf_act.specs.declared.act.Input.{Input}
+use Rattle.wf_book.specs.declared.entry.Entry.{Entry}
+use Rattle.wf_link.specs.Counts.{grown_by}
+use Rattle.wf_print.specs.declared.events.Transcript.{Transcript}
+use Rattle.wf_run.specs.Play.{Play}
+use Rattle.wf_run.specs.Runs.{document_run}
+use Rattle.wf_script.specs.declared.types.Document.{Document}
+use Rattle.wf_script.specs.declared.types.Scenario.{Scenario}
+use Rattle.wf_wire.specs.Exchanges.{Answering}
+use Rattle.wf_faults.specs.Laws.{AreShown}
+use Rattle.wf_faults.specs.Numbers.{faults_of}
+use Rattle.wf_faults.specs.Places.{ShowsFailures}
+use Rattle.wf_iso.specs.Plays.{AreTranscripts, Way}
+
+-- Of a document's run over this tape, from one moment of its link to another: in each fetch and each load the link fails
+-- at most once, and its outcome shows it; so the outcomes show the faults of the tape; and the link's count rose by as
+-- many at least.
+pub record AreTold {State : Type 0} (whole : Play) (tape : List Input) (old new : Way State) (transcript : Transcript)
+    : Type 0 where
+  pub placed : ShowsFailures None whole
+  pub shown : AreShown (faults_of whole tape)
+      (record { events = transcript.events; ending = Some (transcript.ending, transcript.clock) })
+  pub counted : grown_by old.faults (faults_of whole tape) ≤ new.faults
+
+module _ {State : Type 0} {by : Answering State} {scenario : Scenario} {base : ℕ} {history : List Entry} where
+  -- so it is of each document
+  abbrev pub AllAreTold : {number : ℕ} {documents : List Document} {olds news : List (Way State)}
+      {transcripts : List Transcript}
+      → AreTranscripts by scenario base history number documents olds news transcripts → Type 0
+  AllAreTold AreTranscripts.none = Unit {0}
+  AllAreTold (AreTranscripts.one_more {document = document} {old = old} {new = new} {transcript = transcript} is more) =
+      AreTold (document_run scenario.cookies base document) is.run_is.ran.tape old new transcript × AllAreTold more
+
+  -- how often the links failed in the runs of all
+  abbrev pub all_faults : {number : ℕ} {documents : List Document} {olds news : List (Way State)}
+      {transcripts : List Transcript}
+      → AreTranscripts by scenario base history number documents olds news transcripts → ℕ
+  all_faults AreTranscripts.none = 0
+  all_faults (AreTranscripts.one_more {document = document} is more) =
+      faults_of (document_run scenario.cookies base document) is.run_is.ran.tape + all_faults more
