@@ -10,6 +10,9 @@ set -eu
 source "$(dirname "${BASH_SOURCE[0]}")/common.bash"
 program=${FETCHPLAY:-}
 [ -n "$program" ] || build_fetchplay
-turns=${WORKED_BOOKS:-$(build_bench worked_books </dev/null && echo "$program")}
+if [ -z "${WORKED_BOOKS:-}" ]; then
+    "$root/bin/proved" worked_books </dev/null >/dev/null
+fi
+turns=${WORKED_BOOKS:-$root/crates/worked_books/out/worked_books}
 cc -O2 -shared -fPIC -o "$work/refuse.so" "$root/bench/refuse.c"
 python3 "$root/bench/memory.py" "$program" "$work/refuse.so" "$work" "${JOBS:-$(nproc)}" "$turns"
