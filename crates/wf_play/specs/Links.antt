@@ -15,8 +15,8 @@ use Rattle.wf_play.specs.Refused.{NoneOrAllPlayed}
 abbrev pub way_of : {L State : Type 0} → (L → Option State) → (L → Option (List ℕ)) → (L → ℕ) → L → Way State
 way_of state received faults link = record { state = state link; received = received link; faults = faults link }
 
--- What is told of what makes the links: the link that it makes next, at 0, the one after it, at 1, and so on, for a
--- document of a number and by routes; those that it took back, and how many more are out; and how often those had failed.
+-- What is told of what makes the links: the link that the next make gives for a document's number and routes, at 0, the
+-- one after it, at 1, and so on; those that it took back, and how many more are out; and how often those had failed.
 pub record Maker (L : Type 0) : Type 0 where
   pub opening : ℕ → ℕ → List Route → Option L
   pub lent : Option (Lent L)
@@ -63,29 +63,29 @@ pub record HasTakenBack {L : Type 0} (faults : L → ℕ) (old new : Maker L) : 
 -- ---- the play
 
 -- A play over links as they were made for the documents, one for each, and as they were taken back. Each document's
--- outcomes show the faults in its run, and its link's count rose by as many at least; so did the count of what made the
--- links, by all of them.
+-- outcomes show the faults of its tape, and its link's count rose by as many at least. The count of what made the links
+-- rose by as many as all tapes have, at least.
 pub record IsPlayOverLinks {L State : Type 0} (by : Answering State) (state : L → Option State)
-    (received : L → Option (List ℕ)) (faults : L → ℕ)
-    (old new : Maker L) (scenario : Scenario) (base : ℕ) (transcripts : List Transcript) (history : List Entry)
-    : Type 0 where
+    (received : L → Option (List ℕ)) (faults : L → ℕ) (old new : Maker L) (scenario : Scenario) (base : ℕ)
+    (transcripts : List Transcript) (history : List Entry) : Type 0 where
   pub made : List L
   pub back : List L
   pub opened : AreOpened (for_documents old.opening scenario.routes) made
   pub took : TookBack faults old new back
-  pub play : IsPlayOver by scenario base (map (way_of state received faults) made) (map (way_of state received faults) back)
-      transcripts history
+  pub play : IsPlayOver by scenario base (map (way_of state received faults) made)
+      (map (way_of state received faults) back) transcripts history
   pub told : AllAreTold play.runs
   pub counted : grown_by old.faults (all_faults play.runs) ≤ new.faults
 
--- A play that was refused, over links as they were made for documents, for each one at most, and as they were taken back,
--- in the same order: no document was played, and each link came back as it was made; or each was, over one legal history.
+-- A play that was refused, over links as they were made for documents, at most one for each, and as they were taken
+-- back, in the same order: each link came back as it was made; or each document was played, over one legal history.
 pub record WasRefused {L State : Type 0} (by : Answering State) (state : L → Option State)
-    (received : L → Option (List ℕ)) (faults : L → ℕ)
-    (old new : Maker L) (scenario : Scenario) (base : ℕ) : Type 0 where
+    (received : L → Option (List ℕ)) (faults : L → ℕ) (old new : Maker L) (scenario : Scenario) (base : ℕ)
+    : Type 0 where
   pub made : List L
   pub back : List L
   pub opened : AreOpened (for_documents old.opening scenario.routes) made
   pub few : length made ≤ length scenario.documents
   pub took : TookBack faults old new back
-  pub left : NoneOrAllPlayed by scenario base (map (way_of state received faults) made) (map (way_of state received faults) back)
+  pub left : NoneOrAllPlayed by scenario base (map (way_of state received faults) made)
+      (map (way_of state received faults) back)

@@ -15,8 +15,8 @@ use Rattle.wf_player.specs.Playing.{Came}
 use Rattle.wf_iso.specs.Plays.{Way, opening_book, outside_on}
 
 -- From one moment of its link to another, the run of the document of this number came to an ending, or to where memory
--- was refused. It made the calls of the document's entries of the history, in order, and no others; with those that were
--- refused memory it made at most so many as a whole script may.
+-- was refused. It made the calls of the document's entries of the history, in order, and no others. The calls that it
+-- may still make fell by as many at most as a whole script makes.
 pub record HasRun {State : Type 0} (by : Answering State) (scenario : Scenario) (base : ℕ) (history : List Entry)
     (number : ℕ) (document : Document) (old new : Way State) : Type 0 where
   pub events : List Event
@@ -47,8 +47,7 @@ pub record WasPlayed {State : Type 0} (by : Answering State) (scenario : Scenari
   pub named : AllByRecursion (λ (entry : Entry). entry.document < length scenario.documents) history
   pub runs : HaveRun by scenario base history 0 scenario.documents olds news
 
--- over links from their first moments to their last no document was played, and each link is as it was; or each document
--- was
+-- over links from their first moments to their last: each link is as it was, or each document was played
 abbrev pub NoneOrAllPlayed : {State : Type 0} → Answering State → Scenario → ℕ → List (Way State) → List (Way State)
     → Type 0
 NoneOrAllPlayed by scenario base olds news = (news ≡ olds) ⊎ WasPlayed by scenario base olds news

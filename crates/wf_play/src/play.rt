@@ -46,11 +46,11 @@ fn play_seated<R: Threads + Wait + Sync, N: Links>(
     requires base { base ≤ 2 ^ 40 }
     requires ready { AreReady book.table.shared.table_id scenario.now passes.items seats.items }
     requires room { vec_len seats + vec_len passes ≤ vec_capacity passes }
-    ensures played { IfOk result (λ played. AreUnseated N.Link.state N.Link.received N.Link.faults (N.lent links.old) (N.lent links.new)
-        (N.faults links.old) (N.faults links.new) seats.items (λ olds news. IsPlayOver
+    ensures played { IfOk result (λ played. AreUnseated N.Link.state N.Link.received N.Link.faults (N.lent links.old)
+        (N.lent links.new) (N.faults links.old) (N.faults links.new) seats.items (λ olds news. IsPlayOver
         (over_link N.Link.answer N.Link.next) scenario.entry.now base olds news played.transcripts played.history)) }
-    ensures refused { OnErr result (AreUnseated N.Link.state N.Link.received N.Link.faults (N.lent links.old) (N.lent links.new)
-        (N.faults links.old) (N.faults links.new) seats.items (NoneOrAllPlayed (over_link N.Link.answer N.Link.next)
+    ensures refused { OnErr result (AreUnseated N.Link.state N.Link.received N.Link.faults (N.lent links.old)
+        (N.lent links.new) (N.faults links.old) (N.faults links.new) seats.items (NoneOrAllPlayed (over_link N.Link.answer N.Link.next)
         scenario.entry.now base)) }
     ensures has_text { IfOk result (λ played. HasText played.transcripts) }
 {
@@ -75,7 +75,7 @@ fn play_seated<R: Threads + Wait + Sync, N: Links>(
 ///
 /// `OutOfMemory` where memory was refused, to a document or to what surrounds them, or where a link could not
 /// be made; then the links that were made were taken back in order of documents: as they were made, or, where
-/// the documents were played, as their runs have left them. Their calls are then one legal history too.
+/// the documents were played, as their runs have left them. The calls of those runs are one legal history too.
 pub fn play_over<R: Threads + Wait + Sync, N: Links>(
     rt: &R,
     alloc: Global,
@@ -85,8 +85,8 @@ pub fn play_over<R: Threads + Wait + Sync, N: Links>(
 ) -> Result<Played, OutOfMemory>
     requires valid { IsValid scenario.now }
     requires base { base ≤ 2 ^ 40 }
-    ensures played { IfOk result (λ played. IsPlayOverLinks (over_link N.Link.answer N.Link.next) N.Link.state N.Link.received N.Link.faults
-        (maker_of N.opening N.lent N.faults links.old) (maker_of N.opening N.lent N.faults links.new)
+    ensures played { IfOk result (λ played. IsPlayOverLinks (over_link N.Link.answer N.Link.next) N.Link.state
+        N.Link.received N.Link.faults (maker_of N.opening N.lent N.faults links.old) (maker_of N.opening N.lent N.faults links.new)
         scenario.entry.now base played.transcripts played.history) }
     ensures refused { OnErr result (WasRefused (over_link N.Link.answer N.Link.next) N.Link.state N.Link.received N.Link.faults
         (maker_of N.opening N.lent N.faults links.old) (maker_of N.opening N.lent N.faults links.new)

@@ -274,9 +274,10 @@ pub record AnswersCount (count : ℕ) (input input' : Source) (output output' co
 -- status.
 pub record Answers {L State : Type 0} (by : Answering State) (state : L → Option State)
     (received : L → Option (List ℕ)) (faults : L → ℕ)
-    (words : List (List ℕ)) (input input' : Source) (output output' complaints complaints' : Sink) (outer outer' : Net L)
-    (answer : Status) : Type 0 where
-  pub is_answer : IsAnswer by state received faults words input input' output output' complaints complaints' outer outer' answer
+    (words : List (List ℕ)) (input input' : Source) (output output' complaints complaints' : Sink)
+    (outer outer' : Net L) (answer : Status) : Type 0 where
+  pub is_answer : IsAnswer by state received faults words input input' output output' complaints complaints' outer
+      outer' answer
   -- Usage only where the words are not accepted, and there always, unless the complaints failed
   pub usage : answer ≡ status.Usage → subcommand_of words ≡ None
   pub not_accepted : subcommand_of words ≡ None
@@ -285,7 +286,8 @@ pub record Answers {L State : Type 0} (by : Answering State) (state : L → Opti
   pub play : subcommand_of words ≡ Some Play
       → AnswersInput IsScripted input input' output output' complaints complaints' answer
   pub net : subcommand_of words ≡ Some Over
-      → AnswersInput (IsLinked by state received faults outer outer') input input' output output' complaints complaints' answer
+      → AnswersInput (IsLinked by state received faults outer outer') input input' output output' complaints complaints'
+      answer
   pub gen : (count : ℕ) → subcommand_of words ≡ Some (Gen count)
       → AnswersCount count input input' output output' complaints complaints' answer
   -- with other words than `net` links and clock are left as they were, and with `net` each link that was made was

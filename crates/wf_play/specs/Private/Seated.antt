@@ -13,8 +13,10 @@ use Rattle.wf_play.specs.Passes.{ArePasses}
 use Rattle.wf_play.specs.Private.Lendings.{AreTaken}
 
 -- what is seen of a seat with a pass of the shared book
-abbrev pub seat_seen : {L State : Type 0} → (L → Option State) → (L → Option (List ℕ)) → (L → ℕ) → Seating L TurnPass → Seat State
-seat_seen state received faults seating = seat_of (λ pass. pass.document) opening_of own_of left_of state received faults seating
+abbrev pub seat_seen : {L State : Type 0} → (L → Option State) → (L → Option (List ℕ)) → (L → ℕ) → Seating L TurnPass
+    → Seat State
+seat_seen state received faults seating =
+    seat_of (λ pass. pass.document) opening_of own_of left_of state received faults seating
 
 abbrev pub passes_in : {L : Type 0} → List (Seating L TurnPass) → List TurnPass
 passes_in seats = map (λ seating. seating.pass) seats
@@ -29,8 +31,8 @@ pub record AreReady {L : Type 0} (id : TableId) (scenario : Scenario) (passes : 
   pub alone : passes ≡ first ∷ []
   pub made : ArePasses id (opening_book scenario) (length scenario.documents) first (passes_in seats)
 
--- The links of these seats were taken back, in order, and their faults were counted. What is told of each link, as it
--- was and as it came back, is so.
+-- The links of these seats were taken back, in order, and their faults were counted. Of what is told of the links, as
+-- they were and as they came back, this holds.
 pub record AreUnseated {L State : Type 0} (state : L → Option State)
     (received : L → Option (List ℕ)) (faults : L → ℕ) (lent lent' : Option (Lent L))
     (count count' : ℕ) (seats : List (Seating L TurnPass)) (AreSo : List (Way State) → List (Way State) → Type 0)
