@@ -42,7 +42,7 @@ fn read_cut(alloc: Global, part: Part, answer: &[u8], cut: Cut) -> Result<Bytes,
     shown.into_bytes()
 }
 
-// Whether a part of an answer comes to this in pieces of each size, and cut at each place.
+// Whether a part of an answer comes to this in pieces of each size, and, where it is short, cut in two at each place.
 fn is_same_cut(alloc: Global, part: Part, answer: &[u8], whole: &[u8]) -> Result<bool, Failed> {
     let mut is_same = comes_to(alloc, part, answer, SINGLE, whole)?
         && comes_to(alloc, part, answer, LARGE, whole)?;

@@ -1,4 +1,4 @@
-/// How many bytes a text has at most that is cut at each place.
+/// How many bytes an answer has at most that is cut in two at each place.
 const SHORT: usize = 1_024;
 
 /// How an answer is cut in pieces.
@@ -6,7 +6,7 @@ const SHORT: usize = 1_024;
 pub(crate) struct Cut {
     /// How many bytes the first piece has.
     pub(crate) first: usize,
-    /// How many bytes each piece behind it has, but the last.
+    /// How many bytes each piece after the first has. The last may have fewer.
     pub(crate) others: usize,
 }
 
@@ -31,7 +31,7 @@ impl Cut {
         }
     }
 
-    // In two pieces at this place of a short text.
+    // In two pieces, at this place of a short answer.
     pub(crate) fn at(place: usize) -> Cut {
         Cut {
             first: place,
@@ -40,7 +40,8 @@ impl Cut {
     }
 }
 
-// How many places there are to cut a text of so many bytes at: all of a short one.
+// At how many places an answer of so many bytes is cut in two: before each byte of a short one, and nowhere in a longer
+// one.
 pub(crate) fn places(len: usize) -> usize {
     if len <= SHORT { len } else { 0 }
 }

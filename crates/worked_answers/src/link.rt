@@ -3,7 +3,7 @@
 // between the pieces of one, and the calls: `ask=TEXT`, `receive=COUNT` or `hang_up`.
 use std::alloc::Global;
 use wf_link::{Link, Links, MemoryLink, MemoryLinks, Routes, Target};
-use wf_rows::{Failed, Row, Shown, named, number, texts_between};
+use wf_rows::{Failed, Held, Row, Shown, named, number, texts_between};
 use wf_text::{Bytes, BytesList, after_byte, before_byte};
 
 /// How many bytes a receive asks for at most.
@@ -109,17 +109,22 @@ fn make_calls(
     Ok(())
 }
 
-// What the calls of a row answer, and how many links were taken back: the one that was made, and none
-// from elsewhere.
-pub(crate) fn played(alloc: Global, row: &[u8], shown: &mut Shown) -> Result<(), Failed> {
-    let row = Row::of(alloc, row, b' ')?;
-    let mut links = links_of(alloc, &row)?;
-    let routes = Routes::new(alloc);
-    let mut link = links.make(alloc, 0, &routes)?;
-    let is_last = links.make(alloc, 1, &routes).is_err();
-    make_calls(alloc, &mut link, &row, shown)?;
+// What the calls of a row answer over a link that is made, and how many links were taken back: that one, and none from
+// elsewhere.
+fn play_over(
+    alloc: Global,
+    links: &mut MemoryLinks,
+    routes: &Routes,
+    row: &Row,
+    shown: &mut Shown,
+) -> Result<(), Failed> {
+    let mut link = links.make(alloc, 0, routes)?;
+    if make_calls(alloc, &mut link, row, shown).is_err() {
+        shown.fail();
+    }
+    let is_last = links.make(alloc, 1, routes).is_err();
     links.take_back(link);
-    links.take_back(link_of(alloc, &row)?);
+    links.take_back(link_of(alloc, row)?);
     shown.add_count(b", links ", links.taken_back().len());
     shown.add(b" with faults ");
     shown.add_number(links.faults());
@@ -127,4 +132,14 @@ pub(crate) fn played(alloc: Global, row: &[u8], shown: &mut Shown) -> Result<(),
         shown.add(b", and more");
     }
     Ok(())
+}
+
+// What the calls of a row answer.
+pub(crate) fn played(alloc: Global, row: &[u8], shown: &mut Shown) -> Result<(), Failed> {
+    let row = Held {
+        value: Row::of(alloc, row, b' ')?,
+    };
+    let mut links = links_of(alloc, &row.value)?;
+    let routes = Routes::new(alloc);
+    play_over(alloc, &mut links, &routes, &row.value, shown)
 }

@@ -1,5 +1,5 @@
 // Reads worked rows of the wire, one a line, and prints each with what it comes to. A line that begins with `#` is a
-// title, which is printed as it stands, and so is an empty line. Rows are
+// title, which is printed as it is, and so is an empty line. Rows are
 //
 //     head TEXT            what the heads of this answer come to
 //     body LIMIT TEXT      how the body of this answer comes to its end, of so many bytes at most
@@ -7,8 +7,9 @@
 //     link ROOM ASK RECEIVE ANSWERS CALLS      what calls of a link in memory answer: `link.rt`
 //     device               what calls of a failing device answer: `device.rt`
 //
-// An answer is read whole, cut in two at each place, and in pieces of one byte and of 4,096. Where what it
-// comes to differs, the row comes to `DIFFERS`. `wf_rows`'s `row.rt` says how a text is written.
+// An answer is read whole, in pieces of one byte, and in pieces of 4,096 bytes. One of at most 1,024 bytes is also cut
+// in two at each place; a longer one is not. Where what an answer comes to differs, the row comes to `DIFFERS`.
+// `wf_rows`'s `row.rt` says how a text is written.
 #![tactic(auto)]
 
 mod answer;

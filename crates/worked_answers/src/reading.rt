@@ -1,6 +1,6 @@
 use std::alloc::Global;
 use wf_http1::{BodyReader, BodyStep, HeadReader, HeadStep};
-use wf_rows::{Failed, Shown};
+use wf_rows::{Failed, Held, Shown};
 use wf_types::{BodyEnd, Head};
 
 /// How many bytes of a whole body are printed, and how many headers of a head.
@@ -74,10 +74,17 @@ fn feed_head(
             Part::Heads => Reading::Final(head, before.saturating_add(count)),
             Part::Body(limit) => {
                 let behind = piece.split_at(count.min(piece.len())).1;
-                feed_body(BodyReader::new(alloc, &head, limit)?, behind)
+                begin_body(alloc, head, limit, behind)?
             }
         },
     })
+}
+
+// A body begins after its head, with a piece.
+fn begin_body(alloc: Global, head: Head, limit: u32, behind: &[u8]) -> Result<Reading, Failed> {
+    let head = Held { value: head };
+    let reader = BodyReader::new(alloc, &head.value, limit)?;
+    Ok(feed_body(reader, behind))
 }
 
 // A body goes on with a piece.

@@ -6,7 +6,7 @@ use std::alloc::Global;
 use std::sync::Wait;
 use std::thread::Threads;
 use wf_book::{Book, Entry, History, Op, Reply, Share, SoloBook, SoloPass};
-use wf_rows::{Failed, Shown};
+use wf_rows::{Failed, Held, Shown};
 
 // A reply as it is printed.
 fn add_reply(reply: Reply, shown: &mut Shown) {
@@ -21,8 +21,10 @@ fn add_reply(reply: Reply, shown: &mut Shown) {
 fn applied(alloc: Global, book: &mut Book, op: &Op) -> Result<Reply, Failed>
     requires { InRange op.now }
 {
-    let op = op.copy(alloc)?;
-    Ok(book.apply(alloc, &op)?)
+    let op = Held {
+        value: op.copy(alloc)?,
+    };
+    Ok(book.apply(alloc, &op.value)?)
 }
 
 // Does an op on a book, and shows the reply.
@@ -40,7 +42,7 @@ fn tell(alloc: Global, book: &mut Book, op: Result<Op, Failed>, shown: &mut Show
     requires { IfOk op InRange }
 {
     match op {
-        Ok(op) => tell_op(alloc, book, &op, shown),
+        Ok(op) => tell_op(alloc, book, &Held { value: op }.value, shown),
         Err(_) => shown.fail(),
     }
 }
@@ -123,10 +125,12 @@ fn note_and_ask<R: Threads + Wait + Sync>(
 }
 
 // The book and the history that a pass leaves.
-fn left<R: Threads + Wait + Sync>(rt: &R, alloc: Global) -> Result<(Book, History), Failed> {
+fn left<R: Threads + Wait + Sync>(rt: &R, alloc: Global, shown: &mut Shown) -> (Book, History) {
     let (share, mut pass) = SoloBook::new(alloc, Book::new(alloc));
-    note_and_ask(rt, alloc, &share, &mut pass)?;
-    Ok(share.close(pass))
+    if note_and_ask(rt, alloc, &share, &mut pass).is_err() {
+        shown.fail();
+    }
+    share.close(pass)
 }
 
 // Asks the book once more. The history takes an entry more, and is shown.
@@ -148,7 +152,7 @@ fn show_left<R: Threads + Wait + Sync>(
     alloc: Global,
     shown: &mut Shown,
 ) -> Result<(), Failed> {
-    let (mut book, mut history) = left(rt, alloc)?;
+    let (mut book, mut history) = left(rt, alloc, shown);
     show_more(alloc, &mut book, &mut history, shown)
 }
 

@@ -14,7 +14,7 @@ use crate::questions::{ORIGIN, lesson_of, question_of};
 use std::alloc::Global;
 use wf_hsts::{HstsList, Sts};
 use wf_precache::{Allowed, CacheEntry, Precache};
-use wf_rows::{Failed, Lines, Row, Shown, named, number};
+use wf_rows::{Failed, Held, Lines, Row, Shown, named, number};
 use wf_text::{Bytes, after_byte, before_byte};
 
 /// Times and ages are below this.
@@ -70,7 +70,7 @@ impl Books {
         }
     }
 
-    // Does an operation with the words behind it.
+    // Does an operation with the words that follow it.
     fn play(
         &mut self,
         alloc: Global,
@@ -92,8 +92,10 @@ impl Books {
     // Learns a lesson.
     fn learn(&mut self, alloc: Global, words: &Row, shown: &mut Shown) -> Result<(), Failed> {
         let now = number(words.text(6), u64::MAX)?;
-        let lesson = lesson_of(alloc, words)?;
-        self.cache.learn(&lesson, now)?;
+        let lesson = Held {
+            value: lesson_of(alloc, words)?,
+        };
+        self.cache.learn(&lesson.value, now)?;
         self.show_entries(words.text(0), shown)
     }
 

@@ -1,6 +1,6 @@
 // Plays operations on a preflight cache and on a list of known hosts, one a line of the input, and then calls on a book
-// that has both: on one that nobody shares, by one pass, by two passes and by two threads. Prints what they come to, and
-// the histories. Lines that begin with `#` are printed as they are.
+// that has both: on one that nobody shares, by one pass, by two passes and by two threads. Prints what they come to,
+// and the histories. Lines that begin with `#` are printed as they are.
 #![tactic(auto)]
 
 mod alone;

@@ -1,4 +1,4 @@
-ghost use Rattle.std.specs.Prelude.{◌≡◌, [], ◌∷◌, IfOk};
+ghost use Rattle.std.specs.Prelude.{◌≡◌, ◌≤◌, [], ◌∷◌, IfOk, vec_capacity};
 ghost use Rattle.wf_turn.specs.Passes.{left_of, made_of};
 
 use std::alloc::Global;
@@ -25,18 +25,19 @@ pub(crate) fn two_documents(
     Ok((zero, one))
 }
 
-// All passes, to close the book with.
+// All passes, to close the book with, in the room for them.
 pub(crate) fn collected(
-    alloc: Global,
+    mut room: Vec<TurnPass>,
     first: TurnPass,
     zero: TurnPass,
     one: TurnPass,
-) -> Result<Vec<TurnPass>, Failed>
-    ensures { IfOk result (λ passes. passes.items ≡ one ∷ first ∷ zero ∷ []) }
+) -> Vec<TurnPass>
+    requires empty { room.items ≡ [] }
+    requires room { 3 ≤ vec_capacity room }
+    ensures { result.items ≡ one ∷ first ∷ zero ∷ [] }
 {
-    let mut passes = Vec::with_capacity(alloc, 3)?;
-    passes.push_reserved(one);
-    passes.push_reserved(first);
-    passes.push_reserved(zero);
-    Ok(passes)
+    room.push_reserved(one);
+    room.push_reserved(first);
+    room.push_reserved(zero);
+    room
 }

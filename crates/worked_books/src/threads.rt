@@ -8,7 +8,7 @@ use std::sync::Wait;
 use std::thread;
 use std::thread::Threads;
 use wf_book::{Book, Entry, History, Reply, Share};
-use wf_rows::{Failed, Shown};
+use wf_rows::{Failed, Held, Shown};
 use wf_turn::{TurnBook, TurnPass};
 
 /// How many calls a thread makes.
@@ -35,7 +35,7 @@ fn make_call<R: Threads + Wait + Sync>(
     Ok(book.call(rt, alloc, pass, numbered(alloc, number)?)?)
 }
 
-// A thread's calls. Behind one that is refused the others are made.
+// A thread's calls. After one that is refused the others are still made.
 fn make_calls<R: Threads + Wait + Sync>(
     rt: &R,
     alloc: Global,
@@ -101,8 +101,10 @@ fn are_calls(entries: &[Entry], document: u32, replies: &[Option<Reply>]) -> boo
 fn reply_to(alloc: Global, book: &mut Book, number: u64) -> Result<Reply, Failed>
     requires { number < 2 ^ 48 }
 {
-    let op = numbered(alloc, number)?;
-    Ok(book.apply(alloc, &op)?)
+    let op = Held {
+        value: numbered(alloc, number)?,
+    };
+    Ok(book.apply(alloc, &op.value)?)
 }
 
 // When the op of an entry is done, where it is a thread's op and the entry has a turn of a call, this one or a later.
@@ -129,9 +131,14 @@ fn is_next(alloc: Global, book: &mut Book, turn: u64, entry: &Entry) -> Result<b
 // turn i.)
 fn is_legal(alloc: Global, entries: &[Entry]) -> Result<bool, Failed> {
     let mut book = Book::new(alloc);
+    is_legal_from(alloc, &mut book, entries)
+}
+
+// The same from a book on.
+fn is_legal_from(alloc: Global, book: &mut Book, entries: &[Entry]) -> Result<bool, Failed> {
     let mut turn = 0u64;
     for entry in entries {
-        if !is_next(alloc, &mut book, turn, entry)? {
+        if !is_next(alloc, book, turn, entry)? {
             return Ok(false);
         }
         turn = entry.turn.saturating_add(1);
@@ -176,10 +183,10 @@ fn play_passes<R: Threads + Wait + Sync>(
     requires first { (first.document ≡ 4294967295) × (made_of first ≡ []) }
     ensures { IfOk result (λ played. IsWhole book.now.table.shared.table_id played.0.items) }
 {
+    let room = Vec::with_capacity(alloc, 3)?;
     let (zero, one) = two_documents(alloc, book, &mut first)?;
     let ((zero, low), (one, high)) = play_both(rt, alloc, book, zero, one);
-    let passes = collected(alloc, first, zero, one)?;
-    Ok((passes, low, high))
+    Ok((collected(room, first, zero, one), low, high))
 }
 
 // The history of two threads, with what was replied to each.

@@ -1,4 +1,4 @@
-ghost use Rattle.std.specs.Prelude.{◌≡◌, ◌<◌, [], IfOk, OnOk};
+ghost use Rattle.std.specs.Prelude.{◌≡◌, ◌<◌, [], IfOk};
 ghost use Rattle.wf_turn.specs.Passes.{IsWhole, left_of, made_of};
 
 use crate::alone::show_entries;
@@ -21,10 +21,8 @@ fn learn_and_ask<R: Threads + Wait + Sync>(
 ) -> Result<(), Failed>
     requires zero { (zero.old.seat.table_id ≡ book.now.table.shared.table_id) × (0 < left_of zero.old) }
     requires one { (one.old.seat.table_id ≡ book.now.table.shared.table_id) × (0 < left_of one.old) }
-    ensures zero { OnOk result ((zero.new.seat.table_id ≡ zero.old.seat.table_id)
-        × (zero.new.document ≡ zero.old.document)) }
-    ensures one { OnOk result ((one.new.seat.table_id ≡ one.old.seat.table_id)
-        × (one.new.document ≡ one.old.document)) }
+    ensures zero { (zero.new.seat.table_id ≡ zero.old.seat.table_id) × (zero.new.document ≡ zero.old.document) }
+    ensures one { (one.new.seat.table_id ≡ one.old.seat.table_id) × (one.new.document ≡ one.old.document) }
 {
     book.call(rt, alloc, zero, learn(alloc, 9)?)?;
     book.call(rt, alloc, one, covers(alloc, 9)?)?;
@@ -37,20 +35,28 @@ fn play_passes<R: Threads + Wait + Sync>(
     alloc: Global,
     book: &TurnBook,
     mut first: TurnPass,
+    shown: &mut Shown,
 ) -> Result<Vec<TurnPass>, Failed>
     requires belongs { first.seat.table_id ≡ book.now.table.shared.table_id }
     requires first { (first.document ≡ 4294967295) × (made_of first ≡ []) }
     ensures { IfOk result (λ passes. IsWhole book.now.table.shared.table_id passes.items) }
 {
+    let room = Vec::with_capacity(alloc, 3)?;
     let (mut zero, mut one) = two_documents(alloc, book, &mut first)?;
-    learn_and_ask(rt, alloc, book, &mut zero, &mut one)?;
-    collected(alloc, first, zero, one)
+    if learn_and_ask(rt, alloc, book, &mut zero, &mut one).is_err() {
+        shown.fail();
+    }
+    Ok(collected(room, first, zero, one))
 }
 
 // The history of two passes.
-fn history_of<R: Threads + Wait + Sync>(rt: &R, alloc: Global) -> Result<History, Failed> {
+fn history_of<R: Threads + Wait + Sync>(
+    rt: &R,
+    alloc: Global,
+    shown: &mut Shown,
+) -> Result<History, Failed> {
     let (book, first) = TurnBook::new(alloc, Book::new(alloc))?;
-    let passes = play_passes(rt, alloc, &book, first)?;
+    let passes = play_passes(rt, alloc, &book, first, shown)?;
     Ok(book.close(passes).history)
 }
 
@@ -61,7 +67,7 @@ pub(crate) fn show_passes<R: Threads + Wait + Sync>(
     shown: &mut Shown,
 ) -> Result<(), Failed> {
     shown.add(b"# two passes\n");
-    let history = history_of(rt, alloc)?;
+    let history = history_of(rt, alloc, shown)?;
     show_entries(history.as_slice(), shown);
     shown.add(b"the first pass is that of document ");
     shown.add_number(u64::from(FIRST));

@@ -1,19 +1,20 @@
 // Documents that are played, by the program's top call with the word `net`, over links that wait for each other. Shown
 // are the status, the documents' text, and how many calls the history has, since their order is free.
 //
-// First each link gives its answer only once all documents have sent their requests. So
-// the bodies come whole only where the documents run at once, and no turn on the shared book is held during an exchange.
-// Two documents wait for each other so, and then five.
+// First each link gives its answer only once all documents have sent their requests. So the bodies come whole only
+// where the documents run at once, and no turn on the shared book is held during an exchange. Two documents wait for
+// each other so, and then five.
 //
-// Then the second link waits until the first document has sent its PUT, which its preflight has taught the
-// book before. So the second document's PUT is covered, and has no preflight of its own, only where they share the book.
+// Then the second link waits until the first document has sent its PUT, which its preflight has taught the book
+// before. So the second document's PUT is covered, and has no preflight of its own, only where they share the book.
 // These links are made only where the scenario's routes reach what makes them.
 use crate::histories::show_count;
-use crate::streams::{Streams, program_words};
+use crate::streams::Streams;
 use crate::waiting::{Asked, Manner, WaitingLinks};
+use std::alloc::Global;
 use std::sync::Wait;
 use std::thread::Threads;
-use wf_rows::{Failed, Shown};
+use wf_rows::{Failed, Shown, texts_between};
 
 /// Two documents, each of which asks the book whether b.test is known, and fetches its page.
 pub(crate) const SCENARIO: &[u8] = b"{\"format\":1,\"documents\":[\
@@ -28,7 +29,7 @@ const CROWD: &[u8] = b"{\"format\":1,\"documents\":[\
     {\"url\":\"https://d.test/\",\"script\":[{\"fetch\":{\"url\":\"https://e.test/\"}}]},\
     {\"url\":\"https://f.test/\",\"script\":[{\"fetch\":{\"url\":\"https://e.test/\"}}]}]}";
 
-/// Two documents with one key. Each sends the same PUT, the second behind a GET.
+/// Two documents with one key. Each sends the same PUT, the second after a GET.
 const LESSON: &[u8] =
     b"{\"format\":1,\"routes\":[[\"http://b.test\",\"127.0.0.1:8080\"]],\"documents\":[\
     {\"url\":\"http://a.test/\",\"script\":[{\"fetch\":{\"url\":\"http://b.test/x\",\"method\":\"PUT\"}}]},\
@@ -54,19 +55,20 @@ pub(crate) fn waiting_for(count: usize) -> Manner {
 }
 
 // Plays the documents of a scenario over links.
-fn play_over<R: Threads + Wait + Sync + AllocGlobal>(
+fn play_over<R: Threads + Wait + Sync>(
     rt: &R,
+    alloc: Global,
     scenario: &[u8],
     manner: Manner,
     shown: &mut Shown,
 ) -> Result<(), Failed> {
-    let alloc = rt.alloc();
-    let words = program_words(alloc, "net")?;
     let mut streams = Streams::of(alloc, b"", scenario)?;
     let asked = Asked::none();
     let mut links = WaitingLinks::new(&asked, manner);
-    streams.run(rt, alloc, words.as_slice(), &mut links, 0, shown);
-    show_count(alloc, streams.output(), b"calls ", shown)
+    streams.run(rt, alloc, "net", &mut links, 0, shown);
+    let lines = texts_between(alloc, streams.output(), b'\n')?;
+    show_count(lines.as_slice(), b"calls ", shown);
+    Ok(())
 }
 
 // Plays all of them.
@@ -74,9 +76,10 @@ pub(crate) fn play<R: Threads + Wait + Sync + AllocGlobal>(
     rt: &R,
     shown: &mut Shown,
 ) -> Result<(), Failed> {
-    play_over(rt, SCENARIO, waiting_for(2), shown)?;
+    let alloc = rt.alloc();
+    play_over(rt, alloc, SCENARIO, waiting_for(2), shown)?;
     shown.add(b"\n");
-    play_over(rt, CROWD, waiting_for(5), shown)?;
+    play_over(rt, alloc, CROWD, waiting_for(5), shown)?;
     shown.add(b"\n");
-    play_over(rt, LESSON, TAUGHT, shown)
+    play_over(rt, alloc, LESSON, TAUGHT, shown)
 }

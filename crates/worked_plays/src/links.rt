@@ -4,9 +4,9 @@
 //     asks=N,N          the Nth ask fails
 //     receives=N,N      the Nth receive fails
 //
-// An answer is written as its pieces with a bar between, of which each comes by a receive of its own. Rows that stand
-// together are played one after another over one book. Of each is shown how often its link was asked and how often it
-// failed, and then the text of all of them, with the book's history.
+// An answer is written as its pieces with a bar between, of which each comes by a receive of its own. Rows that follow
+// each other, up to an empty line, are played one after another over one book. Of each is shown how often its link was
+// asked and how often it failed, and then the text of all of them, with the book's history.
 ghost use Rattle.std.specs.Prelude.{◌≤◌, ◌<◌, ◌+◌, ◌*◌, length, IfOk};
 ghost use Rattle.wf_script.specs.Valid.{IsValid};
 
@@ -14,18 +14,18 @@ use crate::streams::numbers_of;
 use std::alloc::Global;
 use std::sync::Wait;
 use std::thread::Threads;
-use wf_book::{Book, History, Share, SoloBook};
+use wf_book::{Book, History, Share, SoloBook, SoloPass};
 use wf_link::{MemoryLink, MemorySink};
 use wf_player::drive;
-use wf_print::{Ending, Transcript, Transcripts, has_text, write_play};
-use wf_rows::{Failed, Row, Shown, texts_between};
+use wf_print::{Transcripts, has_text, write_play};
+use wf_rows::{Failed, Held, Row, Shown, texts_between};
 use wf_script::Scenario;
-use wf_text::{Bytes, BytesList, after_byte, before_byte};
+use wf_text::{BytesList, after_byte, before_byte};
 
-/// How many rows stand together at most.
+/// How many rows are played over one book at most.
 const MOST_ROWS: usize = 64;
 
-/// How many bytes the text of rows that stand together has at most.
+/// How many bytes the text of these rows has at most.
 const ROOM: usize = 1_048_576;
 
 /// How many bytes a link has room for of what it is asked.
@@ -55,22 +55,22 @@ pub(crate) fn link_in(alloc: Global, line: &str) -> Result<MemoryLink, Failed> {
 }
 
 // The scenario that a text has.
-fn scenario_in(alloc: Global, text: &[u8]) -> Result<Scenario, Failed>
-    ensures { IfOk result IsValid }
+pub(crate) fn scenario_in(alloc: Global, text: &[u8]) -> Result<Held<Scenario>, Failed>
+    ensures { IfOk result (λ held. IsValid held.value) }
 {
     match Scenario::read(alloc, text)? {
-        Ok(scenario) => Ok(scenario),
+        Ok(scenario) => Ok(Held { value: scenario }),
         Err(_) => Err(Failed),
     }
 }
 
 // The scenario of a row, which has a document.
-fn scenario_of(alloc: Global, line: &str) -> Result<Scenario, Failed>
-    ensures valid { IfOk result IsValid }
-    ensures some { IfOk result (λ scenario. 0 < length scenario.documents) }
+fn scenario_of(alloc: Global, line: &str) -> Result<Held<Scenario>, Failed>
+    ensures valid { IfOk result (λ held. IsValid held.value) }
+    ensures some { IfOk result (λ held. 0 < length held.value.documents) }
 {
     let scenario = scenario_in(alloc, before_byte(line.as_bytes(), b'\t'))?;
-    if scenario.documents.is_empty() {
+    if scenario.value.documents.is_empty() {
         Err(Failed)
     } else {
         Ok(scenario)
@@ -88,26 +88,31 @@ pub(crate) fn tell(link: &MemoryLink, shown: &mut Shown) {
     shown.add(b"\n");
 }
 
-// Plays a row's document over its link, and tells of the link.
+// Plays a row's document over its link, and tells of the link. What it shows is added to the transcripts.
 fn play_row<R: Threads + Wait + Sync, S: Share>(
     rt: &R,
     alloc: Global,
     line: &str,
     share: &S,
     pass: &mut S::Pass,
+    transcripts: &mut Transcripts,
     shown: &mut Shown,
-) -> Result<Transcript, Failed>
+) -> Result<(), Failed>
     requires belongs { S.belongs share.now pass.old }
     requires left { 129024 ≤ S.left pass.old }
     ensures belongs { S.belongs share.now pass.new }
     ensures few { S.left pass.old ≤ S.left pass.new + 129024 }
 {
-    let mut link = link_in(alloc, line)?;
-    let scenario = scenario_of(alloc, line)?;
+    let mut link = Held {
+        value: link_in(alloc, line)?,
+    };
+    let held = scenario_of(alloc, line)?;
+    let scenario = &held.value;
     let now = scenario.now;
-    let transcript = drive(rt, alloc, &scenario, 0, now, share, pass, &mut link);
-    tell(&link, shown);
-    Ok(transcript)
+    let transcript = drive(rt, alloc, scenario, 0, now, share, pass, &mut link.value);
+    tell(&link.value, shown);
+    transcripts.push(transcript)?;
+    Ok(())
 }
 
 // Plays rows one after another over a share of one book.
@@ -117,16 +122,22 @@ fn play_each<R: Threads + Wait + Sync, S: Share>(
     rows: &[&str],
     share: &S,
     pass: &mut S::Pass,
+    transcripts: &mut Transcripts,
     shown: &mut Shown,
-) -> Result<Transcripts, Failed>
+) -> Result<(), Failed>
     requires belongs { S.belongs share.now pass.old }
     requires left { 129024 * length rows.now ≤ S.left pass.old }
 {
-    let mut transcripts = Transcripts::new(alloc);
     for row in rows {
-        transcripts.push(play_row(rt, alloc, row, share, pass, shown)?)?;
+        play_row(rt, alloc, row, share, pass, transcripts, shown)?;
     }
-    Ok(transcripts)
+    Ok(())
+}
+
+// The history of a pass that is over.
+pub(crate) fn history_of(share: SoloBook, pass: SoloPass) -> History {
+    let (_, history) = share.close(pass);
+    history
 }
 
 // The text of plays, with the history.
@@ -147,7 +158,7 @@ pub(crate) fn show(
     Ok(())
 }
 
-// Plays rows that stand together over one book that nobody has written into yet.
+// Plays rows one after another over one book that nobody has written into yet.
 pub(crate) fn play<R: Threads + Wait + Sync + AllocGlobal>(
     rt: &R,
     rows: &[&str],
@@ -158,7 +169,10 @@ pub(crate) fn play<R: Threads + Wait + Sync + AllocGlobal>(
     }
     let alloc = rt.alloc();
     let (share, mut pass) = SoloBook::new(alloc, Book::new(alloc));
-    let transcripts = play_each(rt, alloc, rows, &share, &mut pass, shown)?;
-    let (_, history) = share.close(pass);
+    let mut transcripts = Transcripts::new(alloc);
+    if play_each(rt, alloc, rows, &share, &mut pass, &mut transcripts, shown).is_err() {
+        shown.fail();
+    }
+    let history = history_of(share, pass);
     show(alloc, &transcripts, &history, shown)
 }

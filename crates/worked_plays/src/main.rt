@@ -1,15 +1,15 @@
-// Plays worked scenarios over streams and links in memory, and prints for each what it came to. A line of the input that
-// begins with `#` is a title, which is printed as it stands, and so is an empty line. The other lines are
+// Plays worked scenarios over streams and links in memory, and prints for each what it came to. A line of the input
+// that begins with `#` is a title, which is printed as it is, and so is an empty line. The other lines are
 //
 //     a scenario, or some words, a tab and a scenario: it is played by the program's top call. `rows.rt` says how.
 //     `url=URL ..`, a tab and what a request meets: it is fetched by itself. `requests.rt` says how.
-//     `{ .. }`, a tab and what a document meets: with the lines that stand together, up to an empty line, it is played
-//     over one book. `links.rt` says how.
-//     `net=TIME`, a tab and a scenario, and behind it lines that begin with `link`, up to an empty line: it is played
+//     `{ .. }`, a tab and what a document meets: the lines of this kind up to an empty line are played over one book.
+//     `links.rt` says how.
+//     `net=TIME`, a tab and a scenario, and after it lines that begin with `link`, up to an empty line: it is played
 //     by the top call with the word `net`. `net.rt` says how.
 //
-// Before them it plays documents on threads, over links that wait for each other: `gates.rt` by the top call, `seats.rt` by
-// `play_all` itself.
+// Before them it plays documents on threads, over links that wait for each other: `gates.rt` by the top call,
+// `seats.rt` by `play_all` itself.
 #![tactic(auto)]
 
 mod gates;
@@ -28,7 +28,7 @@ use std::sync::Wait;
 use std::thread::Threads;
 use wf_rows::{Failed, Shown, is_title, print_text};
 
-// Plays lines that stand together.
+// Plays the lines of a group.
 fn play_together<R: Threads + Wait + Sync + AllocGlobal>(
     rt: &R,
     lines: &[&str],
@@ -43,14 +43,14 @@ fn play_together<R: Threads + Wait + Sync + AllocGlobal>(
     }
 }
 
-// Whether a line is played with those that stand with it.
+// Whether a line is one of a group: the lines of the last two kinds, up to an empty line.
 fn stands_together(line: &str) -> bool {
     line.starts_with("net=")
         || line.starts_with("link")
         || (line.starts_with('{') && line.contains('\t'))
 }
 
-// Plays a line that stands alone.
+// Plays a line that is in no group.
 fn play_alone<R: Threads + Wait + Sync + AllocGlobal>(
     rt: &R,
     line: &str,
@@ -67,7 +67,33 @@ fn play_alone<R: Threads + Wait + Sync + AllocGlobal>(
     }
 }
 
-// Plays a line, with those before it that stand together where it ends them.
+// Plays a line by itself, after the group before it where the line is empty and so ends one.
+fn play_end<R: Threads + Wait + Sync + AllocGlobal>(
+    rt: &R,
+    line: &str,
+    together: &mut Vec<&str>,
+    shown: &mut Shown,
+) -> Result<(), Failed> {
+    if line.is_empty() {
+        play_together(rt, together.as_slice(), shown)?;
+        together.clear();
+    }
+    play_alone(rt, line, shown)
+}
+
+// Prints what was played, unless that failed.
+fn print_played<R: Print + AllocGlobal>(
+    rt: &R,
+    played: Result<(), Failed>,
+    mut shown: Shown,
+) -> Result<(), Failed> {
+    if played.is_err() {
+        shown.fail();
+    }
+    print_text(rt, shown)
+}
+
+// Puts a line into the group, or plays it, after the group where it is the empty line that ends one.
 fn play_line<'a, R: Threads + Wait + Sync + Print + AllocGlobal>(
     rt: &R,
     line: &'a str,
@@ -78,24 +104,28 @@ fn play_line<'a, R: Threads + Wait + Sync + Print + AllocGlobal>(
         return Ok(());
     }
     let mut shown = Shown::new(rt.alloc());
-    if line.is_empty() {
-        play_together(rt, together.as_slice(), &mut shown)?;
-        together.clear();
-    }
-    play_alone(rt, line, &mut shown)?;
-    print_text(rt, shown)
+    let played = play_end(rt, line, together, &mut shown);
+    print_played(rt, played, shown)
+}
+
+// Plays the documents on threads, by both calls.
+fn play_all<R: Threads + Wait + Sync + AllocGlobal>(
+    rt: &R,
+    shown: &mut Shown,
+) -> Result<(), Failed> {
+    gates::play(rt, shown)?;
+    shown.add(b"\n");
+    seats::play(rt, shown)
 }
 
 // Plays the documents on threads.
 fn play_threads<R: Threads + Wait + Sync + Print + AllocGlobal>(rt: &R) -> Result<(), Failed> {
     let mut shown = Shown::new(rt.alloc());
-    gates::play(rt, &mut shown)?;
-    shown.add(b"\n");
-    seats::play(rt, &mut shown)?;
-    print_text(rt, shown)
+    let played = play_all(rt, &mut shown);
+    print_played(rt, played, shown)
 }
 
-// The lines, the last of which may stand together.
+// Plays the lines. The last of them may be a group that no empty line ends.
 fn play_lines<R: Threads + Wait + Sync + Print + AllocGlobal>(
     rt: &R,
     text: &str,
@@ -105,8 +135,8 @@ fn play_lines<R: Threads + Wait + Sync + Print + AllocGlobal>(
         play_line(rt, line, &mut together)?;
     }
     let mut shown = Shown::new(rt.alloc());
-    play_together(rt, together.as_slice(), &mut shown)?;
-    print_text(rt, shown)
+    let played = play_together(rt, together.as_slice(), &mut shown);
+    print_played(rt, played, shown)
 }
 
 fn run<R: Threads + Wait + Sync + Print + AllocGlobal>(rt: &R, text: &str) -> Result<(), Failed> {

@@ -1,21 +1,24 @@
-// A scenario that is played by the program's top call with the word `net`, from a time on. Each of the lines behind it
-// begins with `link` and has the link of the next document, as `links.rt` says. Shown are the status, each link that was
-// taken back, how often all failed, what was complained, and what was written.
+// A scenario that is played by the program's top call with the word `net`, from a time on. Each of the lines after it
+// begins with `link` and has the link of the next document, as `links.rt` says. Shown are the status, each link that
+// was taken back, how often all failed, what was complained, and what was written.
 use crate::links::{link_in, tell};
-use crate::streams::{Streams, program_words};
+use crate::streams::Streams;
 use std::alloc::Global;
 use std::sync::Wait;
 use std::thread::Threads;
 use wf_link::MemoryLinks;
-use wf_rows::{Failed, Shown, number};
+use wf_rows::{Failed, Held, Shown, number};
+use wf_text::{after_byte, before_byte};
 
 // The links of rows, in order.
-fn links_of(alloc: Global, rows: &[&str]) -> Result<MemoryLinks, Failed> {
+fn links_of(alloc: Global, rows: &[&str]) -> Result<Held<MemoryLinks>, Failed> {
     let mut links = Vec::new(alloc);
     for row in rows {
         links.push(link_in(alloc, row)?)?;
     }
-    Ok(MemoryLinks::new(alloc, links)?)
+    Ok(Held {
+        value: MemoryLinks::new(alloc, links)?,
+    })
 }
 
 // Each link that was taken back, and how often all failed.
@@ -32,14 +35,13 @@ fn tell_all(links: &MemoryLinks, shown: &mut Shown) {
 fn play_over<R: Threads + Wait + Sync>(
     rt: &R,
     alloc: Global,
-    scenario: &str,
+    scenario: &[u8],
     now: u64,
     links: &mut MemoryLinks,
     shown: &mut Shown,
 ) -> Result<(), Failed> {
-    let words = program_words(alloc, "net")?;
-    let mut streams = Streams::of(alloc, b"", scenario.as_bytes())?;
-    streams.run(rt, alloc, words.as_slice(), links, now, shown);
+    let mut streams = Streams::of(alloc, b"", scenario)?;
+    streams.run(rt, alloc, "net", links, now, shown);
     tell_all(links, shown);
     shown.add(streams.complaints());
     shown.add(streams.output());
@@ -53,10 +55,16 @@ pub(crate) fn play<R: Threads + Wait + Sync + AllocGlobal>(
     rows: &[&str],
     shown: &mut Shown,
 ) -> Result<(), Failed> {
-    let Some((digits, scenario)) = row.split_once('\t') else {
-        return Err(Failed);
-    };
-    let now = number(digits.as_bytes(), u64::MAX)?;
-    let mut links = links_of(rt.alloc(), rows)?;
-    play_over(rt, rt.alloc(), scenario, now, &mut links, shown)
+    let alloc = rt.alloc();
+    let row = row.as_bytes();
+    let now = number(before_byte(row, b'\t'), u64::MAX)?;
+    let mut links = links_of(alloc, rows)?;
+    play_over(
+        rt,
+        alloc,
+        after_byte(row, b'\t'),
+        now,
+        &mut links.value,
+        shown,
+    )
 }

@@ -1,22 +1,22 @@
 // A request that is fetched by itself over a link and a book of its own. A row has, with a tab between, the request, as
-// `wf_rows`'s `requests.rt` writes one, and its link, as `links.rt` does; among the words for what fails may stand
+// `wf_rows`'s `requests.rt` writes one, and its link, as `links.rt` does. The words for what fails may include
 //
 //     limit=N           the fetch reads so many bytes of a body at most, and not 262,144
 ghost use Rattle.std.specs.Prelude.{◌≤◌};
 ghost use Rattle.wf_types.specs.Requests.{IsClient};
 
-use crate::links::{link_in, show, tell};
+use crate::links::{history_of, link_in, show, tell};
 use std::alloc::Global;
 use std::sync::Wait;
 use std::thread::Threads;
-use wf_book::{Book, History, Share, SoloBook};
+use wf_book::{Book, Share, SoloBook};
 use wf_csp::Compiled;
 use wf_csp_text::Policies;
 use wf_link::MemoryLink;
 use wf_player::{FetchRun, drive_fetch};
 use wf_print::{Ending, Event, Transcript, Transcripts};
 use wf_rows::{Failed, Held, Shown, client_at, number, request_of, value_of};
-use wf_text::{after_byte, before_byte};
+use wf_text::{Bytes, after_byte, before_byte};
 use wf_types::{Client, Cookies};
 
 // How many bytes of a body are read at most.
@@ -27,20 +27,21 @@ fn limit_of(words: &[u8]) -> Result<u32, Failed> {
     }
 }
 
-// What a fetch showed and came to, as a document of which it is all.
-fn transcript_of(client: Client, run: FetchRun) -> Result<Transcript, Failed> {
+// Adds what a fetch showed and came to, as a document of which it is all.
+fn add_run(key: Bytes, run: FetchRun, transcripts: &mut Transcripts) -> Result<(), Failed> {
     let FetchRun {
         mut events,
         outcome,
     } = run;
     events.push(Event::Result(outcome))?;
-    Ok(Transcript {
+    transcripts.push(Transcript {
         document: 0,
-        key: client.key,
+        key,
         events,
         ending: Ending::Finished,
         clock: 0,
-    })
+    })?;
+    Ok(())
 }
 
 // Fetches a request for a client, which has no policies and no cookies.
@@ -58,10 +59,10 @@ fn fetched<R: Threads + Wait + Sync, S: Share>(
     requires belongs { S.belongs share.now pass.old }
     requires left { 126 ≤ S.left pass.old }
 {
-    let request = request_of(alloc, text)?;
     let policies = Held {
         value: Compiled::of(alloc, &Policies::new(alloc))?,
     };
+    let request = request_of(alloc, text)?;
     let cookies = Cookies::new(alloc);
     Ok(drive_fetch(
         rt,
@@ -86,27 +87,38 @@ fn played<R: Threads + Wait + Sync, S: Share>(
     share: &S,
     pass: &mut S::Pass,
     link: &mut MemoryLink,
-) -> Result<Transcript, Failed>
+    transcripts: &mut Transcripts,
+) -> Result<(), Failed>
     requires belongs { S.belongs share.now pass.old }
     requires left { 126 ≤ S.left pass.old }
 {
     let text = before_byte(line, b'\t');
     let limit = limit_of(before_byte(after_byte(line, b'\t'), b'\t'))?;
-    let client = client_at(alloc, value_of(text, b"from"))?;
-    let run = fetched(rt, alloc, text, limit, &client, share, pass, link)?;
-    transcript_of(client, run)
+    let held = Held {
+        value: client_at(alloc, value_of(text, b"from"))?,
+    };
+    let client = &held.value;
+    let key = client.key.copy(alloc)?;
+    let run = fetched(rt, alloc, text, limit, client, share, pass, link)?;
+    add_run(key, run, transcripts)
 }
 
-// The text of one play, with the history.
-fn show_one(
+// Fetches the request of a row over its link, and shows its text, with the history.
+fn play_over<R: Threads + Wait + Sync>(
+    rt: &R,
     alloc: Global,
-    transcript: Transcript,
-    history: &History,
+    line: &[u8],
+    link: &mut MemoryLink,
     shown: &mut Shown,
 ) -> Result<(), Failed> {
+    let (share, mut pass) = SoloBook::new(alloc, Book::new(alloc));
     let mut transcripts = Transcripts::new(alloc);
-    transcripts.push(transcript)?;
-    show(alloc, &transcripts, history, shown)
+    if played(rt, alloc, line, &share, &mut pass, link, &mut transcripts).is_err() {
+        shown.fail();
+    }
+    tell(link, shown);
+    let history = history_of(share, pass);
+    show(alloc, &transcripts, &history, shown)
 }
 
 // Fetches the request of a row over its link.
@@ -116,10 +128,8 @@ pub(crate) fn play<R: Threads + Wait + Sync + AllocGlobal>(
     shown: &mut Shown,
 ) -> Result<(), Failed> {
     let alloc = rt.alloc();
-    let mut link = link_in(alloc, line)?;
-    let (share, mut pass) = SoloBook::new(alloc, Book::new(alloc));
-    let transcript = played(rt, alloc, line.as_bytes(), &share, &mut pass, &mut link)?;
-    tell(&link, shown);
-    let (_, history) = share.close(pass);
-    show_one(alloc, transcript, &history, shown)
+    let mut link = Held {
+        value: link_in(alloc, line)?,
+    };
+    play_over(rt, alloc, line.as_bytes(), &mut link.value, shown)
 }

@@ -1,27 +1,27 @@
-// A row is its scenario, or some words, a tab and then its scenario. The words, between spaces, are those of `streams.rt`
-// for calls of the streams that fail, and
+// A row is its scenario, or some words, a tab and then its scenario. The words, between spaces, are those of
+// `streams.rt` for calls of the streams that fail, and
 //
 //     words=A,B       the program's words, instead of `play`; none at `words=`
-//     times=N         the part of the scenario between `<` and `>` stands there N times
+//     times=N         the part of the scenario between `<` and `>` is repeated N times
 //     pieces          it is played with answers in pieces of 1, 7 and 65,536 bytes, one after another
 //     tail            only the number of bytes written and the last four lines are printed, as far as their
-//                     first 64 characters
+//                     first 64 bytes
 //     shared          of a play of several documents the history is printed by documents, without turns, and how
 //                     many entries it has
 //     joint           only whether the history is one that two documents under one page may have: `histories.rt`
 use crate::histories::{show_joint, show_shared};
-use crate::streams::{Streams, program_words, text_of};
+use crate::streams::{Streams, text_of};
 use std::alloc::Global;
 use std::sync::Wait;
 use std::thread::Threads;
 use wf_link::MemoryLinks;
-use wf_rows::{Failed, Shown, has_word, named, number, value_of};
-use wf_text::{before_byte, words};
+use wf_rows::{Failed, Held, Shown, has_word, named, number, texts_between, value_of};
+use wf_text::{Bytes, after_byte, before_byte};
 
 /// How many lines are printed of a row with `tail`.
 const TAIL: usize = 4;
 
-/// How many characters of them.
+/// How many bytes of them.
 const WIDTH: usize = 64;
 
 /// The words of a row, or what they begin with up to `=`.
@@ -39,55 +39,54 @@ const WORDS: [(&[u8], ()); 10] = [
 ];
 
 // Refuses words that no row has.
-fn check_words(alloc: Global, written: &[u8]) -> Result<(), Failed> {
-    for word in words(alloc, written)?.as_slice() {
-        named(&WORDS, before_byte(word, b'='))?;
+fn check_words(words: &[u8]) -> Result<(), Failed> {
+    let mut rest = words;
+    for _ in 0..words.len() {
+        if !rest.is_empty() {
+            named(&WORDS, before_byte(before_byte(rest, b' '), b'='))?;
+        }
+        rest = after_byte(rest, b' ');
     }
     Ok(())
 }
 
-// A text in which the part between `<` and `>` stands so many times.
-fn repeated(alloc: Global, text: &str, times: u64) -> Result<String, Failed> {
-    let Some((before, rest)) = text.split_once('<') else {
-        return Err(Failed);
-    };
-    let Some((part, after)) = rest.split_once('>') else {
-        return Err(Failed);
-    };
-    let mut whole = String::from_str(alloc, before)?;
+// A text in which the part between `<` and `>` is repeated so many times.
+fn repeated(alloc: Global, text: &[u8], times: u64) -> Result<Bytes, Failed> {
+    let rest = after_byte(text, b'<');
+    let part = before_byte(rest, b'>');
+    let mut whole = Shown::new(alloc);
+    whole.add(before_byte(text, b'<'));
     for _ in 0..times {
-        whole.push_str(part)?;
+        whole.add(part);
     }
-    whole.push_str(after)?;
-    Ok(whole)
+    whole.add(after_byte(rest, b'>'));
+    whole.into_bytes()
 }
 
 // The scenario that a row writes.
-fn scenario_of(alloc: Global, words: &[u8], written: &str) -> Result<String, Failed> {
+fn scenario_of(alloc: Global, words: &[u8], written: &[u8]) -> Result<Bytes, Failed> {
     match value_of(words, b"times") {
-        [] => Ok(String::from_str(alloc, written)?),
+        [] => Ok(Bytes::of(alloc, written)?),
         digits => repeated(alloc, written, number(digits, u64::MAX)?),
     }
 }
 
 // A scenario whose answers come in pieces of this size.
-fn in_pieces(alloc: Global, scenario: &str, piece: &str) -> Result<String, Failed> {
-    let Some(rest) = scenario.strip_prefix('{') else {
-        return Err(Failed);
-    };
-    let mut text = String::from_str(alloc, "{\"piece\":")?;
-    text.push_str(piece)?;
-    text.push_str(",")?;
-    text.push_str(rest)?;
-    Ok(text)
+fn in_pieces(alloc: Global, scenario: &[u8], piece: &[u8]) -> Result<Bytes, Failed> {
+    let mut text = Shown::new(alloc);
+    text.add(b"{\"piece\":");
+    text.add(piece);
+    text.add(b",");
+    text.add(after_byte(scenario, b'{'));
+    text.into_bytes()
 }
 
-// The words of the program.
-fn words_of(alloc: Global, words: &[u8]) -> Result<Vec<String>, Failed> {
+// The words of the program, with commas between.
+fn words_of(words: &[u8]) -> Result<&str, Failed> {
     if has_word(words, b"words") {
-        program_words(alloc, text_of(value_of(words, b"words"))?)
+        text_of(value_of(words, b"words"))
     } else {
-        program_words(alloc, "play")
+        Ok("play")
     }
 }
 
@@ -96,13 +95,15 @@ fn play_text<R: Threads + Wait + Sync>(
     rt: &R,
     alloc: Global,
     words: &[u8],
-    scenario: &str,
+    scenario: &[u8],
     shown: &mut Shown,
 ) -> Result<(), Failed> {
-    let program = words_of(alloc, words)?;
-    let mut streams = Streams::of(alloc, words, scenario.as_bytes())?;
-    let mut links = MemoryLinks::new(alloc, Vec::new(alloc))?;
-    streams.run(rt, alloc, program.as_slice(), &mut links, 0, shown);
+    let program = words_of(words)?;
+    let mut links = Held {
+        value: MemoryLinks::new(alloc, Vec::new(alloc))?,
+    };
+    let mut streams = Streams::of(alloc, words, scenario)?;
+    streams.run(rt, alloc, program, &mut links.value, 0, shown);
     show(alloc, words, &streams, shown)
 }
 
@@ -111,12 +112,12 @@ fn play_pieces<R: Threads + Wait + Sync>(
     rt: &R,
     alloc: Global,
     words: &[u8],
-    scenario: &str,
+    scenario: &[u8],
     shown: &mut Shown,
 ) -> Result<(), Failed> {
     for piece in ["1", "7", "65536"] {
-        let text = in_pieces(alloc, scenario, piece)?;
-        play_text(rt, alloc, words, text.as_str(), shown)?;
+        let text = in_pieces(alloc, scenario, piece.as_bytes())?;
+        play_text(rt, alloc, words, text.as_slice(), shown)?;
     }
     Ok(())
 }
@@ -129,20 +130,13 @@ pub(crate) fn play<R: Threads + Wait + Sync + AllocGlobal>(
 ) -> Result<(), Failed> {
     let alloc = rt.alloc();
     let (words, written) = line.split_once('\t').unwrap_or(("", line));
-    check_words(alloc, words.as_bytes())?;
-    let scenario = scenario_of(alloc, words.as_bytes(), written)?;
-    if has_word(words.as_bytes(), b"pieces") {
-        play_pieces(rt, alloc, words.as_bytes(), scenario.as_str(), shown)
+    let words = words.as_bytes();
+    check_words(words)?;
+    let scenario = scenario_of(alloc, words, written.as_bytes())?;
+    if has_word(words, b"pieces") {
+        play_pieces(rt, alloc, words, scenario.as_slice(), shown)
     } else {
-        play_text(rt, alloc, words.as_bytes(), scenario.as_str(), shown)
-    }
-}
-
-// The first characters of a line.
-fn front(line: &str) -> &str {
-    match line.get(..WIDTH) {
-        Some(front) => front,
-        None => line,
+        play_text(rt, alloc, words, scenario.as_slice(), shown)
     }
 }
 
@@ -152,7 +146,7 @@ fn show_tail(text: &str, shown: &mut Shown) {
     shown.add(b"\n");
     let count = text.lines().count();
     for line in text.lines().skip(count.saturating_sub(TAIL)) {
-        shown.add(front(line).as_bytes());
+        shown.add(line.as_bytes().split_at(WIDTH.min(line.len())).0);
         shown.add(b"\n");
     }
 }
@@ -165,12 +159,10 @@ fn show_output(
     shown: &mut Shown,
 ) -> Result<(), Failed> {
     if has_word(words, b"shared") {
-        return show_shared(alloc, output, shown);
-    }
-    if has_word(words, b"joint") {
-        return show_joint(alloc, output, shown);
-    }
-    if has_word(words, b"tail") {
+        show_shared(texts_between(alloc, output, b'\n')?.as_slice(), shown);
+    } else if has_word(words, b"joint") {
+        show_joint(texts_between(alloc, output, b'\n')?.as_slice(), shown);
+    } else if has_word(words, b"tail") {
         show_tail(text_of(output)?, shown);
     } else {
         shown.add(output);

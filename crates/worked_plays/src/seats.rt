@@ -1,18 +1,18 @@
-// Two documents that are played by `play_all` itself, each on a seat of its own: a pass of one book that takes turns, and
-// a link that gives its answer only once both have sent their requests. Shown is how each has ended, and how many events
-// it has shown.
+// Two documents that are played by `play_all` itself, each on a seat of its own: a pass of one book that takes turns,
+// and a link that gives its answer only once both have sent their requests. Shown is how each has ended, and how many
+// events it has shown.
 ghost use Rattle.std.specs.Prelude.{◌≡◌, [], ◌∷◌, length, map, IfOk};
 ghost use Rattle.std.specs.List.{All};
 ghost use Rattle.wf_script.specs.Valid.{IsValid};
 ghost use Rattle.wf_turn.specs.Passes.{left_of, made_of};
 
 use crate::gates::{SCENARIO, waiting_for};
+use crate::links::scenario_in;
 use crate::waiting::{Asked, WaitingLink, WaitingLinks};
 use std::alloc::Global;
 use std::sync::Wait;
 use std::thread::Threads;
 use wf_book::Book;
-use wf_link::{Links, Routes};
 use wf_player::{Seating, play_all};
 use wf_print::{Ending, Transcript};
 use wf_rows::{Failed, Shown};
@@ -25,8 +25,7 @@ fn seats_of<'a>(
     alloc: Global,
     book: &TurnBook,
     first: &mut TurnPass,
-    links: &mut WaitingLinks<'a>,
-    routes: &Routes,
+    links: &WaitingLinks<'a>,
 ) -> Result<Vec<Seating<WaitingLink<'a>, TurnPass>>, OutOfMemory>
     requires belongs { first.old.seat.table_id ≡ book.now.table.shared.table_id }
     requires first { first.old.document ≡ 4294967295 }
@@ -36,16 +35,14 @@ fn seats_of<'a>(
     ensures belong { IfOk result (λ seats. All (λ s. s.pass.seat.table_id ≡ book.now.table.shared.table_id)
         seats.items) }
 {
-    let one = book.pass(alloc, first, 0)?;
-    let two = book.pass(alloc, first, 1)?;
     let mut seats = Vec::with_capacity(alloc, 2)?;
     seats.push_reserved(Seating {
-        pass: one,
-        link: links.make(alloc, 0, routes)?,
+        pass: book.pass(alloc, first, 0)?,
+        link: links.link(0),
     });
     seats.push_reserved(Seating {
-        pass: two,
-        link: links.make(alloc, 1, routes)?,
+        pass: book.pass(alloc, first, 1)?,
+        link: links.link(1),
     });
     Ok(seats)
 }
@@ -82,21 +79,37 @@ fn play_on<'a, R: Threads + Wait + Sync>(
     Ok(())
 }
 
+// Plays the two documents over a book and its first pass.
+fn play_over<R: Threads + Wait + Sync>(
+    rt: &R,
+    alloc: Global,
+    scenario: &Scenario,
+    book: &TurnBook,
+    first: &mut TurnPass,
+    shown: &mut Shown,
+) -> Result<(), Failed>
+    requires valid { IsValid scenario.now }
+    requires two { length scenario.now.documents ≡ 2 }
+    requires belongs { first.old.seat.table_id ≡ book.now.table.shared.table_id }
+    requires first { first.old.document ≡ 4294967295 }
+    requires none { made_of first.old ≡ [] }
+{
+    let asked = Asked::none();
+    let links = WaitingLinks::new(&asked, waiting_for(2));
+    let mut seats = seats_of(alloc, book, first, &links)?;
+    play_on(rt, alloc, scenario, book, &mut seats, shown)
+}
+
 // Plays the two documents.
 pub(crate) fn play<R: Threads + Wait + Sync + AllocGlobal>(
     rt: &R,
     shown: &mut Shown,
 ) -> Result<(), Failed> {
     let alloc = rt.alloc();
-    let Ok(scenario) = Scenario::read(alloc, SCENARIO)? else {
-        return Err(Failed);
-    };
-    if scenario.documents.len() != 2 {
+    let scenario = scenario_in(alloc, SCENARIO)?;
+    if scenario.value.documents.len() != 2 {
         return Err(Failed);
     }
-    let asked = Asked::none();
-    let mut links = WaitingLinks::new(&asked, waiting_for(2));
     let (book, mut first) = TurnBook::new(alloc, Book::new(alloc))?;
-    let mut seats = seats_of(alloc, &book, &mut first, &mut links, &scenario.routes)?;
-    play_on(rt, alloc, &scenario, &book, &mut seats, shown)
+    play_over(rt, alloc, &scenario.value, &book, &mut first, shown)
 }

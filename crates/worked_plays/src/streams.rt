@@ -6,8 +6,8 @@ use std::alloc::Global;
 use std::sync::Wait;
 use std::thread::Threads;
 use wf_link::{FixedClock, Links, MemorySink, MemorySource};
-use wf_rows::{Failed, Shown, number, texts_between, values_of};
-use wf_text::Bytes;
+use wf_rows::{Failed, Held, Shown, number, value_of};
+use wf_text::{Bytes, after_byte, before_byte};
 use wf_top::fetchplay;
 
 /// How many bytes the output and the complaints each have room for.
@@ -16,46 +16,56 @@ const ROOM: usize = 16_777_216;
 /// The streams of a run.
 #[derive(Drop)]
 pub(crate) struct Streams {
-    input: MemorySource,
-    output: MemorySink,
-    complaints: MemorySink,
+    input: Held<MemorySource>,
+    output: Held<MemorySink>,
+    complaints: Held<MemorySink>,
 }
 
-// The numbers behind a name, some with a comma between.
+// The numbers of all words `NAME=N,N`, in order.
 pub(crate) fn numbers_of(alloc: Global, words: &[u8], name: &[u8]) -> Result<Vec<u64>, Failed> {
     let mut numbers = Vec::new(alloc);
-    for value in values_of(alloc, words, name)?.as_slice() {
-        append_numbers(alloc, &mut numbers, value.as_slice())?;
+    let mut rest = value_of(words, name);
+    for _ in 0..words.len() {
+        if rest.is_empty() {
+            break;
+        }
+        numbers.push(number(before_byte(rest, b','), u64::MAX)?)?;
+        rest = after_byte(rest, b',');
     }
     Ok(numbers)
 }
 
-// Adds the numbers that stand between commas.
-fn append_numbers(alloc: Global, numbers: &mut Vec<u64>, text: &[u8]) -> Result<(), Failed> {
-    for digits in texts_between(alloc, text, b',')?.as_slice() {
-        if !digits.is_empty() {
-            numbers.push(number(digits.as_slice(), u64::MAX)?)?;
-        }
-    }
-    Ok(())
-}
-
+// Adds the numbers of a text, which has commas between them.
 // A sink of which some calls fail, and others take nothing.
-fn sink(alloc: Global, fails: Vec<u64>, zeros: Vec<u64>) -> Result<MemorySink, Failed> {
-    Ok(MemorySink::new(alloc, ROOM, fails, zeros)?)
+fn sink(alloc: Global, fails: Vec<u64>, zeros: Vec<u64>) -> Result<Held<MemorySink>, Failed> {
+    Ok(Held {
+        value: MemorySink::new(alloc, ROOM, fails, zeros)?,
+    })
 }
 
 // The output.
-fn output_of(alloc: Global, words: &[u8]) -> Result<MemorySink, Failed> {
+fn output_of(alloc: Global, words: &[u8]) -> Result<Held<MemorySink>, Failed> {
     let fails = numbers_of(alloc, words, b"writes")?;
     let zeros = numbers_of(alloc, words, b"zeros")?;
     sink(alloc, fails, zeros)
 }
 
 // The input, which has a scenario.
-fn input_of(alloc: Global, words: &[u8], scenario: &[u8]) -> Result<MemorySource, Failed> {
+fn input_of(alloc: Global, words: &[u8], scenario: &[u8]) -> Result<Held<MemorySource>, Failed> {
     let fails = numbers_of(alloc, words, b"reads")?;
-    Ok(MemorySource::new(Bytes::of(alloc, scenario)?, fails))
+    Ok(Held {
+        value: MemorySource::new(Bytes::of(alloc, scenario)?, fails),
+    })
+}
+
+// Adds the words of the program, which have commas between.
+fn add_words(alloc: Global, program: &mut Vec<String>, words: &str) -> Result<(), Failed> {
+    for word in words.split(',') {
+        if !word.is_empty() {
+            program.push(String::from_str(alloc, word)?)?;
+        }
+    }
+    Ok(())
 }
 
 impl Streams {
@@ -74,31 +84,35 @@ impl Streams {
 
     // What was written.
     pub(crate) fn output(&self) -> &[u8] {
-        self.output.taken()
+        self.output.value.taken()
     }
 
     // What was complained.
     pub(crate) fn complaints(&self) -> &[u8] {
-        self.complaints.taken()
+        self.complaints.value.taken()
     }
 
-    // Runs the top call over links, and shows the number of its status.
+    // Runs the top call with these words over links, and shows the number of its status.
     pub(crate) fn run<R: Threads + Wait + Sync, N: Links>(
         &mut self,
         rt: &R,
         alloc: Global,
-        words: &[String],
+        words: &str,
         links: &mut N,
         now: u64,
         shown: &mut Shown,
     ) {
+        let mut program = Vec::new(alloc);
+        if add_words(alloc, &mut program, words).is_err() {
+            shown.fail();
+        }
         let status = fetchplay(
             rt,
             alloc,
-            words,
-            &mut self.input,
-            &mut self.output,
-            &mut self.complaints,
+            program.as_slice(),
+            &mut self.input.value,
+            &mut self.output.value,
+            &mut self.complaints.value,
             links,
             &mut FixedClock::new(now),
         );
@@ -108,17 +122,7 @@ impl Streams {
     }
 }
 
-// The words of the program, which stand between commas.
-pub(crate) fn program_words(alloc: Global, text: &str) -> Result<Vec<String>, Failed> {
-    let mut words = Vec::new(alloc);
-    for word in text.split(',') {
-        if !word.is_empty() {
-            words.push(String::from_str(alloc, word)?)?;
-        }
-    }
-    Ok(words)
-}
-
+// The words of the program, from a text that has commas between them.
 // The text that bytes are.
 pub(crate) fn text_of(bytes: &[u8]) -> Result<&str, Failed> {
     match str::from_utf8(bytes) {

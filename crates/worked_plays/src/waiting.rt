@@ -156,6 +156,23 @@ impl<'a> WaitingLinks<'a> {
             faults: 0,
         }
     }
+
+    // The link of a document.
+    pub(crate) fn link(&self, document: u32) -> WaitingLink<'a> {
+        let count = if document == 0 {
+            self.manner.first
+        } else {
+            self.manner.others
+        };
+        WaitingLink {
+            asked: self.asked,
+            document: document as usize,
+            method: self.manner.method,
+            count,
+            left: &[],
+            faults: 0,
+        }
+    }
 }
 
 // Whether a route has an address, or any is right.
@@ -186,19 +203,7 @@ impl<'a> Links for WaitingLinks<'a> {
         if !is_reached(routes, self.manner.address) {
             return Err(OutOfMemory);
         }
-        let count = if document == 0 {
-            self.manner.first
-        } else {
-            self.manner.others
-        };
-        Ok(WaitingLink {
-            asked: self.asked,
-            document: document as usize,
-            method: self.manner.method,
-            count,
-            left: &[],
-            faults: 0,
-        })
+        Ok(self.link(document))
     }
 
     fn take_back(&mut self, link: WaitingLink<'a>) {

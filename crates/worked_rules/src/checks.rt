@@ -9,7 +9,7 @@ ghost use Rattle.wf_types.specs.Requests.{IsRequest};
 use std::alloc::Global;
 use wf_csp::{Compiled, Violations};
 use wf_csp_text::{Policies, parse_policies};
-use wf_rows::{Failed, Row, Shown};
+use wf_rows::{Failed, Held, Row, Shown};
 use wf_text::{after_byte, before_byte};
 use wf_types::{Request, Violation};
 
@@ -32,18 +32,22 @@ fn policies_of(alloc: Global, row: &Row, from: usize) -> Result<Policies, Failed
 }
 
 // The same, ready for checks.
-fn compiled_of(alloc: Global, row: &Row, from: usize) -> Result<Compiled, Failed> {
-    let policies = policies_of(alloc, row, from)?;
-    if policies.len() > 1_000 {
+fn compiled_of(alloc: Global, row: &Row, from: usize) -> Result<Held<Compiled>, Failed> {
+    let policies = Held {
+        value: policies_of(alloc, row, from)?,
+    };
+    if policies.value.len() > 1_000 {
         return Err(Failed);
     }
-    Ok(Compiled::of(alloc, &policies)?)
+    Ok(Held {
+        value: Compiled::of(alloc, &policies.value)?,
+    })
 }
 
 // Whether the row's policies upgrade http requests.
 pub(crate) fn upgrades(alloc: Global, row: &Row, shown: &mut Shown) -> Result<(), Failed> {
     let compiled = compiled_of(alloc, row, 0)?;
-    shown.add_yes_or_no(compiled.upgrades());
+    shown.add_yes_or_no(compiled.value.upgrades());
     Ok(())
 }
 
@@ -58,7 +62,9 @@ pub(crate) fn checked(
     requires { IsRequest request.now }
 {
     let compiled = compiled_of(alloc, row, 1)?;
-    let found = compiled.check_request(alloc, request, &request.origin, enforced)?;
+    let found = compiled
+        .value
+        .check_request(alloc, request, &request.origin, enforced)?;
     show_violations(&found, shown);
     Ok(())
 }
@@ -73,13 +79,15 @@ pub(crate) fn response(
     requires { IsRequest request.now }
 {
     let compiled = compiled_of(alloc, row, 1)?;
-    let (found, blocked) = compiled.check_response(alloc, request, &request.origin)?;
+    let (found, blocked) = compiled
+        .value
+        .check_response(alloc, request, &request.origin)?;
     shown.add(if blocked { b"blocked " } else { b"passes " });
     show_violations(&found, shown);
     Ok(())
 }
 
-// Violations, with a bar behind each.
+// Violations, with a bar after each.
 fn show_violations(violations: &Violations, shown: &mut Shown) {
     for violation in violations.as_slice() {
         show_violation(violation, shown);

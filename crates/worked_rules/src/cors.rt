@@ -11,7 +11,7 @@ use crate::responses::head_of;
 use std::alloc::Global;
 use wf_cors::{Checked, corp_blocks, preflight_of, verdict};
 use wf_origin::tuple_origin;
-use wf_rows::{Failed, Row, Shown, list_of, texts_between};
+use wf_rows::{Failed, Held, Row, Shown, list_of, texts_between};
 use wf_text::BytesList;
 use wf_types::{Hop, NetError, Request, serialized_origin};
 
@@ -25,9 +25,11 @@ pub(crate) fn blocked(
     requires valid { IsRequest request.now }
     requires at_http { IsAtHttp request.now }
 {
+    let headers = Held {
+        value: list_of(alloc, row, 1)?,
+    };
     let url = tuple_origin(alloc, request.current_url())?;
-    let headers = list_of(alloc, row, 1)?;
-    shown.add_yes_or_no(corp_blocks(request, &url, &headers));
+    shown.add_yes_or_no(corp_blocks(request, &url, &headers.value));
     Ok(())
 }
 
@@ -50,8 +52,10 @@ pub(crate) fn preflight(
     requires at_http { IsAtHttp request.now }
     requires determined { IsTrue (is_determined request.now.referrer) }
 {
-    let names = names_in(alloc, row.text(1))?;
-    let hop = preflight_of(alloc, request, &names)?;
+    let names = Held {
+        value: names_in(alloc, row.text(1))?,
+    };
+    let hop = preflight_of(alloc, request, &names.value)?;
     show_hop(&hop, shown);
     Ok(())
 }
@@ -80,19 +84,21 @@ pub(crate) fn checked(
 ) -> Result<(), Failed>
     requires { IsRequest request.now }
 {
-    let names = names_in(alloc, row.text(1))?;
-    let head = head_of(alloc, row, 2)?;
+    let names = Held {
+        value: names_in(alloc, row.text(1))?,
+    };
+    let head = Held {
+        value: head_of(alloc, row, 2)?,
+    };
     let origin = serialized_origin(alloc, request)?;
-    show_checked(
-        verdict(alloc, request, origin.as_slice(), &names, &head)?,
-        shown,
-    );
+    let checked = verdict(alloc, request, origin.as_slice(), &names.value, &head.value)?;
+    show_checked(&checked, shown);
     Ok(())
 }
 
 // The age of a pass, its methods and its names, or why there is none.
-fn show_checked(checked: Checked, shown: &mut Shown) {
-    match &checked {
+fn show_checked(checked: &Checked, shown: &mut Shown) {
+    match checked {
         Checked::Pass {
             age,
             methods,
@@ -107,7 +113,7 @@ fn show_checked(checked: Checked, shown: &mut Shown) {
     }
 }
 
-// A word and, where there are any, the texts with a bar behind each.
+// A word and, where there are any, the texts with a bar after each.
 fn add_list(word: &[u8], texts: &BytesList, shown: &mut Shown) {
     shown.add(word);
     if !texts.is_empty() {

@@ -34,6 +34,13 @@ const STARTS: [(&[u8], usize); 14] = [
     (b"cors_check", 2),
 ];
 
+/// The rules by which values are extracted, by the kinds of their rows.
+const RULES: [(&[u8], Rule); 3] = [
+    (b"tokens", Rule::Tokens),
+    (b"max_age", Rule::Digits),
+    (b"single", Rule::Single),
+];
+
 // The answer to a row of a header list, and whether the row is one.
 pub(crate) fn answer(
     alloc: Global,
@@ -44,11 +51,23 @@ pub(crate) fn answer(
     let Ok(from) = named(&STARTS, kind.as_bytes()) else {
         return guarded(alloc, kind, row, shown);
     };
-    let list = list_of(alloc, row, from)?;
-    if !is_asked(kind, row, &list, shown) {
-        taken(alloc, kind, row, &list, shown)?;
-    }
+    asked(alloc, kind, row, from, shown)?;
     Ok(true)
+}
+
+// The answer to a row whose list begins at an index.
+fn asked(
+    alloc: Global,
+    kind: &str,
+    row: &Row,
+    from: usize,
+    shown: &mut Shown,
+) -> Result<(), Failed> {
+    let list = list_of(alloc, row, from)?;
+    if is_asked(kind, row, &list, shown) {
+        return Ok(());
+    }
+    taken(alloc, kind, row, &list, shown)
 }
 
 // The answer to a row that takes no memory, and whether the row is one.
@@ -71,12 +90,13 @@ fn taken(
     shown: &mut Shown,
 ) -> Result<(), Failed> {
     let name = row.text(0);
+    if let Ok(rule) = named(&RULES, kind.as_bytes()) {
+        show_extracted(&list.extract(alloc, name, rule)?, shown);
+        return Ok(());
+    }
     match kind {
         "get" => shown.add_text(list.get(alloc, name)?),
         "split" => shown.add_list(list.split_values(alloc, name)?),
-        "tokens" => show_extracted(&list.extract(alloc, name, Rule::Tokens)?, shown),
-        "max_age" => show_extracted(&list.extract(alloc, name, Rule::Digits)?, shown),
-        "single" => show_extracted(&list.extract(alloc, name, Rule::Single)?, shown),
         _ => return headers::taken(alloc, kind, row, list, shown),
     }
     Ok(())

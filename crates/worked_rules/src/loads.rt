@@ -4,12 +4,14 @@
 //
 // The words, with a space between, are `kind=DESTINATION`, `url=URL`, and `crossorigin=STATE`, `nonce=TEXT`,
 // `integrity=TEXT`, `policy=POLICY` and `parser=yes` where they are not empty.
-ghost use Rattle.std.specs.Prelude.{◌≢◌, IfOk};
+ghost use Rattle.std.specs.Prelude.{◌≡◌, ◌≢◌, IfOk};
 ghost use Rattle.wf_types.specs.Requests.{IsClient, IsRequest};
 
 use std::alloc::Global;
 use wf_origin::same_origin;
-use wf_rows::{Failed, Row, Shown, client_at, destination_named, named, policy_named, value_of};
+use wf_rows::{
+    Failed, Held, Row, Shown, client_at, destination_named, named, policy_named, value_of,
+};
 use wf_send::new_load;
 use wf_text::Bytes;
 use wf_types::{
@@ -33,9 +35,14 @@ pub(crate) fn answer(
     if kind != "load" {
         return Ok(false);
     }
-    let client = client_at(alloc, row.text(0))?;
-    load(alloc, row.text(1), &client, shown)?;
+    loaded(alloc, row, shown)?;
     Ok(true)
+}
+
+// The request of the row's load, or its fault.
+fn loaded(alloc: Global, row: &Row, shown: &mut Shown) -> Result<(), Failed> {
+    let client = client_at(alloc, row.text(0))?;
+    load(alloc, row.text(1), &client, shown)
 }
 
 // The kind of resource, which is no `fetch`.
@@ -49,22 +56,36 @@ fn kind_in(text: &[u8]) -> Result<Destination, Failed>
     Ok(kind)
 }
 
+// Sets the texts that the words have.
+fn set_texts(init: &mut LoadInit, text: &[u8]) -> Result<(), Failed>
+    ensures { init.new.kind ≡ init.old.kind }
+{
+    init.url.append(value_of(text, b"url"))?;
+    init.nonce.append(value_of(text, b"nonce"))?;
+    init.integrity.append(value_of(text, b"integrity"))?;
+    Ok(())
+}
+
 // What the words ask for.
-fn init_in(alloc: Global, text: &[u8]) -> Result<LoadInit, Failed>
-    ensures { IfOk result (λ init. init.kind ≢ Destination.Fetch) }
+fn init_in(alloc: Global, text: &[u8]) -> Result<Held<LoadInit>, Failed>
+    ensures { IfOk result (λ init. init.value.kind ≢ Destination.Fetch) }
 {
     let kind = kind_in(text)?;
     let crossorigin = named(&CROSS_ORIGINS, value_of(text, b"crossorigin"))?;
     let referrer_policy = policy_named(value_of(text, b"policy"))?;
-    Ok(LoadInit {
-        kind,
-        url: Bytes::of(alloc, value_of(text, b"url"))?,
-        crossorigin,
-        nonce: Bytes::of(alloc, value_of(text, b"nonce"))?,
-        integrity: Bytes::of(alloc, value_of(text, b"integrity"))?,
-        parser: value_of(text, b"parser") == b"yes".as_slice(),
-        referrer_policy,
-    })
+    let mut init = Held {
+        value: LoadInit {
+            kind,
+            url: Bytes::new(alloc),
+            crossorigin,
+            nonce: Bytes::new(alloc),
+            integrity: Bytes::new(alloc),
+            parser: value_of(text, b"parser") == b"yes".as_slice(),
+            referrer_policy,
+        },
+    };
+    set_texts(&mut init.value, text)?;
+    Ok(init)
 }
 
 // The request of a load for a client, or its fault.
@@ -72,8 +93,8 @@ fn load(alloc: Global, text: &[u8], client: &Client, shown: &mut Shown) -> Resul
     requires { IsClient client.now }
 {
     let init = init_in(alloc, text)?;
-    match new_load(alloc, &init, client)? {
-        Ok(request) => show_load(client, &request, shown),
+    match new_load(alloc, &init.value, client)? {
+        Ok(request) => show_load(client, &Held { value: request }.value, shown),
         Err(TypeFault::BadUrl) => shown.add(b"type-error 1 BadUrl"),
         Err(_) => shown.add(b"DIFFERS"),
     }

@@ -1,5 +1,5 @@
 // Reads worked rows of the rules of a fetch, one a line, and prints each with what its call answers. A line that begins
-// with `#` is a title, which is printed as it stands, and so is an empty line. A row is a kind and its texts, with a tab
+// with `#` is a title, which is printed as it is, and so is an empty line. A row is a kind and its texts, with a tab
 // between; `wf_rows`'s `row.rt` says how a text is written and `requests.rt` how a request is, and each file here which
 // kinds it knows.
 #![tactic(auto)]

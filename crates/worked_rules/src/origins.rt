@@ -16,7 +16,7 @@ use wf_origin::{
     same_origin, same_site, serialize,
 };
 use wf_referrer::determine;
-use wf_rows::{Failed, Row, Shown, origin_written, policy_named, url_written};
+use wf_rows::{Failed, Held, Row, Shown, origin_written, policy_named, url_written};
 use wf_types::ReferrerPolicy;
 
 // The answer to a row of these kinds, and whether the row is one.
@@ -68,10 +68,14 @@ fn show_both(answer: bool, other: bool, shown: &mut Shown) {
 
 // The origins of two URLs, compared as the row says.
 fn compared(alloc: Global, kind: &str, row: &Row, shown: &mut Shown) -> Result<(), Failed> {
-    let first = origin_written(alloc, row.text(0))?;
-    let url = url_written(alloc, row.text(1))?;
+    let first = Held {
+        value: origin_written(alloc, row.text(0))?,
+    };
+    let url = Held {
+        value: url_written(alloc, row.text(1))?,
+    };
     let second = origin_written(alloc, row.text(1))?;
-    show_compared(kind, &first, &second, &url, shown);
+    show_compared(kind, &first.value, &second, &url.value, shown);
     Ok(())
 }
 
@@ -97,12 +101,19 @@ fn is_given(policy: ReferrerPolicy) -> bool
 // The referrer that the row's policy tells its target of its source.
 fn determined(alloc: Global, row: &Row, shown: &mut Shown) -> Result<(), Failed> {
     let policy = policy_named(row.text(0))?;
-    let source = url_written(alloc, row.text(1))?;
-    let target = url_written(alloc, row.text(2))?;
-    if !is_given(policy) || !is_http_url(&source) || !is_http_url(&target) {
+    let source = Held {
+        value: url_written(alloc, row.text(1))?,
+    };
+    let target = Held {
+        value: url_written(alloc, row.text(2))?,
+    };
+    if !is_given(policy) || !is_http_url(&source.value) || !is_http_url(&target.value) {
         return Err(Failed);
     }
-    show_referrer(determine(alloc, policy, &source, &target)?, shown);
+    show_referrer(
+        determine(alloc, policy, &source.value, &target.value)?,
+        shown,
+    );
     Ok(())
 }
 

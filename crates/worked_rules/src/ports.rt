@@ -24,7 +24,7 @@ fn port_of(text: &[u8]) -> Option<u16> {
     }
 }
 
-// All bad ports, with a bar behind each.
+// All bad ports, with a bar after each.
 fn bad_ports(shown: &mut Shown) {
     for port in 0..=65_535u16 {
         if bad_port(Some(port)) {

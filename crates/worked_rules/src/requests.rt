@@ -2,7 +2,7 @@
 //
 //     origin REQUEST                the serialised origin
 //     mixed REQUEST TOP             whether the request, in a page with that URL at the top, is upgraded, and whether
-//                                   it is blocked as it stands
+//                                   it is blocked as it is
 //
 // `checks.rt`, `cors.rt` and `responses.rt` have the other kinds.
 ghost use Rattle.std.specs.Prelude.{IsTrue};
@@ -28,9 +28,14 @@ pub(crate) fn answer(
     if value_of(row.text(0), b"url").is_empty() {
         return Ok(false);
     }
-    let request = request_of(alloc, row.text(0))?;
-    asked(alloc, kind, row, &request, shown)?;
+    made(alloc, kind, row, shown)?;
     Ok(true)
+}
+
+// What a row asks of the request that its first text writes.
+fn made(alloc: Global, kind: &str, row: &Row, shown: &mut Shown) -> Result<(), Failed> {
+    let request = request_of(alloc, row.text(0))?;
+    asked(alloc, kind, row, &request, shown)
 }
 
 // What a row asks of its request.

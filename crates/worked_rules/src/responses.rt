@@ -9,11 +9,11 @@ ghost use Rattle.wf_types.specs.Requests.{IsRequest};
 use std::alloc::Global;
 use wf_filter::{filtered, hide};
 use wf_headers::HeaderList;
-use wf_rows::{Failed, Row, Shown, list_of, number};
+use wf_rows::{Failed, Held, Row, Shown, list_of, number};
 use wf_text::Bytes;
 use wf_types::{Head, Hop, Request, Response};
 
-// The head whose status is the text at an index, and whose headers the texts behind it make.
+// The head whose status is the text at an index, and whose headers the texts after it make.
 pub(crate) fn head_of(alloc: Global, row: &Row, index: usize) -> Result<Head, Failed> {
     let status = number(row.text(index), 999)?.min(999) as u16;
     let headers = list_of(alloc, row, index.saturating_add(1))?;
@@ -30,29 +30,47 @@ pub(crate) fn asked(
 ) -> Result<(), Failed>
     requires { IsRequest request.now }
 {
-    let head = head_of(alloc, row, 1)?;
     match kind {
-        "filtered" => return let_through(alloc, request, head, false, shown),
-        "manual" => return let_through(alloc, request, head, true, shown),
-        "hide" => show_view(hide(alloc, request, &hop(alloc, false), &head)?, shown),
-        "hide_preflight" => show_view(hide(alloc, request, &hop(alloc, true), &head)?, shown),
-        _ => return Err(Failed),
+        "filtered" => let_through(alloc, row, request, false, shown),
+        "manual" => let_through(alloc, row, request, true, shown),
+        "hide" => hidden(alloc, row, request, false, shown),
+        "hide_preflight" => hidden(alloc, row, request, true, shown),
+        _ => Err(Failed),
     }
-    Ok(())
 }
 
-// The filtered response of an answer with this head.
+// The filtered response of a row's answer.
 fn let_through(
     alloc: Global,
+    row: &Row,
     request: &Request,
-    head: Head,
     manual: bool,
     shown: &mut Shown,
 ) -> Result<(), Failed>
     requires { IsRequest request.now }
 {
-    let response = filtered(alloc, request, head, manual)?;
+    let response = filtered(alloc, request, head_of(alloc, row, 1)?, manual)?;
     show_response(&response, shown);
+    Ok(())
+}
+
+// What a document may learn of a row's answer.
+fn hidden(
+    alloc: Global,
+    row: &Row,
+    request: &Request,
+    preflight: bool,
+    shown: &mut Shown,
+) -> Result<(), Failed>
+    requires { IsRequest request.now }
+{
+    let head = Held {
+        value: head_of(alloc, row, 1)?,
+    };
+    let hop = Held {
+        value: hop(alloc, preflight),
+    };
+    show_view(hide(alloc, request, &hop.value, &head.value)?, shown);
     Ok(())
 }
 

@@ -6,7 +6,7 @@
 use std::alloc::Global;
 use wf_csp_match::{HostSource, Source, SourcePort, matches, parse_source};
 use wf_origin::Origin;
-use wf_rows::{Failed, Row, Shown, origin_written, url_written};
+use wf_rows::{Failed, Held, Row, Shown, origin_written, url_written};
 use wf_text::Bytes;
 
 // The answer to a row of these kinds, and whether the row is one.
@@ -17,20 +17,31 @@ pub(crate) fn answer(
     shown: &mut Shown,
 ) -> Result<bool, Failed> {
     match kind {
-        "source" => show_source(parse_source(alloc, row.text(0))?, shown),
+        "source" => show_source(&source_in(alloc, row)?.value, shown),
         "matches" => matched(alloc, row, shown)?,
         _ => return Ok(false),
     }
     Ok(true)
 }
 
+// The source expression that the row's word is.
+fn source_in(alloc: Global, row: &Row) -> Result<Held<Source>, Failed> {
+    Ok(Held {
+        value: parse_source(alloc, row.text(0))?,
+    })
+}
+
 // Whether the row's word matches its URL.
 fn matched(alloc: Global, row: &Row, shown: &mut Shown) -> Result<(), Failed> {
     let redirects = if row.has(3, b"1") { 1 } else { 0 };
-    let document = document_of(alloc, row.text(2))?;
-    let url = url_written(alloc, row.text(1))?;
-    let source = parse_source(alloc, row.text(0))?;
-    shown.add_yes_or_no(matches(&source, &url, &document, redirects));
+    let document = Held {
+        value: document_of(alloc, row.text(2))?,
+    };
+    let url = Held {
+        value: url_written(alloc, row.text(1))?,
+    };
+    let source = source_in(alloc, row)?;
+    shown.add_yes_or_no(matches(&source.value, &url.value, &document.value, redirects));
     Ok(())
 }
 
@@ -43,8 +54,8 @@ fn document_of(alloc: Global, written: &[u8]) -> Result<Origin, Failed> {
 }
 
 // The kind of a source expression and its parts.
-fn show_source(source: Source, shown: &mut Shown) {
-    match &source {
+fn show_source(source: &Source, shown: &mut Shown) {
+    match source {
         Source::Any => shown.add(b"any"),
         Source::Scheme(scheme) => {
             shown.add(b"scheme ");

@@ -121,8 +121,8 @@ pub(crate) fn parsed(
     match kind {
         "sts" => show_sts(parse_sts(alloc, text)?, shown),
         "split_value" => shown.add_list(Some(split_value(alloc, text)?)),
-        "enforce" => show_policies(&parse_policies(alloc, text, true)?, shown),
-        "report" => show_policies(&parse_policies(alloc, text, false)?, shown),
+        "enforce" => policies(alloc, text, true, shown)?,
+        "report" => policies(alloc, text, false, shown)?,
         "metadata" => metadata(alloc, text, shown)?,
         "body" => body(alloc, row, shown)?,
         _ => return Ok(false),
@@ -142,6 +142,12 @@ fn show_sts(said: Option<Sts>, shown: &mut Shown) {
     }
 }
 
+// The policies of a header value.
+fn policies(alloc: Global, text: &[u8], enforced: bool, shown: &mut Shown) -> Result<(), Failed> {
+    show_policies(&parse_policies(alloc, text, enforced)?, shown);
+    Ok(())
+}
+
 // Policies: of each its disposition, its directives, and a bar.
 fn show_policies(policies: &Policies, shown: &mut Shown) {
     for policy in policies.as_slice() {
@@ -155,7 +161,7 @@ fn show_policies(policies: &Policies, shown: &mut Shown) {
     }
 }
 
-// Directives: of each its name, its words, each behind a space, and a semicolon.
+// Directives: of each its name, its words with a space before each, and a semicolon.
 fn show_directives(directives: &[Directive], shown: &mut Shown) {
     for directive in directives {
         shown.add_escaped(directive.name.as_slice());

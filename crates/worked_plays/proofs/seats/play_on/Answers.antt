@@ -1,7 +1,6 @@
-use Rattle.std.proofs.Common.{◌≡◌, ◌∙◌, ◌∷◌, [], ◌≤◌, ap, arith, length, map, sym}
+use Rattle.std.proofs.Common.{◌∙◌, ◌≤◌, ap, arith, sym}
 use Rattle.std.specs.List.{range_with_len}
 use Rattle.std.proofs.lemmas.List.Elements.{All-map}
-use Rattle.wf_player.specs.Seats.{AreSeated}
 use Rattle.worked_plays.proofs.SeatLemmas.{map-of}
 use Rattle.worked_plays.proofs.seats.play_on.Goals as goal
 
