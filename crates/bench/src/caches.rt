@@ -56,8 +56,8 @@ fn asked(cache: &Precache, questions: &[Question], rounds: u32) -> u64 {
     covered
 }
 
-/// Fills a preflight cache with so many keys of 64 entries each, asks it for 100 of the keys in so many rounds, and counts
-/// how often the answer was yes.
+/// Fills a preflight cache with so many keys of 64 entries each, asks it for 100 of the keys in so many rounds, and
+/// counts how often the answer was yes.
 pub(crate) fn covered(alloc: Global, words: &Row) -> Result<u64, Failed> {
     let keys = count_in(words, 1)?;
     let rounds = count_in(words, 2)?;

@@ -89,9 +89,9 @@ fn kept_in(
     Ok(kept)
 }
 
-/// Makes a head of so many headers with different names that answers a request under tainting cors, exposes these names and
-/// passes the CORS check, asks for its filtered response or hides it in so many rounds, and counts the headers that are
-/// kept. The call is `filtered` or `hide`.
+/// Makes a head of so many headers with different names that answers a request under tainting cors, exposes these
+/// names and passes the CORS check, asks for its filtered response or hides it in so many rounds, and counts the
+/// headers that are kept. The call is `filtered` or `hide`.
 pub(crate) fn kept(alloc: Global, words: &Row) -> Result<u64, Failed> {
     let call = named(&CALLS, words.text(1))?;
     let rounds = count_in(words, 4)?;

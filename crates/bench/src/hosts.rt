@@ -43,8 +43,8 @@ fn asked(list: &HstsList, names: &BytesList, rounds: u32) -> u64 {
     known
 }
 
-/// Fills a list with so many known hosts, asks it for 64 of them and for a name beside each in so many rounds, and counts
-/// how often the answer was yes.
+/// Fills a list with so many known hosts, asks it for 64 of them and for a name beside each in so many rounds, and
+/// counts how often the answer was yes.
 pub(crate) fn known(alloc: Global, words: &Row) -> Result<u64, Failed> {
     let hosts = count_in(words, 1)?;
     let rounds = count_in(words, 2)?;

@@ -88,8 +88,8 @@ fn checked(
 }
 
 /// Makes so many policies of so many host words, each ending in a path of so many bytes, of which the last word alone
-/// matches, checks a request against them in so many rounds, and counts the violations. With a path of 0 bytes the words
-/// have none.
+/// matches, checks a request against them in so many rounds, and counts the violations. With a path of 0 bytes the
+/// words have none.
 pub(crate) fn violations(alloc: Global, words: &Row) -> Result<u64, Failed> {
     let hosts = count_in(words, 2)?;
     let rounds = count_in(words, 4)?;

@@ -10,7 +10,7 @@ use wf_types::BodyEnd;
 /// How many bytes a body has.
 const BODY: u32 = 262_144;
 
-/// What is read.
+/// What a round reads: a head, a body framed by its length, or a body in chunks.
 #[derive(Clone, Copy)]
 enum Kind {
     Head,
@@ -18,14 +18,14 @@ enum Kind {
     Chunked,
 }
 
-/// Their names.
+/// The kinds by their names.
 const KINDS: [(&[u8], Kind); 3] = [
     (b"head", Kind::Head),
     (b"plain", Kind::Plain),
     (b"chunked", Kind::Chunked),
 ];
 
-// A head of 100 lines of 80 bytes.
+// A head with 100 header lines of 80 bytes each.
 fn head(alloc: Global) -> Result<Bytes, Failed> {
     let mut head = Shown::new(alloc);
     head.add(b"HTTP/1.1 200 OK\r\n");
@@ -39,7 +39,7 @@ fn head(alloc: Global) -> Result<Bytes, Failed> {
     head.into_bytes()
 }
 
-// A body of 256 times 1,024 letters, with these bytes before and behind each, and an end.
+// A body of 256 blocks of 1,024 letters, each between a front and a back, and then an end.
 fn body(alloc: Global, front: &[u8], back: &[u8], end: &[u8]) -> Result<Bytes, Failed> {
     let mut body = Shown::new(alloc);
     for _ in 0..256u32 {
@@ -51,7 +51,7 @@ fn body(alloc: Global, front: &[u8], back: &[u8], end: &[u8]) -> Result<Bytes, F
     body.into_bytes()
 }
 
-// The bytes that are read.
+// The bytes that each round reads.
 fn bytes_of(alloc: Global, kind: Kind) -> Result<Bytes, Failed> {
     match kind {
         Kind::Head => head(alloc),
@@ -60,7 +60,7 @@ fn bytes_of(alloc: Global, kind: Kind) -> Result<Bytes, Failed> {
     }
 }
 
-// How many header lines the head has, which is read in pieces.
+// Reads a head in pieces of so many bytes, and counts its header lines.
 fn lines_of(alloc: Global, bytes: &[u8], piece: usize) -> Result<u64, Failed>
     requires { 0 < piece }
 {
@@ -75,7 +75,7 @@ fn lines_of(alloc: Global, bytes: &[u8], piece: usize) -> Result<u64, Failed>
     Err(Failed)
 }
 
-// How many bytes the body has, which is read in pieces.
+// Reads a body in pieces of so many bytes, and counts its bytes.
 fn length_of(alloc: Global, framing: Framing, bytes: &[u8], piece: usize) -> Result<u64, Failed>
     requires { 0 < piece }
 {
@@ -90,7 +90,7 @@ fn length_of(alloc: Global, framing: Framing, bytes: &[u8], piece: usize) -> Res
     Err(Failed)
 }
 
-// What one round reads.
+// Does one round: counts the header lines of the head, or the bytes of the body.
 fn read(alloc: Global, kind: Kind, bytes: &[u8], piece: usize) -> Result<u64, Failed>
     requires { 0 < piece }
 {
@@ -101,8 +101,9 @@ fn read(alloc: Global, kind: Kind, bytes: &[u8], piece: usize) -> Result<u64, Fa
     }
 }
 
-/// Reads a head of 8 KB, or a body of 256 KB with its length or in chunks, in pieces of so many bytes and in so many
-/// rounds, and counts the header lines or the body's bytes. The kind is `head`, `plain` or `chunked`.
+/// Does the work `http1 KIND PIECE ROUNDS`: in each round it reads a head of 8 KB (`head`), or a body of 256 KB with
+/// its length (`plain`) or in chunks (`chunked`), in pieces of so many bytes. It counts the header lines or the body's
+/// bytes of all rounds.
 pub(crate) fn total(alloc: Global, words: &Row) -> Result<u64, Failed> {
     let kind = named(&KINDS, words.text(1))?;
     let piece = some_in(words, 2)?;

@@ -146,8 +146,8 @@ fn answered_in<P>(rows: &[Played<P>]) -> u64 {
     answered
 }
 
-/// Spreads so many passes of a shared book over so many threads, makes so many calls on each, by turns a lesson, a question
-/// and a clear, and counts those that were answered.
+/// Spreads so many passes of a shared book over so many threads, makes so many calls on each, by turns a lesson, a
+/// question and a clear, and counts those that were answered.
 pub(crate) fn answered<R: Threads + Wait + Sync>(
     rt: &R,
     alloc: Global,

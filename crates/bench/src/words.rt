@@ -4,7 +4,7 @@ use std::alloc::Global;
 use wf_rows::{Failed, Row, Shown, number};
 use wf_text::Bytes;
 
-/// The words with a space behind each.
+/// The words as one text, with a space after each.
 pub(crate) fn words_of(alloc: Global, words: &[String]) -> Result<Bytes, Failed> {
     let mut text = Shown::new(alloc);
     for word in words {
@@ -14,13 +14,13 @@ pub(crate) fn words_of(alloc: Global, words: &[String]) -> Result<Bytes, Failed>
     text.into_bytes()
 }
 
-/// The number of the word at an index, or the greatest that is one.
+/// The number that the word at an index writes, or the greatest u32 where it is greater.
 pub(crate) fn count_in(words: &Row, index: usize) -> Result<u32, Failed> {
     let most = u64::from(u32::MAX);
     Ok(number(words.text(index), most)?.min(most) as u32)
 }
 
-/// The same of a word that writes one or more.
+/// The same, for a number that may not be 0.
 pub(crate) fn some_in(words: &Row, index: usize) -> Result<usize, Failed>
     ensures { IfOk result (λ count. 0 < count) }
 {
@@ -30,7 +30,7 @@ pub(crate) fn some_in(words: &Row, index: usize) -> Result<usize, Failed>
     }
 }
 
-/// A text with a number in decimal between its halves.
+/// A text: its front, a number in decimal, and its back.
 pub(crate) fn numbered(
     alloc: Global,
     front: &[u8],

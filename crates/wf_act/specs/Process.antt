@@ -12,7 +12,8 @@ use Rattle.wf_act.specs.declared.act.Act.TheVariants.{Ask, Send, ReadHead, ReadB
 use Rattle.wf_act.specs.declared.act.Input.{Input}
 use Rattle.wf_act.specs.declared.act.Input.TheVariants.{Replied, Sent, HeadIs, HeadBad, HeadLong, BodyIs, Fault, Told}
 
--- It has ended with an outcome, or it acts for a request as it stands and goes on from the input that comes.
+-- It has ended with an outcome, or it acts for a request, which is kept as it is then, and goes on from the input that
+-- comes.
 pub data Process : Type 0 where
   ended : Outcome → Process
   act : Request → Act → (Input → Process) → Process

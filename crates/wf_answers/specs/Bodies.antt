@@ -1,4 +1,4 @@
--- Bodies of responses: which are null (Fetch, "main fetch"), and which are coded (RFC 9110, section 8.4).
+-- Bodies of responses: which are null (Fetch, "main fetch", step 21), and which are coded (RFC 9110, section 8.4).
 use Rattle.std.specs.Prelude.{ℕ, Bool, false, not, ◌==◌, ◌&&◌, ◌||◌, List, length, codes, bytes_eq, Option, Some, None}
 use Rattle.std.specs.List.{list_any}
 use Rattle.wf_headers.specs.Split.{split_values}

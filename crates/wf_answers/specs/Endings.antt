@@ -1,4 +1,5 @@
--- How a fetch ends with the head of a response (Fetch, the end of "main fetch"; "fetch response handover").
+-- How a fetch ends with the head of a response (Fetch, section 4.1 "main fetch", steps 14 to 23; "fetch response
+-- handover").
 use Rattle.std.specs.Prelude.{ℕ, Bool, false, not, ◌==◌, ◌||◌, List, length, Option, Some, None, if◌then◌else◌}
 use Rattle.wf_csp.specs.Violations.{has_enforced, response_violations}
 use Rattle.wf_csp_text.specs.declared.policy.Policy.{Policy}
@@ -30,7 +31,7 @@ use Rattle.wf_answers.specs.Bodies.{has_null_body, is_coded}
 abbrev pub handed_over : Request → Response → Outcome
 handed_over request response = if is_fetch request.destination then Answer response else Loaded
 
--- the response of a head, before its body is read
+-- the response of a head, before its body is read (step 14; of a redirect in redirect mode manual HTTP fetch, step 6.2)
 abbrev pub response_of : Request → Head → Response
 response_of request head = filtered request head (is_manual request head)
 
@@ -47,11 +48,12 @@ type_error destination headers =
     else if is_nosniff_blocked destination headers then Some NoSniff
     else None
 
--- the network error that a response is blocked for: by the document's policies, or else for its type
+-- the network error that a response is blocked for: by the document's policies, or else for its type (step 19)
 abbrev pub block_error : Bool → Destination → List Header → Option NetError
 block_error blocked destination headers = if blocked then Some CspResponse else type_error destination headers
 
--- the body of the response is null: that of an opaque or an opaque-redirect one is, and where the answer has none
+-- the body of the response is null: that of an opaque or an opaque-redirect one is, and where the answer has none (step
+-- 21)
 abbrev pub is_bodiless : Request → Head → Bool
 is_bodiless request head =
     is_opaque_tainted request.tainting || is_manual request head || has_null_body request head
@@ -97,7 +99,7 @@ abbrev pub is_matched : List ℕ → BodyEnd → Bool
 is_matched integrity (Whole body) = matches body (metadata_of integrity)
 is_matched integrity _ = false
 
--- the body has the integrity that the request asks for
+-- the body has the integrity that the request asks for (step 22)
 abbrev pub is_accepted : Request → BodyEnd → Bool
 is_accepted request end = is_trusting request || is_matched request.integrity end
 

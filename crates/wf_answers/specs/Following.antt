@@ -1,4 +1,4 @@
--- The request after a redirect to a URL (Fetch, "HTTP-redirect fetch").
+-- The request after a redirect to a URL (Fetch, section 4.5 "HTTP-redirect fetch", steps 8 to 19).
 use Rattle.std.specs.Prelude.{ℕ, ◌+◌, Bool, not, ◌==◌, ◌&&◌, ◌||◌, List, [], ◌∷◌, ◌++◌, filter, codes, bytes_eq, None}
 use Rattle.std.specs.Prelude.{if◌then◌else◌}
 use Rattle.url.specs.Parts.{Parts}
@@ -13,7 +13,7 @@ use Rattle.wf_types.specs.PermittedNames.{has_name_among}
 use Rattle.wf_types.specs.ReferrerPolicies.{policy_of_header, policy_or}
 use Rattle.wf_types.specs.Requests.{current_url}
 
--- ---- the method
+-- ---- the method (step 12)
 
 -- a redirect of this status turns the method to GET: 301 and 302 POST, and 303 any but GET and HEAD
 abbrev pub turns_to_get : List ℕ → ℕ → Bool
@@ -43,7 +43,7 @@ abbrev pub with_method_after : ℕ → Request → Request
 with_method_after status request =
     if turns_to_get request.method status then turned_to_get request else request
 
--- ---- the headers
+-- ---- the headers (step 13)
 
 -- the request without Authorization
 abbrev pub without_authorization : Request → Request
@@ -54,14 +54,14 @@ abbrev pub with_authorization_at : Parts → Request → Request
 with_authorization_at url request =
     if have_same_origin (current_url request) url then request else without_authorization request
 
--- ---- the referrer policy
+-- ---- the referrer policy (step 19)
 
 -- the request with the referrer policy that the headers of the answer name, where they do ("set request's referrer
 -- policy on redirect", Referrer Policy, section 8.2)
 abbrev pub with_policy_of : List Header → Request → Request
 with_policy_of headers request = record request { policy = policy_or (policy_of_header headers) request.policy }
 
--- ---- the URL list
+-- ---- the URL list and the redirect count (steps 18 and 8)
 
 -- the request at one URL more, and redirected once more
 abbrev pub at_next : Parts → Request → Request

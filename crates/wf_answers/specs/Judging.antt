@@ -1,5 +1,5 @@
--- How the head of an answer is judged (Fetch, "HTTP fetch"): what it is refused for, and whether it is a redirect that
--- is to be followed.
+-- How the head of an answer is judged (Fetch, section 4.4 "HTTP fetch", steps 4.4, 5 and 6): what it is refused for,
+-- and whether it is a redirect that is to be followed.
 use Rattle.std.specs.Prelude.{Bool, not, ◌&&◌, List, Option, None}
 use Rattle.std.specs.Bool.{then_some}
 use Rattle.std.specs.Option.{option_or}
@@ -16,19 +16,19 @@ use Rattle.wf_types.specs.ResourcePolicy.{is_blocked}
 use Rattle.wf_types.specs.CorsCheck.{passes_check}
 use Rattle.wf_types.specs.Modes.{is_follow}
 
--- the network error of the check of a response by this tainting: the CORS check, or the cross-origin resource policy
--- check
+-- the network error of the check of a response by this tainting: the CORS check (step 4.4), or the cross-origin
+-- resource policy check (step 5)
 abbrev pub check_error : Tainting → Request → List Header → Option NetError
 check_error tainting.Basic request headers = None
 check_error tainting.Cors request headers = then_some (not (passes_check request headers)) CorsCheck
 check_error tainting.Opaque request headers = then_some (is_blocked request headers) Corp
 
 -- the network error that a head is refused for: that of the check by the request's tainting, or that of a redirect in
--- redirect mode error
+-- redirect mode error (step 6.2)
 abbrev pub refusal_after : Request → Head → Option NetError
 refusal_after request head =
     option_or (check_error request.tainting request head.headers) (then_some (is_error request head) RedirectMode)
 
--- a redirect that is to be followed, where it leads somewhere: the redirect mode is follow
+-- a redirect that is to be followed, where it leads somewhere: the redirect mode is follow (step 6.2)
 abbrev pub is_to_follow : Request → Head → Bool
 is_to_follow request head = is_redirect_status head.status && is_follow request.redirect

@@ -1,4 +1,5 @@
--- Where a redirect leads, and what it is refused for (Fetch, "HTTP-redirect fetch" and "location URL").
+-- Where a redirect leads, and what it is refused for (Fetch, section 4.5 "HTTP-redirect fetch", steps 3 to 10, and
+-- section 2.2.6 "location URL").
 use Rattle.std.specs.Prelude.{ℕ, Bool, not, ◌==◌, ◌<◌, ◌&&◌, ◌||◌, IsTrue, List, [], ◌∷◌, codes, Option, Some, None}
 use Rattle.std.specs.Prelude.{option_map, if◌then◌else◌}
 use Rattle.std.specs.Option.{option_or}
@@ -37,15 +38,16 @@ extracted_url current _ = None
 
 -- ---- the redirect
 
--- the URL has credentials, and the tainting is cors, or the mode is cors and its origin is not the request's
+-- the URL has credentials, and the tainting is cors (step 10), or the mode is cors and its origin is not the request's
+-- (step 9)
 abbrev pub shows_credentials : Request → Parts → Bool
 shows_credentials request url =
     has_credentials url
     && (is_cors_tainted request.tainting
     || (is_cors_mode request.mode && not (is_origin_of request.origin url)))
 
--- a redirect to this URL: it is refused where that is neither http nor https, where so many were followed already, and
--- for credentials, in this order
+-- a redirect to this URL: it is refused where that is neither http nor https (step 6), where so many were followed
+-- already (step 7), and for credentials (steps 9 and 10), in this order
 abbrev pub redirection_to : Request → Parts → Redirection
 redirection_to request url =
     if not (is_http_url url) then Refuses RedirectScheme
@@ -53,12 +55,12 @@ redirection_to request url =
     else if shows_credentials request url then Refuses RedirectCredentials
     else Goes url
 
--- a redirect to the URL that there is, and refused where there is none
+-- a redirect to the URL that there is, and refused where there is none (step 5)
 abbrev pub redirection_where : Request → Option Parts → Redirection
 redirection_where request None = Refuses BadLocation
 redirection_where request (Some url) = redirection_to request url
 
--- a redirect by what was extracted of Location: where that is absent, the answer is the response
+-- a redirect by what was extracted of Location: where that is absent, the answer is the response (step 4)
 abbrev pub redirection_by : Request → Extracted → Redirection
 redirection_by request Absent = Stays
 redirection_by request location = redirection_where request (extracted_url (current_url request) location)

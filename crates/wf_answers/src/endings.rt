@@ -1,4 +1,4 @@
-ghost use Rattle.std.specs.Prelude.{◌≡◌, IfOk, option_copied};
+ghost use Rattle.std.specs.Prelude.{◌≡◌, IfOk};
 ghost use Rattle.wf_filter.specs.Blocks as blocks;
 ghost use Rattle.wf_filter.specs.Laws as where_asked;
 ghost use Rattle.wf_types.specs.Requests.{IsRequest};
@@ -12,8 +12,10 @@ use wf_filter::filtered;
 use wf_headers::HeaderList;
 use wf_integrity::{matches, parse_metadata};
 use wf_mime::{essence_of, mime_blocked, nosniff, nosniff_blocked};
-use wf_text::{Bytes, OutOfMemory};
-use wf_types::{BodyEnd, Destination, Head, NetError, Outcome, Request, Response, Tainting};
+use wf_text::OutOfMemory;
+use wf_types::{
+    BodyEnd, Destination, Head, NetError, Outcome, Request, Response, Tainting, slice_of,
+};
 
 // Whether the destination is that of a `fetch`.
 fn is_fetch(destination: Destination) -> bool
@@ -68,16 +70,6 @@ fn response_of(alloc: Global, request: &Request, head: Head) -> Result<Response,
 {
     let manual = is_manual(request, &head);
     filtered(alloc, request, head, manual)
-}
-
-// The text, where there is one.
-fn slice_of(text: &Option<Bytes>) -> Option<&[u8]>
-    ensures { option_copied result ≡ text.now }
-{
-    match text {
-        None => None,
-        Some(text) => Some(text.as_slice()),
-    }
 }
 
 // The network error that a response is blocked for due to its MIME type, or due to nosniff.

@@ -18,7 +18,7 @@ const BODY_HEADER_NAMES: [&[u8]; 4] = [
     b"Content-Type",
 ];
 
-// Whether a redirect of this status turns the method to GET.
+// Whether a redirect of this status turns the method to GET (step 12).
 fn turns_to_get(method: &[u8], status: u16) -> bool
     ensures { result ≡ spec.turns_to_get method.now status }
 {
@@ -71,7 +71,7 @@ fn with_method_after(alloc: Global, status: u16, request: Request) -> Result<Req
     }
 }
 
-// The request without Authorization.
+// The request without Authorization (step 13).
 fn without_authorization(request: Request) -> Request
     ensures { result ≡ spec.without_authorization request }
 {
@@ -92,7 +92,7 @@ fn with_authorization_at(url: &Url, request: Request) -> Request
     }
 }
 
-// The request with the referrer policy that the headers of the answer name, where they do.
+// The request with the referrer policy that the headers of the answer name, where they do (step 19).
 fn with_policy_of(
     alloc: Global,
     headers: &HeaderList,
@@ -105,7 +105,7 @@ fn with_policy_of(
     Ok(Request { policy, ..request })
 }
 
-// The request at one URL more, and redirected once more.
+// The request at one URL more, and redirected once more (steps 18 and 8).
 fn at_next(url: Url, request: Request) -> Result<Request, OutOfMemory>
     requires { request.redirects < most_redirects }
     ensures { IfOk result (λ next. next ≡ spec.at_next url request) }
@@ -120,7 +120,7 @@ fn at_next(url: Url, request: Request) -> Result<Request, OutOfMemory>
     })
 }
 
-/// The request after the redirect of a head to a URL (Fetch, "HTTP-redirect fetch"). A redirect of
+/// The request after the redirect of a head to a URL (Fetch, "HTTP-redirect fetch", steps 8 to 19). A redirect of
 /// status 301 or 302 turns POST to GET, and one of 303 any method but GET and HEAD: the request then has
 /// no body and no request-body headers. Where the URL has another origin than the current URL,
 /// Authorization is deleted. A policy that Referrer-Policy names replaces the request's ("set request's

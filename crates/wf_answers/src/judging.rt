@@ -38,7 +38,7 @@ fn is_error(request: &Request, head: &Head) -> bool
 }
 
 /// Whether the response of a head is an opaque-redirect one: the head is a redirect, and the redirect
-/// mode is manual (Fetch, "HTTP fetch"). It takes no memory.
+/// mode is manual (Fetch, "HTTP fetch", step 6.2). It takes no memory.
 pub fn is_manual(request: &Request, head: &Head) -> bool
     ensures { result ≡ views.is_manual request.now head.now }
 {
@@ -46,7 +46,7 @@ pub fn is_manual(request: &Request, head: &Head) -> bool
 }
 
 /// Whether a head is a redirect that is to be followed, where it leads somewhere: the redirect mode is
-/// follow (Fetch, "HTTP fetch"). It takes no memory.
+/// follow (Fetch, "HTTP fetch", step 6.2). It takes no memory.
 pub fn is_to_follow(request: &Request, head: &Head) -> bool
     ensures { result ≡ spec.is_to_follow request.now head.now }
 {
@@ -54,9 +54,9 @@ pub fn is_to_follow(request: &Request, head: &Head) -> bool
 }
 
 /// The network error that the head of an answer is refused for, by the first of these that applies
-/// (Fetch, "HTTP fetch"): `CorsCheck` where the tainting is cors and the CORS check fails; `Corp` where
-/// the tainting is opaque and the cross-origin resource policy check fails; `RedirectMode` where the
-/// head is a redirect and the redirect mode is error; none else.
+/// (Fetch, "HTTP fetch", steps 4.4, 5 and 6.2): `CorsCheck` where the tainting is cors and the CORS check
+/// fails; `Corp` where the tainting is opaque and the cross-origin resource policy check fails;
+/// `RedirectMode` where the head is a redirect and the redirect mode is error; none else.
 pub fn refusal_after(
     alloc: Global,
     request: &Request,

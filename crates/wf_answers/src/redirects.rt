@@ -126,7 +126,8 @@ fn redirection_by(
     }
 }
 
-/// What comes of the head of an answer as a redirect (Fetch, "HTTP-redirect fetch" and "location URL").
+/// What comes of the head of an answer as a redirect (Fetch, section 4.5 "HTTP-redirect fetch", steps 3 to 10, and
+/// section 2.2.6 "location URL").
 /// It `Stays` where the status is no redirect status, the redirect mode is not follow, or there is no
 /// Location. It is refused, by the first of these that applies: `BadLocation` where Location stands
 /// twice, is not UTF-8 or no URL against the current URL, or the text of that URL, with the fragment of

@@ -21,7 +21,7 @@ HasSmallAge (Covers question now) = Unit {0}
 HasSmallAge (Learn lesson now) = lesson.age ≤ 7200
 HasSmallAge (Clear key origin url now) = Unit {0}
 
--- its time and the age of a Note are below 2^48, and the age of a Learn is at most 7,200
+-- the op's time and the age of a Note are below 2^48, and the age of a Learn is at most 7,200
 abbrev pub InRange : Op → Type 0
 InRange op = (time_of op < 2 ^ 48) × HasSmallAge op
 

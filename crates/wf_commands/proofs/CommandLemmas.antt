@@ -1,4 +1,4 @@
--- Commands in memory, and the steps that they stand for.
+-- Commands in memory, and the steps that they are.
 use Rattle.std.proofs.Common.{◌≡◌, ◌<◌, ℕ, zero, suc, List, [], ◌∷◌, ◌++◌, length, get_or, Option, Some, refl, ap, sym}
 use Rattle.std.proofs.Common.{arith}
 use Rattle.wf_commands.specs.Commands.{step_of, steps_of}

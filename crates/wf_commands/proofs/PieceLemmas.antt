@@ -1,6 +1,7 @@
 -- Pieces of a text, with bytes before the first.
-use Rattle.std.proofs.Common.{◌≡◌, ℕ, suc, ◌+◌, ◌<◌, ◌≤◌, Bool, true, false, cond, List, [], ◌∷◌, ◌++◌, length, take, drop}
-use Rattle.std.proofs.Common.{get_or, Option, Some, None, refl, ap, sym, ◌∙◌, arith, append_assoc, add-one, drop-cons}
+use Rattle.std.proofs.Common.{◌≡◌, ℕ, suc, ◌+◌, ◌<◌, ◌≤◌, Bool, true, false, cond, List, [], ◌∷◌, ◌++◌, length}
+use Rattle.std.proofs.Common.{take, drop, get_or, Option, Some, None, refl, ap, sym, ◌∙◌, arith, append_assoc}
+use Rattle.std.proofs.Common.{add-one, drop-cons}
 use Rattle.std.proofs.Math.Seq.{take-suc}
 use Rattle.std.proofs.lemmas.List.{append-nil, length-drop, take-append-drop}
 use Rattle.wf_text.specs.Pieces.{with_front}
@@ -11,7 +12,8 @@ abbrev pub onto : List ℕ → List (List ℕ) → List (List ℕ)
 onto front [] = front ∷ []
 onto front (piece ∷ pieces) = (front ++ piece) ∷ pieces
 
-pub onto-with_front : (front : List ℕ) (byte : ℕ) (ps : List (List ℕ)) → onto front (with_front byte ps) ≡ onto (front ++ byte ∷ []) ps
+pub onto-with_front : (front : List ℕ) (byte : ℕ) (ps : List (List ℕ))
+    → onto front (with_front byte ps) ≡ onto (front ++ byte ∷ []) ps
 onto-with_front front byte [] = refl
 onto-with_front front byte (p ∷ ps) =
     ap (λ (l : List ℕ). l ∷ ps) (sym (append_assoc front (byte ∷ []) p))

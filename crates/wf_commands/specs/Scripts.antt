@@ -6,8 +6,8 @@ use Rattle.wf_types.specs.declared.init.LoadInit.{LoadInit}
 use Rattle.wf_commands.specs.declared.command.Test.{Test}
 
 mutual
-  -- a call of `fetch`; a load by an element; so many seconds that pass; a script so many times; and one of two
-  -- scripts, by a condition
+  -- a call of `fetch`; a load by an element; a number of seconds that pass; a script a number of times; and one
+  -- of two scripts, by a condition
   pub data Step : Type 0 where
     fetch : Init → Step
     load : LoadInit → Step

@@ -1,6 +1,6 @@
 -- Templates: texts in which `${` begins a placeholder for a part of the last result (this project's own; a script in
 -- HTML would put such texts together itself).
-use Rattle.std.specs.Prelude.{ℕ, Bool, true, ◌&&◌, ◌||◌, ◌==◌, not, nat_eq, List, [], ◌∷◌, ◌++◌, codes, bytes_eq, drop}
+use Rattle.std.specs.Prelude.{ℕ, Bool, ◌&&◌, ◌||◌, ◌==◌, nat_eq, List, [], ◌∷◌, ◌++◌, codes, bytes_eq, drop}
 use Rattle.std.specs.Prelude.{is_some, if◌then◌else◌}
 use Rattle.std.specs.List.{list_all, list_any, flat_map, position, starts_with, before_first, after_first}
 use Rattle.wf_text.specs.Pieces.{with_front}
@@ -12,7 +12,7 @@ use Rattle.wf_text.specs.Tokens.{is_token}
 abbrev pub opens : ℕ → ℕ → Bool
 opens byte next = byte == 36 && next == 123
 
--- what stands between the `${` of a text, in order: one piece more than there are of them
+-- what is between the `${` of a text, in order: one piece more than there are `${`
 abbrev pub pieces : List ℕ → List (List ℕ)
 pieces [] = [] ∷ []
 pieces (byte ∷ []) = (byte ∷ []) ∷ []
@@ -24,7 +24,7 @@ abbrev pub first_piece : List (List ℕ) → List ℕ
 first_piece [] = []
 first_piece (piece ∷ pieces) = piece
 
--- those behind a `${`
+-- the pieces after a `${`
 abbrev pub later_pieces : List (List ℕ) → List (List ℕ)
 later_pieces [] = []
 later_pieces (piece ∷ pieces) = pieces
@@ -35,7 +35,7 @@ later_pieces (piece ∷ pieces) = pieces
 abbrev pub closes : ℕ → Bool
 closes byte = byte == 125
 
--- the name of a placeholder, behind its `${`: what stands before the `}`
+-- the name of a placeholder, after its `${`: what is before the `}`
 abbrev pub name_in : List ℕ → List ℕ
 name_in piece = before_first closes piece
 
@@ -50,7 +50,7 @@ names_header name = starts_with nat_eq name header_prefix && is_token (drop 7 na
 abbrev pub plain_names : List (List ℕ)
 plain_names = codes "status" ∷ codes "type" ∷ codes "url" ∷ codes "body" ∷ []
 
--- the name stands for a part of the last result
+-- the name is that of a part of the last result
 abbrev pub is_name : List ℕ → Bool
 is_name name = list_any (λ plain. bytes_eq plain name) plain_names || names_header name
 
@@ -64,10 +64,10 @@ is_template text = list_all begins_with_name (later_pieces (pieces text))
 
 -- ---- what a template comes to
 
--- a piece behind a `${`: what its name stands for, and what follows the `}`
+-- a piece after a `${`: the value of its name, and what follows the `}`
 abbrev pub placed : (List ℕ → List ℕ) → List ℕ → List ℕ
 placed value piece = value (name_in piece) ++ after_first closes piece
 
--- the text with each placeholder replaced by what its name stands for
+-- the text with each placeholder replaced by the value of its name
 abbrev pub filled : (List ℕ → List ℕ) → List ℕ → List ℕ
 filled value text = first_piece (pieces text) ++ flat_map (placed value) (later_pieces (pieces text))

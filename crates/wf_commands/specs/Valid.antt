@@ -1,5 +1,5 @@
 -- What each command that is read keeps: the bounds and the forms of its values.
-use Rattle.std.specs.Prelude.{◌≡◌, ◌≢◌, ◌≤◌, ◌<◌, ◌^◌, ℕ, ◌+◌, max, length, IfSome, IsTrue}
+use Rattle.std.specs.Prelude.{◌≢◌, ◌≤◌, ◌<◌, ◌^◌, ℕ, ◌+◌, max, length, IfSome, IsTrue}
 use Rattle.std.specs.List.{All}
 use Rattle.wf_types.specs.declared.init.Init.{Init}
 use Rattle.wf_types.specs.declared.init.LoadInit.{LoadInit}
@@ -14,14 +14,14 @@ use Rattle.wf_commands.specs.Templates.{is_template}
 abbrev pub IsTemplatePair : Pair → Type 0
 IsTemplatePair pair = IsTrue (is_template pair.value)
 
--- its URL, its body and the values of its headers are templates, and it has at most 64 headers
+-- a fetch: its URL, its body and the values of its headers are templates, and it has at most 64 headers
 pub record IsValidInit (init : Init) : Type 0 where
   pub url : IsTrue (is_template init.url)
   pub few : length init.headers ≤ 64
   pub headers : All IsTemplatePair init.headers
   pub body : IfSome init.body (λ body. IsTrue (is_template body))
 
--- its kind is another than that of `fetch`, and its URL is a template
+-- a load: its kind is another than that of `fetch`, and its URL is a template
 pub record IsValidLoad (init : LoadInit) : Type 0 where
   pub kind : init.kind ≢ destination.Fetch
   pub url : IsTrue (is_template init.url)
@@ -46,7 +46,7 @@ abbrev mutual
 
 -- ---- how deep
 
--- how many `repeat` stand inside each other at most
+-- how many `repeat` are inside each other at most
 abbrev mutual
   pub step_repeats : Step → ℕ
   step_repeats (fetch init) = 0
@@ -59,7 +59,7 @@ abbrev mutual
   repeats no_steps = 0
   repeats (step one more) = max (step_repeats one) (repeats more)
 
--- how many `if` stand inside each other at most
+-- how many `if` are inside each other at most
 abbrev mutual
   pub step_choices : Step → ℕ
   step_choices (fetch init) = 0
@@ -72,7 +72,7 @@ abbrev mutual
   choices no_steps = 0
   choices (step one more) = max (step_choices one) (choices more)
 
--- a script as a document has one: its commands are valid, at most eight `repeat` and 16 `if` stand inside each other
+-- a script as a document has one: its commands are valid, and at most eight `repeat` and 16 `if` are inside each other
 pub record IsValidScript (script : Steps) : Type 0 where
   pub valid : AreValid script
   pub few_repeats : repeats script ≤ 8

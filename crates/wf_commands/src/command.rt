@@ -6,15 +6,15 @@ use wf_types::{Init, LoadInit};
 /// A condition on the last result of a script.
 #[derive(Drop)]
 pub enum Test {
-    /// Its status is 200 to 299.
+    /// The status of the result is 200 to 299.
     IsOk,
-    /// It is an error: a network error, or there was no request.
+    /// The result is an error: a network error, or there was no request.
     IsError,
-    /// Its type has this name.
+    /// The type of the result has this name.
     TypeIs(Bytes),
-    /// It has this status.
+    /// The result has this status.
     StatusIs(u16),
-    /// Its body is whole, and these bytes.
+    /// The body of the result is whole, and is these bytes.
     BodyIs(Bytes),
 }
 
@@ -26,9 +26,9 @@ pub enum Command {
     Fetch(Init),
     /// An element loads a resource.
     Load(LoadInit),
-    /// So many seconds pass.
+    /// This many seconds pass.
     Wait(u32),
-    /// A script is done so many times.
+    /// A script is done this many times.
     Repeat(u32, Script),
     /// The first script where the condition holds, else the second.
     If(Test, Script, Script),

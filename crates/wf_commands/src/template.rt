@@ -11,8 +11,8 @@ fn opens(byte: u8, next: u8) -> bool
     byte == b'$' && next == b'{'
 }
 
-/// The piece of a text before its first `${`, and the text behind that, where there is one. It takes no
-/// memory.
+/// The piece of a text before its first `${`, and the text after that `${`, where there is one. It takes
+/// no memory.
 pub fn next_piece(text: &[u8]) -> (&[u8], Option<&[u8]>)
     ensures pieces { spec.pieces text.now ≡ piece_and result.0.now (option_map (λ rest. rest.now) result.1) }
     ensures shorter { IfSome result.1 (λ rest. length rest.now < length text.now) }
@@ -34,14 +34,14 @@ fn names_header(name: &[u8]) -> bool
     name.starts_with(b"header:") && is_token(name.split_at(7).1)
 }
 
-// Whether a name stands for a part of the last result.
+// Whether a name is that of a part of the last result.
 fn is_name(name: &[u8]) -> bool
     ensures { result ≡ spec.is_name name.now }
 {
     is_among(&[b"status", b"type", b"url", b"body"], name) || names_header(name)
 }
 
-// Whether a piece behind a `${` begins with a name and `}`.
+// Whether a piece after a `${` begins with a name and `}`.
 fn begins_with_name(piece: &[u8]) -> bool
     ensures { result ≡ spec.begins_with_name piece.now }
 {

@@ -16,7 +16,7 @@ use Rattle.wf_types.specs.declared.policy.Destination.TheVariants.{Fetch}
 use Rattle.wf_types.specs.declared.request.Referrer.TheVariants.{Address}
 use Rattle.wf_types.specs.declared.request.Request.{Request}
 use Rattle.wf_types.specs.CorsCheck.{passes_cors_check}
-use Rattle.wf_types.specs.Lines.{header}
+use Rattle.wf_types.specs.Lines.{appended_where, header}
 use Rattle.wf_types.specs.ResourcePolicy.{corp_blocks}
 use Rattle.wf_cors.specs.declared.answer.Checked.{Checked}
 use Rattle.wf_cors.specs.declared.answer.Checked.TheVariants.{Pass, Refused}
@@ -139,5 +139,5 @@ computes-preflight : preflight_of put (codes "x-a" ∷ codes "x-b" ∷ []) ≡ r
       ∷ [];
   body = None;
 }
-unfolding url_on_literals
+unfolding url_on_literals appended_where
 computes-preflight = refl

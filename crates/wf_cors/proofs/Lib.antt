@@ -1,4 +1,4 @@
 pub mod Computed
-pub mod LineLemmas
+pub mod JoinLemmas
 pub mod ViewLemmas
 pub mod LessonLemmas

@@ -4,11 +4,10 @@ use Rattle.std.specs.Prelude.{ℕ, true, List, [], ◌∷◌, codes, Option, Som
 use Rattle.std.specs.List.{join_with_byte}
 use Rattle.url.specs.Parts.{Parts}
 use Rattle.wf_text.specs.Ascii.{comma}
-use Rattle.wf_headers.specs.declared.headers.Header.{Header}
 use Rattle.wf_origin.specs.Origins.{origin_of}
 use Rattle.wf_types.specs.declared.hop.Hop.{Hop}
 use Rattle.wf_types.specs.declared.request.Request.{Request}
-use Rattle.wf_types.specs.Lines.{accept_encoding, connection_close, header, header_where, present, user_agent}
+use Rattle.wf_types.specs.Lines.{Line, accept_encoding, all_appended_where, connection, line, line_where, user_agent}
 use Rattle.wf_types.specs.OriginHeader.{referrer_value}
 use Rattle.wf_types.specs.Requests.{current_url, serialized_request_origin}
 use Rattle.wf_types.specs.Targets.{host_value, origin_text, target_of}
@@ -19,21 +18,20 @@ abbrev pub names_value : List (List ℕ) → Option (List ℕ)
 names_value [] = None
 names_value (name ∷ names) = Some (join_with_byte comma (name ∷ names))
 
--- its header list as it is sent, from Host on: Accept and what the request asks leave for, then what is sent with
+-- its lines as they are sent, from Host on: Accept and what the request asks leave for, then what is sent with
 -- every request. Its tainting is cors, so Origin is the serialised request origin, and no credentials are included
-abbrev pub preflight_lines : Request → List (List ℕ) → Parts → List Header
+abbrev pub preflight_lines : Request → List (List ℕ) → Parts → List Line
 preflight_lines request names url =
-    present
-    (Some (header (codes "Host") (host_value url))
-    ∷ Some (header (codes "Accept") (codes "*/*"))
-    ∷ Some (header (codes "Access-Control-Request-Method") request.method)
-    ∷ header_where (codes "Access-Control-Request-Headers") (names_value names)
-    ∷ Some (header (codes "User-Agent") user_agent)
-    ∷ Some accept_encoding
-    ∷ header_where (codes "Referer") (referrer_value request.referrer)
-    ∷ Some (header (codes "Origin") (serialized_request_origin request))
-    ∷ Some connection_close
-    ∷ [])
+    line (codes "Host") (host_value url)
+    ∷ line (codes "Accept") (codes "*/*")
+    ∷ line (codes "Access-Control-Request-Method") request.method
+    ∷ line_where (codes "Access-Control-Request-Headers") (names_value names)
+    ∷ line (codes "User-Agent") user_agent
+    ∷ line (codes "Accept-Encoding") accept_encoding
+    ∷ line_where (codes "Referer") (referrer_value request.referrer)
+    ∷ line (codes "Origin") (serialized_request_origin request)
+    ∷ line (codes "Connection") connection
+    ∷ []
 
 -- the preflight of a request as it is sent to a URL: OPTIONS without a body
 abbrev pub preflight_to : Request → List (List ℕ) → Parts → Hop
@@ -42,7 +40,7 @@ preflight_to request names url = record {
   origin = origin_text (origin_of url);
   url = target_of url;
   method = codes "OPTIONS";
-  headers = preflight_lines request names url;
+  headers = all_appended_where (preflight_lines request names url) [];
   body = None;
 }
 

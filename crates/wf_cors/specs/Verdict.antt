@@ -25,19 +25,20 @@ use Rattle.wf_cors.specs.declared.answer.Checked.TheVariants.{Pass, Refused}
 -- ---- what the answer allows
 
 -- the methods, nothing on failure: where Access-Control-Allow-Methods is absent, none, or with the use-CORS-preflight
--- flag the request's own
+-- flag the request's own (steps 7.1 and 7.4)
 abbrev pub methods_of : Request → Extracted → Option (List (List ℕ))
 methods_of request Failure = None
 methods_of request Absent = Some (if request.use_preflight then request.method ∷ [] else [])
 methods_of request (Items methods) = Some methods
 
--- the header names, nothing on failure
+-- the header names, nothing on failure (step 7.2)
 abbrev pub names_of : Extracted → Option (List (List ℕ))
 names_of Failure = None
 names_of Absent = Some []
 names_of (Items names) = Some names
 
--- the max-age in seconds: 5 where it is absent or a failure, and at most 7,200, which is this project's limit
+-- the max-age in seconds: 5 where it is absent or a failure, and at most 7,200, which is this project's limit (steps
+-- 7.8 to 7.10)
 abbrev pub age_of : Extracted → ℕ
 age_of (Items (digits ∷ more)) = unwrap_or (capped_digits digits 7200) 5
 age_of _ = 5
@@ -52,7 +53,7 @@ covers_all credentials items = not (is_include credentials) && has_wildcard item
 abbrev pub has_method : List ℕ → List (List ℕ) → Bool
 has_method method methods = list_any (λ item. bytes_eq item method) methods
 
--- the request's method is allowed: it is listed, CORS-safelisted, or covered by `*`
+-- the request's method is allowed: it is listed, CORS-safelisted, or covered by `*` (step 7.5)
 abbrev pub allows_method : Request → List (List ℕ) → Bool
 allows_method request methods =
     has_method request.method methods || is_safelisted_method request.method || covers_all request.credentials methods
@@ -62,11 +63,12 @@ abbrev pub has_name : List ℕ → List (List ℕ) → Bool
 has_name name names = list_any (λ item. str_eq_ignore_ascii_case item name) names
 
 -- Authorization, the CORS non-wildcard request-header name, is allowed: the request does not have it, or it is listed
+-- (step 7.6)
 abbrev pub allows_authorization : Request → List (List ℕ) → Bool
 allows_authorization request names =
     not (contains authorization request.headers) || has_name authorization names
 
--- a header name is allowed: it is listed, or covered by `*`
+-- a header name is allowed: it is listed, or covered by `*` (step 7.7)
 abbrev pub allows_name : Credentials → List (List ℕ) → List ℕ → Bool
 allows_name credentials names name = has_name name names || covers_all credentials names
 
@@ -89,7 +91,7 @@ verdict_by request unsafe age methods names =
     else if not (allows_authorization request names) then Refused (error.PreflightHeader authorization)
     else unless_refused (first_refused request.credentials names unsafe) (Pass age methods names)
 
--- the same where each of the two lists is there
+-- the same where each of the two lists is there (step 7.3)
 abbrev pub verdict_where : Request → List (List ℕ) → ℕ → Option (List (List ℕ)) → Option (List (List ℕ)) → Checked
 verdict_where request unsafe age None names = Refused error.PreflightList
 verdict_where request unsafe age (Some methods) None = Refused error.PreflightList

@@ -199,12 +199,12 @@ fn verdict_of(
 /// 1. `PreflightCors`: the CORS check fails.
 /// 2. `PreflightStatus`: the status is no ok status.
 /// 3. `PreflightList`: Access-Control-Allow-Methods or Access-Control-Allow-Headers is no list of
-///    tokens.
+///    tokens (step 7.3).
 /// 4. `PreflightMethod`: the request's method is neither listed, byte for byte, nor CORS-safelisted nor
-///    covered by `*`.
-/// 5. `PreflightHeader` of `authorization`: the request has Authorization, and it is not listed.
+///    covered by `*` (step 7.5).
+/// 5. `PreflightHeader` of `authorization`: the request has Authorization, and it is not listed (step 7.6).
 /// 6. `PreflightHeader` of the first of the names that is neither listed, ASCII case aside, nor covered
-///    by `*`.
+///    by `*` (step 7.7).
 ///
 /// `*` covers where it is listed and the credentials mode is not include. Where
 /// Access-Control-Allow-Methods is absent, no method is listed, or with the use-CORS-preflight flag the

@@ -1,7 +1,7 @@
-ghost use Rattle.std.specs.Prelude.{◌≡◌, ◌∷◌, codes, IfOk, OnOk, IsTrue};
+ghost use Rattle.std.specs.Prelude.{◌≡◌, [], ◌∷◌, IfOk, IsTrue};
 ghost use Rattle.std.specs.List.{join_with_byte};
 ghost use Rattle.wf_text.specs.Ascii.{comma};
-ghost use Rattle.wf_types.specs.Lines.{appended_where};
+ghost use Rattle.wf_types.specs.Lines.{all_appended_where};
 ghost use Rattle.wf_types.specs.Requests.{IsAtHttp, IsRequest, is_determined};
 ghost use Rattle.wf_types.specs.Targets.{IsSendable};
 ghost use Rattle.wf_cors.specs.Preflight as spec;
@@ -11,12 +11,12 @@ use url::Url;
 use wf_headers::HeaderList;
 use wf_text::{Bytes, BytesList, OutOfMemory};
 use wf_types::{
-    Hop, Request, USER_AGENT, append_accept_encoding, append_connection, append_where, host_value,
-    origin_text, referrer_value, serialized_origin, target_of,
+    ACCEPT_ENCODING, CONNECTION, Hop, Request, USER_AGENT, append_where, host_value, origin_text,
+    referrer_value, serialized_origin, slice_of, target_of,
 };
 
 // The names in a row, with a comma between each two.
-#[tactic(auto, using(crate::proofs::LineLemmas::joined_first))]
+#[tactic(auto, using(crate::proofs::JoinLemmas::joined_first))]
 fn comma_joined(alloc: Global, first: &Bytes, names: &[Bytes]) -> Result<Bytes, OutOfMemory>
     ensures { IfOk result (λ text. text ≡ join_with_byte comma (first.now ∷ names.now)) }
 {
@@ -28,17 +28,13 @@ fn comma_joined(alloc: Global, first: &Bytes, names: &[Bytes]) -> Result<Bytes, 
     Ok(text)
 }
 
-// Appends Access-Control-Request-Headers, where there are names.
-fn append_names(alloc: Global, headers: &mut HeaderList, names: &[Bytes]) -> Result<(), OutOfMemory>
-    ensures { OnOk result (headers.new
-        ≡ appended_where (codes "Access-Control-Request-Headers") (spec.names_value names.now) headers.old) }
+// The value of Access-Control-Request-Headers, where there are names.
+fn names_value(alloc: Global, names: &[Bytes]) -> Result<Option<Bytes>, OutOfMemory>
+    ensures { IfOk result (λ value. value ≡ spec.names_value names.now) }
 {
     match names.split_first() {
-        None => Ok(()),
-        Some((first, rest)) => {
-            let value = comma_joined(alloc, first, rest)?;
-            headers.append(b"Access-Control-Request-Headers", value.as_slice())
-        }
+        None => Ok(None),
+        Some((first, rest)) => Ok(Some(comma_joined(alloc, first, rest)?)),
     }
 }
 
@@ -49,28 +45,33 @@ fn preflight_lines(
     names: &[Bytes],
     url: &Url,
 ) -> Result<HeaderList, OutOfMemory>
-    ensures { IfOk result (λ headers. headers ≡ spec.preflight_lines request.now names.now url.now) }
+    ensures { IfOk result (λ headers. headers
+        ≡ all_appended_where (spec.preflight_lines request.now names.now url.now) []) }
 {
+    let method = request.method.as_slice();
+    let asked = names_value(alloc, names)?;
     let origin = serialized_origin(alloc, request)?;
     let mut headers = HeaderList::new(alloc);
-    headers.append(b"Host", host_value(url).as_bytes())?;
-    headers.append(b"Accept", b"*/*")?;
-    headers.append(b"Access-Control-Request-Method", request.method.as_slice())?;
-    append_names(alloc, &mut headers, names)?;
-    headers.append(b"User-Agent", USER_AGENT)?;
-    append_accept_encoding(&mut headers)?;
+    append_where(&mut headers, b"Host", Some(host_value(url).as_bytes()))?;
+    append_where(&mut headers, b"Accept", Some(b"*/*"))?;
+    append_where(&mut headers, b"Access-Control-Request-Method", Some(method))?;
+    append_where(
+        &mut headers,
+        b"Access-Control-Request-Headers",
+        slice_of(&asked),
+    )?;
+    append_where(&mut headers, b"User-Agent", Some(USER_AGENT))?;
+    append_where(&mut headers, b"Accept-Encoding", Some(ACCEPT_ENCODING))?;
     append_where(&mut headers, b"Referer", referrer_value(&request.referrer))?;
-    headers.append(b"Origin", origin.as_slice())?;
-    append_connection(&mut headers)?;
+    append_where(&mut headers, b"Origin", Some(origin.as_slice()))?;
+    append_where(&mut headers, b"Connection", Some(CONNECTION))?;
     Ok(headers)
 }
 
 /// The CORS-preflight request of a request with these CORS-unsafe request-header names, as it is sent
 /// to the request's current URL (Fetch, section 4.8, "CORS-preflight fetch", and section 4.6): OPTIONS
-/// without a body. Its header list is Host, Accept, Access-Control-Request-Method,
-/// Access-Control-Request-Headers where there are names, User-Agent, Accept-Encoding, Referer where
-/// there is a referrer, Origin and Connection. No credentials are sent. Neither its method nor its
-/// target has a space.
+/// without a body. Its header list is in `preflight_lines` of `specs/Preflight.antt`. No credentials
+/// are sent. Neither its method nor its target has a space.
 pub fn preflight_of(alloc: Global, request: &Request, names: &BytesList) -> Result<Hop, OutOfMemory>
     requires request { IsRequest request.now }
     requires at_http { IsAtHttp request.now }

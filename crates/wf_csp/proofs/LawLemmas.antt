@@ -13,8 +13,7 @@ use Rattle.wf_csp_text.specs.declared.policy.Directive.{Directive}
 use Rattle.wf_csp_text.specs.declared.policy.Policy.{Policy}
 use Rattle.wf_origin.specs.declared.origin.Origin.{Origin}
 use Rattle.wf_types.specs.declared.policy.Destination.{Destination}
-use Rattle.wf_types.specs.declared.policy.Destination.TheVariants.{Fetch, Image, Audio, Video, Style, Script, Font}
-use Rattle.wf_types.specs.declared.policy.Destination.TheVariants.{Manifest}
+use Rattle.wf_types.specs.declared.policy.Destination.TheVariants.{Script, Style}
 use Rattle.wf_types.specs.declared.request.Request.{Request}
 use Rattle.wf_csp.specs.Directives.{deciding_sources, effective_directive, fallback_list, sources_named}
 use Rattle.wf_csp.specs.Laws.{in_disposition, or_none, saying_none, with_none, without_disposition}
@@ -30,12 +29,7 @@ none-passes : (request : Request) (document : Origin) (destination : Destination
     → passes [] request document destination ≡ passes (NoneWord ∷ []) request document destination
 none-passes request document Script = grind (arith, common_steps)
 none-passes request document Style = grind (arith, common_steps)
-none-passes request document Fetch = refl
-none-passes request document Image = refl
-none-passes request document Audio = refl
-none-passes request document Video = refl
-none-passes request document Font = refl
-none-passes request document Manifest = refl
+none-passes request document _ = refl
 
 -- a source list, with 'none' in the place of none
 abbrev none_or : List Source → List Source

@@ -1,12 +1,13 @@
 -- Which directive of a policy decides about a request (CSP 3, section 6.8: "get the effective directive for request"
 -- and "get fetch directive fallback list").
-use Rattle.std.specs.Prelude.{ℕ, List, [], ◌∷◌, codes, bytes_eq, Option, Some, None, if◌then◌else◌}
+use Rattle.std.specs.Prelude.{ℕ, List, [], ◌∷◌, ◌++◌, codes, bytes_eq, Option, Some, None, if◌then◌else◌}
 use Rattle.std.specs.Option.{option_or}
 use Rattle.wf_csp_match.specs.declared.source.Source.{Source}
 use Rattle.wf_types.specs.declared.policy.Destination.{Destination}
 use Rattle.wf_types.specs.declared.policy.Destination.TheVariants as destination
 use Rattle.wf_types.specs.declared.policy.Directive.{Directive}
 use Rattle.wf_types.specs.declared.policy.Directive.TheVariants as directive
+use Rattle.wf_types.specs.Names.{directive_name}
 use Rattle.wf_csp.specs.declared.compiled.CompiledDirective.{CompiledDirective}
 
 -- "get the effective directive for request"
@@ -20,16 +21,16 @@ effective_directive destination.Manifest = directive.ManifestSrc
 effective_directive destination.Style = directive.StyleSrcElem
 effective_directive destination.Script = directive.ScriptSrcElem
 
+-- the names of the directives that it is a part of
+abbrev pub broader_names : Directive → List (List ℕ)
+broader_names directive.StyleSrcElem = codes "style-src" ∷ []
+broader_names directive.ScriptSrcElem = codes "script-src" ∷ []
+broader_names _ = []
+
 -- "get fetch directive fallback list": the names of the directives that decide in its place, the first that a policy
--- has
+-- has. Its own name is the first, and default-src the last
 abbrev pub fallback_list : Directive → List (List ℕ)
-fallback_list directive.ConnectSrc = codes "connect-src" ∷ codes "default-src" ∷ []
-fallback_list directive.ImgSrc = codes "img-src" ∷ codes "default-src" ∷ []
-fallback_list directive.MediaSrc = codes "media-src" ∷ codes "default-src" ∷ []
-fallback_list directive.FontSrc = codes "font-src" ∷ codes "default-src" ∷ []
-fallback_list directive.ManifestSrc = codes "manifest-src" ∷ codes "default-src" ∷ []
-fallback_list directive.StyleSrcElem = codes "style-src-elem" ∷ codes "style-src" ∷ codes "default-src" ∷ []
-fallback_list directive.ScriptSrcElem = codes "script-src-elem" ∷ codes "script-src" ∷ codes "default-src" ∷ []
+fallback_list asked = directive_name asked ∷ broader_names asked ++ codes "default-src" ∷ []
 
 -- the source list of the directive of a name, where there is one
 abbrev pub sources_named : List ℕ → List CompiledDirective → Option (List Source)

@@ -54,19 +54,10 @@ pub(crate) fn deciding_sources<'a>(
     ensures { option_map (λ sources. sources.now) result
         ≡ spec.deciding_sources (spec.fallback_list directive) directives.now }
 {
+    let own = directive.name().as_bytes();
     match directive {
-        Directive::ConnectSrc => first_named(directives, &[b"connect-src", b"default-src"]),
-        Directive::ImgSrc => first_named(directives, &[b"img-src", b"default-src"]),
-        Directive::MediaSrc => first_named(directives, &[b"media-src", b"default-src"]),
-        Directive::FontSrc => first_named(directives, &[b"font-src", b"default-src"]),
-        Directive::ManifestSrc => first_named(directives, &[b"manifest-src", b"default-src"]),
-        Directive::StyleSrcElem => first_named(
-            directives,
-            &[b"style-src-elem", b"style-src", b"default-src"],
-        ),
-        Directive::ScriptSrcElem => first_named(
-            directives,
-            &[b"script-src-elem", b"script-src", b"default-src"],
-        ),
+        Directive::StyleSrcElem => first_named(directives, &[own, b"style-src", b"default-src"]),
+        Directive::ScriptSrcElem => first_named(directives, &[own, b"script-src", b"default-src"]),
+        _ => first_named(directives, &[own, b"default-src"]),
     }
 }

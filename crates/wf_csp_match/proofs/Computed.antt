@@ -34,11 +34,11 @@ https name path = at (codes "https") name path
 abbrev home : Origin
 home = tuple_origin (http (codes "a.test") (codes "/"))
 
--- the word matches the URL, after so many redirects
+-- the word matches the URL, after a number of redirects
 abbrev word_matches : List ℕ → Parts → ℕ → Bool
 word_matches word url redirects = matches (source_of word) url home redirects
 
--- names under a name, and not itself; the document's scheme stands for itself and for https
+-- names under a name, and not itself; the document's scheme matches itself and https
 wildcard : (word_matches (codes "*.b.test") (http (codes "x.b.test") (codes "/")) 0 ≡ true)
     × (word_matches (codes "*.b.test") (https (codes "x.b.test") (codes "/")) 0 ≡ true)
     × (word_matches (codes "*.B.test") (http (codes "x.b.test") (codes "/")) 0 ≡ true)
@@ -66,7 +66,7 @@ paths : (word_matches (codes "b.test/a%2Fb") (http (codes "b.test") (codes "/a%2
 unfolding url_on_literals percent_encoding_on_literals
 paths = (refl, refl, refl, refl, refl, refl, refl)
 
--- WebSocket schemes stand for their HTTP ones
+-- WebSocket schemes match their HTTP ones
 schemes : (word_matches (codes "ws:") (http (codes "b.test") (codes "/")) 0 ≡ true)
     × (word_matches (codes "ws:") (https (codes "b.test") (codes "/")) 0 ≡ true)
     × (word_matches (codes "wss:") (http (codes "b.test") (codes "/")) 0 ≡ false)

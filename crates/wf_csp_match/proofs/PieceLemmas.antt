@@ -53,7 +53,7 @@ uncut : (p : ℕ → Bool) (xs : List ℕ) → length xs ≤ position_or_len p x
 uncut p [] h = refl
 uncut p (x ∷ xs) h = grind (arith, common_steps, uncut p xs)
 
--- where no slash stands, the path is one piece
+-- where there is no slash, the path is one piece
 pub pieces_uncut : (path : List ℕ) → position (λ byte. byte == slash) path ≡ None → pieces path ≡ path ∷ []
 pieces_uncut path none = uncut (λ byte. byte == slash) path (grind (arith, common_steps))
 

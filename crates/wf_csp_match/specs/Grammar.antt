@@ -50,7 +50,7 @@ begins_with_hex [] = false
 begins_with_hex (high ∷ []) = false
 begins_with_hex (high ∷ low ∷ rest) = is_ascii_hexdigit high && is_ascii_hexdigit low
 
--- each byte is one of a path, or `%` with two hexadecimal digits behind it
+-- each byte is one of a path, or `%` with two hexadecimal digits after it
 abbrev pub are_path_bytes : List ℕ → Bool
 are_path_bytes [] = true
 are_path_bytes (byte ∷ rest) =

@@ -6,7 +6,7 @@ use Rattle.std.specs.List.{ends_with, slice_split, starts_with}
 use Rattle.percent_encoding.specs.Percent.{percent_decode}
 use Rattle.wf_text.specs.Ascii.{slash}
 
--- the pieces of a path, which stand between its slashes
+-- the pieces of a path, which are between its slashes
 abbrev pub pieces : List ℕ → List (List ℕ)
 pieces path = slice_split (λ byte. byte == slash) path
 

@@ -23,11 +23,11 @@ without_front front text = if starts_with nat_eq text front then Some (drop (len
 abbrev pub without_end : List ℕ → List ℕ → Option (List ℕ)
 without_end end text = if ends_with nat_eq text end then Some (take (length text - length end) text) else None
 
--- what stands from the first such byte on, where there is one
+-- the text from the first such byte on, where there is one
 abbrev pub from_byte : ℕ → List ℕ → Option (List ℕ)
 from_byte mark text = option_map (λ index. drop index text) (position (λ byte. byte == mark) text)
 
--- what stands behind the first such byte, where there is one
+-- the text after the first such byte, where there is one
 abbrev pub behind_byte : ℕ → List ℕ → Option (List ℕ)
 behind_byte mark text = option_map (λ index. drop (index + 1) text) (position (λ byte. byte == mark) text)
 
@@ -54,14 +54,14 @@ valued_source name value =
     if str_eq_ignore_ascii_case name (codes "nonce") then Some (kind.Nonce value)
     else option_map (λ bits. kind.Hash bits value) (algorithm_named name)
 
--- the same of `name-value`, where the value is a base64-value
+-- nonce-source or hash-source of `name-value`, where the value is a base64-value
 abbrev pub dashed_source : List ℕ → Option Source
 dashed_source text =
     if is_base64_value (after_first (λ byte. byte == hyphen) text)
     then valued_source (before_first (λ byte. byte == hyphen) text) (after_first (λ byte. byte == hyphen) text)
     else None
 
--- what a text between quotes stands for
+-- the source expression of a text between quotes
 abbrev pub inner_source : List ℕ → Option Source
 inner_source text =
     if str_eq_ignore_ascii_case text (codes "self") then Some kind.SelfOrigin
@@ -69,7 +69,7 @@ inner_source text =
     else if str_eq_ignore_ascii_case text (codes "strict-dynamic") then Some kind.StrictDynamic
     else dashed_source text
 
--- what stands between `'` and `'`, where the word is quoted
+-- what is between `'` and `'`, where the word is quoted
 abbrev pub unquoted : List ℕ → Option (List ℕ)
 unquoted word = option_and_then (λ text. without_end (codes "'") text) (without_front (codes "'") word)
 
@@ -79,7 +79,7 @@ quoted_source word = option_and_then inner_source (unquoted word)
 
 -- ---- host-source
 
--- a scheme-part and `://` stand in front
+-- the word begins with a scheme-part and `://`
 abbrev pub has_scheme : List ℕ → Bool
 has_scheme word =
     is_scheme_part (before_first (λ byte. byte == colon) word)
@@ -89,23 +89,23 @@ has_scheme word =
 abbrev pub scheme_of : List ℕ → Option (List ℕ)
 scheme_of word = if has_scheme word then Some (before_first (λ byte. byte == colon) word) else None
 
--- what stands behind `://`, or the word where it has no scheme-part
+-- what comes after `://`, or the word where it has no scheme-part
 abbrev pub behind_scheme : List ℕ → List ℕ
 behind_scheme word = if has_scheme word then drop 2 (after_first (λ byte. byte == colon) word) else word
 
--- host and port: what stands before the first slash
+-- host and port: what is before the first slash
 abbrev pub authority_of : List ℕ → List ℕ
 authority_of text = before_first (λ byte. byte == slash) text
 
--- the host: what stands before the first colon of these
+-- the host: what is before the first colon of host and port
 abbrev pub host_of : List ℕ → List ℕ
 host_of text = before_first (λ byte. byte == colon) (authority_of text)
 
--- the port: what stands behind that colon, where there is one
+-- the port: what comes after that colon, where there is one
 abbrev pub port_of : List ℕ → Option (List ℕ)
 port_of text = behind_byte colon (authority_of text)
 
--- the path: what stands from the first slash on, where there is one
+-- the path: the text from the first slash on, where there is one
 abbrev pub path_of : List ℕ → Option (List ℕ)
 path_of text = from_byte slash text
 

@@ -10,14 +10,14 @@ use wf_text::is_digits;
 // The bytes of a path beside letters, digits and escapes.
 const PATH_MARKS: &[u8] = b"/-._~!$&'()*+=:@";
 
-// Whether the byte may stand in a scheme behind its first letter.
+// Whether the byte may be in a scheme after its first letter.
 fn is_scheme_byte(byte: u8) -> bool
     ensures { result ≡ is_scheme_byte byte }
 {
     byte.is_ascii_alphanumeric() || byte == b'+' || byte == b'-' || byte == b'.'
 }
 
-// Whether each byte may stand in a scheme behind its first letter.
+// Whether each byte may be in a scheme after its first letter.
 fn are_scheme_bytes(text: &[u8]) -> bool
     ensures { result ≡ list_all is_scheme_byte text.now }
 {
@@ -92,7 +92,7 @@ pub(crate) fn is_port_part(port: &[u8]) -> bool
     port == b"*".as_slice() || is_digits(port)
 }
 
-// Whether the byte may stand in a path outside an escape.
+// Whether the byte may be in a path outside an escape.
 fn is_path_byte(byte: u8) -> bool
     ensures { result ≡ spec.is_path_byte byte }
 {
@@ -109,7 +109,7 @@ fn begins_with_hex(text: &[u8]) -> bool
     }
 }
 
-// Whether each byte is one of a path, or `%` with two hexadecimal digits behind it.
+// Whether each byte is one of a path, or `%` with two hexadecimal digits after it.
 fn are_path_bytes(text: &[u8]) -> bool
     ensures { result ≡ spec.are_path_bytes text.now }
 {

@@ -20,7 +20,7 @@ fn scheme_part_matches(a: &[u8], b: &[u8]) -> bool
         || (eq_fold(a, b"wss") && eq_fold(b, b"https"))
 }
 
-// Whether the text ends so, ASCII case aside.
+// Whether the text has this end, ASCII case aside.
 fn ends_in(end: &[u8], text: &[u8]) -> bool
     ensures { result ≡ spec.ends_in end.now text.now }
 {
@@ -118,12 +118,12 @@ fn self_matches(url: &Url, document: &Origin) -> bool
             && same_or_default_port(document, url))
 }
 
-/// Whether a source expression matches a URL in a document's origin after so many redirects (CSP 3, "does
-/// url match expression in origin with redirect count"). `*` matches each http and https URL, a scheme what
-/// it stands for, a host-source what each of its parts matches, `'self'` the document's origin and its
-/// https form; any other expression matches none. After a redirect the path doesn't count. A URL of another
-/// scheme than http and https matches a scheme-source or a host-source of its own scheme, and nothing else.
-/// It takes no memory.
+/// Whether a source expression matches a URL in a document's origin after a number of redirects (CSP 3,
+/// "does url match expression in origin with redirect count"). `*` matches each http and https URL, a scheme
+/// each URL whose scheme it matches, a host-source each URL that all its parts match, `'self'` the document's
+/// origin and its https form; any other expression matches none. After a redirect the path doesn't count. A
+/// URL of another scheme than http and https matches a scheme-source or a host-source of its own scheme, and
+/// nothing else. It takes no memory.
 pub fn matches(source: &Source, url: &Url, document: &Origin, redirects: u32) -> bool
     ensures { result ≡ spec.matches source.now url.now document.now redirects }
 {

@@ -18,7 +18,7 @@ fn copied(alloc: Global, text: Option<&[u8]>) -> Result<Option<Bytes>, OutOfMemo
     }
 }
 
-// The scheme-source that the word is, if it is one.
+// The word as a scheme-source, if it is one.
 fn scheme_source(alloc: Global, word: &[u8]) -> Result<Option<Source>, OutOfMemory>
     ensures { IfOk result (λ source. source ≡ spec.scheme_source word.now) }
 {
@@ -58,7 +58,7 @@ fn valued_source(alloc: Global, name: &[u8], value: &[u8]) -> Result<Option<Sour
     }
 }
 
-// The same of a name, a hyphen and a value, where the value is a base64-value.
+// The nonce-source or hash-source of a name, a hyphen and a value, where the value is a base64-value.
 fn dashed_source(alloc: Global, text: &[u8]) -> Result<Option<Source>, OutOfMemory>
     ensures { IfOk result (λ source. source ≡ spec.dashed_source text.now) }
 {
@@ -68,7 +68,7 @@ fn dashed_source(alloc: Global, text: &[u8]) -> Result<Option<Source>, OutOfMemo
     valued_source(alloc, before_byte(text, b'-'), after_byte(text, b'-'))
 }
 
-// The source expression of a text between quotes, where it stands for one.
+// The source expression of a text between quotes, where it has one.
 fn inner_source(alloc: Global, text: &[u8]) -> Result<Option<Source>, OutOfMemory>
     ensures { IfOk result (λ source. source ≡ spec.inner_source text.now) }
 {
@@ -83,14 +83,14 @@ fn inner_source(alloc: Global, text: &[u8]) -> Result<Option<Source>, OutOfMemor
     }
 }
 
-// What stands between `'` and `'`, where the word is quoted.
+// What is between `'` and `'`, where the word is quoted.
 fn unquoted(word: &[u8]) -> Option<&[u8]>
     ensures { option_copied result ≡ spec.unquoted word.now }
 {
     word.strip_prefix(b"'")?.strip_suffix(b"'")
 }
 
-// The keyword-source, nonce-source or hash-source that the word is, if it is one.
+// The word as a keyword-source, nonce-source or hash-source, if it is one.
 fn quoted_source(alloc: Global, word: &[u8]) -> Result<Option<Source>, OutOfMemory>
     ensures { IfOk result (λ source. source ≡ spec.quoted_source word.now) }
 {
@@ -100,14 +100,14 @@ fn quoted_source(alloc: Global, word: &[u8]) -> Result<Option<Source>, OutOfMemo
     }
 }
 
-// Whether a scheme-part and `://` stand in front.
+// Whether the word begins with a scheme-part and `://`.
 fn has_scheme(word: &[u8]) -> bool
     ensures { result ≡ spec.has_scheme word.now }
 {
     is_scheme_part(before_byte(word, b':')) && after_byte(word, b':').starts_with(b"//")
 }
 
-// That scheme-part, where it stands there.
+// The scheme-part before `://`, where the word begins so.
 fn scheme_of(word: &[u8]) -> Option<&[u8]>
     ensures { option_copied result ≡ spec.scheme_of word.now }
 {
@@ -118,7 +118,7 @@ fn scheme_of(word: &[u8]) -> Option<&[u8]>
     }
 }
 
-// What stands behind `://`, or the word where it has no scheme-part.
+// What comes after `://`, or the word where it has no scheme-part.
 fn behind_scheme(word: &[u8]) -> &[u8]
     ensures { result.now ≡ spec.behind_scheme word.now }
 {
@@ -129,21 +129,21 @@ fn behind_scheme(word: &[u8]) -> &[u8]
     }
 }
 
-// Host and port: what stands before the first slash.
+// Host and port: what is before the first slash.
 fn authority_of(text: &[u8]) -> &[u8]
     ensures { result.now ≡ spec.authority_of text.now }
 {
     before_byte(text, b'/')
 }
 
-// The host: what stands before the first colon of these.
+// The host: what is before the first colon of host and port.
 fn host_of(text: &[u8]) -> &[u8]
     ensures { result.now ≡ spec.host_of text.now }
 {
     before_byte(authority_of(text), b':')
 }
 
-// What stands from the first such byte on, where there is one.
+// The text from the first such byte on, where there is one.
 fn from_byte(text: &[u8], mark: u8) -> Option<&[u8]>
     ensures { option_copied result ≡ spec.from_byte mark text.now }
 {
@@ -153,7 +153,7 @@ fn from_byte(text: &[u8], mark: u8) -> Option<&[u8]>
     }
 }
 
-// What stands behind the first such byte, where there is one.
+// The text after the first such byte, where there is one.
 fn behind_byte(text: &[u8], mark: u8) -> Option<&[u8]>
     ensures { option_copied result ≡ spec.behind_byte mark text.now }
 {
@@ -215,7 +215,7 @@ fn are_parts(text: &[u8]) -> bool
     is_host_part(host_of(text)) && may_be_port(port_of(text)) && may_be_path(path_of(text))
 }
 
-// The host-source that the word is, if it is one.
+// The word as a host-source, if it is one.
 fn host_source(alloc: Global, word: &[u8]) -> Result<Option<HostSource>, OutOfMemory>
     ensures { IfOk result (λ source. source ≡ spec.host_source word.now) }
 {
@@ -235,8 +235,8 @@ fn host_source(alloc: Global, word: &[u8]) -> Result<Option<HostSource>, OutOfMe
     }))
 }
 
-/// The source expression that a word is (CSP 3, section 2.3.1, "source-expression"): `*`, a scheme and `:`,
-/// a keyword, nonce or hash between quotes, or a host with an optional scheme, port and path. Keywords and
+/// A word as a source expression (CSP 3, section 2.3.1, "source-expression"): `*`, a scheme and `:`, a
+/// keyword, nonce or hash between quotes, or a host with an optional scheme, port and path. Keywords and
 /// the names of nonces and hashes are known in any ASCII case. Any other word is `Unknown`.
 pub fn parse_source(alloc: Global, word: &[u8]) -> Result<Source, OutOfMemory>
     ensures { IfOk result (λ source. source ≡ spec.source_of word.now) }

@@ -12,7 +12,7 @@ fn same_piece(a: &[u8], b: &[u8]) -> bool
     percent_decode(a).eq(percent_decode(b))
 }
 
-// The first piece of a path, and what is left behind its slash, where there is one.
+// The first piece of a path, and what is left after its slash, where there is one.
 fn first_piece(path: &[u8]) -> (&[u8], Option<&[u8]>)
     ensures pieces { spec.pieces path.now ≡ result.0.now ∷ pieces_left (option_copied result.1) }
     ensures shorter { IfSome result.1 (λ left. length left.now < length path.now) }

@@ -64,7 +64,7 @@ step-by found directive rest false e =
     (sym (filter-both (is_new found) (λ other. not (is_named directive.name other)) (is_new found)
     (λ other. old-of-name found directive other (is_named directive.name other) refl e) rest))
 
--- the next directive is added where it is new, and those of its name behind it are not
+-- the next directive is added where it is new, and later ones of its name are not
 pub found_step : (found : List Directive) (here : Option Directive) (rest : List Directive)
     → with_found here found ++ filter (is_new (with_found here found)) (first_of_each rest)
     ≡ found ++ filter (is_new found) (first_of_each (cons_option here rest))
@@ -76,8 +76,10 @@ found_step found (Some directive) rest =
 pub collected-step : (tokens : List (Bor (List ℕ))) (i : ℕ) (none : Bor (List ℕ)) (found new whole : List Directive)
     (here : Option Directive) → i < length tokens → here ≡ directive_of (get_or tokens i none).now
     → new ≡ with_found here found
-    → found ++ filter (is_new found) (first_of_each (filter_map directive_of (map (λ t. t.now) (drop i tokens)))) ≡ whole
-    → new ++ filter (is_new new) (first_of_each (filter_map directive_of (map (λ t. t.now) (drop (i + 1) tokens)))) ≡ whole
+    → found ++ filter (is_new found) (first_of_each (filter_map directive_of (map (λ t. t.now) (drop i tokens))))
+    ≡ whole
+    → new ++ filter (is_new new) (first_of_each (filter_map directive_of (map (λ t. t.now) (drop (i + 1) tokens))))
+    ≡ whole
 collected-step tokens i none found new whole here lt e n h =
     let rest = filter_map directive_of (map (λ t. t.now) (drop (i + 1) tokens)) in
     let next : drop i tokens ≡ get_or tokens i none ∷ drop (i + 1) tokens =

@@ -68,7 +68,7 @@ fn add(directives: &mut Directives, directive: Directive) -> Result<(), OutOfMem
     directives.push(directive)
 }
 
-// The same, where there is a directive.
+// Adds a directive, where there is one, unless its name is there already.
 fn add_found(directives: &mut Directives, found: Option<Directive>) -> Result<(), OutOfMemory>
     ensures { OnOk result (directives.new ≡ with_found found directives.old) }
 {

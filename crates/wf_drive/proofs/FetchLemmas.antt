@@ -83,7 +83,7 @@ module _ {State : Type 0} (by : Answering State) (limit document : ℕ) where
       act-trace = trace-one (with_events (Answers by limit document) events_of) fetching.level.request.value first
           (rest context fetching) input old.world mid (events_of first input) (answered, refl) fit
 
-      -- memory was refused for its events, or behind them
+      -- memory was refused for its events, or after them
       pub act-cut : (result : Result Step OutOfMemory) (events : List Event)
           → PartNoted first input old.events events
           → OnErr result (FetchCut by limit document (from_act context fetching first) old (moment_of mid events))
@@ -113,7 +113,7 @@ module _ {State : Type 0} (by : Answering State) (limit document : ℕ) where
           record { input = input; fit = fit; came = answered; noted = noted; does = does }
 
   module _ (context : Context) (whole : Process) (old : Moment State) (most slack : ℕ) where
-    -- after so many acts the fetch has shown what was added to the events, and stands at this step
+    -- after so many acts the fetch has shown what was added to the events, and is at this step
     pub record IsFetching (count : ℕ) (now : Moment State) (at : Step) : Type 0 where
       pub process : Process
       pub does : Does context at process

@@ -59,8 +59,8 @@ pub record Drove {State : Type 0} (by : Answering State) (limit document : ℕ) 
   pub to : outside_of last ≡ new
 
 -- Memory was refused: the fetch came to some place, and the calls that were made are those on the way.
-pub record IsBegun {State : Type 0} (by : Answering State) (limit document : ℕ) (whole : Process) (old new : Outside State)
-    : Type 0 where
+pub record IsBegun {State : Type 0} (by : Answering State) (limit document : ℕ) (whole : Process)
+    (old new : Outside State) : Type 0 where
   pub first : World State
   pub idle : IsIdle first.exchange
   pub from : outside_of first ≡ old

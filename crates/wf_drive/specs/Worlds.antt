@@ -16,8 +16,8 @@ use Rattle.wf_wire.specs.Exchanges.{Answering, Exchange, Exchanges, IsIdle}
 use Rattle.wf_wire.specs.Wires.{exchange_of}
 use Rattle.wf_drive.specs.Asking.{IsAsked}
 
--- Where the exchange over the link stands; the entries of the calls that the document has made; and how many more it
--- may make.
+-- What a document's run meets and changes: the exchange over its link; the entries of the calls of the book that the
+-- document has made; and how many more calls it may make.
 pub record World (State : Type 0) : Type 0 where
   pub exchange : Exchange State
   pub own : List Entry
@@ -61,7 +61,7 @@ outside own calls state received faults pass link = record {
 
 -- ---- what comes of an act
 
--- The document has made a call of the book. The exchange stands as it stood.
+-- The document has made a call of the book. The exchange is as it was.
 pub record IsCalled {State : Type 0} (document : ℕ) (old : World State) (op : Op) (input : Input) (new : World State)
     : Type 0 where
   pub asked : IsAsked document op input old.own new.own old.left new.left

@@ -119,7 +119,8 @@ pub fn run_fetch<R: Threads + Wait + Sync, S: Share, L: Link>(
     requires left { most_asks ≤ S.left pass.old }
     ensures fetched { IfOk result (λ outcome. FetchedTo (over_link L.answer L.next) lent.now.limit (S.document pass.old)
         (fetch (context_of lent.now.client.now lent.now.policies.now lent.now.cookies.now now) request)
-        (moment_of (world_of S.own S.left L.state L.left L.received L.faults pass.old link.old wire.old) shown.old) outcome
+        (moment_of (world_of S.own S.left L.state L.left L.received L.faults pass.old link.old wire.old) shown.old)
+        outcome
         (moment_of (world_of S.own S.left L.state L.left L.received L.faults pass.new link.new wire.new) shown.new)) }
     ensures cut { OnErr result (FetchCut (over_link L.answer L.next) lent.now.limit (S.document pass.old)
         (fetch (context_of lent.now.client.now lent.now.policies.now lent.now.cookies.now now) request)
@@ -155,10 +156,10 @@ pub fn run_fetch<R: Threads + Wait + Sync, S: Share, L: Link>(
 /// table of cookies, at a time in seconds, which is below 2^48, with bodies of so many bytes at most
 /// (Fetch, section 4.1). It makes 126 calls of the book at most, which the pass has left.
 ///
-/// What it has shown and what it came to are those of the fetch over a tape of what the world answers: each
-/// reply is that of the entry by which the pass's own grew; heads and bodies are those of the link's answers,
-/// where it tells them, and a fault comes only where its count of faults rose. At the end the link is hung
-/// up. Where memory was refused the calls that were made stand.
+/// Its events and its outcome are those of the fetch over a tape of what the world answers: the reply to a
+/// call of the book is that of the entry which the call added to the pass's own; heads and bodies are those of
+/// the link's answers, where it tells them, and a fault comes only where its count of faults rose. At the end
+/// the link is hung up. Where memory was refused the calls that were made by then stay made.
 pub fn drive_fetch<R: Threads + Wait + Sync, S: Share, L: Link>(
     rt: &R,
     alloc: Global,

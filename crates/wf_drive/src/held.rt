@@ -1,8 +1,8 @@
-// A value that is let go by a call. A function that holds a large value at several ways out is proved
-// sooner where it holds it so: else the dropping of each of its parts stands in the function itself.
+// A value that is dropped by a call. A function that drops a large value at several ways out is proved
+// sooner where it holds the value so: else it has to drop each of the value's parts itself, at each way out.
 ghost use Rattle.std.specs.Prelude.{◌≡◌};
 
-// What is held.
+// Holds a value.
 pub(crate) struct Held<T: Drop> {
     pub(crate) value: T,
 }

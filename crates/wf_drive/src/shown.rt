@@ -39,7 +39,7 @@ impl Model for Shown {
     ghost invariant = { λ shown. (shown.printed ≡ capped (text_length shown.events)) × IsLast shown.last shown.events };
 }
 
-// Where the last result is, with an event more behind so many.
+// Where the last result is once an event was added after so many.
 fn last_after(last: Option<usize>, count: usize, event: &Event) -> Option<usize>
     ensures { result ≡ last_index last count event.now }
 {

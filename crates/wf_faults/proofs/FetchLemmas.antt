@@ -541,5 +541,5 @@ shows-again (suc left) context next goes request =
 -- a whole fetch
 pub shows-fetch : (context : Context) (request : Request) → Shows None (fetch context request)
 shows-fetch context request =
-    shows-main_fetch context (onward_of context request) (finished context) (shows-again (20 - request.redirects) context)
-    (shows-finished context) request
+    shows-main_fetch context (onward_of context request) (finished context)
+    (shows-again (20 - request.redirects) context) (shows-finished context) request

@@ -41,7 +41,8 @@ owed-some : (came : Option Failure) (before : Failure) → owed (option_or came 
 owed-some None before = refl
 owed-some (Some failure) before = refl
 
-owed-none : (request : Request) (input : Input) → owed (option_or (failure_in request input) None) ≡ one_where (is_fault input)
+owed-none : (request : Request) (input : Input)
+    → owed (option_or (failure_in request input) None) ≡ one_where (is_fault input)
 owed-none request Fault = refl
 owed-none request (BodyIs (body.Fault n)) = refl
 owed-none request (BodyIs end) = refl
@@ -116,7 +117,7 @@ tells failure (step request first after) shows (input ∷ tape) =
     step-tells failure request first after input tape (fits first input) refl (λ fit. (shows input fit).0)
     (λ fit. tells (owed_after request input failure) (after input) (shows input fit).1 tape)
 
--- so many faults are shown at most, in a run
+-- how many faults a run shows at most
 abbrev shown_in : PlayRun → ℕ
 shown_in ran = outcomes_that tells_fault ran.events + outcomes_that may_hide_fault ran.events + unshown ran.ending
 

@@ -20,8 +20,8 @@ use Rattle.wf_run.specs.Play.{Play, emit, events_of}
 use Rattle.wf_run.specs.Results.{holds}
 use Rattle.wf_run.specs.Runs.{Next, Progress, Setting, after_events, asked, at_time, beginning, chosen, command_run}
 use Rattle.wf_run.specs.Runs.{embed, fault_event, fetch_started, fetched, filled_init, filled_load, finished}
-use Rattle.wf_run.specs.Runs.{last_of, limit_before, load_event, outcome_event, repeated, script_run, setting_of, showing}
-use Rattle.wf_run.specs.Runs.{start_event, started, unless_limit, waited}
+use Rattle.wf_run.specs.Runs.{last_of, limit_before, load_event, outcome_event, repeated, script_run, setting_of}
+use Rattle.wf_run.specs.Runs.{showing, start_event, started, unless_limit, waited}
 use Rattle.wf_faults.specs.Failures.{Failure, ShowsFailure, owed_after}
 use Rattle.wf_faults.specs.Laws.{FaultsPlaced}
 use Rattle.wf_faults.specs.Places.{IsShown, ShowsFailures, left_after, outcome_of}
@@ -72,7 +72,7 @@ embeds failure (act request first after) next progress shows goes = λ input fit
 
 -- ---- the script
 
--- where no failure is left to be shown, wherever the run stands
+-- no failure is left to be shown, however far the run has come
 abbrev ShowsNext : Next → Type 0
 ShowsNext next = (progress : Progress) → ShowsFailures None (next progress)
 
@@ -90,8 +90,8 @@ module _ (lent : Setting) where
       → ShowsNext (fetched lent kind made next)
   plays-fetched kind (Err fault) next goes = plays-showing (fault_event kind fault) next (fault-silent kind fault) goes
   plays-fetched kind (Ok request) next goes = λ progress.
-      embeds None (fetch (at_time lent progress.clock) request) (λ came. showing (outcome_event kind came) next) progress
-      (shows-fetch (at_time lent progress.clock) request)
+      embeds None (fetch (at_time lent progress.clock) request) (λ came. showing (outcome_event kind came) next)
+      progress (shows-fetch (at_time lent progress.clock) request)
       (λ last came later shows.
       emits last (outcome_event kind came) (next (after_events (outcome_event kind came ∷ []) later)) (Some came)
       (outcome-is kind came) shows (goes (after_events (outcome_event kind came ∷ []) later)))

@@ -44,7 +44,8 @@ count-input : (input : Input) (a mid more b : ℕ) (is : Bool) → is_fault inpu
     → grown_by mid more ≤ b → grown_by a (one_where is + more) ≤ b
 count-input input a mid more b true is caused le = min-rises (2 ^ 64 - 1) a mid more b (caused.rose is) le
 count-input input a mid more b false is caused le =
-    min-later (2 ^ 64 - 1) a mid (0 + more) b caused.later (min-fewer (2 ^ 64 - 1) mid (0 + more) more b (omega arith) le)
+    min-later (2 ^ 64 - 1) a mid (0 + more) b caused.later
+    (min-fewer (2 ^ 64 - 1) mid (0 + more) more b (omega arith) le)
 
 -- what is no fault has its cause
 quiet-caused : (input : Input) (a b : ℕ) → is_fault input ≡ false → b ≡ a → IsCaused input a b

@@ -13,7 +13,7 @@ use Rattle.wf_act.specs.declared.act.Input.TheVariants.{BodyIs, Fault}
 use Rattle.wf_wire.specs.Exchanges.{is_fault}
 
 -- How the link failed: there is no answer; or the body of one broke off, for a request with this integrity text, after
--- so many bytes.
+-- this many bytes.
 pub data Failure : Type 0 where
   unanswered : Failure
   broken : List ℕ → ℕ → Failure
@@ -51,7 +51,7 @@ abbrev pub may_hide_fault : Outcome → Bool
 may_hide_fault (Error Integrity) = true
 may_hide_fault came = false
 
--- the outcome is a response whose body broke off after so many bytes, since the link failed
+-- the outcome is a response whose body broke off after this many bytes, since the link failed
 abbrev pub IsBrokenAt : ℕ → Outcome → Type 0
 IsBrokenAt n (Answer response) = response.body ≡ body.Fault n
 IsBrokenAt n came = ⊥

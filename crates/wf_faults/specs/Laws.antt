@@ -29,13 +29,13 @@ pub record AreShown (faults : ℕ) (ran : PlayRun) : Type 0 where
   pub none_fewer : faults
       ≤ outcomes_that tells_fault ran.events + outcomes_that may_hide_fault ran.events + unshown ran.ending
 
--- so it is of a document's run over each tape, and over each beginning of it
+-- this holds of a document's run over each tape, and over each beginning of it
 abbrev pub FaultsShown : Type 0
 FaultsShown =
     (cookies : List Cookie) (base : ℕ) (document : Document) (tape : List Input)
     → let whole = document_run cookies base document in AreShown (faults_of whole tape) (run_play whole tape)
 
--- of a document's run over a link, with what it has shown to its end
+-- and of a document's run over a link, with what it has shown to its end
 abbrev pub RanShown : Type 0 → Type 0
 RanShown State =
     (by : Answering State) (limit number : ℕ) (cookies : List Cookie) (base : ℕ) (document : Document)
@@ -52,14 +52,14 @@ FaultsCounted State =
     → (ran : Ran by limit document whole old events ending clock new)
     → grown_by old.faults (faults_of whole ran.tape) ≤ new.faults
 
--- the same where a run ended for memory
+-- the count rises by at least as many too where a run ended for memory
 abbrev pub FaultsCountedShort : Type 0 → Type 0
 FaultsCountedShort State =
     (by : Answering State) (limit document : ℕ) (whole : Play) (old : Outside State) (events : List Event)
     (new : Outside State) → (began : Began by limit document whole old events new)
     → grown_by old.faults (faults_of whole began.tape) ≤ new.faults
 
--- so it rises by as many as a document is told of, at least
+-- so the count rises by as many as a document is told of, at least
 abbrev pub ToldCounted : Type 0 → Type 0
 ToldCounted State =
     (by : Answering State) (limit number : ℕ) (cookies : List Cookie) (base : ℕ) (document : Document)

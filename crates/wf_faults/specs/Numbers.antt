@@ -9,7 +9,7 @@ use Rattle.wf_print.specs.declared.events.Event.{Event}
 use Rattle.wf_run.specs.Play.{Play, emit, over, step}
 use Rattle.wf_faults.specs.Places.{outcome_of}
 
--- one where it is so, else none
+-- 1 for true, 0 for false
 abbrev pub one_where : Bool → ℕ
 one_where is = if is then 1 else 0
 
@@ -21,12 +21,12 @@ faults_of (step request first after) [] = 0
 faults_of (step request first after) (input ∷ tape) =
     if fits first input then one_where (is_fault input) + faults_of (after input) tape else 0
 
--- one where there is an outcome that is so
+-- 1 where there is an outcome that passes the test, else 0
 abbrev pub one_if : (Outcome → Bool) → Option Outcome → ℕ
 one_if is None = 0
 one_if is (Some came) = one_where (is came)
 
--- how many of the outcomes that events show are so
+-- how many of the outcomes that events show pass the test
 abbrev pub outcomes_that : (Outcome → Bool) → List Event → ℕ
 outcomes_that is [] = 0
 outcomes_that is (shown ∷ events) = one_if is (outcome_of shown) + outcomes_that is events

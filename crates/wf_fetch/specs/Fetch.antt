@@ -28,7 +28,7 @@ ends request (Over outcome) = ended outcome
 ends request (Reads response) = act request ReadBody (after_body request response)
 
 -- the end of a fetch: a network error is its outcome; of a response the violated policies are told, and then it is
--- blocked, handed over, or its body is read
+-- blocked, handed over, or its body is read (main fetch, steps 14 to 23)
 abbrev pub finished : Context → Then
 finished context request (Err error) = ended (Error error)
 finished context request (Ok head) =

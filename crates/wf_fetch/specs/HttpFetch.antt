@@ -17,13 +17,14 @@ use Rattle.wf_answers.specs.declared.answers.Redirection.{Redirection}
 use Rattle.wf_answers.specs.declared.answers.Redirection.TheVariants.{Goes, Refuses, Stays}
 use Rattle.wf_fetch.specs.Then.{Context, Onward, Then, head_of, then_ask_where, was_sent}
 
--- HTTP-redirect fetch: the answer is the response, or is refused, or main fetch goes on at the new URL
+-- HTTP-redirect fetch: the answer is the response (its step 4), or is refused (steps 5 to 10), or main fetch goes on at
+-- the new URL (step 22)
 abbrev pub redirected : Onward → Then → Request → Head → Redirection → Process
 redirected onward next request head Stays = next request (Ok head)
 redirected onward next request head (Refuses error) = next request (Err error)
 redirected onward next request head (Goes url) = onward next (redirected_request request head url)
 
--- the answer is judged by its checks
+-- the answer is judged by its checks (HTTP fetch, steps 4.4, 5 and 6)
 abbrev pub judged : Onward → Then → Request → Head → Option NetError → Process
 judged onward next request head (Some error) = next request (Err error)
 judged onward next request head None = redirected onward next request head (redirection request head)
@@ -48,7 +49,7 @@ read_head onward context next request sent =
 abbrev pub after_sent : Onward → Context → Then → Request → Input → Process
 after_sent onward context next request input = read_head onward context next request (was_sent input)
 
--- HTTP fetch: the request is sent
+-- HTTP fetch: the request is sent (step 4.3)
 abbrev pub http_fetch : Onward → Context → Then → Request → Process
 http_fetch onward context next request =
     act request (Send (hop_of context.cookies request)) (after_sent onward context next request)

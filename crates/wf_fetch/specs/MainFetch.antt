@@ -22,7 +22,7 @@ use Rattle.wf_fetch.specs.HttpFetch.{http_fetch}
 use Rattle.wf_fetch.specs.PreflightFetch.{with_preflight}
 use Rattle.wf_fetch.specs.Then.{Context, Onward, Then, said_yes, tell_all}
 
--- the switch of main fetch: HTTP fetch with a tainting, with a preflight, or a network error
+-- the switch of main fetch (step 12): HTTP fetch with a tainting, with a preflight, or a network error
 abbrev pub switched_by : Onward → Context → Then → Request → Switch → Process
 switched_by onward context next request (Fetches kind) = http_fetch onward context next (with_tainting kind request)
 switched_by onward context next request Preflights =
@@ -33,12 +33,12 @@ switched_by onward context next request (Refuses error) = next request (Err erro
 abbrev pub switched : Onward → Context → Then → Request → Process
 switched onward context next request = switched_by onward context next request (switch_of request)
 
--- the book said whether the host is known: a request to a known host is made over https
+-- the book said whether the host is known: a request to a known host is made over https (step 10)
 abbrev pub after_match : Onward → Context → Then → Request → Input → Process
 after_match onward context next request input =
     switched onward context next (secured_where (said_yes input) request)
 
--- the book is asked for the host, where there is a question
+-- the book is asked for the host, where there is a question (step 10)
 abbrev pub matched_by : Onward → Context → Then → Request → Option Op → Process
 matched_by onward context next request None = switched onward context next request
 matched_by onward context next request (Some question) =
@@ -48,13 +48,14 @@ matched_by onward context next request (Some question) =
 abbrev pub matched : Onward → Context → Then → Request → Process
 matched onward context next request = matched_by onward context next request (match_of context.now request)
 
--- enforced policies are violated: each violation is told, and the request is blocked
+-- enforced policies are violated: each violation is told, and the request is blocked (step 7); else the request gets
+-- its referrer policy and its referrer (steps 8 and 9)
 abbrev pub unless_violated : Onward → Context → Then → Request → List Violation → Process
 unless_violated onward context next request [] = matched onward context next (with_referrer context.client request)
 unless_violated onward context next request (violation ∷ violations) =
     tell_all request (violation ∷ violations) (next request (Err CspRequest))
 
--- a bad port and mixed content block the request before its enforced policies are asked
+-- a bad port and mixed content block the request before its enforced policies are asked (step 7)
 abbrev pub unless_refused : Onward → Context → Then → Request → Option NetError → Process
 unless_refused onward context next request (Some error) = next request (Err error)
 unless_refused onward context next request None =
@@ -66,8 +67,8 @@ abbrev pub checked : Onward → Context → Then → Request → Process
 checked onward context next request =
     unless_refused onward context next request (refusal_before context.client request)
 
--- main fetch: a URL that is neither http nor https is refused; violated report-only policies are told; the request is
--- upgraded and checked
+-- main fetch: a URL that is neither http nor https is refused (as in step 12: no other scheme is fetched here);
+-- violated report-only policies are told (step 4); the request is upgraded (steps 5 and 6) and checked
 abbrev pub main_fetch : Onward → Context → Then → Request → Process
 main_fetch onward context next request =
     if is_http_url (current_url request)

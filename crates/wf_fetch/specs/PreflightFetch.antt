@@ -1,6 +1,6 @@
 -- HTTP fetch with a CORS-preflight (Fetch, section 4.4 "HTTP fetch" and section 4.8 "CORS-preflight fetch"): the
 -- preflight cache is asked, a preflight is sent where it does not cover the request, and after an error what is known
--- of the request as it then stands is taken back.
+-- of the request, as it is by then, is taken back.
 use Rattle.std.specs.Prelude.{ℕ, Bool, List, Result, Ok, Err, if◌then◌else◌}
 use Rattle.wf_types.specs.declared.error.NetError.{NetError}
 use Rattle.wf_types.specs.declared.error.NetError.TheVariants.{LinkFault}
@@ -20,7 +20,8 @@ use Rattle.wf_rules.specs.Questions.{clear_of, covers_of, learn_of}
 use Rattle.wf_fetch.specs.HttpFetch.{http_fetch}
 use Rattle.wf_fetch.specs.Then.{Context, Onward, Then, head_of, said_yes, then_ask, then_ask_where, was_sent}
 
--- an error takes back what the preflight cache has learned of the request as it then stands, and is passed on
+-- an error takes back what the preflight cache has learned of the request as it then is (main fetch, step 12, the case
+-- with a preflight), and is passed on
 abbrev pub clearing : Context → Then → Then
 clearing context next request (Ok head) = next request (Ok head)
 clearing context next request (Err error) =
@@ -30,7 +31,8 @@ clearing context next request (Err error) =
 abbrev pub names_of : Request → List (List ℕ)
 names_of request = unsafe_names request.headers
 
--- the verdict on the answer to the preflight: what it allows is learned, and the request itself is sent
+-- the verdict on the answer to the preflight: what it allows is learned (CORS-preflight fetch, steps 7.12 to 7.15), and
+-- the request itself is sent
 abbrev pub preflight_judged : Onward → Context → Then → Request → Checked → Process
 preflight_judged onward context next request (Refused error) = next request (Err error)
 preflight_judged onward context next request (Pass age methods names) =
@@ -61,12 +63,12 @@ abbrev pub after_preflight_sent : Onward → Context → Then → Request → In
 after_preflight_sent onward context next request input =
     read_preflight_head onward context next request (was_sent input)
 
--- "CORS-preflight fetch": the preflight is sent
+-- "CORS-preflight fetch": the preflight is sent (step 6)
 abbrev pub preflight_fetch : Onward → Context → Then → Request → Process
 preflight_fetch onward context next request =
     act request (Send (preflight_of request (names_of request))) (after_preflight_sent onward context next request)
 
--- the preflight cache covers the request, or a preflight goes before it
+-- the preflight cache covers the request, or a preflight goes before it (HTTP fetch, step 4.1)
 abbrev pub covered_or_not : Onward → Context → Then → Request → Bool → Process
 covered_or_not onward context next request covered =
     if covered then http_fetch onward context next request else preflight_fetch onward context next request
@@ -75,7 +77,7 @@ covered_or_not onward context next request covered =
 abbrev pub after_covers : Onward → Context → Then → Request → Input → Process
 after_covers onward context next request input = covered_or_not onward context next request (said_yes input)
 
--- HTTP fetch with a CORS-preflight: the cache is asked, and an error from here on is followed by a clear
+-- HTTP fetch with a CORS-preflight: the cache is asked (step 4.1), and an error from here on is followed by a clear
 abbrev pub with_preflight : Onward → Context → Then → Request → Process
 with_preflight onward context next request =
     act request (Ask (covers_of context.client request context.now))

@@ -23,7 +23,7 @@ use wf_send::hop_of;
 use wf_text::OutOfMemory;
 use wf_types::{Head, NetError, Request};
 
-// HTTP fetch: the request is sent.
+// HTTP fetch: the request is sent (step 4.3).
 pub(crate) fn send(alloc: Global, lent: &Lent<'_>, level: Level) -> Result<Step, OutOfMemory>
     requires { IsReady level.request.value }
     ensures { Leads (lent_at lent.now level.now) result
@@ -75,7 +75,7 @@ pub(crate) fn answered(
     }
 }
 
-// The answer is judged: it is refused, goes on as a redirect, or is the response.
+// The answer is judged (HTTP fetch, steps 4.4, 5 and 6): it is refused, goes on as a redirect, or is the response.
 pub(crate) fn judge(
     alloc: Global,
     lent: &Lent<'_>,
@@ -94,7 +94,8 @@ pub(crate) fn judge(
     redirect(alloc, lent, level, head)
 }
 
-// HTTP-redirect fetch: the answer is the response, is refused, or main fetch goes on at the new URL.
+// HTTP-redirect fetch: the answer is the response (step 4), is refused (steps 5 to 10), or main fetch goes on at the
+// new URL (step 22).
 pub(crate) fn redirect(
     alloc: Global,
     lent: &Lent<'_>,

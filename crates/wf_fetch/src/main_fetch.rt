@@ -49,7 +49,7 @@ fn tainted(level: Level, tainting: Tainting) -> Level
     }
 }
 
-// The level with its request over https.
+// The level with its request over https (step 10).
 fn secured_level(level: Level) -> Result<Level, OutOfMemory>
     requires { IsReady level.request.value }
     ensures value { IfOk result (IsLevelWith (secured_as level.request.value) level) }
@@ -71,7 +71,7 @@ fn secured_level(level: Level) -> Result<Level, OutOfMemory>
     })
 }
 
-// The level with its request upgraded where it is to be.
+// The level with its request upgraded where it is to be (steps 5 and 6).
 fn upgraded_level(lent: &Lent<'_>, level: Level) -> Result<Level, OutOfMemory>
     requires { IsAtHttp level.request.value }
     ensures value { IfOk result (IsLevelWith
@@ -94,7 +94,7 @@ fn upgraded_level(lent: &Lent<'_>, level: Level) -> Result<Level, OutOfMemory>
     })
 }
 
-// The level with the referrer policy of its request, and its referrer by that policy.
+// The level with the referrer policy of its request, and its referrer by that policy (steps 8 and 9).
 fn referred(alloc: Global, lent: &Lent<'_>, level: Level) -> Result<Level, OutOfMemory>
     requires http { IsAtHttp level.request.value }
     requires client { IsClient lent.now.client.now }
@@ -117,7 +117,7 @@ fn referred(alloc: Global, lent: &Lent<'_>, level: Level) -> Result<Level, OutOf
     })
 }
 
-// The switch of main fetch.
+// The switch of main fetch (step 12).
 pub(crate) fn switch(alloc: Global, lent: &Lent<'_>, level: Level) -> Result<Step, OutOfMemory>
     requires ready { IsReady level.request.value }
     requires owes { level.owes ≡ false }
@@ -131,7 +131,7 @@ pub(crate) fn switch(alloc: Global, lent: &Lent<'_>, level: Level) -> Result<Ste
     }
 }
 
-// The book said whether the host is known.
+// The book said whether the host is known (step 10).
 pub(crate) fn matched(
     alloc: Global,
     lent: &Lent<'_>,
@@ -150,7 +150,7 @@ pub(crate) fn matched(
     switch(alloc, lent, secured_level(level)?)
 }
 
-// The book is asked for the host, where there is a question.
+// The book is asked for the host, where there is a question (step 10).
 pub(crate) fn ask_host(alloc: Global, lent: &Lent<'_>, level: Level) -> Result<Step, OutOfMemory>
     requires ready { IsReady level.request.value }
     requires owes { level.owes ≡ false }
@@ -163,7 +163,7 @@ pub(crate) fn ask_host(alloc: Global, lent: &Lent<'_>, level: Level) -> Result<S
     }
 }
 
-// The violations of enforced policies from a place on are told, and then the request is blocked.
+// The violations of enforced policies from a place on are told, and then the request is blocked (step 7).
 pub(crate) fn tell_blocks(
     alloc: Global,
     lent: &Lent<'_>,
@@ -186,7 +186,7 @@ pub(crate) fn tell_blocks(
     Ok(going(lent, level, place, Act::Tell(violation)))
 }
 
-// Enforced policies that are violated block the request.
+// Enforced policies that are violated block the request (step 7).
 fn check_policies(alloc: Global, lent: &Lent<'_>, level: Level) -> Result<Step, OutOfMemory>
     requires client { IsClient lent.now.client.now }
     requires http { IsAtHttp level.request.value }
@@ -206,7 +206,7 @@ fn check_policies(alloc: Global, lent: &Lent<'_>, level: Level) -> Result<Step, 
     }
 }
 
-// A bad port, mixed content and enforced policies block the request, in this order.
+// A bad port, mixed content and enforced policies block the request, in this order (step 7).
 fn check(alloc: Global, lent: &Lent<'_>, level: Level) -> Result<Step, OutOfMemory>
     requires client { IsClient lent.now.client.now }
     requires http { IsAtHttp level.request.value }
@@ -220,7 +220,8 @@ fn check(alloc: Global, lent: &Lent<'_>, level: Level) -> Result<Step, OutOfMemo
     }
 }
 
-// The violations of report-only policies from a place on are told, and then the request is upgraded and checked.
+// The violations of report-only policies from a place on are told (step 4), and then the request is upgraded and
+// checked.
 pub(crate) fn tell_reports(
     alloc: Global,
     lent: &Lent<'_>,
@@ -244,7 +245,7 @@ pub(crate) fn tell_reports(
     check(alloc, lent, upgraded_level(lent, level)?)
 }
 
-// Main fetch.
+// Main fetch (Fetch, section 4.1); the steps in this file are its own.
 pub(crate) fn begin(alloc: Global, lent: &Lent<'_>, level: Level) -> Result<Step, OutOfMemory>
     requires client { IsClient lent.now.client.now }
     requires owes { level.owes ≡ false }

@@ -18,7 +18,7 @@ use wf_safelist::unsafe_names;
 use wf_text::OutOfMemory;
 use wf_types::{Head, NetError, Request, serialized_origin};
 
-// HTTP fetch with a CORS-preflight: the preflight cache is asked. From here on the level owes a clear.
+// HTTP fetch with a CORS-preflight: the preflight cache is asked (step 4.1). From here on the level owes a clear.
 pub(crate) fn ask_cache(alloc: Global, lent: &Lent<'_>, level: Level) -> Result<Step, OutOfMemory>
     requires ready { IsReady level.request.value }
     requires owes { level.owes ≡ false }
@@ -50,7 +50,7 @@ pub(crate) fn covered(
     }
 }
 
-// "CORS-preflight fetch": the preflight is sent.
+// "CORS-preflight fetch": the preflight is sent (step 6).
 pub(crate) fn send_preflight(
     alloc: Global,
     lent: &Lent<'_>,
@@ -118,7 +118,7 @@ pub(crate) fn preflight_answered(
     }
 }
 
-// The verdict on the answer to the preflight: what it allows is learned.
+// The verdict on the answer to the preflight: what it allows is learned (CORS-preflight fetch, steps 7.12 to 7.15).
 pub(crate) fn judge_preflight(
     alloc: Global,
     lent: &Lent<'_>,

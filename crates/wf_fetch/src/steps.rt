@@ -46,7 +46,7 @@ pub(crate) fn going(lent: &Lent<'_>, level: Level, place: Place, act: Act) -> St
     Step::Going(Fetching { level, place, last }, act)
 }
 
-// How many clears are owed behind the next one.
+// How many clears are owed after the next one.
 #[tactic(auto, using(crate::proofs::MachineLemmas::clear_first))]
 fn one_less(owed: u32, owes: bool) -> u32
     requires { owes ≡ false → 0 < owed }
@@ -59,8 +59,8 @@ fn one_less(owed: u32, owes: bool) -> u32
     if owes { owed } else { owed - 1 }
 }
 
-// A network error: each level that owes a clear asks for it, the innermost first, and then it is the
-// outcome.
+// A network error: each level that owes a clear asks for it (main fetch, step 12), the innermost first, and then it is
+// the outcome.
 pub(crate) fn refused(
     alloc: Global,
     lent: &Lent<'_>,
@@ -120,7 +120,7 @@ pub(crate) fn tell_at_end(
 }
 
 // The response: the policies that it violates are told, and then it is blocked, handed over, or its
-// body is read.
+// body is read (main fetch, steps 14 to 23).
 pub(crate) fn finish(
     alloc: Global,
     lent: &Lent<'_>,

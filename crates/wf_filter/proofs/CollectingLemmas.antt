@@ -66,7 +66,7 @@ step-by found name rest false e =
     (λ other. old-of-name found name other (str_eq_ignore_ascii_case name other) refl e) rest))
     ∙ rw e refl
 
--- the next name is added where it is new, and those like it behind it are not
+-- the next name is added where it is new, and later ones like it are not
 pub name_step : (found : List (List ℕ)) (header : Header) (headers : List Header)
     → with_new header.name found ++ filter (is_new (with_new header.name found)) (header_names headers)
     ≡ found ++ filter (is_new found) (header_names (header ∷ headers))

@@ -361,20 +361,9 @@ opaque-typed destination headers =
 -- or left away where the destination does not look at them
 opaque-types : (destination : Destination) (headers : List Header)
     → SameBlock destination (filter (is_told tainting.Opaque (type_names destination)) headers) headers
-opaque-types destination.Fetch headers =
-    types-none destination.Fetch (filter (is_told tainting.Opaque []) headers) headers refl refl
-opaque-types destination.Image headers =
-    types-none destination.Image (filter (is_told tainting.Opaque []) headers) headers refl refl
-opaque-types destination.Audio headers =
-    types-none destination.Audio (filter (is_told tainting.Opaque []) headers) headers refl refl
-opaque-types destination.Video headers =
-    types-none destination.Video (filter (is_told tainting.Opaque []) headers) headers refl refl
 opaque-types destination.Style headers = opaque-typed destination.Style headers
 opaque-types destination.Script headers = opaque-typed destination.Script headers
-opaque-types destination.Font headers =
-    types-none destination.Font (filter (is_told tainting.Opaque []) headers) headers refl refl
-opaque-types destination.Manifest headers =
-    types-none destination.Manifest (filter (is_told tainting.Opaque []) headers) headers refl refl
+opaque-types other headers = types-none other (filter (is_told tainting.Opaque []) headers) headers refl refl
 
 response-types : (tainting : Tainting) (request : Request) (head : Head)
     → SameBlock request.destination (response_view tainting request head).headers head.headers
@@ -399,13 +388,7 @@ response-types tainting.Opaque request head = opaque-types request.destination h
 fetch-none : (destination : Destination) (a b : List Header) → IsTrue (is_fetch destination)
     → SameBlock destination a b
 fetch-none destination.Fetch a b fetch = types-none destination.Fetch a b refl refl
-fetch-none destination.Image a b fetch = absurd (grind arith)
-fetch-none destination.Audio a b fetch = absurd (grind arith)
-fetch-none destination.Video a b fetch = absurd (grind arith)
-fetch-none destination.Style a b fetch = absurd (grind arith)
-fetch-none destination.Script a b fetch = absurd (grind arith)
-fetch-none destination.Font a b fetch = absurd (grind arith)
-fetch-none destination.Manifest a b fetch = absurd (grind arith)
+fetch-none _ a b fetch = absurd (grind arith)
 
 blocks-by : (unfollowed : Bool) (request : Request) (head : Head) → is_unfollowed request head ≡ unfollowed
     → IsTrue (is_follow request.redirect || is_fetch request.destination)

@@ -183,7 +183,7 @@ filter-named p names (header ∷ headers) e =
       | inr away ↦ absurd (grind (arith, common_steps, away))
     ]
 
--- so all names of a list stand for any name
+-- so a test for the names of a list passes for each of its headers
 pub filter-all_named : (p : Bool → Header → Bool) (headers : List Header)
     → filter (λ header. p (has_name_among (header_names headers) header) header) headers ≡ filter (p true) headers
 filter-all_named p headers = filter-named p (header_names headers) headers (all-named headers)

@@ -14,7 +14,7 @@ abbrev pub header_names : List Header → List (List ℕ)
 header_names [] = []
 header_names (header ∷ headers) = header.name ∷ filter (λ name. not (is_named name header)) (header_names headers)
 
--- the exposed names by what was extracted: `*` stands for all, unless the credentials mode is include; a list that is
+-- the exposed names by what was extracted: `*` exposes all, unless the credentials mode is include; a list that is
 -- absent or a failure exposes none
 abbrev pub exposed_by : Bool → List Header → Extracted → List (List ℕ)
 exposed_by include headers (Items names) = if not include && has_wildcard names then header_names headers else names

@@ -66,7 +66,7 @@ KeepsCorsCheck =
     → IsTrue (hop.preflight || is_cors_tainted request.tainting)
     → passes_check request (permitted_view request hop head).headers ≡ passes_check request head.headers
 
--- so does the cross-origin resource policy check, under tainting opaque
+-- the cross-origin resource policy check comes to the same, under tainting opaque
 abbrev pub KeepsResourcePolicy : Type 0
 KeepsResourcePolicy =
     (request : Request) (hop : Hop) (head : Head)
@@ -80,7 +80,7 @@ pub record IsSameRedirect (request : Request) (view head : Head) : Type 0 where
   pub manual : is_manual request view ≡ is_manual request head
   pub followed : is_followed request view ≡ is_followed request head
 
--- so it is of an allowed head and its view
+-- this holds of an allowed head and its view
 abbrev pub KeepsRedirect : Type 0
 KeepsRedirect =
     (request : Request) (hop : Hop) (head : Head) → IsAllowed request hop head
@@ -92,7 +92,7 @@ pub record LeadsAlike (view head : Head) : Type 0 where
   pub location : values_of (codes "Location") view.headers ≡ values_of (codes "Location") head.headers
   pub policy : values_of (codes "Referrer-Policy") view.headers ≡ values_of (codes "Referrer-Policy") head.headers
 
--- so it is of an allowed head that is a redirect that is followed
+-- this holds of an allowed head that is a redirect that is followed, and of its view
 abbrev pub KeepsTarget : Type 0
 KeepsTarget =
     (request : Request) (hop : Hop) (head : Head) → IsAllowed request hop head → IsTrue (is_followed request head)
@@ -111,7 +111,7 @@ pub record IsSameBlock (request : Request) (view head : Head) : Type 0 where
   pub nosniff : is_nosniff_blocked request.destination view.headers
       ≡ is_nosniff_blocked request.destination head.headers
 
--- so it is of a response, where the redirect mode is follow or the destination that of a `fetch`
+-- this holds of a response and its view, where the redirect mode is follow or the destination that of a `fetch`
 abbrev pub KeepsBlocking : Type 0
 KeepsBlocking =
     (request : Request) (hop : Hop) (head : Head) → IsResponse request hop head
@@ -122,7 +122,7 @@ pub record HasSameBody (view head : Head) : Type 0 where
   pub status : view.status ≡ head.status
   pub coding : values_of (codes "Content-Encoding") view.headers ≡ values_of (codes "Content-Encoding") head.headers
 
--- so it is of a response that is neither opaque nor an opaque-redirect one
+-- this holds of a response that is neither opaque nor an opaque-redirect one, and of its view
 abbrev pub KeepsBody : Type 0
 KeepsBody =
     (request : Request) (hop : Hop) (head : Head) → IsResponse request hop head

@@ -1,7 +1,7 @@
 -- What a document may learn of the head of an answer to one of its requests: this project's own definition. Each rule
 -- of a fetch that looks at a head (Fetch, sections 4.1, 4.4 and 4.5) comes to the same on this view of it, as the laws
 -- say. The header that known hosts are noted by (RFC 6797, section 8.1) is in each view.
-use Rattle.std.specs.Prelude.{ℕ, Bool, true, false, not, ◌&&◌, ◌||◌, List, [], ◌∷◌, filter, codes, if◌then◌else◌}
+use Rattle.std.specs.Prelude.{ℕ, Bool, false, not, ◌&&◌, ◌||◌, List, [], ◌∷◌, filter, codes, if◌then◌else◌}
 use Rattle.wf_headers.specs.declared.headers.Header.{Header}
 use Rattle.wf_headers.specs.Headers.{contains}
 use Rattle.wf_types.specs.declared.hop.Head.{Head}
@@ -27,7 +27,7 @@ is_refused_by tainting.Basic request headers = false
 is_refused_by tainting.Cors request headers = not (passes_check request headers)
 is_refused_by tainting.Opaque request headers = is_blocked request headers
 
--- the same by the request's tainting
+-- the check of a response by the request's tainting fails
 abbrev pub is_refused : Request → List Header → Bool
 is_refused request headers = is_refused_by request.tainting request headers
 

@@ -10,9 +10,9 @@ use wf_text::{Bytes, BytesList, OutOfMemory, has_text_fold, has_wildcard};
 /// The names of response headers that a CORS response exposes.
 #[derive(Drop)]
 pub enum Exposure {
-    /// All names of its header list.
+    /// All names of the response's header list.
     All,
-    /// These.
+    /// These names.
     Names(BytesList),
 }
 

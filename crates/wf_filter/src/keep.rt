@@ -22,20 +22,21 @@ const PREFLIGHT_NAMES: [&[u8]; 6] = [
 // The header that known hosts are noted by.
 const BASIC_NAMES: [&[u8]; 1] = [b"Strict-Transport-Security"];
 
-// That one, and those that the CORS check rests on.
+// The header that known hosts are noted by, and those that the CORS check rests on.
 const CORS_NAMES: [&[u8]; 3] = [
     b"Strict-Transport-Security",
     b"Access-Control-Allow-Origin",
     b"Access-Control-Allow-Credentials",
 ];
 
-// That one, and the one that the cross-origin resource policy check rests on.
+// The header that known hosts are noted by, and the one that the cross-origin resource policy check rests
+// on.
 const OPAQUE_NAMES: [&[u8]; 2] = [
     b"Strict-Transport-Security",
     b"Cross-Origin-Resource-Policy",
 ];
 
-// Those of a CORS response that the end of main fetch rests on.
+// The headers of a CORS response that the end of main fetch rests on.
 const RESPONSE_NAMES: [&[u8]; 4] = [
     b"Access-Control-Expose-Headers",
     b"X-Content-Type-Options",
@@ -52,14 +53,14 @@ pub enum Keep<'a> {
     Preflight,
     /// Those that the check of this tainting rests on, and those with these names.
     Told(Tainting, &'a [&'a [u8]]),
-    /// Those with a CORS-safelisted response-header name, of a list that exposes so much.
+    /// Those with a CORS-safelisted response-header name, of a list that exposes this.
     Safelisted(&'a Exposure),
-    /// The same, and those that the end of main fetch rests on.
+    /// The safelisted ones of such a list, and those that the end of main fetch rests on.
     ToldCors(&'a Exposure),
 }
 
-// Whether a header of a list that exposes so much has a CORS-safelisted response-header name. Where
-// all names are exposed, its own is one of them, so it is only asked whether it is forbidden.
+// Whether a header of a list that exposes this has a CORS-safelisted response-header name. Where all
+// names are exposed, the header's own is one of them, so it is only asked whether it is forbidden.
 fn is_safelisted_in(exposure: &Exposure, header: &Header) -> bool
     ensures { result ≡ is_safelisted_in exposure.now header.now }
 {

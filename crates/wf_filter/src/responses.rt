@@ -129,8 +129,8 @@ fn redirect_filtered(alloc: Global, request: &Request) -> Result<Response, OutOf
 
 /// The filtered response of a head (Fetch, section 2.2.6), whose body is null until it is read: an
 /// opaque-redirect one where the head is a redirect and the redirect mode is manual, which `manual`
-/// tells, and else a basic, CORS or opaque one by the request's tainting. Headers stand in order
-/// and as they are spelled, and are those of the head, not copies. Each header of a CORS response is
+/// tells, and else a basic, CORS or opaque one by the request's tainting. Headers are in order and as
+/// they are spelled, and are those of the head, not copies. Each header of a CORS response is
 /// compared with the exposed names that are listed. The only error is want of memory.
 pub fn filtered(
     alloc: Global,

@@ -1,16 +1,17 @@
 -- One reading follows another: where the first gives a value, the second gives the same. And keys of one table that are
 -- known in another.
-use Rattle.std.proofs.Common.{◌≡◌, ℕ, ◌+◌, Bool, true, false, List, [], ◌∷◌, Option, Some, None, Ok, Err, Ordering, Less}
-use Rattle.std.proofs.Common.{Equal, Greater, nat_cmp, is_eq, bytes_eq, true≢false, refl, ap, sym, ◌∙◌}
+use Rattle.std.proofs.Common.{◌≡◌, ℕ, ◌+◌, Bool, true, false, List, [], ◌∷◌, Option, Some, None, Ok, Err, Ordering}
+use Rattle.std.proofs.Common.{Less, Equal, Greater, nat_cmp, is_eq, bytes_eq, true≢false, refl, ap, sym, ◌∙◌}
 use Rattle.std.specs.Prelude.{◌&&◌, ◌||◌, decimal, nat_le, IsTrue, ⊤}
 use Rattle.std.specs.Cmp.Lexicographic.{slice_cmp}
 use Rattle.std.specs.Ordering.{match_ordering}
 use Rattle.std.proofs.lemmas.Map.Text.{is_eq-slice_cmp}
 use Rattle.std.proofs.lemmas.Slice.Eq.{bytes_eq-Decides}
-use Rattle.serde_json.specs.Data.{Data, null, boolean, number, string, array, object, Items, no_items, item, Members, no_members, member, put}
+use Rattle.serde_json.specs.Data.{Data, null, boolean, number, string, array, object, Items, no_items, item}
+use Rattle.serde_json.specs.Data.{Members, no_members, member, put}
 use Rattle.serde_json.specs.Find.{get, get_member, as_array, as_object}
-use Rattle.wf_form.specs.Reading.{Read, ◌>>=◌, below, under, present, given, found_or, required, optional, count, each_from}
-use Rattle.wf_form.specs.Reading.{list_of, is_one_of, known, has_keys, only_keys}
+use Rattle.wf_form.specs.Reading.{Read, ◌>>=◌, below, under, present, given, found_or, required, optional, count}
+use Rattle.wf_form.specs.Reading.{each_from, list_of, is_one_of, known, has_keys, only_keys}
 use Rattle.wf_form.proofs.KeepsLemmas.{both}
 
 pub record Follows {A : Type 0} (read other : Read A) : Type 0 where

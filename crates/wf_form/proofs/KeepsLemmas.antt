@@ -86,7 +86,7 @@ keeps-optional P Q name default read tree next kept each goes =
     (keeps-under P name (found_or (Ok default) read (get name tree))
     (keeps-found_or P (Ok default) read (get name tree) kept each)) goes
 
--- each of so many has the property
+-- at most this many values, each of which has the property
 pub record IsListOf {A : Type 0} (P : A → Type 0) (most : ℕ) (xs : List A) : Type 0 where
   pub few : length xs ≤ most
   pub all : All P xs
@@ -143,11 +143,12 @@ if_some : {A : Type 0} (P : A → Type 0) (test : Bool) (x : A) (other : Option 
 if_some P true x other is or = is
 if_some P false x other is or = or
 
--- what a word stands for is one of the table
+-- the meaning of a word is one of the table
 meant : {A : Type 0} (P : A → Type 0) (words : List (List ℕ × A)) (text : List ℕ)
     → AllByRecursion (λ (entry : List ℕ × A). P entry.1) words → IfSome (meaning words text) P
 meant P [] text all = tt
-meant P (entry ∷ words) text all = if_some P (bytes_eq entry.0 text) entry.1 (meaning words text) all.0 (meant P words text all.1)
+meant P (entry ∷ words) text all =
+    if_some P (bytes_eq entry.0 text) entry.1 (meaning words text) all.0 (meant P words text all.1)
 
 pub keeps-word : {A : Type 0} (P : A → Type 0) (words : List (List ℕ × A))
     → AllByRecursion (λ (entry : List ℕ × A). P entry.1) words → (tree : Data) → Keeps P (word_of words tree)

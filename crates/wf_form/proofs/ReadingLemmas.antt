@@ -25,7 +25,7 @@ refuses-under {A} segment (At inner) (At place) read is refuses =
 
 -- ---- words and keys
 
--- words that are lent, with what they stand for
+-- words that are lent, with their meanings
 abbrev pub entries : {A : Type 0} → List (Bor (List ℕ) × A) → List (List ℕ × A)
 entries words = map (λ entry. (entry.0.now, entry.1)) words
 

@@ -1,5 +1,5 @@
 -- Reading a JSON tree (RFC 8259) by tables of keys: the value, or the first refused place. A place is
--- written from where the reading stands: a segment is put before it at each level.
+-- written from the value that is being read: a segment is put before it at each level.
 use Rattle.std.specs.Prelude.{ℕ, ◌+◌, ◌&&◌, Bool, true, false, nat_le, List, [], ◌∷◌, ◌++◌, codes, decimal}
 use Rattle.std.specs.Prelude.{bytes_eq, Option, Some, None, is_some, option_and_then, Result, Ok, Err, if◌then◌else◌, ⊤}
 use Rattle.std.specs.List.{list_any}
@@ -56,12 +56,12 @@ text_that passes tree = do
 abbrev pub any : List ℕ → Bool
 any text = true
 
--- what a word stands for in a table of words
+-- the meaning of a word in a table of words
 abbrev pub meaning : {A : Type 0} → List (List ℕ × A) → List ℕ → Option A
 meaning [] text = None
 meaning (entry ∷ words) text = if bytes_eq entry.0 text then Some entry.1 else meaning words text
 
--- what one of these words stands for
+-- the meaning of one of these words
 abbrev pub word_of : {A : Type 0} → List (List ℕ × A) → Data → Read A
 word_of words tree = do
   text ← present (as_str tree)
@@ -97,7 +97,7 @@ only_keys names tree = given (has_keys names (as_object tree)) tt
 abbrev pub has_key : List ℕ → Data → Bool
 has_key name tree = is_some (get name tree)
 
--- the value that was found, or what stands in its place
+-- the value that was found, as it is read, or else the default
 abbrev pub found_or : {A : Type 0} → Read A → (Data → Read A) → Option Data → Read A
 found_or default read None = default
 found_or default read (Some tree) = read tree
@@ -131,7 +131,7 @@ items_of read tree = do
   items ← present (as_array tree)
   each_from read 0 items
 
--- a list of so many items at most
+-- a list of at most this many items
 abbrev pub list_of : {A : Type 0} → ℕ → (Data → Read A) → Data → Read (List A)
 list_of most read tree = do
   items ← present (as_array tree)

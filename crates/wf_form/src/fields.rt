@@ -97,8 +97,7 @@ pub fn optional<F: Form>(
     }
 }
 
-/// Refuses a tree that is no object or has a key that is not one of the names, at its own place. It
-/// takes no memory.
+/// Refuses a tree that is no object or has a key that is not one of the names, at its own place.
 pub fn only_keys(alloc: Global, tree: &Value, names: &[&str]) -> Result<(), Refused>
     ensures { Gives result (spec.only_keys (map (λ name. name.now) names.now) (view tree.now)) }
 {

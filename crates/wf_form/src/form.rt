@@ -17,14 +17,13 @@ pub trait Form {
     ghost reads: { Self → Data → Read Self.Out };
 
     /// Reads the value. One that is not of the form is refused by `At`, with the place of the first
-    /// bad part, from the value: empty where it is the value itself, and else with each segment on
-    /// the way down behind a `/`. `Memory` tells want of memory alone.
+    /// bad part, from the value: empty where it is the value itself, and else with a `/` and then the
+    /// segment for each step on the way down. `Memory` tells want of memory alone.
     fn read(&self, alloc: Global, tree: &Value) -> Result<Self::Out, Refused>
         ensures { Gives result (reads self.now (view tree.now)) };
 }
 
-/// Refuses the value at which the reading stands: by `At`, with the empty place. It takes no
-/// memory.
+/// Refuses the value that is being read: by `At`, with the empty place.
 pub fn refused_here<T>(alloc: Global) -> Result<T, Refused>
     ensures { Gives result (Err []) }
 {

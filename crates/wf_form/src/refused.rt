@@ -1,8 +1,8 @@
 use std::alloc::{AllocError, AllocFailed};
 use wf_text::{Bytes, OutOfMemory};
 
-/// Why a value was not read: want of memory, or the first refused place, from where the reading
-/// stands. A place is empty for the value itself, and has each segment on the way down, a key or a
+/// Why a value was not read: want of memory, or the first refused place, from the value that was
+/// read. A place is empty for the value itself, and has each segment on the way down, a key or a
 /// number, with a `/` before it.
 #[derive(Drop)]
 pub enum Refused {

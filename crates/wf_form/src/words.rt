@@ -6,8 +6,8 @@ use crate::refused::Refused;
 use serde_json::Value;
 use std::alloc::Global;
 
-/// One of these words, read as what it stands for; of equal words the first counts. Any other text,
-/// and any other value, is refused at its own place.
+/// One of these words, read as its meaning; of equal words the first counts. Any other text, and any
+/// other value, is refused at its own place.
 #[derive(Drop)]
 pub struct Word<'a, T> {
     pub words: &'a [(&'a str, T)],
@@ -29,7 +29,7 @@ impl<T: Copy + Drop> Form for Word<'_, T> {
     }
 }
 
-// What a word stands for, where it is one of these.
+// The meaning of a word, where it is one of these.
 fn meaning<T: Copy>(text: &str, words: &[(&str, T)]) -> Option<T>
     ensures { result ≡ spec.meaning (map (λ entry. (entry.0.now, entry.1)) words.now) text.now }
 {

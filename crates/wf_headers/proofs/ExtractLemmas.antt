@@ -1,4 +1,4 @@
--- Items between commas, and values that stand once.
+-- Items between commas, and values that may be there once.
 use Rattle.std.proofs.Common.{arith, ◌≡◌, ◌≤◌, ◌<◌, ◌++◌, ◌+◌, ◌∷◌, [], ℕ, zero, suc, List, length, take, drop}
 use Rattle.std.proofs.Common.{filter, ap, refl, sym, ◌∙◌, Bool, true, false, cond, Option, Some, None, ◌==◌, ◌&&◌}
 use Rattle.std.proofs.Common.{drop-cons, add-one, append_assoc}
@@ -35,7 +35,7 @@ between_commas-whole : (text : List ℕ) → length text ≤ position_or_len (λ
 between_commas-whole [] e = refl
 between_commas-whole (byte ∷ text) e = grind (arith, common_steps, between_commas-whole text)
 
--- the items up to the first comma, and those behind it
+-- the items up to the first comma, and those after it
 pub items-cut : (text : List ℕ) (at : ℕ) → position (λ byte. byte == 44) text ≡ Some at → items text
     ≡ filter is_filled (trimmed tab_or_space (take at text) ∷ []) ++ items (drop 1 (drop at text))
 items-cut text at e =

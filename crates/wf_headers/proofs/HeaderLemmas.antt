@@ -21,7 +21,7 @@ onto-added true text value values nothing =
 onto-added false text value values nothing =
     ap (λ (l : List ℕ). let o : Option (List ℕ) = Some ((l ++ value) ++ after_comma values) in o) (nothing refl)
 
--- deleting a name keeps as many headers as stand before its first
+-- deleting a name keeps at least the headers before its first one
 pub without-room : (name : List ℕ) (headers : List Header) (at : ℕ) → at ≡ first_of name headers → at < length headers
     → at ≤ length (without name (remove headers at))
 without-room name [] at e lt = omega (arith, lt)

@@ -15,7 +15,7 @@ abbrev pub is_rest : Bool → List ℕ → List (List ℕ) → Bool
 is_rest false rest values = is_text rest (joined values)
 is_rest true rest values = bytes_eq (after_comma values) rest
 
--- a test that decides one fact decides another that comes to the same
+-- a test that decides one fact decides an equivalent one
 both : {P Q : Type 0} {r : Bool} → Decides r P → (P → Q) → (Q → P) → Decides r Q
 both d f g = (λ e. f (d.0 e), λ q. d.1 (g q))
 
@@ -28,19 +28,19 @@ false-from_Decides {r = false} d none = refl
 Some-same : {a b : List ℕ} → (let o : Option (List ℕ) = Some a in o) ≡ Some b → a ≡ b
 Some-same e = cc
 
--- two texts behind the same value, and behind the same comma, are equal as they are
+-- two texts that make equal texts after the same value, and the same comma, are equal
 behind-same : (found : Bool) (value a b : List ℕ) → behind_value found value a ≡ behind_value found value b → a ≡ b
 behind-same false value a b e = append_cancel_left value a b e
 behind-same true value a b e =
     append_cancel_left value a b (append_cancel_left (codes ", ") (value ++ a) (value ++ b) e)
 
--- the value and those behind it, as one text
+-- the value and those after it, as one text
 joined-behind : (found : Bool) (rest value : List ℕ) (values : List (List ℕ)) → is_rest found rest (value ∷ values)
     ≡ bytes_eq (behind_value found value (after_comma values)) rest
 joined-behind false rest value values = refl
 joined-behind true rest value values = refl
 
--- a value that stands at the front of the rest
+-- a value that is at the front of the rest
 pub is_rest-more : (found : Bool) (rest value after : List ℕ) (values : List (List ℕ))
     → rest ≡ behind_value found value after → is_rest found rest (value ∷ values) ≡ is_rest true after values
 is_rest-more found rest value after values e =
@@ -50,7 +50,7 @@ is_rest-more found rest value after values e =
     (λ same. ap (behind_value found value) same ∙ sym e)
     (λ same. behind-same found value (after_comma values) after (same ∙ e)))
 
--- a value that does not stand there
+-- a value that is not there
 pub is_rest-none : (found : Bool) (rest value : List ℕ) (values : List (List ℕ))
     → ((after : List ℕ) → rest ≢ behind_value found value after) → is_rest found rest (value ∷ values) ≡ false
 is_rest-none found rest value values none =
@@ -70,7 +70,7 @@ pub behind-none : (text after value : List ℕ) → text ≡ codes ", " ++ after
 behind-none text after value e none rest same =
     none rest (append_cancel_left (codes ", ") after (value ++ rest) (sym e ∙ same))
 
--- the test of a text that there may be
+-- the test of an optional text
 pub is_text-Some : (text : List ℕ) (found : Option (List ℕ)) → IsTrue (is_text text found) ↔ (found ≡ Some text)
 is_text-Some text None = (λ e. absurd (true≢false (sym e)), λ e. cc)
 is_text-Some text (Some other) =

@@ -29,7 +29,7 @@ pub fold-trans : (a b c : List ℕ) → str_eq_ignore_ascii_case a b ≡ true �
     → str_eq_ignore_ascii_case a c ≡ true
 fold-trans a b c e f = same-lower a c (lower-same a b e ∙ lower-same b c f)
 
--- what stands behind the first header
+-- the headers after the first one
 later : (header : Header) (headers : List Header) → HaveOneSpelling (header ∷ headers) → HaveOneSpelling headers
 later header headers one i j d lt inside = one (suc i) (suc j) d (omega (arith, lt)) (omega (arith, inside))
 
@@ -80,7 +80,7 @@ pub one_spelling-filter : (keeps : Header → Bool) (headers : List Header) → 
     → HaveOneSpelling (filter keeps headers)
 one_spelling-filter keeps headers one = AllPairs-filter SpellAlike keeps headers one
 
--- the two ways of "set", at a header that stands behind
+-- the two ways of "set", at a later header
 All-with_only-pick : (b : Bool) (header : Header) (name value : List ℕ) (other : Header) (headers : List Header)
     → SpellAlike header other → All (SpellAlike header) headers
     → All (SpellAlike header) (with_only name value headers)
@@ -131,7 +131,7 @@ spelling-pick : (b : Bool) (name : List ℕ) (header : Header) (before : List He
 spelling-pick true name header before e same left = same e
 spelling-pick false name header before e same left = left
 
--- a list that spells each of its names as it stands there is not changed by "append"
+-- a list whose headers all spell a name in one way gives the name that spelling
 spelling-there : (name : List ℕ) (before : List Header)
     → ((k : ℕ) (d : Header) → k < length before → IsTrue (is_named name (get_or before k d))
     → (get_or before k d).name ≡ name)

@@ -14,22 +14,22 @@ use Rattle.wf_headers.specs.declared.extract.Rule.TheVariants.{Tokens, Digits, S
 use Rattle.wf_headers.specs.declared.extract.Extracted.{Extracted}
 use Rattle.wf_headers.specs.declared.extract.Extracted.TheVariants.{Absent, Failure, Items}
 
--- what stands between the commas of a text
+-- what is between the commas of a text
 abbrev pub between_commas : List ℕ → List (List ℕ)
 between_commas [] = [] ∷ []
 between_commas (byte ∷ text) =
     if byte == comma then [] ∷ between_commas text else with_front byte (between_commas text)
 
--- the items of a value: what stands between its commas, trimmed, the empty ones skipped
+-- the items of a value: what is between its commas, trimmed, the empty ones skipped
 abbrev pub items : List ℕ → List (List ℕ)
 items value = filter is_filled (map (trimmed tab_or_space) (between_commas value))
 
--- a list of tokens, a failure where one of the items is none
+-- a list of tokens, a failure where one of the items is no token
 abbrev pub token_list : List (List ℕ) → Extracted
 token_list texts = if list_all is_token texts then Items texts else Failure
 
--- the values of a name, by a rule: those of Tokens are lists of tokens, those of Digits and Single
--- stand once, and one of Digits is one digit or more
+-- the values of a name, by a rule: by Tokens they are lists of tokens; by Digits and Single there is
+-- one value, and by Digits it is one digit or more
 abbrev pub extracted_of : Rule → List (List ℕ) → Extracted
 extracted_of rule [] = Absent
 extracted_of Tokens values = token_list (flat_map items values)

@@ -15,7 +15,7 @@ abbrev pub spelling : List ℕ → List Header → List ℕ
 spelling name [] = name
 spelling name (header ∷ headers) = if is_named name header then header.name else spelling name headers
 
--- "append": one more header, in the spelling that is there
+-- "append": one more header, its name spelled as the list spells it already
 abbrev pub appended : List ℕ → List ℕ → List Header → List Header
 appended name value headers = headers ++ record { name = spelling name headers; value = value } ∷ []
 

@@ -7,7 +7,7 @@ use Rattle.wf_headers.specs.Headers.{combined}
 use Rattle.wf_headers.specs.declared.headers.Header.{Header}
 
 abbrev mutual
-  -- the pieces of a text: what stands between its commas, where a comma in an HTTP quoted string
+  -- the pieces of a text: what is between its commas, where a comma in an HTTP quoted string
   -- does not count; the quoted strings are kept as they are written
   pub pieces : List ℕ → List (List ℕ)
   pieces [] = [] ∷ []
@@ -24,7 +24,7 @@ abbrev mutual
       else if byte == backslash then with_front byte (behind_backslash text)
       else with_front byte (in_quoted_string text)
 
-  -- the same from behind a backslash, which takes the next byte with it
+  -- the same from after a backslash in it, which takes the next byte with it
   pub behind_backslash : List ℕ → List (List ℕ)
   behind_backslash [] = [] ∷ []
   behind_backslash (byte ∷ text) = with_front byte (in_quoted_string text)

@@ -36,7 +36,7 @@ pub enum Extracted {
     Items(BytesList),
 }
 
-/// What there is of a value that stands once.
+/// How often a value was found, and the value where that is once.
 #[derive(Drop)]
 enum Found<'a> {
     Nothing,
@@ -102,7 +102,7 @@ fn tokens_in(alloc: Global, headers: &[Header], name: &[u8]) -> Result<Extracted
     }
 }
 
-// The value of a name that stands once.
+// The value of a name, where the name is there once.
 fn find<'a>(headers: &'a [Header], name: &[u8]) -> Found<'a>
     ensures { WasFound result (values_of name.now headers.now) }
 {
@@ -132,9 +132,9 @@ impl HeaderList {
     /// 2.2.2).
     ///
     /// `Absent` exactly where the list does not contain the name. By `Tokens` the items are what
-    /// stands between the commas of each value, trimmed, the empty ones skipped, and it is a failure
-    /// where one is no token. By `Digits` and `Single` the item is the value, and it is a failure where
-    /// the name stands twice, and by `Digits` where the value is not one digit or more.
+    /// is between the commas of each value, trimmed, the empty ones skipped, and it is a failure where
+    /// one is no token. By `Digits` and `Single` the item is the value, and it is a failure where the
+    /// name is there twice, and by `Digits` where the value is not one digit or more.
     pub fn extract(&self, alloc: Global, name: &[u8], rule: Rule) -> Result<Extracted, OutOfMemory>
         ensures { IfOk result (λ found. found ≡ extracted rule name.now self.now) }
     {

@@ -171,7 +171,7 @@ fn copy_of_some<T: HeaderTest>(
     Ok(copy)
 }
 
-// Adds a value, behind a comma where one was there.
+// Adds a value, with a comma and a space before it where it is not the first.
 fn add_value(text: &mut Vec<u8>, found: bool, value: &[u8]) -> Result<(), OutOfMemory>
     ensures { OnOk result (text.new.items
         ≡ (if found then text.old.items ++ (codes ", " ++ value.now) else text.old.items ++ value.now)) }
@@ -210,7 +210,7 @@ fn after_prefix<'a>(text: &'a [u8], prefix: &[u8]) -> Option<&'a [u8]>
     text.strip_prefix(prefix)
 }
 
-// What follows a value at the text's front, behind a comma and a space where one was there.
+// What follows a value at the text's front, with a comma and a space before it where it is not the first.
 fn after_value<'a>(text: &'a [u8], found: bool, value: &[u8]) -> Option<&'a [u8]>
     ensures { MatchOption result ((rest : List ℕ) → text.now ≢ behind_value found value.now rest)
         (λ rest. text.now ≡ behind_value found value.now rest.now) }
@@ -334,7 +334,7 @@ impl HeaderList {
         keep_in(&mut self.headers, test);
     }
 
-    // Appends each of these headers, in order. Where memory is refused, those before it are there.
+    // Appends each of these headers, in order. Where memory is refused for one, those before it are appended.
     fn append_each(&mut self, more: &[Header]) -> Result<(), OutOfMemory>
         ensures ok { OnOk result (self.new ≡ all_appended more.now self.old) }
         ensures err { OnErr result (take (length self.old) self.new ≡ self.old) }

@@ -7,19 +7,19 @@ use crate::headers::{Header, HeaderList};
 use std::alloc::Global;
 use wf_text::{Bytes, BytesList, OutOfMemory, eq_fold, trim_tab_or_space};
 
-/// Where a text stands that is split at its commas.
+/// A place in a text that is split at its commas.
 #[derive(Clone, Copy)]
 enum Place {
     /// Outside quoted strings.
     Outside,
     /// In a quoted string.
     Quoted,
-    /// In a quoted string, behind a backslash.
+    /// In a quoted string, after a backslash.
     Escaped,
 }
 
 impl Place {
-    // The place behind a byte, or nothing where the byte is a comma between two pieces.
+    // The place after a byte, or nothing where the byte is a comma between two pieces.
     fn behind(self, byte: u8) -> Option<Place>
         ensures { (rest : List ℕ) → pieces_at self (byte ∷ rest) ≡ pieces_behind byte result rest }
     {
@@ -39,7 +39,7 @@ impl Place {
 struct Splitter {
     /// The pieces that ended, trimmed.
     pieces: BytesList,
-    /// What there is of the next piece.
+    /// The bytes of the next piece so far.
     piece: Vec<u8>,
     place: Place,
 }
@@ -97,7 +97,7 @@ impl Splitter {
         Ok(())
     }
 
-    // Takes a value, behind a comma and a space where it is not the first.
+    // Takes a value, with a comma and a space before it where it is not the first.
     fn take_value(&mut self, found: bool, value: &[u8]) -> Result<(), OutOfMemory>
         ensures { OnOk result ((rest : List ℕ) → split_with self.new rest
             ≡ split_with self.old (if found then codes ", " ++ (value.now ++ rest) else value.now ++ rest)) }
@@ -127,7 +127,7 @@ pub fn split_value(alloc: Global, value: &[u8]) -> Result<BytesList, OutOfMemory
     splitter.finish()
 }
 
-// The values of a name, split as one text that is not built.
+// The values of a name, split as if they were joined: the joined text is not built.
 fn split_in(
     alloc: Global,
     headers: &[Header],

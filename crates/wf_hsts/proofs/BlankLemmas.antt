@@ -69,7 +69,7 @@ blank-reverse (byte ∷ text) =
     ap (λ l. list_all is_blank l) (reverse-cons byte text) ∙ list_all-append is_blank (reverse text) (byte ∷ [])
     ∙ ap (λ b. b && (is_blank byte && true)) (blank-reverse text) ∙ turned (is_blank byte) (list_all is_blank text)
 
--- a text stands between the blanks that trimming takes off
+-- a text is between the blanks that trimming takes off
 pub trimmed-padded : (text : List ℕ) → IsPadded (trimmed tab_or_space text) text
 trimmed-padded text =
     let start = trimmed_start tab_or_space text in

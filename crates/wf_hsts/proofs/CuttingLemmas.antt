@@ -1,5 +1,6 @@
 -- The first piece of a text, and the others.
-use Rattle.std.proofs.Common.{◌≡◌, ◌≤◌, ◌+◌, ℕ, suc, Bool, true, false, if◌then◌else◌, List, [], ◌∷◌, length, take, drop, Option, Some, None, refl, ap, sym}
+use Rattle.std.proofs.Common.{◌≡◌, ◌≤◌, ◌+◌, ℕ, suc, Bool, true, false, if◌then◌else◌, List, [], ◌∷◌, length, take}
+use Rattle.std.proofs.Common.{drop, Option, Some, None, refl, ap, sym}
 use Rattle.std.proofs.Common.{◌∙◌, arith, append_assoc, append-nil, ◌<◌, ◌-◌}
 use Rattle.std.proofs.lemmas.List.{take_rest}
 use Rattle.wf_hsts.specs.Private.Pieces.{piece_end}
@@ -24,7 +25,7 @@ piece_end-within place (byte ∷ text) =
           (piece_end-within (next_place place byte) text),
     )
 
--- the pieces behind the first one
+-- the pieces after the first one
 abbrev pub pieces_behind : List ℕ → List (List ℕ)
 pieces_behind [] = []
 pieces_behind (semicolon ∷ text) = pieces Outside text
@@ -36,7 +37,7 @@ cut-there : (cut : Bool) (byte : ℕ) (text : List ℕ) (end : ℕ) (ps : List (
 cut-there true byte text end ps h = refl
 cut-there false byte text end ps h = ap (with_front byte) h
 
--- the pieces are the first one, and the ones behind its semicolon
+-- the pieces are the first one, and the ones after its semicolon
 pub pieces-cut : (place : Place) (text : List ℕ) → pieces place text ≡ take (piece_end place text) text
     ∷ pieces_behind (drop (piece_end place text) text)
 pieces-cut place [] = refl

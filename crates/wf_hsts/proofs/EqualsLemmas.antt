@@ -5,12 +5,12 @@ use Rattle.std.proofs.lemmas.Grind.{common_steps}
 use Rattle.std.specs.List.{before_first, position_or_len}
 use Rattle.wf_hsts.specs.Reading.{behind_equals}
 
--- what stands before the first equals sign, byte by byte
+-- what is before the first equals sign, byte by byte
 abbrev pub until_equals : List ℕ → List ℕ
 until_equals [] = []
 until_equals (byte ∷ text) = if byte == 61 then [] else byte ∷ until_equals text
 
--- what stands behind it
+-- what is after it
 abbrev pub after_equals : List ℕ → Option (List ℕ)
 after_equals [] = None
 after_equals (byte ∷ text) = if byte == 61 then Some text else after_equals text

@@ -16,7 +16,8 @@ each-map : (P Q : KnownHost → Type 0) → ((known : KnownHost) → P known →
 each-map P Q f [] each = tt
 each-map P Q f (known ∷ hosts) each = (f known each.0, each-map P Q f hosts each.1)
 
-each-append : (P : KnownHost → Type 0) (a b : List KnownHost) → AllByRecursion P a → AllByRecursion P b → AllByRecursion P (a ++ b)
+each-append : (P : KnownHost → Type 0) (a b : List KnownHost) → AllByRecursion P a → AllByRecursion P b
+    → AllByRecursion P (a ++ b)
 each-append P [] b each others = others
 each-append P (known ∷ a) b each others = (each.0, each-append P a b each.1 others)
 
@@ -25,7 +26,8 @@ each-kept : (P : KnownHost → Type 0) (p : KnownHost → Bool) (hosts : List Kn
 each-kept P p [] each = tt
 each-kept P p (known ∷ hosts) each = by (p known) (each-kept P p hosts each.1)
   where
-    by : (kept : Bool) → AllByRecursion P (filter p hosts) → AllByRecursion P (cond kept (known ∷ filter p hosts) (filter p hosts))
+    by : (kept : Bool) → AllByRecursion P (filter p hosts)
+        → AllByRecursion P (cond kept (known ∷ filter p hosts) (filter p hosts))
     by true rest = (each.0, rest)
     by false rest = rest
 
@@ -50,7 +52,8 @@ sorted-kept p (known ∷ hosts) sorted = by (p known) (sorted-kept p hosts sorte
     by false rest = rest
 
 sorted-joined : (new : KnownHost) (a b : List KnownHost) → AreSorted a → AreSorted b
-    → AllByRecursion (λ known. text_cmp known.host new.host ≡ Less) a → AllByRecursion (λ known. text_cmp new.host known.host ≡ Less) b
+    → AllByRecursion (λ known. text_cmp known.host new.host ≡ Less) a
+    → AllByRecursion (λ known. text_cmp new.host known.host ≡ Less) b
     → AreSorted (a ++ (new ∷ b))
 sorted-joined new [] b front back before behind = (behind, back)
 sorted-joined new (known ∷ a) b front back before behind = (

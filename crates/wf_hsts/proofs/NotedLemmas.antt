@@ -142,7 +142,7 @@ filter-append : (p : KnownHost → Bool) (a b : List KnownHost) → filter p (a 
 filter-append p [] b = refl
 filter-append p (known ∷ a) b = rw (filter-append p a b) (append-by known (filter p a) (filter p b) (p known))
 
--- another host goes before or behind
+-- another host goes before or after
 pub with-less : (new : KnownHost) (name : List ℕ) (hosts : List KnownHost) → bytes_eq new.host name ≡ false
     → without name (with_host new hosts) ≡ with_host new (without name hosts)
 with-less new name hosts other =

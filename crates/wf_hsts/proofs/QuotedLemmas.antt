@@ -78,7 +78,7 @@ token-unquoted byte text token =
     let there : is_tchar 34 ≡ true = subst (λ b. is_tchar b ≡ true) same taken in
     cc)
 
--- a value is read as what it stands for
+-- a value is read as what the grammar says it is
 pub value-read : (written value : List ℕ) → IsValue written value → value_in written ≡ Some value
 value-read _ _ (IsValue.token [] token) = cc
 value-read _ _ (IsValue.token (byte ∷ text) token) = rw (token-unquoted byte text token, token) refl

@@ -85,7 +85,7 @@ insert_known new [] = new ∷ []
 insert_known new (known ∷ hosts) =
     match_ordering (text_cmp new.host known.host) (new ∷ known ∷ hosts) (new ∷ hosts) (known ∷ insert_known new hosts)
 
--- the hosts before one, and behind it
+-- the hosts before one, and after it
 abbrev before : KnownHost → List KnownHost → List KnownHost
 before new hosts = filter (λ known. is_lt (text_cmp known.host new.host)) hosts
 

@@ -1,4 +1,4 @@
--- A name stands twice where it is in the set of the names before it.
+-- A name is there twice where it is in the set of the names before it.
 use Rattle.std.proofs.Common.{◌≡◌, ◌<◌, ◌+◌, length, drop, get_or, ℕ, Bool, true, false, ◌||◌, not, List, [], ◌∷◌}
 use Rattle.std.proofs.Common.{refl, ap, sym, ◌∙◌, cond, Bor}
 use Rattle.std.proofs.lemmas.List.{drop_more}

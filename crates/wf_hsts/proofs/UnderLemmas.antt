@@ -1,4 +1,4 @@
--- Names under a known host, by the texts behind their dots.
+-- Names under a known host, by the texts after their dots.
 use Rattle.std.proofs.Common.{◌≡◌, ◌==◌, ◌&&◌, ◌||◌, ◌<◌, ◌≤◌, ◌-◌, ◌+◌, inl, inr, get_or, ℕ, zero, suc, Bool, true}
 use Rattle.std.proofs.Common.{false, List, [], ◌∷◌, drop, length, nat_eq, nat_lt, refl, ap, sym, ◌∙◌, arith}
 use Rattle.std.proofs.lemmas.Bool.{cases_lt}
@@ -19,7 +19,7 @@ or-false : (b : Bool) → (b || false) ≡ b
 or-false true = refl
 or-false false = refl
 
--- a text that ends in another is it, or ends in it behind the first byte
+-- a text that ends in another is it, or ends in it after the first byte
 ends-short : (byte : ℕ) (rest needle : List ℕ) → length needle ≤ length rest → ends_with nat_eq (byte ∷ rest) needle
     ≡ (bytes_eq needle (byte ∷ rest) || ends_with nat_eq rest needle)
 ends-short byte rest needle h =

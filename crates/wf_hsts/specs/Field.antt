@@ -8,7 +8,7 @@ use Rattle.wf_hsts.specs.Grammar.{IsField}
 use Rattle.wf_hsts.specs.declared.directives.Directive.{Directive}
 use Rattle.wf_hsts.specs.declared.sts.Sts.{Sts}
 
--- a name stands twice; names are in lower case here
+-- a name is there twice; names are in lower case here
 abbrev pub has_twice : List Directive → Bool
 has_twice [] = false
 has_twice (directive ∷ directives) =

@@ -23,7 +23,7 @@ pub record IsPadded (inner text : List ℕ) : Type 0 where
   pub blank_behind : IsBlank behind
   pub text_is : text ≡ before ++ (inner ++ behind)
 
--- what is written of a quoted-string behind its first quote, and its value: a backslash takes the next
+-- what is written of a quoted-string after its first quote, and its value: a backslash takes the next
 -- byte with it, and the first other quote is the last byte (RFC 9110, section 5.6.4)
 pub data IsQuoted : List ℕ → List ℕ → Type 0 where
   closed : IsQuoted (quotation_mark ∷ []) []

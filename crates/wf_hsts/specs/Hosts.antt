@@ -11,7 +11,7 @@ use Rattle.wf_text.specs.Orders.{text_cmp}
 use Rattle.wf_hsts.specs.declared.hosts.KnownHost.{KnownHost}
 use Rattle.wf_hsts.specs.declared.sts.Sts.{Sts}
 
--- each host comes before those behind it
+-- each host comes before those that follow it
 abbrev pub AreSorted : List KnownHost → Type 0
 AreSorted [] = Unit {0}
 AreSorted (known ∷ hosts) =
@@ -25,12 +25,12 @@ pub record AreHosts (hosts : List KnownHost) : Type 0 where
 abbrev pub known_host : List ℕ → Bool → ℕ → KnownHost
 known_host host subdomains until = record { host = host; subdomains = subdomains; until = until }
 
--- a name that a known host stands for: the host's own, or with subdomains one that ends in a dot and it
+-- a known host matches a name: the host's own, or with subdomains one that ends in a dot and the host
 abbrev pub stands_for : List ℕ → KnownHost → Bool
 stands_for name known =
     bytes_eq known.host name || (known.subdomains && ends_with nat_eq name (dot ∷ known.host))
 
--- a name is known at a time where a host stands for it whose term has not ended
+-- a name is known at a time where a host whose term has not ended matches it
 abbrev pub matches_host : List KnownHost → List ℕ → ℕ → Bool
 matches_host hosts name now = list_any (λ known. stands_for name known && nat_lt now known.until) hosts
 
@@ -42,7 +42,7 @@ holds host hosts = list_any (λ known. bytes_eq known.host host) hosts
 abbrev pub without : List ℕ → List KnownHost → List KnownHost
 without host hosts = filter (λ known. not (bytes_eq known.host host)) hosts
 
--- the hosts that come before this one, it, and those that come behind it
+-- the hosts that come before this one, it, and those that come after it
 abbrev pub with_host : KnownHost → List KnownHost → List KnownHost
 with_host new hosts =
     filter (λ known. is_lt (text_cmp known.host new.host)) hosts
@@ -60,8 +60,8 @@ without_first_to_end hosts = filter (λ known. list_any (λ other. ends_before o
 abbrev pub with_room : List KnownHost → List KnownHost
 with_room others = if nat_lt (length others) 4096 then others else without_first_to_end others
 
--- the list after a field of a host: with max-age 0 the host is forgotten, else it is known for so long,
--- in the place of what was known of it (RFC 6797, sections 6.1.1 and 8.1)
+-- the list after a field of a host: with max-age 0 the host is forgotten, else it is known for max-age
+-- seconds from now, in the place of what was known of it (RFC 6797, sections 6.1.1 and 8.1)
 abbrev pub noted : List ℕ → Sts → ℕ → List KnownHost → List KnownHost
 noted host sts now hosts =
     if sts.age == 0 then without host hosts

@@ -22,7 +22,7 @@ cuts Outside byte = byte == semicolon
 cuts Quoted byte = false
 cuts Escaped byte = false
 
--- the place behind another byte: a quotation mark begins and ends a quoted string, in which a backslash
+-- the place after another byte: a quotation mark begins and ends a quoted string, in which a backslash
 -- takes the next byte with it
 abbrev pub next_place : Place → ℕ → Place
 next_place Outside byte = if byte == quotation_mark then Quoted else Outside
@@ -44,7 +44,7 @@ abbrev mutual
       else if byte == backslash then behind_backslash text
       else option_map (λ value. byte ∷ value) (unquoted text)
 
-  -- and of what follows a backslash in it
+  -- the value of a quoted string, of what follows a backslash in it
   pub behind_backslash : List ℕ → Option (List ℕ)
   behind_backslash [] = None
   behind_backslash (byte ∷ text) = option_map (λ value. byte ∷ value) (unquoted text)
@@ -56,7 +56,7 @@ value_in (byte ∷ text) =
     if byte == quotation_mark then unquoted text
     else if is_token (byte ∷ text) then Some (byte ∷ text) else None
 
--- what stands behind the first equals sign, where there is one
+-- what comes after the first equals sign, where there is one
 abbrev pub behind_equals : List ℕ → Option (List ℕ)
 behind_equals text = option_map (λ index. drop (index + 1) text) (position (λ byte. byte == equals_sign) text)
 
@@ -70,11 +70,11 @@ directive_with name None = Some (directive name None)
 directive_with name (Some text) =
     option_map (λ value. directive name (Some value)) (value_in (trimmed tab_or_space text))
 
--- the same where the name is a token
+-- such a directive, where the name is a token
 abbrev pub directive_from : List ℕ → Option (List ℕ) → Option Directive
 directive_from name written = if is_token name then directive_with name written else None
 
--- the directive that a text is: its name stands before the first equals sign, its value behind it
+-- the text as a directive: its name is before the first equals sign, its value after it
 abbrev pub directive_in : List ℕ → Option Directive
 directive_in text =
     directive_from (trimmed tab_or_space (before_first (λ byte. byte == equals_sign) text)) (behind_equals text)
@@ -83,7 +83,7 @@ directive_in text =
 abbrev pub piece_in : List ℕ → Option (List Directive)
 piece_in text = if list_all is_blank text then Some [] else option_map (λ found. found ∷ []) (directive_in text)
 
--- directives and the ones behind them
+-- directives and the ones after them
 abbrev pub with_more : Option (List Directive) → Option (List Directive) → Option (List Directive)
 with_more None others = None
 with_more (Some directives) None = None
@@ -98,7 +98,7 @@ directives_in (piece ∷ pieces) = with_more (piece_in piece) (directives_in pie
 abbrev pub directives_of : List ℕ → Option (List Directive)
 directives_of value = directives_in (pieces Outside value)
 
--- what directives say, of which no name may stand twice
+-- what directives say; no name may be there twice
 abbrev pub said_once : List Directive → Option Sts
 said_once directives = if has_twice directives then None else sts_of directives
 
@@ -110,6 +110,6 @@ sts_in value = option_and_then said_once (directives_of value)
 abbrev pub ReadsTheGrammar : Type 0
 ReadsTheGrammar = (value : List ℕ) (sts : Sts) → (sts_in value ≡ Some sts) ↔ IsSts value sts
 
--- and no age is greater than the greatest
+-- no field says an age that is greater than the greatest
 abbrev pub AgesAreBounded : Type 0
 AgesAreBounded = (value : List ℕ) (sts : Sts) → sts_in value ≡ Some sts → sts.age ≤ greatest_age

@@ -1,7 +1,8 @@
 ghost use Rattle.std.specs.Prelude.{◌≡◌, ◌==◌, ◌<◌, length, Some, None, IfOk, if◌then◌else◌, option_copied};
 ghost use Rattle.std.specs.List.{list_all};
 ghost use Rattle.wf_hsts.specs.Grammar.{is_blank};
-ghost use Rattle.wf_hsts.specs.Reading.{behind_equals, directive_in, directive_with, directives_of, piece_in, unquoted, value_in, with_more};
+ghost use Rattle.wf_hsts.specs.Reading.{behind_equals, directive_in, directive_with, directives_of, piece_in};
+ghost use Rattle.wf_hsts.specs.Reading.{unquoted, value_in, with_more};
 
 use crate::pieces::piece_end;
 use std::alloc::Global;
@@ -61,7 +62,7 @@ fn value_in(alloc: Global, text: &[u8]) -> Result<Option<Bytes>, OutOfMemory>
     }
 }
 
-// What stands behind the first equals sign, where there is one.
+// What comes after the first equals sign, where there is one.
 fn behind_equals(text: &[u8]) -> Option<&[u8]>
     ensures { option_copied result ≡ behind_equals text.now }
 {
@@ -93,7 +94,7 @@ fn directive_with(
     }
 }
 
-// The directive that a text is, or nothing where it is none.
+// The text as a directive, or nothing where it is none.
 fn directive_in(alloc: Global, text: &[u8]) -> Result<Option<Directive>, OutOfMemory>
     ensures { IfOk result (λ directive. directive ≡ directive_in text.now) }
 {
@@ -112,7 +113,7 @@ fn is_blank(text: &[u8]) -> bool
     text.iter().all(|byte| TAB_OR_SPACE.contains(byte))
 }
 
-// Adds the directive that a piece is, if it is not blank. Answers whether it is one or the other.
+// Adds a piece as a directive, if it is not blank. Answers whether it is a directive or blank.
 fn add_piece(
     alloc: Global,
     directives: &mut Items<Directive>,
@@ -133,8 +134,8 @@ fn add_piece(
     }
 }
 
-// The directives of a field's value, in order, or nothing where it is not one of the grammar (RFC
-// 6797, section 6.1).
+// The directives of a field's value, in order, or nothing where the value does not follow the grammar
+// (RFC 6797, section 6.1).
 pub(crate) fn directives_of(
     alloc: Global,
     value: &[u8],

@@ -141,8 +141,8 @@ impl HstsList {
     }
 
     /// Whether the name is known at this time, in seconds: whether a host of the list whose term has
-    /// not ended is the name, or has subdomains and the name ends in a dot and it (RFC 6797, section
-    /// 8.2). It takes no memory.
+    /// not ended is the name, or has subdomains and the name ends in a dot and the host (RFC 6797,
+    /// section 8.2). It takes no memory.
     pub fn is_known(&self, host: &[u8], now: u64) -> bool
         ensures known { result ≡ matches_host self.now host.now now }
         ensures hosts { AreHosts self.now }
@@ -159,9 +159,9 @@ impl HstsList {
     }
 
     /// Takes in what a Strict-Transport-Security field of the host says at this time, in seconds.
-    /// With age 0 the host is forgotten; else it is known until the time and the age, in the place
+    /// With age 0 the host is forgotten; else it is known until that time plus the age, in the place
     /// of what was known of it. Where 4,096 other hosts are known, the one whose term ends first
-    /// goes, of some whose terms end then the first by its bytes (profile). Want of memory leaves
+    /// goes; of several whose terms end then, the first by its bytes (profile). Want of memory leaves
     /// the list as it was (RFC 6797, section 8.1).
     pub fn note(&mut self, host: Bytes, sts: Sts, now: u64) -> Result<(), OutOfMemory>
         requires time { now < 2 ^ 48 }

@@ -63,7 +63,7 @@ impl Index {
         self.terms.get(host).copied()
     }
 
-    // The host whose term ends first; of some whose terms end then, the first by its bytes.
+    // The host whose term ends first; of several whose terms end then, the first by its bytes.
     pub(crate) fn first_to_end(&self) -> Option<&[u8]>
         ensures { IsFirstToEnd (option_copied result) self.now }
     {

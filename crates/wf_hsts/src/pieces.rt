@@ -2,14 +2,14 @@ ghost use Rattle.std.specs.Prelude.{◌≡◌};
 ghost use Rattle.wf_hsts.specs.Private.Pieces.{piece_end};
 ghost use Rattle.wf_hsts.specs.Reading.{cuts, next_place};
 
-/// Where a text stands that is cut at its semicolons.
+/// A place in a text that is cut at its semicolons.
 #[derive(Clone, Copy)]
 pub(crate) enum Place {
     /// Outside quoted strings.
     Outside,
     /// In a quoted string.
     Quoted,
-    /// In a quoted string, behind a backslash.
+    /// In a quoted string, after a backslash.
     Escaped,
 }
 
@@ -24,7 +24,7 @@ impl Place {
         }
     }
 
-    // The place behind another byte.
+    // The place after another byte.
     fn behind(self, byte: u8) -> Place
         ensures { result ≡ next_place self byte }
     {
@@ -38,7 +38,7 @@ impl Place {
     }
 }
 
-// How many bytes stand before the first semicolon outside quoted strings, or before the end.
+// How many bytes there are before the first semicolon outside quoted strings, or before the end.
 pub(crate) fn piece_end(text: &[u8]) -> usize
     ensures { result ≡ piece_end Place.Outside text.now }
 {

@@ -20,7 +20,7 @@ pub struct Sts {
     pub subdomains: bool,
 }
 
-// Whether a name stands twice.
+// Whether a name is there twice.
 fn has_twice(alloc: Global, directives: &[Directive]) -> Result<bool, OutOfMemory>
     ensures { IfOk result (λ twice. twice ≡ has_twice directives.now) }
 {
@@ -85,9 +85,9 @@ fn sts_in(alloc: Global, value: &[u8]) -> Result<Option<Sts>, OutOfMemory>
 }
 
 /// What the value of a Strict-Transport-Security field says. `None` exactly where the field is
-/// ignored: where it is not one of the grammar, a directive's name stands twice in any case, max-age
-/// is absent or not digits, or includeSubDomains has a value. Other directives are ignored (RFC
-/// 6797, sections 6.1, 6.1.1 and 6.1.2).
+/// ignored: where it does not follow the grammar, a directive's name is there twice, ASCII case aside,
+/// max-age is absent or not digits, or includeSubDomains has a value. Other directives are ignored
+/// (RFC 6797, sections 6.1, 6.1.1 and 6.1.2).
 pub fn parse_sts(alloc: Global, value: &[u8]) -> Result<Option<Sts>, OutOfMemory>
     ensures says { IfOk result (λ parsed. parsed ≡ sts_in value.now) }
     ensures grammar { IfOk result (λ parsed. (sts : Sts) → (parsed ≡ Some sts) ↔ IsSts value.now sts) }

@@ -85,9 +85,9 @@ is-line byte line = ((λ h. true≢false (sym line ∙ ap is_line_byte h)), (λ 
 pub no-block-line : (text : List ℕ) (byte : ℕ) → is_line_byte byte ≡ true → is_block (text ++ byte ∷ []) ≡ false
 no-block-line text byte line = no-block-push text byte (is-line byte line).0
 
--- ---- texts behind which no block ends
+-- ---- texts in which no block ends
 
--- behind this text no block ends where the next one is read, not even where it ends
+-- after the first text, no block ends while the second is read, nor at its end
 abbrev pub IsQuiet : List ℕ → List ℕ → Type 0
 IsQuiet before text = (n : ℕ) → is_block (before ++ take n text) ≡ false
 

@@ -108,11 +108,11 @@ abbrev plus : ℕ → Option ℕ → Option ℕ
 plus n None = None
 plus n (Some m) = Some (n + m)
 
--- the trailers end behind so many bytes, where they end
+-- the trailers end after so many bytes, where they end
 abbrev trailers_end : Option ℕ → Decoded
 trailers_end o = record { data_is = []; complete = are_short o }
 
--- what a line and more lines have, behind so many bytes
+-- how many bytes a line and the lines after it have, with so many before them
 abbrev line_and_more : ℕ → ℕ → Option (List ℕ × List ℕ) → Option ℕ
 line_and_more n most None = None
 line_and_more n most (Some cut) = plus (n + length cut.0 + 2) (trailers_length most cut.1)
@@ -171,7 +171,7 @@ longer-line n most byte line (Some rest) =
     from (Some m) = let same : n + (length (byte ∷ line) + 2 + m) ≡ n + length (byte ∷ line) + 2 + m = omega arith in
         ap Some same
 
--- behind the CR of the empty line
+-- after the CR of the empty line
 last-decoded : (n most : ℕ) (rest : List ℕ) → n ≤ 8190
     → decoded_at LastEnd rest
     ≡ trailers_end (plus n (behind_trailer (trailers_length most) (option_map (λ r. ([], r)) (behind_lf rest))))
@@ -193,7 +193,7 @@ trailer-full : (byte n : ℕ) (end : Place) → byte ≢ 13 → byte ≢ 10 → 
 trailer-full byte n end no_cr no_lf full =
     rw (fails_eq byte 13 no_cr, fails_eq byte 10 no_lf, holds_le 8188 n full) refl
 
--- what is decoded behind a turn, before these bytes
+-- what is decoded after a turn, where these bytes follow
 abbrev behind : List ℕ → Turn → Decoded
 behind bytes to = behind_turn (λ next. decoded_at next bytes) to
 
@@ -293,7 +293,7 @@ trailers-whole bytes = trailers-decoded bytes 0 (length bytes) (omega arith) (om
 
 -- ---- the line of a chunk
 
--- behind the line of a chunk
+-- after the line of a chunk
 behind-line : (size : ℕ) (rest : List ℕ) → decoded_at (behind_line size) rest ≡ behind_size chunks (Some (size, rest))
 behind-line size rest =
     elim (eqb_tells size 0) [
@@ -310,7 +310,7 @@ line_end-decoded size (byte ∷ rest) =
       | inr other ↦ rw other.0 refl
     ]
 
--- the size and the rest, where the line of a chunk ends behind these bytes
+-- the size and the rest, where the line of a chunk is short enough, the bytes before these included
 abbrev in_line : ℕ → ℕ → List ℕ × List ℕ → Option (ℕ × List ℕ)
 in_line size line cut = if nat_le (line + length cut.0 + 2) 4096 then Some (size, cut.1) else None
 
@@ -484,7 +484,7 @@ digits-other size line byte no_cr no_tab no_space no_semicolon =
       ) refl
     ]
 
--- behind the digits, or behind blanks
+-- after the digits, or after blanks
 blanks-decoded : (bytes : List ℕ) (size line : ℕ) → line ≤ 4094 → decoded_at (Blanks size line) bytes
     ≡ behind_size chunks (option_and_then (in_blanks size line) (cut_line bytes))
 blanks-decoded [] size line within = refl
@@ -575,7 +575,7 @@ digit-none value byte text r digit =
     (ap (λ b. nat_le 1 (16 + length (byte ∷ front)) && b && test && more) full
     ∙ ap (λ b. b && test && more) (false-right (nat_le 1 (16 + length (byte ∷ front)))))
 
--- behind one digit or more what follows stands as behind blanks
+-- after one digit or more, what follows is read as after blanks
 no-digit : (digits value : ℕ) (text r : List ℕ) → 1 ≤ digits → digits ≤ 16 → size_digits text ≡ []
     → in_digits digits value (text, r) ≡ in_blanks value digits (text, r)
 no-digit digits value text r some few none =
@@ -590,7 +590,7 @@ no-digit digits value text r some few none =
 first-no-digit : (value : ℕ) (text r : List ℕ) → size_digits text ≡ [] → in_digits 0 value (text, r) ≡ None
 first-no-digit value text r none = ap (λ d. with_digits 0 value d (text, r)) none
 
--- a line behind a byte that is no digit has none in front
+-- a line that begins with a byte that is no digit has no digits in front
 front-none : (byte : ℕ) (rest : List ℕ) → is_ascii_hexdigit byte ≡ false → size_digits (line_of (byte ∷ rest)) ≡ []
 front-none byte rest other =
     elim (eqb_tells byte 13) [

@@ -93,7 +93,7 @@ field-quiet before field none is = by_name field.name is.name.0 refl
         (line-quiet before byte (rest ++ 58
         ∷ field.raw) field.end none each.0 (line_text-append rest (58 ∷ field.raw) each.1 (refl, raw)))
 
--- one text behind another
+-- one text after another
 behind-both : (before text more : List ℕ) → IsBehindLine before text → IsBehindLine (before ++ text) more
     → IsBehindLine before (text ++ more)
 behind-both before text more first second = record {
@@ -114,7 +114,7 @@ fields-quiet before (field ∷ fields) line each =
 
 -- ---- the status line
 
--- what stands between the first byte of a status line and its end
+-- what is between the first byte of a status line and its end
 abbrev pub status_rest : ResponseHead → List ℕ
 status_rest head = codes "TTP/1." ++ ((48 + head.minor) ∷ 32 ∷ (head.digits ++ print_reason head.reason))
 

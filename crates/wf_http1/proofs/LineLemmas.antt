@@ -1,4 +1,4 @@
--- Lines of a head: no block ends in them, and one ends in the empty line behind them.
+-- Lines of a head: no block ends in them, and one ends in the empty line after them.
 use Rattle.std.proofs.Common.{◌≡◌, ◌==◌, ◌||◌, ◌⊎◌, inl, inr, ℕ, Bool, true, false, true≢false, List, [], ◌∷◌, ◌++◌}
 use Rattle.std.proofs.Common.{length, take, reverse, refl, ap, sym, ◌∙◌, subst, arith, append_assoc, length-append}
 use Rattle.std.proofs.lemmas.List.{take-append-le}
@@ -49,7 +49,7 @@ no-block-crlf before byte line = no-block (((before ++ byte ∷ []) ++ 13 ∷ []
     by_cases {rest} (inr h) = let a = back-push before byte in let b = back-push (before ++ byte ∷ []) 13 in let d =
         back-push ((before ++ byte ∷ []) ++ 13 ∷ []) 10 in (is-line byte line).0 (cc)
 
--- no block ends in a line end behind a byte of a line
+-- no block ends in a line end that follows a byte of a line
 end-quiet : (before : List ℕ) (byte : ℕ) (end : LineEnd) → is_line_byte byte ≡ true
     → IsQuiet (before ++ byte ∷ []) (print_end end)
 end-quiet before byte lf line =
@@ -62,7 +62,7 @@ end-quiet before byte crlf line =
 
 -- ---- a line
 
--- a line of one byte or more, behind a text that is no block
+-- a line of one byte or more, after a text that is no block
 pub record IsBehindLine (before text : List ℕ) : Type 0 where
   pub quiet : IsQuiet before text
   pub line : EndsLine (before ++ text)
@@ -86,7 +86,7 @@ ends_line-none text end =
     ap is_block (end.whole ∙ sym (append_assoc end.front (end.byte ∷ []) (print_end end.end)))
     ∙ quiet-end (end.front ++ end.byte ∷ []) (print_end end.end) (end-quiet end.front end.byte end.end end.line)
 
--- ---- the empty line behind a line
+-- ---- the empty line after a line
 
 some : (front : List ℕ) (byte : ℕ) → is_line_byte byte ≡ true → list_any is_line_byte (front ++ byte ∷ []) ≡ true
 some front byte line = list_any-append is_line_byte front (byte ∷ [])

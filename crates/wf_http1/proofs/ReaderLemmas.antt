@@ -299,7 +299,7 @@ take-free (suc n) (byte ∷ text) free =
     let both = or-false (byte == 10) (list_any (λ (byte : ℕ). byte == 10) text) free in
     rw both.0 (take-free n text both.1)
 
--- the limit stands within a line
+-- the limit falls within a line
 pub long-line : (bytes line rest : List ℕ) (room : ℕ) → IsUndecided bytes → IsLine line → room + length bytes
     ≡ most_bytes → room < length line → IsTooLong ((bytes ++ line) ++ rest)
 long-line bytes line rest room none is full less =

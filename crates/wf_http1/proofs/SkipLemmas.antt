@@ -61,7 +61,7 @@ skips-meet bytes p q one other =
 
 -- ---- a head at the front
 
--- no final head stands where a skipped one does
+-- where a final head begins, no skipped one does
 final-not-skipped : (head : ResponseHead) (rest : List ℕ) → IsHead head → is_skipped (status_code head) ≡ false
     → BeginsSkipped (print_response head ++ rest) → ⊥
 final-not-skipped head rest is final begins =

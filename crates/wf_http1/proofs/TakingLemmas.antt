@@ -1,4 +1,4 @@
--- What is left of a piece comes to the same end behind a byte, or behind data, as before it.
+-- Where a byte or data are taken from a piece, what is left comes to the same end as the piece did.
 use Rattle.std.proofs.Common.{arith, inl, inr, ◌≡◌, ◌≤◌, ◌<◌, ◌+◌, ◌-◌, ◌==◌, ℕ, zero, suc, List, [], ◌∷◌, ◌++◌, take}
 use Rattle.std.proofs.Common.{drop, length, refl, sym, ap, subst, ◌∙◌, Bool, true, false, nat_le, min, get_or}
 use Rattle.std.proofs.Common.{true≢false, append_assoc, length-append, if◌then◌else◌}
@@ -31,7 +31,7 @@ ended-beyond limit complete held more beyond =
       | inr below ↦ absurd (omega (arith, beyond, below.1, length-append held more))
     ]
 
--- what is decoded behind what is held
+-- how a body ends, of which bytes are held and more are decoded
 abbrev pub chunks_end : ℕ → List ℕ → Decoded → BodyEnd
 chunks_end limit held decoded = ended limit decoded.complete (held ++ decoded.data_is)
 
@@ -124,7 +124,7 @@ exceeds-data limit count after held rest room place on some within short beyond 
 
 -- ---- the same in the code's words
 
--- the first byte and what is behind it
+-- the first byte and those after it
 front-and-behind : (rest : List ℕ) → 1 ≤ length rest → rest ≡ get_or rest 0 0 ∷ take (length rest - 1) (drop 1 rest)
 front-and-behind [] some = absurd (omega (arith, some))
 front-and-behind (byte ∷ rest) some =

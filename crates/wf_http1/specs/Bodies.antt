@@ -1,6 +1,7 @@
--- The body of an answer, over all bytes behind its head, and what decides it (RFC 9112, sections 6.3 and
--- 8; the limit is the caller's).
-use Rattle.std.specs.Prelude.{◌≡◌, ℕ, ◌+◌, ◌-◌, min, Bool, true, nat_lt, nat_le, List, ◌++◌, take, length, if◌then◌else◌}
+-- The body of an answer: how it ends, told by the bytes after the head, and which bytes decide that (RFC 9112,
+-- sections 6.3 and 8; the limit is the caller's).
+use Rattle.std.specs.Prelude.{◌≡◌, ℕ, ◌+◌, ◌-◌, min, Bool, true, nat_lt, nat_le, List, ◌++◌, take, length}
+use Rattle.std.specs.Prelude.{if◌then◌else◌}
 use Rattle.wf_types.specs.declared.response.BodyEnd.{BodyEnd}
 use Rattle.wf_types.specs.declared.response.BodyEnd.TheVariants.{Null, Whole, Cut, TooBig}
 use Rattle.wf_http1.specs.declared.framing.Framing.{Framing}
@@ -12,7 +13,7 @@ abbrev pub ended : ℕ → Bool → List ℕ → BodyEnd
 ended limit complete bytes =
     if nat_lt limit (length bytes) then TooBig else if complete then Whole bytes else Cut (length bytes)
 
--- how a body comes to its end where the answer ends behind these bytes
+-- how the body ends where these are all bytes after the head
 abbrev pub body_end : Framing → ℕ → List ℕ → BodyEnd
 body_end framing.Nothing limit bytes = Null
 body_end framing.Broken limit bytes = Cut 0
@@ -20,7 +21,8 @@ body_end framing.ToEnd limit bytes = ended limit true bytes
 body_end (framing.Length n) limit bytes = ended limit (nat_le n (length bytes)) (take n bytes)
 body_end framing.Chunked limit bytes = ended limit (decoded bytes).complete (decoded bytes).data_is
 
--- behind so many bytes, how many more at least decide a body; of chunks that is not known
+-- how many bytes more are needed at least to decide the body, after so many; 0 for chunks, where that is not known,
+-- and where the framing alone decides
 abbrev pub fewest : Framing → ℕ → ℕ → ℕ
 fewest (framing.Length n) limit read = min n (limit + 1) - read
 fewest framing.ToEnd limit read = limit + 1 - read

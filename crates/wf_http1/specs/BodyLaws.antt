@@ -6,8 +6,8 @@ use Rattle.wf_http1.specs.Chunks.{most_line, most_trailers}
 use Rattle.wf_http1.specs.declared.framing.Framing.{Framing}
 use Rattle.wf_http1.specs.declared.framing.Framing.TheVariants as framing
 
--- how many bytes leave a body of this framing and limit open at most; in chunks each byte of data may stand
--- in a chunk of its own, with a line and a CRLF, and then the last line and all but one byte of the trailers
+-- how many bytes leave a body of this framing and limit open at most; in chunks each byte of data may come in a
+-- chunk of its own, with a line and a CRLF, and then the last line and all but one byte of the trailers
 abbrev pub most_open : Framing → ℕ → ℕ
 most_open framing.Nothing limit = 0
 most_open framing.Broken limit = 0

@@ -33,7 +33,7 @@ most_line = 4096
 abbrev pub size_digits : List ℕ → List ℕ
 size_digits line = take_while is_ascii_hexdigit line
 
--- what follows the digits and the blanks behind them is nothing or a semicolon and what the chunk extends by
+-- after the digits and the blanks that follow them, the line ends or has a semicolon and the chunk's extension
 abbrev pub is_extension : List ℕ → Bool
 is_extension [] = true
 is_extension (byte ∷ rest) = byte == semicolon
@@ -59,7 +59,7 @@ cut_size bytes = option_and_then size_and_rest (cut_line bytes)
 abbrev pub most_trailers : ℕ
 most_trailers = 8192
 
--- behind a line with its CRLF: nothing more where it is empty, else more lines
+-- after a line with its CRLF: nothing more where the line is empty, else more lines
 abbrev pub behind_trailer : (List ℕ → Option ℕ) → Option (List ℕ × List ℕ) → Option ℕ
 behind_trailer more None = None
 behind_trailer more (Some cut) =
@@ -75,7 +75,7 @@ abbrev pub are_short : Option ℕ → Bool
 are_short None = false
 are_short (Some n) = nat_le n most_trailers
 
--- trailers stand at the front
+-- the bytes begin with trailers
 abbrev pub has_trailers : List ℕ → Bool
 has_trailers bytes = are_short (trailers_length (length bytes) bytes)
 
@@ -94,12 +94,12 @@ broken = record { data_is = []; complete = false }
 abbrev pub onto : List ℕ → Decoded → Decoded
 onto data_is more = record { data_is = data_is ++ more.data_is; complete = more.complete }
 
--- behind the data of a chunk stands CRLF, and then more chunks
+-- after the data of a chunk comes CRLF, and then more chunks
 abbrev pub behind_data : (List ℕ → Decoded) → Option (List ℕ) → Decoded
 behind_data more None = broken
 behind_data more (Some rest) = more rest
 
--- behind the line of a chunk stand so many bytes of data; a chunk of size 0 ends them
+-- after the line of a chunk come so many bytes of data; a chunk of size 0 is the last, and trailers follow it
 abbrev pub behind_size : (List ℕ → Decoded) → Option (ℕ × List ℕ) → Decoded
 behind_size more None = broken
 behind_size more (Some (size, rest)) =

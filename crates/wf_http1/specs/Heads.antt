@@ -1,5 +1,5 @@
 -- Heads of answers: the final one, and the informational ones before it (RFC 9112, section 4; RFC 9110,
--- section 15.2). What a response head is stands in the grammar of `httparse`.
+-- section 15.2). The grammar of `httparse` says what a response head is.
 use Rattle.std.specs.Prelude.{◌≡◌, ℕ, ◌≤◌, Bool, true, false, not, ◌&&◌, ◌==◌, nat_le, List, [], ◌∷◌, ◌++◌, length}
 use Rattle.std.specs.List.{All, flat_map}
 use Rattle.httparse.specs.Grammar.{Field, ResponseHead, IsResponseHead, print_response, status_code}
@@ -47,7 +47,7 @@ abbrev pub BeginsSkipped : List ℕ → Type 0
 BeginsSkipped bytes =
     (head : ResponseHead) × (rest : List ℕ) × IsSkippedHead head × (bytes ≡ print_response head ++ rest)
 
--- a final head ends where the bytes end: it stands behind skipped ones
+-- a final head ends where the bytes end; before it there are only skipped heads, if any
 pub record EndsFinal (bytes : List ℕ) (head : Head) : Type 0 where
   pub printed : ResponseHead
   pub skips : Skips bytes (print_response printed)

@@ -59,7 +59,7 @@ fn is_skipped(status: u16) -> bool
     100 <= status && status <= 199 && status != 101
 }
 
-// The header list of header lines that stand in a block.
+// The header list of the header lines of a block.
 fn headers_of(alloc: Global, block: &[u8], lines: &[HeaderSpan]) -> Result<HeaderList, OutOfMemory>
     requires { All (IsHeaderWithin (length block.now)) lines.now }
     ensures { IfOk result (λ headers. headers ≡ with_pairs [] (map (header_bytes block.now) lines.now)) }

@@ -23,7 +23,7 @@ pub struct BodyReader {
     limit: u32,
     /// The decoded bytes so far, with room for as many as there may be.
     held: Vec<u8>,
-    /// Where a body in chunks stands.
+    /// How far a body in chunks has been read.
     place: Place,
     seen: Seen,
 }
@@ -52,7 +52,7 @@ pub enum BodyStep {
 }
 
 impl BodyReader {
-    /// A reader of the body behind a head, for which as many bytes are reserved here as it may have: the
+    /// A reader of the body that follows a head. As many bytes are reserved here as the body may have: the
     /// limit, or its length where the framing tells a lesser one.
     pub fn new(alloc: Global, head: &Head, limit: u32) -> Result<BodyReader, OutOfMemory>
         ensures { IfOk result (λ reader. reader
@@ -107,8 +107,9 @@ impl BodyReader {
         }
     }
 
-    /// How many bytes more may decide the body: fewer leave it open. Those are what the length or the limit
-    /// leaves, the lesser; it is 0 where that is not known, as it is of chunks.
+    /// How many bytes more are needed at least to decide the body: fewer leave it open. They are those up to
+    /// its length or up to the first byte after the limit, whichever comes first. 0 for chunks, where that is
+    /// not known, and where the framing alone decides.
     pub fn fewest(&self) -> usize
         ensures exact { result ≡ fewest_behind self.now.framing self.now.limit (length self.now.bytes) }
         ensures open { (piece : List ℕ) → length piece < result
@@ -149,7 +150,7 @@ fn whole(held: Vec<u8>) -> BodyEnd
     BodyEnd::Whole(Bytes::from_vec(held))
 }
 
-// How a body comes to its end behind the bytes that are held.
+// How the body ends where no more bytes come.
 fn end_here(framing: Framing, limit: u32, held: Vec<u8>, place: Place) -> BodyEnd
     requires within { length held.items ≤ limit }
     requires kept { IsKept framing held.items place }

@@ -23,7 +23,7 @@ const FEW_BYTES: usize = 1_024;
 pub struct HeadReader {
     // The skipped heads.
     past: Seen,
-    // The block that has begun behind them.
+    // The block that has begun after them.
     block: Gathered,
     // Whether it has a byte other than CR and LF.
     has_line_byte: bool,

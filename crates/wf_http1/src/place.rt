@@ -11,28 +11,28 @@ const MOST_TRAILERS: u16 = 8188;
 // The most digits that the size of a chunk has.
 const MOST_DIGITS: u8 = 16;
 
-/// Where a chunked body stands (RFC 9112, section 7.1).
+/// How far a chunked body has been read (RFC 9112, section 7.1).
 #[derive(Clone, Copy)]
 pub(crate) enum Place {
-    /// Behind so many digits of a chunk's size, which write this value.
+    /// After so many digits of a chunk's size, which write this value.
     Size(u8, u64),
-    /// Behind blanks that follow the size; the line has so many bytes.
+    /// After blanks that follow the size; the line has so many bytes.
     Blanks(u64, u16),
     /// In what a chunk of this size extends by; the line has so many bytes.
     Extension(u64, u16),
-    /// Behind the CR of the line of a chunk of this size.
+    /// After the CR of the line of a chunk of this size.
     LineEnd(u64),
-    /// In the data of a chunk, of which so many bytes are left; behind the last the CRLF follows.
+    /// In the data of a chunk, of which so many bytes are left; where none is, the CRLF comes next.
     Data(u64),
-    /// Behind the CR that follows data.
+    /// After the CR that follows data.
     DataEnd,
     /// Before a line of the trailers, which have so many bytes yet.
     Trailers(u16),
     /// In a line of the trailers, which have so many bytes yet.
     Trailer(u16),
-    /// Behind the CR of such a line; the trailers have so many bytes before it.
+    /// After the CR of such a line; the trailers have so many bytes before it.
     TrailerEnd(u16),
-    /// Behind the CR of the empty line.
+    /// After the CR of the empty line.
     LastEnd,
 }
 
@@ -146,7 +146,7 @@ fn in_extension(size: u64, line: u16, byte: u8) -> Turn
     }
 }
 
-// What follows the line of a chunk: its data, or the trailers behind the last chunk.
+// What follows the line of a chunk: its data, or after the last chunk the trailers.
 fn behind_line(size: u64) -> Place
     ensures { result ≡ spec.behind_line size }
 {

@@ -42,7 +42,7 @@ fn written_digest(alloc: Global, algorithm: u32, body: &[u8]) -> Result<Option<B
     Ok(Some(text))
 }
 
-// The symbol of the standard alphabet that a byte of a value stands for.
+// The symbol of the standard alphabet that a byte of a value is read as.
 fn standard_symbol(byte: u8) -> u8
     ensures { result ≡ spec.standard_symbol byte }
 {
@@ -68,7 +68,7 @@ fn is_in_standard(value: &[u8], text: &[u8]) -> bool
     true
 }
 
-// The same, where there is a text.
+// Whether there is a text, and the value, in the standard alphabet, is this text.
 fn reads_as(value: &[u8], text: &Option<Bytes>) -> bool
     ensures { result ≡ spec.reads_as value.now text.now }
 {

@@ -77,7 +77,7 @@ module _ {State : Type 0} where
       → new.coming ≡ option_map answer old.state → new.coming ≡ Some (answer state)
   sent-coming answer state old new told is = is ∙ ap (option_map answer) told
 
-  -- Two inputs are the same, and so is what is known behind them.
+  -- Two inputs are the same, and so is what is known after them.
   pub record IsOne (stage : Stage) (first : Act) (input other : Input) (new different : Exchange State) : Type 0 where
     pub input_is : input ≡ other
     pub coming : Coming (stage_after stage first input) new different
@@ -101,7 +101,7 @@ module _ {State : Type 0} where
 
   -- ---- a head
 
-  -- What stands behind a final head.
+  -- What comes after a final head.
   record IsBehind (bytes : List ℕ) (head : Head) (n : ℕ) (new : Exchange State) : Type 0 where
     pub later : List ℕ
     pub coming : new.coming ≡ Some later

@@ -1,4 +1,4 @@
--- A fetch reads a head only of the answer to the request that it sent last, and a body only behind its head: rule by
+-- A fetch reads a head only of the answer to the request that it sent last, and a body only after its head: rule by
 -- rule.
 use Rattle.std.proofs.Common.{◌-◌, ℕ, zero, suc, Bool, true, false, cond, List, [], ◌∷◌, Option, Some, None}
 use Rattle.std.proofs.Common.{Ok, Err}
@@ -58,7 +58,7 @@ pub data Stage : Type 0 where
   asking : Stage
   headed : Stage
 
--- the act may be done there
+-- the act may be done at this stage
 abbrev pub Can : Stage → Act → Type 0
 Can asking ReadHead = Unit {0}
 Can idle ReadHead = ⊥
@@ -68,7 +68,7 @@ Can idle ReadBody = ⊥
 Can asking ReadBody = ⊥
 Can stage first = Unit {0}
 
--- how far it has come after an act and its input
+-- how far the exchange has come after an act and its input
 abbrev pub stage_after : Stage → Act → Input → Stage
 stage_after stage (Send hop) Sent = asking
 stage_after stage (Send hop) input = idle
@@ -78,7 +78,7 @@ stage_after stage ReadBody input = idle
 stage_after stage (Ask op) input = stage
 stage_after stage (Tell violation) input = stage
 
--- each act may be done where it stands
+-- each act may be done at its stage
 abbrev pub Ordered : Stage → Process → Type 0
 Ordered stage (ended outcome) = Unit {0}
 Ordered stage (act request first after) =
@@ -118,7 +118,7 @@ ordered-tell_all stage request (violation ∷ violations) rest ordered =
 
 -- ---- what follows a level
 
--- What follows is ordered: a network error anywhere, and a head behind its being read.
+-- What follows is ordered: after a network error at any stage, and after a head that was read.
 pub record OrderedThen (next : Then) : Type 0 where
   pub error : (stage : Stage) (request : Request) (error : NetError) → Ordered stage (next request (Err error))
   pub head : (request : Request) (head : Head) → Ordered headed (next request (Ok head))
@@ -281,7 +281,7 @@ ordered-fetch context request stage =
 
 -- ---- a document's run
 
--- each act may be done where it stands; behind an event that the run itself shows nothing is known
+-- each act may be done at its stage; after an event that the run itself shows nothing is known
 abbrev pub OrderedPlay : Stage → Play → Type 0
 OrderedPlay stage (over ending clock) = Unit {0}
 OrderedPlay stage (emit event rest) = OrderedPlay idle rest

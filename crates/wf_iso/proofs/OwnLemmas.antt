@@ -1,6 +1,6 @@
 -- Each call of a document's run is one that a document of its key makes.
-use Rattle.std.proofs.Common.{◌≡◌, ℕ, arith, Bool, true, false, cond, List, [], ◌∷◌, ◌++◌, Option, Some, None, refl, subst}
-use Rattle.std.proofs.Common.{sym}
+use Rattle.std.proofs.Common.{◌≡◌, ℕ, arith, Bool, true, false, cond, List, [], ◌∷◌, ◌++◌, Option, Some, None, refl}
+use Rattle.std.proofs.Common.{subst, sym}
 use Rattle.std.specs.Prelude.{◌+◌, ◌*◌, ◌^◌, ◌<◌, ◌≤◌, IfSome, if◌then◌else◌, nat_le, option_and_then, option_map}
 use Rattle.std.specs.List.{AllByRecursion}
 use Rattle.std.specs.Str.{bytes_eq}
@@ -95,7 +95,8 @@ asks-by P Q request ReadHead says is = tt
 asks-by P Q request ReadBody says is = tt
 asks-by P Q request (Tell violation) says is = tt
 
-asked-embed : (P : Op → Type 0) (Q : Request → Act → Type 0) → ((request : Request) (op : Op) → Q request (Ask op) → P op)
+asked-embed : (P : Op → Type 0) (Q : Request → Act → Type 0)
+    → ((request : Request) (op : Op) → Q request (Ask op) → P op)
     → (most : ℕ) (process : Process) (next : Outcome → Next) (progress : Progress) (Stands : Progress → Type 0)
     → ((events : List Event) (later : Progress) → Stands later → Stands (after_events events later))
     → Stands progress → Within (price_of asks) Anything Q most process
@@ -172,7 +173,7 @@ document-calls cookies base document tape =
 
 -- ---- in range
 
--- so many seconds have passed at most, as many as the commands that have started may wait
+-- no more seconds have passed than the commands that have started may wait
 record InTime (base : ℕ) (progress : Progress) : Type 0 where
   pub few : progress.commands ≤ 16384
   pub early : progress.clock ≤ base + progress.commands * 4294967296

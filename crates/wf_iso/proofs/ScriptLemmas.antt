@@ -78,7 +78,7 @@ outcome-silent : (kind : Destination) (came : Outcome) → call_in (outcome_even
 outcome-silent destination.Fetch came = refl
 outcome-silent kind came = load-silent came
 
--- ---- where a run stands
+-- ---- how far a run has come
 
 -- each wait of a script is as it should be
 abbrev mutual
@@ -93,7 +93,7 @@ abbrev mutual
   AllWaits Waits script.no_steps = Unit {0}
   AllWaits Waits (script.step one more) = WaitsOfStep Waits one × AllWaits Waits more
 
--- What holds where a run stands, and of a command that has started.
+-- What holds of how far a run has come, and of a command that has started.
 pub record Bounds (Stands Begun : Progress → Type 0) (Waits : ℕ → Type 0) : Type 0 where
   pub showing : (events : List Event) (progress : Progress) → Stands progress → Stands (after_events events progress)
   pub asks : (progress : Progress) → Begun progress → Stands (fetch_started progress)
@@ -207,7 +207,7 @@ good-from cookies base document Stands Begun Waits Good bounds lifts stands righ
     good-script (setting_of cookies document) Stands Begun Waits Good bounds lifts document.script right finished
     (λ last later stood. lifts.at_end last Finished later.clock) None (beginning base) stands
 
--- ---- wherever a run stands
+-- ---- however far a run has come
 
 abbrev Anywhere : Progress → Type 0
 Anywhere progress = Unit {0}
@@ -227,7 +227,7 @@ mutual
   any-waits script.no_steps = tt
   any-waits (script.step one more) = (any-wait one, any-waits more)
 
--- What is good of every run, wherever it stands.
+-- What is good of every run, however far it has come.
 pub record Lifts (lent : Setting) (Good : Option Hop → Play → Type 0) : Type 0 where
   pub at_end : (sent : Option Hop) (ending : Ending) (clock : ℕ) → Good sent (over ending clock)
   pub at_event : (sent : Option Hop) (shown : Event) (rest : Play) → call_in shown ≡ [] → Good sent rest

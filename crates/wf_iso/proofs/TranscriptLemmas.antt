@@ -68,7 +68,7 @@ way servers = record { state = Some servers; received = None; faults = 0 }
 way-told : (servers : List Server) → IsTold (way servers) (way servers)
 way-told servers = record { state = servers; told = refl; none = refl }
 
--- the ways of so many documents
+-- the ways of these documents
 abbrev ways : List Server → List Document → List (Way (List Server))
 ways servers documents = map (λ document. way servers) documents
 

@@ -38,7 +38,7 @@ pub record IsAlone {State : Type 0} (by : Answering State) (scenario : Scenario)
   pub alone_is : run_of transcript
       ≡ alone_in scenario base history number document (views (run_in scenario base document) is.run_is.ran.tape)
 
--- so it is of each transcript and its document, from this number on
+-- the same of each transcript and its document, from this number on
 pub data AreAlone {State : Type 0} (by : Answering State) (scenario : Scenario) (base : ℕ) (history : List Entry)
     : ℕ → List Document → List (Way State) → List (Way State) → List Transcript → Type 0 where
   none : {number : ℕ} → AreAlone by scenario base history number [] [] [] []

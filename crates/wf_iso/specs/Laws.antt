@@ -39,7 +39,7 @@ CallsOwn =
     → AllByRecursion (λ (call : Made). is_of_key (document_client document).key call.op ≡ true)
     (calls_in (run_play (document_run cookies base document) tape).events)
 
--- and in range, where the script is valid and the run begins at 2^40 seconds at the latest
+-- each of its calls is in range, where the script is valid and the run begins at 2^40 seconds at the latest
 abbrev pub CallsInRange : Type 0
 CallsInRange =
     (cookies : List Cookie) (base : ℕ) (document : Document) (tape : List Input) → AreValid document.script
@@ -54,7 +54,7 @@ pub record IsIn (opening : Book) (history : List Entry) (number : ℕ) (whole : 
   pub legal : Legal opening history
   pub calls : calls_in (run_play whole tape).events ≡ document_calls number history
 
--- then it is the run alone
+-- then the run is what the document would do alone
 abbrev pub RunsAlone : Type 0
 RunsAlone =
     (cookies : List Cookie) (base : ℕ) (document : Document) (opening : Book) (history : List Entry) (number : ℕ)
@@ -111,9 +111,9 @@ pub record AreAlike (scenario other : Scenario) : Type 0 where
   pub hosts : scenario.hosts ≡ other.hosts
   pub cookies : scenario.cookies ≡ other.cookies
 
--- In two of their plays that begin at one time a document has the same events, ending and clock, whatever else there is
--- in them, whatever answers and whether it fails, where the pasts of the document's calls are equal, and the views of
--- its answers.
+-- In plays of two such scenarios that begin at one time a document has the same events, ending and clock, whatever else
+-- there is in them, whatever answers and whether it fails, where the pasts of the document's calls are equal, and the
+-- views of its answers.
 abbrev pub WorldsAlike : Type 0 → Type 0 → Type 0
 WorldsAlike State Other =
     (by : Answering State) (otherwise : Answering Other) (scenario other : Scenario) (base : ℕ)

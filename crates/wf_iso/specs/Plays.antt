@@ -48,7 +48,7 @@ pub record Way (State : Type 0) : Type 0 where
   pub received : Option (List ℕ)
   pub faults : ℕ
 
--- what is outside of the document then: these are its entries so far, and it may make so many calls more
+-- what is outside of the document then: these are its entries so far, and it may make this many calls more
 abbrev pub outside_on : {State : Type 0} → Way State → List Entry → ℕ → Outside State
 outside_on way own left = record {
   state = way.state;
@@ -58,7 +58,7 @@ outside_on way own left = record {
   left = left;
 }
 
--- From one moment of its link to another, over its answers, whose bodies have so many bytes at most, the document's run
+-- From one moment of its link to another, over its answers, whose bodies have at most `limit` bytes, the document's run
 -- shows these events and comes to this ending. It makes the calls of these entries, in order, and no others. (How many
 -- more it might make does not matter.)
 pub record RunsOver {State : Type 0} (by : Answering State) (limit document : ℕ) (old new : Way State)
@@ -103,14 +103,14 @@ pub record IsPlayOver {State : Type 0} (by : Answering State) (scenario : Scenar
 
 -- ---- the servers of the scenario
 
--- they answer a request by its method and its target, and stay as they are
+-- the servers answer a request by its method and its target, and stay as they are
 abbrev pub by_rules : Answering (List Server)
 by_rules = record {
   answer = λ servers hop. answer servers hop.origin hop.method hop.url;
   next = λ servers hop. servers;
 }
 
--- each document's way to them at each moment: they tell their state, and never fail
+-- each document's way to the servers at each moment: they tell their state, and never fail
 abbrev pub ways_to_servers : Scenario → List (Way (List Server))
 ways_to_servers scenario =
     map (λ document. record { state = Some scenario.servers; received = None; faults = 0 }) scenario.documents

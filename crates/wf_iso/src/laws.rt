@@ -28,8 +28,8 @@ pub fn law_alone()
     law_pasts();
 }
 
-/// A law: two worlds, in which the pasts of a document's calls are equal, and the views of the answers to its requests,
-/// show it the same. So it sees nothing else of them: of runs over two tapes in two histories, and of two plays over any
+/// A law: two worlds show a document the same where the pasts of its calls are equal, and the views of the answers to
+/// its requests. So it sees nothing else of them: of runs over two tapes in two histories, and of two plays over any
 /// links, with equal known hosts, cookies and times, and whatever other servers, documents and limits. The call does
 /// nothing.
 pub fn law_two_worlds<L: Link, M: Link>()

@@ -74,13 +74,13 @@ pub record Keeps (context : Context) (P : Request → Act → Type 0) : Type 0 w
   pub body : (request : Request) → P request ReadBody
   pub tell : (request : Request) (violation : Violation) → P request (Tell violation)
 
--- what follows a level costs at most so much
+-- what follows a level costs at most this much
 abbrev pub WithinThen : Prices → (Request → Act → Type 0) → ℕ → Then → Type 0
 WithinThen prices P most next =
     (request : Request) (came : Result Head NetError)
     → Within (price_of prices) Anything P most (next request came)
 
--- a redirect costs so much more than what follows it
+-- a redirect costs at most this much more than what follows it
 abbrev pub WithinOnward : Prices → (Request → Act → Type 0) → ℕ → Onward → Type 0
 WithinOnward prices P more onward =
     (most : ℕ) (next : Then) → WithinThen prices P most next → (request : Request)
@@ -142,7 +142,7 @@ violations-few number asked (policy ∷ policies) request document =
     (violations-few (number + 1) asked policies request document)
 
 module _ (prices : Prices) (context : Context) (P : Request → Act → Type 0) (keeps : Keeps context P) where
-  -- within so much
+  -- the process costs at most this much
   abbrev Costs : ℕ → Process → Type 0
   Costs most process = Within (price_of prices) Anything P most process
 
@@ -218,7 +218,7 @@ module _ (prices : Prices) (context : Context) (P : Request → Act → Type 0) 
       within-ask most request (clear_of context.client request context.now) (next request (Err error))
       (keeps.clear request) (goes request (Err error))
 
-  -- ---- the rules of one level, where a redirect goes on within so much more, and what follows is within so much
+  -- ---- the rules of one level, where a redirect costs at most `more` more, and what follows at most `most`
   module _ (more most : ℕ) (onward : Onward) (next : Then) (on : WithinOnward prices P more onward)
       (goes : WithinThen prices P most next) where
     -- the answer, with what is noted of it

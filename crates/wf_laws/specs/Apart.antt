@@ -47,12 +47,12 @@ apart reading (act request first after) replies view =
 
 -- ---- a tape in two
 
--- a reply, and the replies behind it
+-- a reply, and the replies after it
 abbrev pub replied : Input → List Reply → List Reply
 replied (Replied reply) rest = reply ∷ rest
 replied _ rest = []
 
--- the reply to an op, and the replies behind it
+-- the reply to an op, and the replies after it
 abbrev pub replies_at : Act → Input → List Reply → List Reply
 replies_at (Ask op) input rest = replied input rest
 replies_at _ input rest = rest
@@ -63,7 +63,7 @@ replies_of (ended outcome) tape = []
 replies_of (act request first after) [] = []
 replies_of (act request first after) (input ∷ tape) = replies_at first input (replies_of (after input) tape)
 
--- what is seen of an item that answers no op, and the items behind it
+-- what is seen of an item that answers no op, and the items after it
 abbrev pub view_at : Act → Request → Option Hop → Input → List Input → List Input
 view_at (Ask op) request sent input rest = rest
 view_at (Send hop) request sent input rest = seen (Send hop) request sent input ∷ rest

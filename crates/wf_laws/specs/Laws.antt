@@ -13,7 +13,7 @@ use Rattle.wf_laws.specs.Own.{IsOwn}
 abbrev pub most_asks : ℕ
 most_asks = 126
 
--- a run of a fetch makes at most so many ops on the shared book
+-- a run of a fetch makes at most this many ops on the shared book
 abbrev pub AsksFew : Type 0
 AsksFew =
     (context : Context) (request : Request) (tape : List Input)

@@ -19,7 +19,7 @@ GoesByViews =
     (context : Context) (request : Request) → IsTrue (follows_or_fetches request)
     → Blind None (fetch context request)
 
--- so its run over a tape is that over the replies of the shared book, and over what the document may learn of all else
+-- so a fetch's run over a tape is that over the book's replies, and over what the document may learn of all else
 abbrev pub RunsApart : Type 0
 RunsApart =
     (context : Context) (request : Request) (tape : List Input) → IsTrue (follows_or_fetches request)
@@ -38,7 +38,7 @@ RunsAlike =
     → LookAlike (fetch context request) tape other
     → run (fetch context request) tape ≡ run (fetch context request) other
 
--- and shows the same, whatever events its acts show, as long as they show no head
+-- over such tapes it shows the same, whatever events its acts show, as long as they show no head
 abbrev pub ShowsAlike : Type 0 → Type 0
 ShowsAlike Event =
     (events_of : Act → Input → List Event) → ShowsNoHead events_of

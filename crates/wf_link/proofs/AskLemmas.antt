@@ -16,7 +16,7 @@ pub bytes_of-append : (sizes : List AskSize) (size : AskSize) → bytes_of (size
 bytes_of-append [] size = omega arith
 bytes_of-append (first ∷ sizes) size = rw (bytes_of-append sizes size) (omega arith)
 
--- an ask behind the others
+-- an ask after the others
 pub asks_in-append : (sizes : List AskSize) (text origin request : List ℕ) → bytes_of sizes ≡ length text
     → asks_in (sizes ++ record { origin = length origin; request = length request; received = 0 } ∷ []) (text
     ++ (origin ++ request)) ≡ asks_in sizes text ++ record { origin = origin; request = request } ∷ []

@@ -1,5 +1,5 @@
 -- How many bytes of each answer were received.
-use Rattle.std.proofs.Common.{◌≡◌, ℕ, ◌+◌, ◌∙◌, List, [], ◌∷◌, ◌++◌, Option, Some, None, refl, ap, sym, arith}
+use Rattle.std.proofs.Common.{◌≡◌, ℕ, ◌+◌, List, [], ◌∷◌, ◌++◌, Option, Some, None, refl, ap, sym, arith}
 use Rattle.std.specs.Prelude.{map}
 use Rattle.wf_link.specs.Counts.{counted_on}
 use Rattle.wf_link.specs.Links.{Received, with_bytes}

@@ -14,7 +14,7 @@ grown_by count more = min (count + more) (2 ^ 64 - 1)
 abbrev pub counted_on : ℕ → ℕ → ℕ
 counted_on count more = count + min more ((2 ^ 64 - 1) - count)
 
--- the count rose, or stands at its greatest value
+-- the count rose, or is at its greatest value
 abbrev pub Rose : ℕ → ℕ → Type 0
 Rose before now = one_more before ≤ now
 

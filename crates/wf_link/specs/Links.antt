@@ -12,7 +12,7 @@ Asked (Some old) new ask = new ≡ Some (old ++ ask ∷ [])
 abbrev pub MayHaveAsked : Option (List Ask) → Option (List Ask) → Ask → Type 0
 MayHaveAsked old new ask = Asked old new ask ⊎ (new ≡ old)
 
--- of how many bytes of each answer were received: an answer more, and none of it yet
+-- the counts of received bytes, one for each answer: an answer more, and none of it yet
 abbrev pub with_answer : List ℕ → List ℕ
 with_answer counts = counts ++ 0 ∷ []
 

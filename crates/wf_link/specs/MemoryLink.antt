@@ -61,7 +61,7 @@ room_after room ask = if finds_room room ask then room - needed_room ask else ro
 abbrev pub received_after : ℕ → List ℕ → Ask → List ℕ
 received_after room received ask = if finds_room room ask then with_answer received else received
 
--- the state behind an ask, which uses up an answer
+-- the state after an ask: an answer is used up, and the ask is kept where it finds its room
 abbrev pub state_after : LinkState → List ℕ → List ℕ → LinkState
 state_after state origin request =
     let ask : Ask = record { origin = origin; request = request } in
@@ -108,7 +108,7 @@ skipped [] = []
 skipped ([] ∷ pieces) = skipped pieces
 skipped ((byte ∷ piece) ∷ pieces) = (byte ∷ piece) ∷ pieces
 
--- the pieces behind so many bytes of the first
+-- the pieces that are left once so many bytes of the first were taken
 abbrev pub behind : ℕ → List (List ℕ) → List (List ℕ)
 behind n [] = []
 behind n (piece ∷ pieces) = drop n piece ∷ pieces

@@ -10,7 +10,7 @@ pub trait Clock {
         ensures told { (time : ℕ) → next self.old ≡ Some time → result ≡ time };
 }
 
-/// A clock that stands, and tells it.
+/// A clock that always gives the same answer, and tells it.
 #[derive(Drop)]
 pub struct FixedClock {
     now: u64,
@@ -28,7 +28,7 @@ impl FixedClock {
 impl Clock for FixedClock {
     ghost next = { λ clock. Some clock.now };
 
-    /// The time at which it stands.
+    /// The number of seconds that it was made with.
     fn now(&mut self) -> u64
         ensures told { (time : ℕ) → Some self.old.now ≡ Some time → result ≡ time }
         ensures answer { result ≡ self.old.now }

@@ -9,7 +9,7 @@ use crate::source::Failed;
 use crate::target::Target;
 
 /// A way to servers: a request goes out, and the bytes of its answer come in. It counts its faults.
-/// One that tells has a state, which fixes the answer to each request and the state behind it.
+/// It may tell its state, which fixes the answer to each request and the state after that request.
 pub trait Link {
     /// What its answers depend on.
     ghost State: { Type 0 };
@@ -23,14 +23,15 @@ pub trait Link {
     /// In a state, the bytes of the answer of the target with this origin to a request.
     ghost answer: { State → List ℕ → List ℕ → List ℕ };
 
-    /// The state behind that ask.
+    /// In a state, the state after such a request, whether its ask succeeded or failed.
     ghost next: { State → List ℕ → List ℕ → State };
 
     /// What was asked so far, where told.
     ghost asks: { Self → Option (List Ask) };
 
-    /// How many bytes of each answer were received, where told: of each ask that succeeded, in order. One that
-    /// failed may stand there with none. A count stops at its greatest value.
+    /// How many bytes of each answer were received, where told: a number for each ask that succeeded, in order,
+    /// which begins at 0. An ask that failed may have added a number too, or not. A count stops at its greatest
+    /// value.
     ghost received: { Self → Option (List ℕ) };
 
     /// How often it failed.

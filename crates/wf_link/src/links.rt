@@ -14,11 +14,11 @@ use wf_text::OutOfMemory;
 pub trait Links {
     type Link: Link + Send + Drop;
 
-    /// The link that the next make gives, at 0, the one after it, at 1, and so on, as it opens for a
-    /// document of a number and by routes, where told.
+    /// The link that a make gives, where told: that of the next make at 0, of the one after it at 1, and so
+    /// on, by the number of the document and the routes that it is made for.
     ghost opening: { Self → ℕ → ℕ → List Route → Option Self.Link };
 
-    /// The links taken back, as they then stood, in order, and how many more are out, where told.
+    /// The links taken back, each as it came back, in order, and how many more are out, where told.
     ghost lent: { Self → Option (Lent Self.Link) };
 
     /// How often the links that it took back had failed.
@@ -43,6 +43,7 @@ pub trait Links {
     /// Takes a link back that it made, and counts its faults.
     fn take_back(&mut self, link: Self::Link)
         ensures took { TookBack (lent self.old) (lent self.new) link }
-        ensures opening { (k number : ℕ) (by : List Route) → opening self.new k number by ≡ opening self.old k number by }
+        ensures opening { (k number : ℕ) (by : List Route)
+            → opening self.new k number by ≡ opening self.old k number by }
         ensures faults { faults self.new ≡ grown_by (faults self.old) (Self.Link.faults link) };
 }

@@ -106,11 +106,12 @@ impl Links for MemoryLinks {
         }
     }
 
-    /// Keeps the link behind those that came back before, and counts its faults. Where none of the
-    /// links that were handed out is still out, it counts its faults alone.
+    /// Keeps the link after those that came back before, and adds the link's faults. Where no link that
+    /// was handed out is still out, it keeps nothing, and only adds the faults.
     fn take_back(&mut self, link: MemoryLink)
         ensures took { TookBack (Some self.old.lent) (Some self.new.lent) link }
-        ensures opening { (k number : ℕ) (by : List Route) → slice_get self.new.waiting k ≡ slice_get self.old.waiting k }
+        ensures opening { (k number : ℕ) (by : List Route)
+            → slice_get self.new.waiting k ≡ slice_get self.old.waiting k }
         ensures faults { self.new.faults ≡ grown_by self.old.faults link.faults }
         ensures after { self.new ≡ after_take_back self.old link }
     {

@@ -124,8 +124,8 @@ impl<R: time::Clock> SystemClock<R> {
 impl<R: time::Clock> Clock for SystemClock<R> {
     ghost next = { λ _. None };
 
-    /// The whole seconds since 1970 began, or 0 where the system's clock cannot be read or stands
-    /// before then.
+    /// The whole seconds since 1970 began, or 0 where the system's clock cannot be read or is set to a
+    /// time before then.
     fn now(&mut self) -> u64 {
         match self.system.since_1970() {
             Ok(since_1970) => since_1970.as_secs(),

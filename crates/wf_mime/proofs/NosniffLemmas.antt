@@ -25,7 +25,7 @@ until_comma-other : (byte : ℕ) (text : List ℕ) → (byte == 44) ≡ false �
     ∷ until_comma text
 until_comma-other byte text other = rw (other, one-add) refl
 
--- a quote stands in the text
+-- the text has a quote
 abbrev has_quote : List ℕ → Bool
 has_quote text = list_any (λ byte. byte == 34) text
 
@@ -93,7 +93,7 @@ has_quote-quote byte text quote = rw quote refl
 has_quote-other : (byte : ℕ) (text : List ℕ) → (byte == 34) ≡ false → has_quote (byte ∷ text) ≡ has_quote text
 has_quote-other byte text other = rw other refl
 
--- the first piece is the text before the first comma, or a quote stands in both
+-- the first piece is the text before the first comma, or both have a quote
 abbrev IsFirst : List ℕ → Type 0
 IsFirst text = (first_piece (pieces text) ≡ until_comma text)
     ⊎ ((has_quote (first_piece (pieces text)) ≡ true) × (has_quote (until_comma text) ≡ true))
@@ -141,7 +141,7 @@ begins-first_piece : (parts : List (List ℕ)) → begins_with_nosniff (Some (ma
 begins-first_piece [] = refl
 begins-first_piece (piece ∷ parts) = refl
 
--- a comma stands before what is joined to a value
+-- a comma comes before what is joined to a value
 until_comma-append : (value : List ℕ) (values : List (List ℕ)) → until_comma (value ++ after_comma values)
     ≡ until_comma value
 until_comma-append [] [] = refl

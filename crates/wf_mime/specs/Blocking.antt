@@ -1,5 +1,5 @@
 -- Responses that are blocked for the essence of their MIME type (Fetch, "should response to request be
--- blocked due to its MIME type" and ".. due to nosniff"); no essence stands for a failure to extract one.
+-- blocked due to its MIME type" and ".. due to nosniff"); no essence means a failure to extract one.
 use Rattle.std.specs.Prelude.{ℕ, Bool, false, not, ◌||◌, ◌&&◌, List, Option, Some, None, codes, nat_eq, bytes_eq}
 use Rattle.std.specs.List.{starts_with}
 use Rattle.wf_text.specs.Mime.{is_text}

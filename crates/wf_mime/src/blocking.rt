@@ -14,8 +14,8 @@ fn is_never_script(essence: &[u8]) -> bool
 }
 
 /// "Should response to request be blocked due to its MIME type" (Fetch): the destination is a script,
-/// and the essence begins with `audio/`, `image/` or `video/`, or is `text/csv`. No essence stands
-/// for no MIME type. It takes no memory.
+/// and the essence begins with `audio/`, `image/` or `video/`, or is `text/csv`. No essence means
+/// no MIME type. It takes no memory.
 pub fn mime_blocked(essence: Option<&[u8]>, script: bool) -> bool
     ensures { result ≡ spec.mime_blocked (option_copied essence.entry) script }
 {
@@ -27,8 +27,7 @@ pub fn mime_blocked(essence: Option<&[u8]>, script: bool) -> bool
 
 /// "Should response to request be blocked due to nosniff" (Fetch), for a response whose headers say
 /// nosniff: the destination is a script and the essence is not that of a JavaScript MIME type, or it
-/// is a style and the essence is not `text/css`. No essence stands for no MIME type. It takes no
-/// memory.
+/// is a style and the essence is not `text/css`. No essence means no MIME type. It takes no memory.
 pub fn nosniff_blocked(essence: Option<&[u8]>, script: bool, style: bool) -> bool
     ensures { result ≡ spec.nosniff_blocked (option_copied essence.entry) script style }
 {

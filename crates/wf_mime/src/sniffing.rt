@@ -8,8 +8,8 @@ ghost use Rattle.wf_mime.specs.Nosniff as spec;
 use wf_headers::HeaderList;
 use wf_text::{before_byte, eq_fold, trim_tab_or_space};
 
-// Whether what stands before the first comma is `nosniff`, ASCII case aside. A quoted string that
-// begins there makes it another value, so that none has to be followed past the comma.
+// Whether what is before the first comma is `nosniff`, ASCII case aside. Where a quoted string begins
+// before that comma the value is another than `nosniff`, so no quoted string is followed past the comma.
 fn begins_with_nosniff(value: &[u8]) -> bool
     ensures { result ≡ str_eq_ignore_ascii_case
         (trimmed tab_or_space (before_first (λ byte. byte == comma) value.now)) (codes "nosniff") }

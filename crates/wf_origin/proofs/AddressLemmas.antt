@@ -9,12 +9,12 @@ use Rattle.std.specs.Net.Addr.{segments_of}
 use Rattle.std.specs.declared.net.ipv4_addr.Ipv4Addr.{Ipv4Addr}
 use Rattle.std.specs.declared.net.ipv6_addr.Ipv6Addr.{Ipv6Addr}
 
--- a segment of 16 bits behind others
+-- a segment of 16 bits after others
 segment-whole : (high segment : ℕ) → segment < 65536
     → (high * 65536 + segment) / 256 % 256 * 256 + (high * 65536 + segment) % 256 ≡ segment
 segment-whole high segment small = omega arith
 
--- two bytes of a number, of which one segment stands at this place
+-- two bytes of a number are the segment at their place
 segment_at : (place high segment low n : ℕ) → low < place → segment < 65536
     → n ≡ (high * 65536 + segment) * place + low → n / (place * 256) % 256 * 256 + n / place % 256 ≡ segment
 segment_at place high segment low n below small is =

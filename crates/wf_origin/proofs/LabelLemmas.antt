@@ -31,7 +31,7 @@ one-more byte (part ∷ parts) last some =
     ≡ cond v ([] ∷ (part ∷ parts)) (onto_first byte (part ∷ parts)) ++ last ∷ [])
     [ true ↦ refl | false ↦ refl ]
 
--- what stands after the last dot is the last label
+-- what is after the last dot is the last label
 labels-cut : (front last : List ℕ) → All IsNoDot last → labels (front ++ 46 ∷ last) ≡ labels front ++ last ∷ []
 labels-cut [] last none = ap (λ l. [] ∷ l) (labels-none last none)
 labels-cut (byte ∷ front) last none =

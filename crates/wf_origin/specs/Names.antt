@@ -16,7 +16,7 @@ is_localhost_or_under name = bytes_eq name (codes "localhost") || ends_with nat_
 abbrev pub is_local_name : List ℕ → Bool
 is_local_name name = is_localhost_or_under (without_last_dot name)
 
--- the labels of a name, which stand between its dots; a label may be empty
+-- the labels of a name, which are between its dots; a label may be empty
 abbrev pub labels : List ℕ → List (List ℕ)
 labels name = slice_split (λ byte. byte == dot) name
 

@@ -25,7 +25,7 @@ pub fn is_local_name(host: &[u8]) -> bool
     is_localhost_or_under(without_last_dot(host))
 }
 
-// What stands before the last dot of a name and after it, where it has one.
+// What is before the last dot of a name and after it, where it has one.
 fn cut_at_last_dot(name: &[u8]) -> Option<(&[u8], &[u8])>
     ensures { MatchOption result (spec.labels name.now ≡ name.now ∷ [])
         (λ parts. IsCutAtLastDot name.now parts.0.now parts.1.now) }

@@ -20,7 +20,7 @@ range-more from count end is = ap (range_with_len from) (one-more count) ∙ las
     last a zero e is = let same : a ≡ e = omega (arith, is) in ap (λ (k : ℕ). k ∷ []) same
     last a (suc n) e is = ap (λ (l : List ℕ). a ∷ l) (last (a + 1) n e (omega (arith, is)))
 
--- a number that stands among those from one on is not below it, and below the end
+-- a number that is among those from one on is not below it, and below the end
 pub times-range : (d from count : ℕ) → 0 < times d (range_with_len from count) → (from ≤ d) × (d < from + count)
 times-range d from zero some = absurd (omega (arith, some))
 times-range d from (suc count) some = elim (eqb_tells from d) [

@@ -244,7 +244,7 @@ map-map {Z = Z} f g (x ∷ xs) = ap (λ (l : List Z). g (f x) ∷ l) (map-map f 
 
 -- ---- passes
 
--- how many passes are of a document is how often it stands among theirs
+-- how many passes are of a document is how often it is among theirs
 count-times : (d : ℕ) (passes : List TurnPass)
     → count_by (is_of d) passes ≡ times d (map (λ (p : TurnPass). p.document) passes)
 count-times d [] = refl

@@ -81,7 +81,7 @@ ran-by-rules limit document whole old events ending clock new x = record {
 
 -- ---- the state
 
--- the servers are the same behind an ask
+-- the servers are the same after an ask
 asked-state : (state : Option (List Server)) → option_map (λ (servers : List Server). servers) state ≡ state
 asked-state (Some servers) = refl
 asked-state None = refl

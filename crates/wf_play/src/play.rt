@@ -50,8 +50,8 @@ fn play_seated<R: Threads + Wait + Sync, N: Links>(
         (N.lent links.new) (N.faults links.old) (N.faults links.new) seats.items (λ olds news. IsPlayOver
         (over_link N.Link.answer N.Link.next) scenario.entry.now base olds news played.transcripts played.history)) }
     ensures refused { OnErr result (AreUnseated N.Link.state N.Link.received N.Link.faults (N.lent links.old)
-        (N.lent links.new) (N.faults links.old) (N.faults links.new) seats.items (NoneOrAllPlayed (over_link N.Link.answer N.Link.next)
-        scenario.entry.now base)) }
+        (N.lent links.new) (N.faults links.old) (N.faults links.new) seats.items
+        (NoneOrAllPlayed (over_link N.Link.answer N.Link.next) scenario.entry.now base)) }
     ensures has_text { IfOk result (λ played. HasText played.transcripts) }
 {
     let played = play_all(rt, alloc, scenario, base, &book, &mut seats);
@@ -86,10 +86,10 @@ pub fn play_over<R: Threads + Wait + Sync, N: Links>(
     requires valid { IsValid scenario.now }
     requires base { base ≤ 2 ^ 40 }
     ensures played { IfOk result (λ played. IsPlayOverLinks (over_link N.Link.answer N.Link.next) N.Link.state
-        N.Link.received N.Link.faults (maker_of N.opening N.lent N.faults links.old) (maker_of N.opening N.lent N.faults links.new)
-        scenario.entry.now base played.transcripts played.history) }
-    ensures refused { OnErr result (WasRefused (over_link N.Link.answer N.Link.next) N.Link.state N.Link.received N.Link.faults
-        (maker_of N.opening N.lent N.faults links.old) (maker_of N.opening N.lent N.faults links.new)
+        N.Link.received N.Link.faults (maker_of N.opening N.lent N.faults links.old)
+        (maker_of N.opening N.lent N.faults links.new) scenario.entry.now base played.transcripts played.history) }
+    ensures refused { OnErr result (WasRefused (over_link N.Link.answer N.Link.next) N.Link.state N.Link.received
+        N.Link.faults (maker_of N.opening N.lent N.faults links.old) (maker_of N.opening N.lent N.faults links.new)
         scenario.entry.now base) }
     ensures has_text { IfOk result (λ played. HasText played.transcripts) }
 {

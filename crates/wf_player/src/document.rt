@@ -123,11 +123,11 @@ fn run_document<R: Threads + Wait + Sync, S: Share, L: Link>(
 /// most 2^40. The document is that of the scenario with this number. It makes 129,024 calls of the book at
 /// most, which the pass has left.
 ///
-/// What the transcript shows is the document's run over a tape of what the world answers: each reply is that
-/// of the entry by which the pass's own grew; heads and bodies are those of the link's answers, where it
-/// tells them, and a fault comes only where its count of faults rose. At the end the link is hung up. The
-/// ending `Memory` is for want of memory: what was shown then begins such a run, the calls that were made are
-/// those on the way, the key may be empty and the clock is any number.
+/// What the transcript shows is the document's run over a tape of what the world answers: the reply to a call
+/// of the book is that of the entry which the call added to the pass's own; heads and bodies are those of the
+/// link's answers, where it tells them, and a fault comes only where its count of faults rose. At the end the
+/// link is hung up. The ending `Memory` is for want of memory: what was shown then begins such a run, the calls
+/// that were made are those on the way, the key may be empty and the clock is any number.
 pub fn drive<R: Threads + Wait + Sync, S: Share, L: Link>(
     rt: &R,
     alloc: Global,
@@ -145,8 +145,9 @@ pub fn drive<R: Threads + Wait + Sync, S: Share, L: Link>(
     requires left { most_calls ≤ S.left pass.old }
     ensures came { (one : OneDocument) → slice_get scenario.entry.now.documents document ≡ Some one
         → Came (over_link L.answer L.next) scenario.entry.now.body_limit (S.document pass.old)
-        (document_run scenario.entry.now.cookies base one) (outside S.own S.left L.state L.received L.faults pass.old link.old)
-        result.events result.ending result.clock (outside S.own S.left L.state L.received L.faults pass.new link.new) }
+        (document_run scenario.entry.now.cookies base one)
+        (outside S.own S.left L.state L.received L.faults pass.old link.old) result.events result.ending result.clock
+        (outside S.own S.left L.state L.received L.faults pass.new link.new) }
     ensures few { S.left pass.old ≤ S.left pass.new + most_calls }
     ensures hung_up { result.ending ≢ Memory → IsAtEnd (L.left link.new) }
     ensures number { result.document ≡ document }

@@ -42,13 +42,16 @@ fn run_choice<R: Threads + Wait + Sync, S: Share, L: Link>(
     ensures played { IfOk result (λ ending. Played (over_link L.answer L.next) lent.now.limit (S.document pass.old)
         (chosen test.now (script_run (setting lent.now.client.now lent.now.policies.now lent.now.cookies.now) part.now)
         (script_run (setting lent.now.client.now lent.now.policies.now lent.now.cookies.now) other.now))
-        (standing_of (world_of S.own S.left L.state L.left L.received L.faults pass.old link.old wire.old) running.old) ending
-        (standing_of (world_of S.own S.left L.state L.left L.received L.faults pass.new link.new wire.new) running.new)) }
+        (standing_of (world_of S.own S.left L.state L.left L.received L.faults pass.old link.old wire.old) running.old)
+        ending
+        (standing_of (world_of S.own S.left L.state L.left L.received L.faults pass.new link.new wire.new)
+        running.new)) }
     ensures cut { OnErr result (Cut (over_link L.answer L.next) lent.now.limit (S.document pass.old)
         (chosen test.now (script_run (setting lent.now.client.now lent.now.policies.now lent.now.cookies.now) part.now)
         (script_run (setting lent.now.client.now lent.now.policies.now lent.now.cookies.now) other.now))
         (standing_of (world_of S.own S.left L.state L.left L.received L.faults pass.old link.old wire.old) running.old)
-        (standing_of (world_of S.own S.left L.state L.left L.received L.faults pass.new link.new wire.new) running.new)) }
+        (standing_of (world_of S.own S.left L.state L.left L.received L.faults pass.new link.new wire.new)
+        running.new)) }
     ensures spent { IsSpent (S.left pass.old) running.old (S.left pass.new) running.new }
     ensures hung_up { OnOk result (IsAtEnd (L.left link.new)) }
     ensures has_text { IfOk result (λ ending. ending ≢ Some Memory) }
@@ -80,12 +83,15 @@ fn run_repeat<R: Threads + Wait + Sync, S: Share, L: Link>(
     requires end { IsAtEnd (L.left link.old) }
     ensures played { IfOk result (λ ending. Played (over_link L.answer L.next) lent.now.limit (S.document pass.old)
         (repeated times (script_run (setting lent.now.client.now lent.now.policies.now lent.now.cookies.now) part.now))
-        (standing_of (world_of S.own S.left L.state L.left L.received L.faults pass.old link.old wire.old) running.old) ending
-        (standing_of (world_of S.own S.left L.state L.left L.received L.faults pass.new link.new wire.new) running.new)) }
+        (standing_of (world_of S.own S.left L.state L.left L.received L.faults pass.old link.old wire.old) running.old)
+        ending
+        (standing_of (world_of S.own S.left L.state L.left L.received L.faults pass.new link.new wire.new)
+        running.new)) }
     ensures cut { OnErr result (Cut (over_link L.answer L.next) lent.now.limit (S.document pass.old)
         (repeated times (script_run (setting lent.now.client.now lent.now.policies.now lent.now.cookies.now) part.now))
         (standing_of (world_of S.own S.left L.state L.left L.received L.faults pass.old link.old wire.old) running.old)
-        (standing_of (world_of S.own S.left L.state L.left L.received L.faults pass.new link.new wire.new) running.new)) }
+        (standing_of (world_of S.own S.left L.state L.left L.received L.faults pass.new link.new wire.new)
+        running.new)) }
     ensures spent { IsSpent (S.left pass.old) running.old (S.left pass.new) running.new }
     ensures hung_up { OnOk result (IsAtEnd (L.left link.new)) }
     ensures has_text { IfOk result (λ ending. ending ≢ Some Memory) }
@@ -119,12 +125,15 @@ fn run_command<R: Threads + Wait + Sync, S: Share, L: Link>(
     requires end { IsAtEnd (L.left link.old) }
     ensures played { IfOk result (λ ending. Played (over_link L.answer L.next) lent.now.limit (S.document pass.old)
         (command_started (setting lent.now.client.now lent.now.policies.now lent.now.cookies.now) (step_of command.now))
-        (standing_of (world_of S.own S.left L.state L.left L.received L.faults pass.old link.old wire.old) running.old) ending
-        (standing_of (world_of S.own S.left L.state L.left L.received L.faults pass.new link.new wire.new) running.new)) }
+        (standing_of (world_of S.own S.left L.state L.left L.received L.faults pass.old link.old wire.old) running.old)
+        ending
+        (standing_of (world_of S.own S.left L.state L.left L.received L.faults pass.new link.new wire.new)
+        running.new)) }
     ensures cut { OnErr result (Cut (over_link L.answer L.next) lent.now.limit (S.document pass.old)
         (command_started (setting lent.now.client.now lent.now.policies.now lent.now.cookies.now) (step_of command.now))
         (standing_of (world_of S.own S.left L.state L.left L.received L.faults pass.old link.old wire.old) running.old)
-        (standing_of (world_of S.own S.left L.state L.left L.received L.faults pass.new link.new wire.new) running.new)) }
+        (standing_of (world_of S.own S.left L.state L.left L.received L.faults pass.new link.new wire.new)
+        running.new)) }
     ensures spent { IsSpent (S.left pass.old) running.old (S.left pass.new) running.new }
     ensures hung_up { OnOk result (IsAtEnd (L.left link.new)) }
     ensures has_text { IfOk result (λ ending. ending ≢ Some Memory) }
@@ -172,12 +181,15 @@ pub(crate) fn run_script<R: Threads + Wait + Sync, S: Share, L: Link>(
     requires end { IsAtEnd (L.left link.old) }
     ensures played { IfOk result (λ ending. Played (over_link L.answer L.next) lent.now.limit (S.document pass.old)
         (script_run (setting lent.now.client.now lent.now.policies.now lent.now.cookies.now) script.now)
-        (standing_of (world_of S.own S.left L.state L.left L.received L.faults pass.old link.old wire.old) running.old) ending
-        (standing_of (world_of S.own S.left L.state L.left L.received L.faults pass.new link.new wire.new) running.new)) }
+        (standing_of (world_of S.own S.left L.state L.left L.received L.faults pass.old link.old wire.old) running.old)
+        ending
+        (standing_of (world_of S.own S.left L.state L.left L.received L.faults pass.new link.new wire.new)
+        running.new)) }
     ensures cut { OnErr result (Cut (over_link L.answer L.next) lent.now.limit (S.document pass.old)
         (script_run (setting lent.now.client.now lent.now.policies.now lent.now.cookies.now) script.now)
         (standing_of (world_of S.own S.left L.state L.left L.received L.faults pass.old link.old wire.old) running.old)
-        (standing_of (world_of S.own S.left L.state L.left L.received L.faults pass.new link.new wire.new) running.new)) }
+        (standing_of (world_of S.own S.left L.state L.left L.received L.faults pass.new link.new wire.new)
+        running.new)) }
     ensures spent { IsSpent (S.left pass.old) running.old (S.left pass.new) running.new }
     ensures hung_up { OnOk result (IsAtEnd (L.left link.new)) }
     ensures has_text { IfOk result (λ ending. ending ≢ Some Memory) }

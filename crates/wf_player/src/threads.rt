@@ -1,5 +1,6 @@
 // Documents on threads, by fork and join.
-ghost use Rattle.std.specs.Prelude.{◌≡◌, ℕ, ◌≤◌, ◌<◌, ◌^◌, [], length, map, slice_index_or, vec_capacity, vec_len, IfOk, OnErr};
+ghost use Rattle.std.specs.Prelude.{◌≡◌, ℕ, ◌≤◌, ◌<◌, ◌^◌, [], length, map, slice_index_or};
+ghost use Rattle.std.specs.Prelude.{vec_capacity, vec_len, IfOk, OnErr};
 ghost use Rattle.std.specs.List.{All, range_with_len};
 ghost use Rattle.wf_script.specs.Valid.{IsValid};
 ghost use Rattle.wf_wire.specs.Wires.{over_link};
@@ -30,7 +31,8 @@ fn play_row<R: Threads + Wait + Sync, S: Share, L: Link>(
 )
     requires scenario { IsValid scenario.now }
     requires base { base ≤ 2 ^ 40 }
-    requires row { CanPlay (S.belongs share.now) (seat_of S.document S.opening S.own S.left L.state L.received L.faults) scenario.now number row.old }
+    requires row { CanPlay (S.belongs share.now) (seat_of S.document S.opening S.own S.left L.state L.received L.faults)
+        scenario.now number row.old }
     ensures { RowPlayed (S.belongs share.now) (seat_of S.document S.opening S.own S.left L.state L.received L.faults)
         (over_link L.answer L.next) scenario.entry.now base number row.old row.new }
 {
@@ -61,11 +63,12 @@ where
     requires scenario { IsValid scenario.now }
     requires base { base ≤ 2 ^ 40 }
     requires rows { (i : ℕ) (d : _) → i < length rows.old
-        → CanPlay (S.belongs share.now) (seat_of S.document S.opening S.own S.left L.state L.received L.faults) scenario.now i
-        (slice_index_or rows.old i d) }
+        → CanPlay (S.belongs share.now) (seat_of S.document S.opening S.own S.left L.state L.received L.faults)
+        scenario.now i (slice_index_or rows.old i d) }
     ensures { (i : ℕ) (d : _) → i < length rows.old
         → RowPlayed (S.belongs share.now) (seat_of S.document S.opening S.own S.left L.state L.received L.faults)
-        (over_link L.answer L.next) scenario.entry.now base i (slice_index_or rows.old i d) (slice_index_or rows.new i d) }
+        (over_link L.answer L.next) scenario.entry.now base i (slice_index_or rows.old i d)
+        (slice_index_or rows.new i d) }
 {
     let threads = rows.len();
     if threads == 0 {
@@ -78,7 +81,8 @@ where
         &|number: usize, row: &mut Row<L, S::Pass>|
             requires { IsValid scenario.now × (base ≤ 2 ^ 40) × CanPlay (S.belongs share.now)
                 (seat_of S.document S.opening S.own S.left L.state L.received L.faults) scenario.now number row.now }
-            ensures { RowPlayed (S.belongs share.entry.now) (seat_of S.document S.opening S.own S.left L.state L.received L.faults)
+            ensures { RowPlayed (S.belongs share.entry.now)
+                (seat_of S.document S.opening S.own S.left L.state L.received L.faults)
                 (over_link L.answer L.next) scenario.entry.now base number row.entry.now row.exit.now }
         { play_row(rt, alloc, scenario, number as u32, base, share, row) },
     );
@@ -143,10 +147,10 @@ fn listed(alloc: Global, transcripts: Vec<Transcript>) -> Result<Transcripts, Ou
 /// made, from a time in seconds on, which is at most 2^40. There is one seat for each document, in their
 /// order, whose pass is for the document of that number and has 129,024 calls left.
 ///
-/// Each document's transcript stands in its place, and with its seat before and behind the play it is that
-/// of a run as `drive` has one. Where memory is refused to a document it ends with the ending `Memory`; the
-/// others go on. `OutOfMemory` where memory was refused to what surrounds them: then none was played and the
-/// seats are as they were, or each was played and the calls that were made stand.
+/// The transcripts come in the order of the documents. Each, with its document's seat before and after the
+/// play, is that of a run as `drive` makes one. A document that is refused memory ends with the ending
+/// `Memory`, and the others go on. `OutOfMemory` where memory was refused outside of the documents' runs: then
+/// none was played and the seats are as they were, or all were played, and the calls that they made stay made.
 pub fn play_all<R: Threads + Wait + Sync, S: Share + Sync, L: Link + Send + Drop>(
     rt: &R,
     alloc: Global,
@@ -163,7 +167,8 @@ where
         (map (seat_of S.document S.opening S.own S.left L.state L.received L.faults) seats.old.items) }
     requires belong { All (λ s. S.belongs share.now s.pass) seats.old.items }
     ensures played { IfOk result (λ transcripts. ArePlayed (over_link L.answer L.next) scenario.entry.now base 0
-        scenario.entry.now.documents (map (seat_of S.document S.opening S.own S.left L.state L.received L.faults) seats.old.items)
+        scenario.entry.now.documents
+        (map (seat_of S.document S.opening S.own S.left L.state L.received L.faults) seats.old.items)
         (map (seat_of S.document S.opening S.own S.left L.state L.received L.faults) seats.new.items) transcripts) }
     ensures refused { OnErr result (AreRefused (over_link L.answer L.next) scenario.entry.now base
         (map (seat_of S.document S.opening S.own S.left L.state L.received L.faults) seats.old.items)

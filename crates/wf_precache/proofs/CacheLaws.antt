@@ -90,7 +90,7 @@ sorted-kept test (k ∷ ks) sorted = by (test k) (sorted-kept test ks sorted.1)
     by true rest = (all-kept (λ other. stands_before other.key k.key ≡ false) test ks sorted.0, rest)
     by false rest = rest
 
--- all of one list stand where none of the other stands before them
+-- two sorted lists joined are sorted where no key of the second comes before one of the first
 sorted-append : (xs ys : List Keyed) → AreSorted xs → AreSorted ys
     → AllByRecursion (λ x. AllByRecursion (λ y. stands_before y.key x.key ≡ false) ys) xs → AreSorted (xs ++ ys)
 sorted-append [] ys xs_sorted ys_sorted apart = ys_sorted
@@ -104,7 +104,7 @@ less-is Less is = refl
 less-is Equal is = absurd (true≢false (sym is))
 less-is Greater is = absurd (true≢false (sym is))
 
--- a text that another stands before doesn't stand before it
+-- a text that comes after another doesn't come before it
 not-back : (a b : List ℕ) → slice_cmp nat_cmp a b ≡ Less → stands_before b a ≡ false
 not-back a b less = ap is_lt (nat_list_cmp_total.antisymm b a ∙ ap ordering_reverse less)
 
@@ -121,7 +121,7 @@ own-sorted key (e ∷ es) = (own-at es, own-sorted key es)
     own-at (e ∷ es) = (not-itself key, own-at es)
 
 module _ (key : List ℕ) (entries : List CacheEntry) (cache : List Keyed) where
-  -- the key's own entries, and those of the keys behind it
+  -- the key's own entries, and those of the keys after it
   own-apart : (x : List ℕ) → stands_before key x ≡ false → (es : List CacheEntry)
       → AllByRecursion (λ (y : Keyed). stands_before y.key x ≡ false) (map (keyed key) es)
   own-apart x is [] = tt

@@ -75,7 +75,7 @@ pub computes-lessons : (learned (lesson false 7 (one (codes "PUT")) []) 3 wild
     × (learned (lesson false 7 [] (one (codes "a"))) 5 put ≡ entry (codes "k") false 5 7 (HeaderName (codes "a")) ∷ [])
 computes-lessons = (refl, refl, refl)
 
--- entries stand in the order of their keys, and clearing takes out those of a key, an origin and a URL
+-- entries are in the order of their keys, and clearing takes out those of a key, an origin and a URL
 abbrev beside : List Keyed → List Keyed
 beside own = entry (codes "a") false 0 9 (Method (codes "PUT"))
     ∷ (own ++ entry (codes "kk") false 0 9 (Method (codes "PUT")) ∷ [])

@@ -1,4 +1,4 @@
--- What the entries of a key become by a change of any key: laws that the book stands on.
+-- What the entries of a key become by a change of any key: laws that the book's proofs use.
 use Rattle.std.proofs.Common.{◌≡◌, ◌++◌, ◌∷◌, [], ℕ, List, Bool, true, false, cond, not, ◌&&◌, map, filter, refl, sym}
 use Rattle.std.proofs.Common.{ap, ◌∙◌}
 use Rattle.std.specs.declared.cmp.Ordering.{Ordering}
@@ -71,7 +71,7 @@ module _ (key : List ℕ) (cache : List Keyed) where
   equal-by : (other : List ℕ) (o : Ordering) → slice_cmp nat_cmp other key ≡ o → bytes_eq other key ≡ is_eq o
   equal-by other o is = nat_list_eq_equiv.symm other key ∙ same-by other key o is
 
-  -- other is the key that changes, and o how it stands to this one
+  -- other is the key that changes, and o how it compares with this one
   with-by : (other : List ℕ) (entries : List CacheEntry) (o : Ordering) → slice_cmp nat_cmp other key ≡ o
       → entries_of key (with_entries other entries cache) ≡ cond (is_eq o) entries (entries_of key cache)
   with-by other entries Less is =

@@ -31,7 +31,7 @@ pub part-dropped : (test : List ℕ → Bool) (key : List ℕ) (entries : List C
 part-dropped test key [] fails = refl
 part-dropped test key (e ∷ es) fails = rw fails (part-dropped test key es fails)
 
--- where a key stands to another, by the order of their bytes
+-- how a key compares with another, by the order of their bytes
 module _ (key other : List ℕ) (o : Ordering) (is : slice_cmp nat_cmp key other ≡ o) where
   pub same-by : bytes_eq other key ≡ is_eq o
   same-by = nat_list_eq_equiv.symm other key ∙ (texts_ties key other ∙ ap is_eq is)
@@ -81,7 +81,7 @@ module _ {K : Type 0} (bytes : K → List ℕ) where
     abbrev high : List (K × List CacheEntry) → List (K × List CacheEntry)
     high ps = filter (λ p. stands_before key (bytes p.0)) ps
 
-    -- the key stands before all keys of the lists
+    -- the key comes before all keys of the lists
     abbrev AllHigh : List (K × List CacheEntry) → Type 0
     AllHigh ps = AllByRecursion (λ k. compare k ≡ Less) (keys_of ps)
 
@@ -105,7 +105,7 @@ module _ {K : Type 0} (bytes : K → List ℕ) where
     removed-none (p ∷ ps) all = ap (λ (b : Bool). cond b ps (p ∷ remove_entry (is_at compare) ps)) (ap is_eq all.0)
         ∙ ap (λ (qs : List (K × List CacheEntry)). p ∷ qs) (removed-none ps all.1)
 
-    -- what stands behind a key that the key doesn't stand behind
+    -- what comes after a key that the key doesn't come after
     high-through : (k : K) → ((other : K) → key_cmp bytes k other ≡ Less → compare other ≡ Less)
         → (ps : List (K × List CacheEntry)) → AllByRecursion (λ other. key_cmp bytes k other ≡ Less) (keys_of ps)
         → AllHigh ps
@@ -176,7 +176,7 @@ module _ {K : Type 0} (bytes : K → List ℕ) where
     among-sifted entries ps = λ k. listed-sifted (λ other. stands_before other key) ps k
         ++ (map (keyed key) entries ++ listed-sifted (stands_before key) ps k)
 
-    -- where the first key stands before, at, or behind the key
+    -- where the first key comes before the key, is the key, or comes after it
     among-less : (entries : List Keyed) (ps : List (K × List CacheEntry)) → AllHigh ps → among entries ps ≡ entries
         ++ listed bytes ps
     among-less entries ps all = λ k. listed bytes (low-none ps all k) ++ (entries ++ listed bytes (high-all ps all k))

@@ -9,7 +9,7 @@ use Rattle.wf_precache.specs.Teaching.{created, is_known, newest, renewed, with_
 use Rattle.wf_precache.proofs.ListLemmas.{unmapped}
 
 module _ (lesson : Lesson) (now : ℕ) (item : Allowed) (old new : List CacheEntry) where
-  -- where no entry is known, the renewed entries with the new one behind are those of the definition
+  -- where no entry is known, the renewed entries with the new one after them are those of the definition
   created-last : list_any (is_known lesson now item) old ≡ false → new
       ≡ newest (map (renewed lesson now item) old ++ created lesson now item ∷ []) → new ≡ with_item lesson now old item
   created-last none is =

@@ -14,7 +14,7 @@ pub record Keyed : Type 0 where
 abbrev pub keyed : List ℕ → CacheEntry → Keyed
 keyed key entry = record { key = key; entry = entry }
 
--- the first text stands before the second in the order of bytes
+-- the first text comes before the second in the order of bytes
 abbrev pub stands_before : List ℕ → List ℕ → Bool
 stands_before a b = is_lt (text_cmp a b)
 
@@ -22,7 +22,7 @@ stands_before a b = is_lt (text_cmp a b)
 abbrev pub entries_of : List ℕ → List Keyed → List CacheEntry
 entries_of key cache = map (λ k. k.entry) (filter (λ k. bytes_eq k.key key) cache)
 
--- no key stands before an earlier one
+-- no key comes before an earlier one in that order
 abbrev pub AreSorted : List Keyed → Type 0
 AreSorted [] = Unit {0}
 AreSorted (k ∷ ks) = AllByRecursion (λ other. stands_before other.key k.key ≡ false) ks × AreSorted ks
@@ -32,7 +32,7 @@ pub record IsCache (cache : List Keyed) : Type 0 where
   pub sorted : AreSorted cache
   pub bounded : (key : List ℕ) → length (entries_of key cache) ≤ 64
 
--- the entries of the keys before this one, and of those behind it
+-- the entries of the keys before this one, and of those after it
 abbrev pub before : List ℕ → List Keyed → List Keyed
 before key cache = filter (λ k. stands_before k.key key) cache
 

@@ -126,9 +126,9 @@ impl Precache {
     }
 
     /// Learns what a CORS-preflight fetch taught, now, in seconds: the dead entries of its key go.
-    /// Then for each method and each header name, in order, all entries that are alive and match hold
-    /// for the lesson's age from now on, or else a new entry does. A key's oldest entry goes where it
-    /// would hold 65.
+    /// Then for each method and each header name, in order, all entries that are alive and match get
+    /// the lesson's age, counted from now; where there are none, a new entry is added. A key's oldest
+    /// entry goes where the key would hold 65.
     pub fn learn(&mut self, lesson: &Lesson, now: u64) -> Result<(), OutOfMemory>
         ensures ok { OnOk result (self.new ≡ learned lesson.now now self.old) }
         ensures err { OnErr result (self.new ≡ self.old) }

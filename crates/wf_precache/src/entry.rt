@@ -40,7 +40,7 @@ impl Allowed {
         }
     }
 
-    // Whether this is the header name, ASCII case aside, or the wildcard where that speaks of it.
+    // Whether this is the header name, ASCII case aside, or the wildcard where that covers the name.
     pub(crate) fn allows_name(&self, name: &[u8]) -> bool
         ensures { result ≡ allows_name name.now self.now }
     {

@@ -265,7 +265,7 @@ none_summarized = refl
 no_documents : play_text [] [] ≡ codes "fetchplay 1\nhistory\ndone\n"
 no_documents = refl
 
--- bytes at the edges of what stands for itself
+-- bytes at the edges of what is written as it is
 edges : escaped (31 ∷ 32 ∷ 92 ∷ 126 ∷ 127 ∷ 195 ∷ 169 ∷ []) ≡ codes "\\x1f \\x5c~\\x7f\\xc3\\xa9"
 edges = refl
 

@@ -10,7 +10,7 @@ use Rattle.wf_print.specs.Escapes.{escaped, hex_escape, is_plain}
 abbrev pub kept_or : (ℕ → Bool) → (ℕ → List ℕ) → ℕ → List ℕ
 kept_or test other byte = cond (test byte) (byte ∷ []) (other byte)
 
--- the first bytes for which the test holds stand for themselves
+-- the first bytes for which the test holds are kept as they are
 pub flat_map-kept : (test : ℕ → Bool) (other : ℕ → List ℕ) (text : List ℕ) → flat_map (kept_or test other) text
     ≡ take (prefix_len test text) text ++ flat_map (kept_or test other) (drop (prefix_len test text) text)
 flat_map-kept test other [] = refl
@@ -29,7 +29,7 @@ flat_map-kept test other (byte ∷ text) = split (test byte) refl (flat_map-kept
         ++ flat_map f (drop m (byte ∷ text))) n (ap (λ (l : List ℕ). byte ∷ l) more)
     split false is more = ap (λ (b : Bool). cond b (byte ∷ []) (other byte) ++ flat_map f text) (sym is)
 
--- it does not hold for the byte behind them
+-- the test does not hold for the byte after them
 pub behind_kept : (test : ℕ → Bool) (text : List ℕ) (byte : ℕ) (after : List ℕ) → drop (prefix_len test text) text
     ≡ byte ∷ after → test byte ≡ false
 behind_kept test [] byte after e = cc
@@ -42,7 +42,7 @@ behind_kept test (first ∷ text) byte after e = split (test first) refl (behind
         more (subst (λ (m : ℕ). drop m (first ∷ text) ≡ byte ∷ after) (sym n) e)
     split false is more e = cc
 
--- a run of plain bytes, and the byte behind it
+-- a run of plain bytes, and the byte after it
 pub escaped_run : (text run after : List ℕ) (byte n : ℕ) → n ≡ prefix_len is_plain text → run ≡ take n text
     → drop n text ≡ byte ∷ after → escaped text ≡ run ++ (hex_escape byte ++ escaped after)
 escaped_run text run after byte n is front back =
@@ -66,7 +66,7 @@ escaped_plain text run n is front back =
     ∙ ap (λ (l : List ℕ). take (prefix_len is_plain text) text ++ escaped l) behind
     ∙ append-nil (take (prefix_len is_plain text) text) ∙ before
 
--- a text of plain bytes alone stands for itself
+-- a text of plain bytes alone is written as it is
 pub escaped-all_plain : (text : List ℕ) → list_all is_plain text ≡ true → escaped text ≡ text
 escaped-all_plain [] all = refl
 escaped-all_plain (byte ∷ text) all = split (is_plain byte) refl (escaped-all_plain text) all

@@ -8,7 +8,7 @@ use Rattle.std.proofs.lemmas.List.Concat.{flat_map-append}
 use Rattle.wf_headers.specs.declared.headers.Header.{Header}
 use Rattle.wf_print.specs.Text.{escaped_line, header_lines}
 
--- the header at an index, and those behind it
+-- the header at an index, and those after it
 pub header_lines-drop : (headers : List Header) (i : ℕ) (name value : List ℕ)
     → option_map (λ (header : Header). header.name) (slice_get headers i) ≡ Some name
     → option_map (λ (header : Header). header.value) (slice_get headers i) ≡ Some value

@@ -1,4 +1,4 @@
--- Texts of a history are read back: each part of a line ends where a byte stands that the part has not.
+-- Texts of a history are read back: each part of a line ends at a byte that the part does not have.
 use Rattle.std.proofs.Common.{◌≡◌, ℕ, ◌+◌, ◌<◌, Bool, true, false, List, [], ◌∷◌, ◌++◌, codes}
 use Rattle.std.proofs.Common.{refl, ap, sym, ◌∙◌, arith, append_assoc, Option, Some, None, ◌⊎◌, inl, inr}
 use Rattle.std.proofs.lemmas.Grind.{common_steps}
@@ -28,7 +28,7 @@ use Rattle.wf_print.specs.Text.{entry_line, history_text}
 abbrev lacks : ℕ → List ℕ → Bool
 lacks byte text = list_all (λ other. not (other == byte)) text
 
--- two texts are equal where they stand before such a byte, and so is what stands behind it
+-- two equal texts are cut at their first such byte: what comes before it is equal, and so is what comes after it
 cut-at : (byte : ℕ) (x y a b : List ℕ) → IsTrue (lacks byte x) → IsTrue (lacks byte y) → x ++ byte ∷ a ≡ y ++ byte ∷ b
     → (x ≡ y) × (a ≡ b)
 cut-at byte [] [] a b lx ly e = (refl, cc)
@@ -47,7 +47,7 @@ no-byte byte [] (d ∷ y) a lx e = cc
 no-byte byte (c ∷ x) [] a lx e = let same : c ≡ byte = cc in grind (arith, common_steps)
 no-byte byte (c ∷ x) (d ∷ y) a lx e = no-byte byte x y a (grind (arith, common_steps)) cc
 
--- the first byte, and the one behind it
+-- the first byte, and the one after it
 first : (c d : ℕ) (x y : List ℕ) → c ∷ x ≡ d ∷ y → c ≡ d
 first c d x y e = cc
 
@@ -56,7 +56,7 @@ second c d c' d' x y e = cc
 
 -- ---- words and numbers
 
--- a word and the space behind it
+-- a word and the space after it
 word : (x y a b : List ℕ) → IsWord x → IsWord y → x ++ (codes " " ++ a) ≡ y ++ (codes " " ++ b) → (x ≡ y) × (a ≡ b)
 word x y a b wx wy e = cut-at 32 x y a b wx wy e
 
@@ -71,15 +71,16 @@ digits-lack byte other n small =
 number-before : (byte : ℕ) → (byte < 48) ⊎ (57 < byte) → (m n : ℕ) (a b : List ℕ) → IsNumber m → IsNumber n
     → decimal m ++ byte ∷ a ≡ decimal n ++ byte ∷ b → (m ≡ n) × (a ≡ b)
 number-before byte other m n a b small less e =
-    let h = cut-at byte (decimal m) (decimal n) a b (digits-lack byte other m small) (digits-lack byte other n less) e in
+    let h =
+    cut-at byte (decimal m) (decimal n) a b (digits-lack byte other m small) (digits-lack byte other n less) e in
     (decimal_injective m n small less h.0, h.1)
 
--- a number and the space behind it
+-- a number and the space after it
 number : (m n : ℕ) (a b : List ℕ) → IsNumber m → IsNumber n
     → decimal m ++ (codes " " ++ a) ≡ decimal n ++ (codes " " ++ b) → (m ≡ n) × (a ≡ b)
 number m n a b small less e = number-before 32 (inl (omega arith)) m n a b small less e
 
--- the time of an operation and the colon behind it
+-- the time of an operation and the colon after it
 time : (m n : ℕ) (a b : List ℕ) → IsNumber m → IsNumber n
     → time_text m ++ (codes ": " ++ a) ≡ time_text n ++ (codes ": " ++ b) → (m ≡ n) × (a ≡ b)
 time m n a b small less e =
@@ -87,7 +88,8 @@ time m n a b small less e =
     let h = number-before 58 (inr (omega arith)) m n (32 ∷ a) (32 ∷ b) small less rest in (h.0, cc)
 
 -- whether the credentials mode is include
-credentials : (x y : Bool) (a b : List ℕ) → credentials_text x ++ (codes " " ++ a) ≡ credentials_text y ++ (codes " " ++ b)
+credentials : (x y : Bool) (a b : List ℕ)
+    → credentials_text x ++ (codes " " ++ a) ≡ credentials_text y ++ (codes " " ++ b)
     → (x ≡ y) × (a ≡ b)
 credentials true true a b e = (refl, cc)
 credentials false false a b e = (refl, cc)
@@ -112,7 +114,7 @@ method (Some x) None a b nx ny e = absurd (let h = word x (codes "()") a b nx.0 
 
 -- ---- lists of words
 
--- the words behind the first one, each behind a comma
+-- the words after the first one, each after a comma
 comma-words : (x y : List ℕ) (xs ys : List (List ℕ)) → IsListed x → IsListed y → All IsListed xs → All IsListed ys
     → x ++ comma_texts xs ≡ y ++ comma_texts ys → (x ≡ y) × (xs ≡ ys)
 comma-words x y [] [] lx ly ls lt e = (sym (append-nil x) ∙ e ∙ append-nil y, refl)
@@ -154,7 +156,7 @@ list-word (x ∷ xs) ls =
     let rest = commas-lack_space xs (All-tail IsListed x xs ls) in
     rw (list_all-append (λ byte. not (byte == 32)) x (comma_texts xs), first, rest) refl
 
--- a list of words and the space behind it
+-- a list of words and the space after it
 list : (xs ys : List (List ℕ)) (a b : List ℕ) → All IsListed xs → All IsListed ys
     → list_text xs ++ (codes " " ++ a) ≡ list_text ys ++ (codes " " ++ b) → (xs ≡ ys) × (a ≡ b)
 list xs ys a b ls lt e =
@@ -173,7 +175,8 @@ note-text : (host : List ℕ) (sts : Sts) (now : ℕ) (a : List ℕ) → op_text
     ++ (host ++ (codes " " ++ (decimal sts.age ++ (codes " " ++ (subdomains_text sts.subdomains
     ++ (time_text now ++ (codes ": " ++ a)))))))
 note-text host sts now a =
-    parts (codes "note ") host (codes " ") (decimal sts.age) (subdomains_text sts.subdomains) (time_text now) (codes ": " ++ a)
+    parts (codes "note ") host (codes " ") (decimal sts.age) (subdomains_text sts.subdomains) (time_text now)
+    (codes ": " ++ a)
   where
     parts : (k h s d u t r : List ℕ) → ((k ++ h ++ s ++ (d ++ s ++ u)) ++ t) ++ r
         ≡ k ++ (h ++ (s ++ (d ++ (s ++ (u ++ (t ++ r))))))
@@ -203,7 +206,7 @@ clear-text key origin url now a =
         ≡ k ++ (h ++ (s ++ (d ++ (s ++ (u ++ (t ++ r))))))
     parts k h s d u t r = simp append_assoc
 
--- a word, and the time behind it
+-- a word, and the time after it
 word-time : (x y : List ℕ) (m n : ℕ) (a b : List ℕ) → IsWord x → IsWord y → IsNumber m → IsNumber n
     → x ++ (time_text m ++ (codes ": " ++ a)) ≡ y ++ (time_text n ++ (codes ": " ++ b)) → (x ≡ y) × (m ≡ n) × (a ≡ b)
 word-time x y m n a b wx wy small less e =
@@ -320,7 +323,8 @@ learn-read l m now now' a b ok ok' small less e =
 clear-read : (key key' origin origin' url url' : List ℕ) (now now' : ℕ) (a b : List ℕ)
     → IsWord key × IsWord origin × IsWord url → IsWord key' × IsWord origin' × IsWord url'
     → IsNumber now → IsNumber now'
-    → op_text (Clear key origin url now) ++ (codes ": " ++ a) ≡ op_text (Clear key' origin' url' now') ++ (codes ": " ++ b)
+    → op_text (Clear key origin url now) ++ (codes ": " ++ a)
+    ≡ op_text (Clear key' origin' url' now') ++ (codes ": " ++ b)
     → (Clear key origin url now ≡ Clear key' origin' url' now') × (a ≡ b)
 clear-read key key' origin origin' url url' now now' a b ok ok' small less e =
     let k = word key key' _ _ ok.0 ok'.0
@@ -330,7 +334,7 @@ clear-read key key' origin origin' url url' now now' a b ok ok' small less e =
     let u = word-time url url' now now' a b ok.2 ok'.2 small less o.1 in
     (cc, u.2)
 
--- an operation and the colon behind it
+-- an operation and the colon after it
 op-read : (p q : Op) (a b : List ℕ) → IsNumber (time_of p) → IsNumber (time_of q) → IsReadableOp p → IsReadableOp q
     → op_text p ++ (codes ": " ++ a) ≡ op_text q ++ (codes ": " ++ b) → (p ≡ q) × (a ≡ b)
 op-read (Match host now) (Match host' now') a b small less ok ok' e =
@@ -360,7 +364,7 @@ entry-text : (entry : Entry) (a : List ℕ) → entry_line entry ++ a
     ++ (codes ": " ++ (reply_text entry.reply ++ (codes "\n" ++ a)))))))
 entry-text entry a = simp append_assoc
 
--- an entry, and what stands behind its line
+-- an entry, and what comes after its line
 entry-read : (x y : Entry) (a b : List ℕ) → IsReadable x → IsReadable y → entry_line x ++ a ≡ entry_line y ++ b
     → (x ≡ y) × (a ≡ b)
 entry-read x y a b ok ok' e =

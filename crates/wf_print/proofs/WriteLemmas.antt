@@ -27,7 +27,7 @@ writes-nothing {taken = taken} {sink = sink} = record {
   nothing = λ is. absurd cc;
 }
 
--- a text behind one that was written whole
+-- a text after one that was written whole
 pub writes-append : {K A B : Type 0} {taken : K → Option (List ℕ)} {faults zeros : K
     → ℕ} {old mid new : K} {x y : List ℕ} {a : A} {result : Result B Failure}
     → Writes taken faults zeros old mid x (Ok a) → Writes taken faults zeros mid new y result
@@ -43,7 +43,7 @@ writes-append {taken = taken} {faults = faults} {zeros = zeros} {old = old} {mid
           let rose : Rose (zeros mid) (zeros new) = second.nothing e in omega (arith, first.zeros_stay, rose);
     }
 
--- more text behind one that was not written whole
+-- more text after one that was not written whole
 pub writes-before : {K A : Type 0} {taken : K → Option (List ℕ)} {faults zeros : K
     → ℕ} {old new : K} {x : List ℕ} {failure : Failure} (y : List ℕ)
     → Writes {A = A} taken faults zeros old new x (Err failure)
@@ -72,7 +72,7 @@ writes-failed {failure = failure} (Err passed) e first = record {
   nothing = λ is. first.nothing cc;
 }
 
--- memory was refused behind a text that was written whole
+-- memory was refused after a text that was written whole
 pub writes-refused : {K A : Type 0} {taken : K → Option (List ℕ)} {faults zeros : K
     → ℕ} {old new : K} {x : List ℕ} {a : A} (y : List ℕ) (result : Result A Failure)
     → IsErrAnd result (λ failure. failure ≡ OutOfMemory) → Writes taken faults zeros old new x (Ok a)

@@ -16,16 +16,16 @@ reply_text Yes = codes "yes"
 reply_text No = codes "no"
 reply_text Done = codes "done"
 
--- texts, each behind a comma
+-- texts, each after a comma
 abbrev pub comma_texts : List (List ℕ) → List ℕ
 comma_texts texts = flat_map (λ text. codes "," ++ text) texts
 
--- a list of texts, joined by commas; `()` stands for the empty one
+-- a list of texts, joined by commas; the empty one is written `()`
 abbrev pub list_text : List (List ℕ) → List ℕ
 list_text [] = codes "()"
 list_text (text ∷ texts) = text ++ comma_texts texts
 
--- the method that is asked for; `()` stands for none
+-- the method that is asked for; `()` where there is none
 abbrev pub method_text : Option (List ℕ) → List ℕ
 method_text None = codes "()"
 method_text (Some method) = method
@@ -61,7 +61,7 @@ lesson_text lesson =
 abbrev pub time_text : ℕ → List ℕ
 time_text now = codes " at " ++ decimal now
 
--- an operation and its time; its texts stand as they are
+-- an operation and its time; its texts are written as they are
 abbrev pub op_text : Op → List ℕ
 op_text (Match host now) = codes "match " ++ host ++ time_text now
 op_text (Note host sts now) = codes "note " ++ host ++ codes " " ++ sts_text sts ++ time_text now

@@ -6,7 +6,7 @@ use Rattle.std.specs.List.{flat_map}
 use Rattle.std.specs.Char.{digit_char}
 use Rattle.wf_text.specs.Ascii.{backslash, delete_byte, space}
 
--- the byte stands for itself: it is printable ASCII, and no backslash
+-- the byte is written as it is: it is printable ASCII, and no backslash
 abbrev pub is_plain : ℕ → Bool
 is_plain byte = nat_le space byte && nat_lt byte delete_byte && not (byte == backslash)
 

@@ -20,11 +20,11 @@ IsNumber n = n < 2 ^ 64
 abbrev pub IsWord : List ℕ → Type 0
 IsWord text = IsTrue (lacks_space text)
 
--- a word other than `()`, which stands for none
+-- a word other than `()`, which is written where there is none
 abbrev pub IsNamed : List ℕ → Type 0
 IsNamed text = IsWord text × (text ≢ codes "()")
 
--- such a word without a comma, which parts those of a list
+-- such a word without a comma, which separates the words of a list
 abbrev pub IsListed : List ℕ → Type 0
 IsListed text = IsNamed text × IsTrue (list_all (λ byte. not (byte == comma)) text)
 

@@ -32,7 +32,7 @@ is_error _ = false
 abbrev pub all_events : List Transcript → List Event
 all_events transcripts = flat_map (λ transcript. transcript.events) transcripts
 
--- how many of them pass the test
+-- how many events of all documents pass the test
 abbrev pub event_count : (Event → Bool) → List Transcript → ℕ
 event_count test transcripts = length (filter test (all_events transcripts))
 

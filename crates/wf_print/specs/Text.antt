@@ -71,7 +71,7 @@ violation_line violation =
     line (codes "violation " ++ decimal violation.policy ++ codes " " ++ disposition_name violation.enforced
     ++ codes " " ++ directive_name violation.directive ++ codes " " ++ violation.url)
 
--- the URL of a response; `()` stands for none
+-- the URL of a response; `()` where there is none
 abbrev pub url_text : Option (List ℕ) → List ℕ
 url_text None = codes "()"
 url_text (Some url) = url

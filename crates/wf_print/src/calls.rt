@@ -33,7 +33,7 @@ fn subdomains_text(subdomains: bool) -> &'static [u8]
     if subdomains { b"sub" } else { b"exact" }
 }
 
-// Adds texts, each behind a comma.
+// Adds texts, each after a comma.
 fn add_comma_texts<W: Output>(text: &mut W, texts: &[Bytes]) -> Result<(), W::Error>
     ensures { OnOk result (text.new ≡ W.after text.old (spec.comma_texts texts.now)) }
 {
@@ -65,7 +65,7 @@ fn method_text(method: &Option<Bytes>) -> &[u8]
     }
 }
 
-// Adds a word and the space behind it.
+// Adds a word and the space after it.
 fn add_word<W: Output>(text: &mut W, word: &[u8]) -> Result<(), W::Error>
     ensures { OnOk result (text.new ≡ W.after text.old (word.now ++ codes " ")) }
 {

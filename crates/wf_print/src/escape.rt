@@ -8,14 +8,14 @@ use crate::output::Output;
 // How many bytes are looked at together.
 const BLOCK: usize = 512;
 
-// Whether the byte stands for itself in an escaped text.
+// Whether the byte is written as it is in an escaped text.
 fn is_plain(byte: u8) -> bool
     ensures { result ≡ spec.is_plain byte }
 {
     (0x20..=0x7e).contains(&byte) & (byte != b'\\')
 }
 
-// Whether each byte stands for itself. It looks at all of them, so that it is compiled to steps on many
+// Whether each byte is written as it is. It looks at all of them, so that it is compiled to steps on many
 // bytes at once.
 fn are_plain(bytes: &[u8]) -> bool
     ensures { result ≡ list_all spec.is_plain bytes.now }
@@ -27,7 +27,7 @@ fn are_plain(bytes: &[u8]) -> bool
     plain
 }
 
-// How many bytes at the front stand for themselves.
+// How many bytes at the front are written as they are.
 fn plain_len(bytes: &[u8]) -> usize
     ensures { result ≡ prefix_len spec.is_plain bytes.now }
 {
@@ -58,7 +58,7 @@ fn hex_escape(byte: u8) -> [u8; 4]
     [b'\\', b'x', hex_digit(byte / 16), hex_digit(byte % 16)]
 }
 
-// Adds a piece, escaped. Bytes that stand for themselves are added a run at a time.
+// Adds a piece, escaped. Bytes that are not changed are added a run at a time.
 fn add_runs<W: Output>(text: &mut W, piece: &[u8]) -> Result<(), W::Error>
     ensures { OnOk result (text.new ≡ W.after text.old (spec.escaped piece.now)) }
 {
@@ -74,7 +74,7 @@ fn add_runs<W: Output>(text: &mut W, piece: &[u8]) -> Result<(), W::Error>
     }
 }
 
-// Adds a block, escaped: as it is, where each of its bytes stands for itself.
+// Adds a block, escaped: as it is, where each of its bytes is written as it is.
 fn add_block<W: Output>(text: &mut W, block: &[u8]) -> Result<(), W::Error>
     ensures { OnOk result (text.new ≡ W.after text.old (spec.escaped block.now)) }
 {

@@ -8,7 +8,7 @@ pub trait Output {
     /// Why a piece was not taken.
     type Error: Drop;
 
-    /// The output with a text behind all that it took.
+    /// The output once it has taken this text too.
     ghost after: { Self → List ℕ → Self };
 
     /// Takes a piece.

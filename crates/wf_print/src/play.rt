@@ -79,7 +79,7 @@ fn put_transcripts<K: Sink>(
     Ok(())
 }
 
-// Writes the lines of the history, so many of them at a time.
+// Writes the lines of the history, at most `TOGETHER` of them at a time.
 fn put_entries<K: Sink>(alloc: Global, entries: &[Entry], sink: &mut K) -> Result<(), Failure>
     ensures { Writes K.taken K.faults K.zeros sink.old sink.new (flat_map spec.entry_line entries.now) result }
 {

@@ -98,7 +98,8 @@ fn put_summary<K: Sink>(
     history: &[Entry],
     sink: &mut K,
 ) -> Result<(), Failure>
-    ensures { Writes K.taken K.faults K.zeros sink.old sink.new (spec.summary_text n transcripts.now history.now) result }
+    ensures { Writes K.taken K.faults K.zeros sink.old sink.new
+        (spec.summary_text n transcripts.now history.now) result }
 {
     let text = text_of(alloc, n, transcripts, history)?;
     put(sink, text.as_slice())

@@ -9,6 +9,7 @@ use Rattle.wf_types.specs.declared.mode.ReferrerPolicy.{ReferrerPolicy}
 use Rattle.wf_types.specs.declared.mode.ReferrerPolicy.TheVariants as policy
 
 -- "strip url for use as a referrer" with the origin-only flag: stripped, and also with the path `/` and without query
+-- ("determine request's Referrer", step 5)
 abbrev pub origin_only : Parts → Parts
 origin_only url = record (stripped url) { path = codes "/"; query = None }
 
@@ -16,7 +17,7 @@ origin_only url = record (stripped url) { path = codes "/"; query = None }
 abbrev pub is_too_long : Parts → Bool
 is_too_long url = nat_lt 4096 (length (serialize (stripped url)))
 
--- the stripped URL, or the origin alone in place of one that is too long
+-- the stripped URL, or the origin alone in place of one that is too long (steps 4 and 6)
 abbrev pub whole : Parts → Parts
 whole url = if is_too_long url then origin_only url else stripped url
 
@@ -24,7 +25,7 @@ whole url = if is_too_long url then origin_only url else stripped url
 abbrev pub is_downgrade : Parts → Parts → Bool
 is_downgrade source target = is_trustworthy_url source && not (is_trustworthy_url target)
 
--- "determine request's Referrer": what each policy tells the target of the source. The empty policy is that of
+-- "determine request's Referrer", step 8: what each policy tells the target of the source. The empty policy is that of
 -- no request: "main fetch" puts the client's in its place.
 abbrev pub determine : ReferrerPolicy → Parts → Parts → Option Parts
 determine policy.Empty source target = None

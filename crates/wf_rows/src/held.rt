@@ -1,7 +1,7 @@
-// A value that is let go by a call. A function that holds a large value at several ways out is proved sooner where it
-// holds it so: else the dropping of each of its parts stands in the function itself.
+// A value that is dropped by a call. A function that drops a large value at several ways out is proved sooner where it
+// holds the value so: else it has to drop each of the value's parts itself, at each way out.
 
-/// What is held.
+/// Holds a value.
 pub struct Held<T: Drop> {
     pub value: T,
 }

@@ -9,7 +9,7 @@ pub trait Lines {
     fn answer(&mut self, alloc: Global, line: &str, shown: &mut Shown) -> Result<(), Failed>;
 }
 
-/// Whether a line is printed as it stands: a title, which begins with `#`, or an empty line.
+/// Whether a line is printed as it is: a title, which begins with `#`, or an empty line.
 pub fn is_title(line: &str) -> bool {
     line.is_empty() || line.starts_with('#')
 }
@@ -38,8 +38,8 @@ fn play_line<R: Print + AllocGlobal, T: Lines>(
     print_text(rt, shown)
 }
 
-/// Reads the lines of the input, and prints of each what it comes to: of a title itself, and of another line its answer.
-/// It ends at the first that fails.
+/// Reads the lines of the input, and prints for each what it comes to: a title itself, and another line its answer. It
+/// ends at the first that fails.
 pub fn play<R: Input + Print + AllocGlobal, T: Lines>(rt: &R, lines: &mut T) -> Result<(), Failed> {
     let text = io::read_to_string(rt.alloc(), rt.reader())?;
     for line in text.lines() {

@@ -3,14 +3,14 @@ use crate::shown::Shown;
 use std::alloc::Global;
 use wf_text::{Bytes, BytesList, after_byte, before_byte, parse_digits, parts_between};
 
-/// The texts of a row, which its call takes.
+/// The texts of a row, without their escapes.
 #[derive(Drop)]
 pub struct Row {
     texts: BytesList,
 }
 
 impl Row {
-    /// The row of texts with a byte between.
+    /// Cuts a written row at each such byte into its texts, and undoes their escapes as `unescaped` does.
     pub fn of(alloc: Global, written: &[u8], between: u8) -> Result<Row, Failed> {
         let mut texts = BytesList::new(alloc);
         for text in texts_between(alloc, written, between)?.as_slice() {
@@ -24,7 +24,7 @@ impl Row {
         self.texts.len()
     }
 
-    /// The text at an index, or the empty one.
+    /// The text at an index, or the empty text where there are fewer.
     pub fn text(&self, index: usize) -> &[u8] {
         if index < self.texts.len() {
             self.texts.at(index)
@@ -39,7 +39,7 @@ impl Row {
     }
 }
 
-/// The texts with a byte between, as they stand.
+/// Cuts a text at each such byte. The parts stay as they are written.
 pub fn texts_between(alloc: Global, written: &[u8], between: u8) -> Result<BytesList, Failed> {
     let mut texts = BytesList::new(alloc);
     for text in parts_between(alloc, written, between)?.as_slice() {
@@ -48,7 +48,7 @@ pub fn texts_between(alloc: Global, written: &[u8], between: u8) -> Result<Bytes
     Ok(texts)
 }
 
-/// The number that the digits write, which is at most the cap.
+/// The number that the digits write, or the cap where that is less.
 pub fn number(digits: &[u8], cap: u64) -> Result<u64, Failed> {
     match parse_digits(digits, cap) {
         Some(number) => Ok(number),
@@ -56,8 +56,8 @@ pub fn number(digits: &[u8], cap: u64) -> Result<u64, Failed> {
     }
 }
 
-/// The bytes of a text: `\r`, `\n`, `\t`, `\0` and `\\` stand for CR, LF, tab, NUL and a backslash, `\xHH` for
-/// the byte of two hexadecimal digits, and `{COUNT UNIT}` for so many times the unit.
+/// The bytes that a text writes: `\r`, `\n`, `\t`, `\0` and `\\` are CR, LF, tab, NUL and a backslash, `\xHH` is the
+/// byte of these two hexadecimal digits, and `{COUNT UNIT}` is COUNT times the UNIT.
 pub fn unescaped(alloc: Global, text: &[u8]) -> Result<Bytes, Failed> {
     let mut bytes = Shown::new(alloc);
     let mut rest = text;
@@ -73,7 +73,7 @@ pub fn unescaped(alloc: Global, text: &[u8]) -> Result<Bytes, Failed> {
     bytes.into_bytes()
 }
 
-// Adds the unit so many times.
+// Adds what a group `COUNT UNIT` writes: COUNT times the UNIT.
 fn add_repeated(bytes: &mut Shown, group: &[u8]) {
     let Some(count) = parse_digits(before_byte(group, b' '), u64::from(u32::MAX)) else {
         bytes.fail();
@@ -84,7 +84,7 @@ fn add_repeated(bytes: &mut Shown, group: &[u8]) {
     }
 }
 
-// Adds a text in which a backslash begins an escape.
+// Adds the bytes that a text without groups writes.
 fn add(bytes: &mut Shown, text: &[u8]) {
     let mut rest = text;
     for _ in 0..text.len() {
@@ -106,14 +106,14 @@ fn add(bytes: &mut Shown, text: &[u8]) {
     }
 }
 
-// The byte of two hexadecimal digits.
+// The byte that two hexadecimal digits write.
 fn byte_of(high: u8, low: u8) -> Option<u8> {
     let high = char::from(high).to_digit(16)?;
     let low = char::from(low).to_digit(16)?;
     u8::try_from(high.wrapping_mul(16).wrapping_add(low)).ok()
 }
 
-// The byte that a letter behind a backslash stands for.
+// The byte that a backslash and this letter write.
 fn escape(letter: u8) -> Option<u8> {
     match letter {
         b'r' => Some(b'\r'),

@@ -75,7 +75,7 @@ impl Shown {
         self.add(if answer { b"yes" } else { b"no" });
     }
 
-    /// Adds a text in which a backslash begins an escape.
+    /// Adds a text, with CR, LF, tab and a backslash written as `\r`, `\n`, `\t` and `\\`.
     pub fn add_escaped(&mut self, text: &[u8]) {
         for byte in text {
             match *byte {
@@ -111,7 +111,7 @@ impl Shown {
         }
     }
 
-    /// Adds a name behind a space, and behind it a text in quotation marks.
+    /// Adds a space, a name, a space, and a text in quotation marks.
     pub fn add_part(&mut self, name: &[u8], text: &[u8]) {
         self.add(b" ");
         self.add(name);
@@ -119,7 +119,7 @@ impl Shown {
         self.add_quoted(text);
     }
 
-    /// Adds texts with a bar behind each.
+    /// Adds texts with a bar after each.
     pub fn add_texts(&mut self, texts: &[Bytes]) {
         for text in texts {
             self.add_escaped(text.as_slice());
@@ -135,7 +135,7 @@ impl Shown {
         }
     }
 
-    /// Adds the headers of a list with a bar behind each.
+    /// Adds the headers of a list with a bar after each.
     pub fn add_headers(&mut self, list: &HeaderList) {
         for header in list.as_slice() {
             self.add_escaped(header.name.as_slice());

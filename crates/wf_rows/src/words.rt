@@ -4,7 +4,7 @@ use std::alloc::Global;
 use wf_text::{Bytes, BytesList, after_byte, before_byte};
 use wf_types::{Destination, ReferrerPolicy};
 
-/// The names of destinations; the empty one is that of `Fetch`.
+/// The destinations by their names. `Fetch` has two: `fetch` and the empty name.
 const DESTINATIONS: [(&[u8], Destination); 9] = [
     (b"", Destination::Fetch),
     (b"fetch", Destination::Fetch),
@@ -17,7 +17,7 @@ const DESTINATIONS: [(&[u8], Destination); 9] = [
     (b"manifest", Destination::Manifest),
 ];
 
-/// The tokens of referrer policies.
+/// The referrer policies by their tokens.
 const POLICIES: [(&[u8], ReferrerPolicy); 9] = [
     (b"", ReferrerPolicy::Empty),
     (b"no-referrer", ReferrerPolicy::NoReferrer),
@@ -39,7 +39,7 @@ const POLICIES: [(&[u8], ReferrerPolicy); 9] = [
     (b"unsafe-url", ReferrerPolicy::UnsafeUrl),
 ];
 
-/// What a table has for a name.
+/// The value of a name in a table.
 pub fn named<T: Copy>(table: &[(&[u8], T)], name: &[u8]) -> Result<T, Failed> {
     for (word, value) in table {
         if *word == name {
@@ -49,12 +49,12 @@ pub fn named<T: Copy>(table: &[(&[u8], T)], name: &[u8]) -> Result<T, Failed> {
     Err(Failed)
 }
 
-// Whether a word begins with `NAME=`.
+// Whether a word is this name, or begins with it and `=`.
 fn is_named(word: &[u8], name: &[u8]) -> bool {
     before_byte(word, b'=') == name
 }
 
-// The first word of a text, cut at spaces, that is a name or begins with `NAME=`.
+// The first word of a text, which is cut at spaces, that is this name or begins with it and `=`.
 fn word_named<'a>(text: &'a [u8], name: &[u8]) -> Option<&'a [u8]> {
     let mut rest = text;
     for _ in 0..text.len() {
@@ -67,7 +67,8 @@ fn word_named<'a>(text: &'a [u8], name: &[u8]) -> Option<&'a [u8]> {
     None
 }
 
-/// What stands behind `NAME=` in the first word of a text, cut at spaces, that begins so; empty where none does.
+/// What follows `NAME=` in the first word of a text that is `NAME` or begins with `NAME=`; empty where there is no such
+/// word, or nothing follows. Words are cut at spaces.
 pub fn value_of<'a>(text: &'a [u8], name: &[u8]) -> &'a [u8] {
     match word_named(text, name) {
         Some(word) => after_byte(word, b'='),
@@ -75,12 +76,12 @@ pub fn value_of<'a>(text: &'a [u8], name: &[u8]) -> &'a [u8] {
     }
 }
 
-/// Whether a word is among those of a text, or what one begins with up to `=`.
+/// Whether a text has the word `NAME`, or one that begins with `NAME=`.
 pub fn has_word(text: &[u8], name: &[u8]) -> bool {
     word_named(text, name).is_some()
 }
 
-/// What stands behind `NAME=` in each word that begins so.
+/// The same of each such word, in order.
 pub fn values_of(alloc: Global, text: &[u8], name: &[u8]) -> Result<BytesList, Failed> {
     let mut values = BytesList::new(alloc);
     for word in texts_between(alloc, text, b' ')?.as_slice() {
@@ -92,12 +93,12 @@ pub fn values_of(alloc: Global, text: &[u8], name: &[u8]) -> Result<BytesList, F
     Ok(values)
 }
 
-/// The destination of a name.
+/// The destination that has this name.
 pub fn destination_named(name: &[u8]) -> Result<Destination, Failed> {
     named(&DESTINATIONS, name)
 }
 
-/// The referrer policy of a token.
+/// The referrer policy that has this token.
 pub fn policy_named(name: &[u8]) -> Result<ReferrerPolicy, Failed> {
     named(&POLICIES, name)
 }

@@ -1,5 +1,5 @@
--- What main fetch refuses before anything is sent (Fetch, section 4.1, "main fetch": "should be blocked due to a bad
--- port", and "should fetching request be blocked as mixed content?").
+-- What main fetch refuses before anything is sent (Fetch, section 4.1, "main fetch", step 7: "should be blocked due to
+-- a bad port", and "should fetching request be blocked as mixed content?").
 use Rattle.std.specs.Prelude.{Option, Some, None, if◌then◌else◌}
 use Rattle.wf_mixed.specs.Mixed.{is_blocked}
 use Rattle.wf_mixed.specs.Ports.{is_bad_port}

@@ -1,5 +1,5 @@
 -- What a fetch asks and tells of known HSTS hosts (RFC 6797, sections 8.1 and 8.3; Fetch, section 4.1, "main fetch",
--- where a known host is asked for).
+-- step 10, where a known host is asked for).
 use Rattle.std.specs.Prelude.{ℕ, List, [], ◌∷◌, codes, bytes_eq, Option, Some, None, option_and_then, option_map}
 use Rattle.std.specs.Prelude.{if◌then◌else◌}
 use Rattle.url.specs.declared.host.Host.{Host}

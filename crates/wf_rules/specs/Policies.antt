@@ -1,5 +1,5 @@
--- The referrer policy of a request (Fetch, section 4.1, "main fetch": a policy that is the empty string becomes that of
--- the client).
+-- The referrer policy of a request (Fetch, section 4.1, "main fetch", step 8: a policy that is the empty string becomes
+-- that of the client).
 use Rattle.wf_types.specs.declared.client.Client.{Client}
 use Rattle.wf_types.specs.declared.request.Request.{Request}
 use Rattle.wf_types.specs.ReferrerPolicies.{policy_or}

@@ -20,7 +20,7 @@ abbrev pub asked_method : Request → Option (List ℕ)
 asked_method request =
     if is_safelisted_method request.method && not request.use_preflight then None else Some request.method
 
--- whether the cache covers the request: its method and its CORS-unsafe request-header names
+-- whether the cache covers the request: its method and its CORS-unsafe request-header names (HTTP fetch, step 4.1)
 abbrev pub covers_of : Client → Request → ℕ → Op
 covers_of client request now = Covers (record {
   key = client.key;
@@ -31,7 +31,7 @@ covers_of client request now = Covers (record {
   names = unsafe_names request.headers;
 }) now
 
--- what the answer to the request's preflight allows, for so many seconds
+-- what the answer to the request's preflight allows, for so many seconds (CORS-preflight fetch, steps 7.12 to 7.15)
 abbrev pub learn_of : Client → Request → ℕ → List (List ℕ) → List (List ℕ) → ℕ → Op
 learn_of client request age methods names now = Learn (record {
   key = client.key;
@@ -43,6 +43,6 @@ learn_of client request age methods names now = Learn (record {
   names = names;
 }) now
 
--- the entries of the request as it stands are taken back
+-- the entries of the request as it is are taken back (main fetch, step 12)
 abbrev pub clear_of : Client → Request → ℕ → Op
 clear_of client request now = Clear client.key (serialized_request_origin request) (url_text request) now

@@ -1,5 +1,5 @@
--- The referrer of a request (Fetch, section 4.1, "main fetch", where "determine request's Referrer" of Referrer Policy,
--- section 8.3, is called).
+-- The referrer of a request (Fetch, section 4.1, "main fetch", step 9, where "determine request's Referrer" of Referrer
+-- Policy, section 8.3, is called).
 use Rattle.std.specs.Prelude.{Option, Some, None}
 use Rattle.url.specs.Parts.{Parts}
 use Rattle.wf_referrer.specs.Referrer.{determine}

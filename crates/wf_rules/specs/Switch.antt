@@ -1,4 +1,4 @@
--- How a request is fetched (Fetch, section 4.1, "main fetch", the steps by its current URL, its mode and its flags).
+-- How a request is fetched (Fetch, section 4.1, "main fetch", step 12: by its current URL, its mode and its flags).
 use Rattle.std.specs.Prelude.{Bool, true, false, ◌&&◌, ◌||◌, ◌==◌, not, length, if◌then◌else◌}
 use Rattle.wf_origin.specs.Origins.{is_origin_of}
 use Rattle.wf_rules.specs.declared.switch.Switch.{Switch}
@@ -20,7 +20,7 @@ abbrev pub is_basic : Tainting → Bool
 is_basic tainting.Basic = true
 is_basic _ = false
 
--- the request stands at a URL of its own origin, and its tainting is basic
+-- the current URL is of the request's own origin, and its tainting is basic
 abbrev pub is_at_home : Request → Bool
 is_at_home request = is_basic request.tainting && is_origin_of request.origin (current_url request)
 

@@ -1,5 +1,6 @@
 -- Requests that are made https ones (Mixed Content, section 4, "upgrade a mixed content request to a potentially
--- trustworthy URL, if appropriate"; Fetch, section 4.1, "main fetch", where a known host is asked for).
+-- trustworthy URL, if appropriate"; Fetch, section 4.1, "main fetch", steps 5 and 6, and step 10, where a known host is
+-- asked for).
 use Rattle.std.specs.Prelude.{Bool, true, false, ◌-◌, List, [], ◌∷◌, ◌++◌, length, take, codes}
 use Rattle.url.specs.Parser.{without_default_port}
 use Rattle.url.specs.Parts.{Parts}

@@ -17,7 +17,7 @@ pub fn is_at_http(request: &Request) -> bool
 
 /// The network error with which main fetch refuses a request of this client before anything is sent, if one
 /// does: `BadPort` where the port of its current URL is a bad port, and else `Mixed` where it is blocked as
-/// mixed content (Fetch, section 4.1, "main fetch"). It takes no memory.
+/// mixed content (Fetch, section 4.1, "main fetch", step 7). It takes no memory.
 pub fn refusal_before(request: &Request, client: &Client) -> Option<NetError>
     requires { IsRequest request.now }
     ensures { result ≡ spec.refusal_before client.now request.now }

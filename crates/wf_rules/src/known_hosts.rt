@@ -80,7 +80,7 @@ fn sts_of(alloc: Global, head: &Head) -> Result<Option<Sts>, OutOfMemory>
 
 /// The question that main fetch asks of the book before a request is sent: whether its host is a known HSTS
 /// host. There is none where the current URL is not http, or its host is an IP address or a localhost name
-/// (Fetch, section 4.1, "main fetch"; RFC 6797, section 8.3).
+/// (Fetch, section 4.1, "main fetch", step 10; RFC 6797, section 8.3).
 pub fn match_of(alloc: Global, request: &Request, now: u64) -> Result<Option<Op>, OutOfMemory>
     requires { IsRequest request.now }
     ensures value { IfOk result (λ op. op ≡ spec.match_of now request.now) }

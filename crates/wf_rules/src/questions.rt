@@ -30,7 +30,7 @@ fn asked_method(alloc: Global, request: &Request) -> Result<Option<Bytes>, OutOf
 
 /// The question whether the preflight cache covers a request of a client at a time: its method, where that
 /// is not CORS-safelisted or the use-CORS-preflight flag is set, and its CORS-unsafe request-header names
-/// (Fetch, section 4.4, "HTTP fetch").
+/// (Fetch, section 4.4, "HTTP fetch", step 4.1).
 pub fn covers_of(
     alloc: Global,
     client: &Client,
@@ -52,7 +52,7 @@ pub fn covers_of(
 }
 
 /// What the answer to a request's preflight teaches the preflight cache at a time: these methods and header
-/// names, for so many seconds (Fetch, section 4.8, "CORS-preflight fetch").
+/// names, for so many seconds (Fetch, section 4.8, "CORS-preflight fetch", steps 7.12 to 7.15).
 pub fn learn_of(
     alloc: Global,
     client: &Client,
@@ -77,8 +77,8 @@ pub fn learn_of(
     Ok(Op::Learn(lesson, now))
 }
 
-/// That the preflight cache takes back its entries of a request as it stands (Fetch, section 4.4, "HTTP
-/// fetch").
+/// That the preflight cache takes back its entries of a request as it is (Fetch, section 4.1, "main fetch", step 12,
+/// where HTTP fetch with a preflight returns a network error).
 pub fn clear_of(
     alloc: Global,
     client: &Client,

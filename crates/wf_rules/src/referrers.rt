@@ -1,7 +1,8 @@
 ghost use Rattle.std.specs.Prelude.{◌≡◌, IfOk, IsTrue};
 ghost use Rattle.wf_rules.specs.Policies.{with_policy as policied};
 ghost use Rattle.wf_rules.specs.Referrers as spec;
-ghost use Rattle.wf_types.specs.Requests.{IsAtHttp, IsClient, IsRequest, is_determined, is_http_referrer, is_http_url, is_policy};
+ghost use Rattle.wf_types.specs.Requests.{IsAtHttp, IsClient, IsRequest, is_determined, is_http_referrer, is_http_url};
+ghost use Rattle.wf_types.specs.Requests.{is_policy};
 
 use crate::policies::set_policy;
 use std::alloc::Global;
@@ -44,9 +45,9 @@ fn determined(
 }
 
 /// Gives the request of a client its referrer policy, the client's where its own is empty, and its referrer
-/// as that policy tells it to the current URL, which is http or https (Fetch, section 4.1, "main fetch"; Referrer
-/// Policy, section 8.3). The referrer is then none or a URL. After want of memory it is some request for an http
-/// or https URL.
+/// as that policy tells it to the current URL, which is http or https (Fetch, section 4.1, "main fetch", steps 8 and
+/// 9; Referrer Policy, section 8.3). The referrer is then none or a URL. After want of memory it is some request for
+/// an http or https URL.
 pub fn set_referrer(
     alloc: Global,
     request: &mut Request,

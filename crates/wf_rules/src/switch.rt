@@ -8,7 +8,7 @@ use wf_safelist::unsafe_names;
 use wf_text::OutOfMemory;
 use wf_types::{Mode, NetError, RedirectMode, Request, Tainting, is_safelisted_method};
 
-/// How a request is fetched (Fetch, section 4.1, "main fetch").
+/// How a request is fetched (Fetch, section 4.1, "main fetch", step 12).
 #[derive(Drop)]
 pub enum Switch {
     /// By HTTP fetch, with this response tainting.
@@ -19,7 +19,7 @@ pub enum Switch {
     Refuses(NetError),
 }
 
-// Whether the request stands at a URL of its own origin, and its tainting is basic.
+// Whether the current URL is of the request's own origin, and its tainting is basic.
 fn is_at_home(request: &Request) -> bool
     requires { IsRequest request.now }
     ensures { result ≡ spec.is_at_home request.now }
@@ -82,7 +82,7 @@ fn away_switch(alloc: Global, mode: Mode, request: &Request) -> Result<Switch, O
     }
 }
 
-/// How main fetch fetches a request, by the first that applies (Fetch, section 4.1, "main fetch"):
+/// How main fetch fetches a request, by the first that applies (Fetch, section 4.1, "main fetch", step 12):
 /// - at a URL of its own origin, with response tainting basic: with that tainting;
 /// - in mode same-origin: it refuses with `SameOriginMode`;
 /// - in mode no-cors: with response tainting opaque where redirects are followed, and else it refuses with

@@ -43,7 +43,7 @@ fn with_https(url: &Url) -> Result<Url, OutOfMemory>
 
 /// Gives the current URL of a request, which is http or https, the scheme https; a port 443 is then the
 /// default one and is left out (URL Standard, the scheme's setter). It is what becomes of a request to a
-/// known HSTS host (Fetch, section 4.1, "main fetch") and of one that is upgraded. The only error is want of
+/// known HSTS host (Fetch, section 4.1, "main fetch", step 10) and of one that is upgraded. The only error is want of
 /// memory, which a URL of 4 GB counts as; after it the request is some request for an http or https URL.
 pub fn secure(request: &mut Request) -> Result<(), OutOfMemory>
     requires valid { IsRequest request.old }
@@ -71,8 +71,8 @@ fn secure_where(yes: bool, request: &mut Request) -> Result<(), OutOfMemory>
 /// Gives the current URL of a client's request, which is http or https, the scheme https where an enforced
 /// policy has `upgrade-insecure-requests` (Upgrade Insecure Requests, "upgrade request to a potentially
 /// trustworthy URL, if appropriate"), or where it is for upgradeable content that would be mixed (Mixed Content,
-/// section 4, "upgrade a mixed content request to a potentially trustworthy URL, if appropriate"). The only error
-/// is want of memory, as that of `secure`.
+/// section 4, "upgrade a mixed content request to a potentially trustworthy URL, if appropriate"): steps 5 and 6 of
+/// main fetch. The only error is want of memory, as that of `secure`.
 pub fn upgrade_request(
     request: &mut Request,
     client: &Client,

@@ -16,7 +16,7 @@ use Rattle.wf_types.specs.declared.response.BodyEnd.TheVariants.{Whole}
 use Rattle.wf_types.specs.declared.response.Outcome.{Outcome}
 use Rattle.wf_types.specs.declared.response.Outcome.TheVariants.{Answer, Error}
 use Rattle.wf_types.specs.declared.response.ResponseKind.TheVariants.{Basic}
-use Rattle.wf_types.specs.Lines.{header}
+use Rattle.wf_types.specs.Lines.{appended_where, header}
 use Rattle.wf_send.specs.Making.{new_request}
 use Rattle.wf_commands.specs.Scripts as script
 use Rattle.wf_commands.specs.declared.command.Test.TheVariants.{BodyIs}
@@ -104,7 +104,7 @@ answer = Answer (record {
 -- the whole run
 pub run_of_example : run_play (document_run [] 0 document) tape
     ≡ record { events = event.Fetch 0 ∷ event.Sent hop ∷ event.Result answer ∷ []; ending = Some (Finished, 0) }
-unfolding url_on_literals
+unfolding url_on_literals appended_where
 run_of_example = refl
 
 -- a script that asks for a forbidden method, and one that navigates
@@ -121,7 +121,8 @@ plain = record {
   top = record root { scheme = codes "http" };
   policy = policy.StrictOriginWhenCrossOrigin;
   policies = [];
-  script = script.step (script.fetch init) (script.step (script.wait 10) (script.step (script.fetch init) script.no_steps));
+  script =
+      script.step (script.fetch init) (script.step (script.wait 10) (script.step (script.fetch init) script.no_steps));
 }
 
 -- its host is known and then not: first the request is one to another origin, and then it is sent
@@ -144,7 +145,7 @@ pub known_and_then_not : run_play (document_run [] 0 plain) (Replied Yes ∷ Rep
           ∷ [];
       ending = Some (Finished, 10);
     }
-unfolding url_on_literals
+unfolding url_on_literals appended_where
 known_and_then_not = refl
 
 -- a script that asks for what it was answered, where that is `7`, and else for nothing more
@@ -169,8 +170,9 @@ targets (shown ∷ events) = targets events
 
 pub asked_again : (targets (run_play (document_run [] 0 asking) (answers (codes "7") ++ answers (codes "8"))).events
     ≡ codes "/" ∷ codes "/7200" ∷ [])
-    × (targets (run_play (document_run [] 0 asking) (answers (codes "8") ++ answers (codes "8"))).events ≡ codes "/" ∷ [])
-unfolding url_on_literals
+    × (targets (run_play (document_run [] 0 asking) (answers (codes "8") ++ answers (codes "8"))).events
+    ≡ codes "/" ∷ [])
+unfolding url_on_literals appended_where
 asked_again = (refl, refl)
 
 -- the limits before a fetch, that of commands first; a wait has that of commands alone

@@ -1,9 +1,9 @@
 -- Texts without placeholders, and bodies that are cut.
-use Rattle.std.proofs.Common.{◌≡◌, ℕ, ◌+◌, ◌≤◌, ◌<◌, Bool, true, false, cond, List, [], ◌∷◌, ◌++◌, length, take, Option, Some}
-use Rattle.std.proofs.Common.{None, refl, ap, sym, ◌∙◌, subst, arith, Result, Ok, Err, take_all}
+use Rattle.std.proofs.Common.{◌≡◌, ℕ, ◌+◌, ◌≤◌, ◌<◌, Bool, true, false, cond, List, [], ◌∷◌, ◌++◌, length, take}
+use Rattle.std.proofs.Common.{Option, Some, None, refl, ap, sym, ◌∙◌, arith, take_all}
 use Rattle.std.proofs.lemmas.List.{append-nil, length-take, take-append-le}
 use Rattle.std.specs.Prelude.{◌==◌, ◌&&◌, ◌||◌, not, nat_lt, min, map, is_some, option_map}
-use Rattle.std.specs.List.{flat_map, list_any}
+use Rattle.std.specs.List.{flat_map}
 use Rattle.wf_types.specs.declared.client.Client.{Client}
 use Rattle.wf_types.specs.declared.fault.TypeFault.{TypeFault}
 use Rattle.wf_types.specs.declared.fault.TypeFault.TheVariants.{UrlCredentials, BadMethod, ForbiddenMethod, BodyWithGet}
@@ -63,7 +63,7 @@ three true true false all = absurd (cc)
 three true false c all = absurd (cc)
 three false b c all = absurd (cc)
 
--- what is asked for is as it stands
+-- what is asked for stays as it is
 pub plain-filled : (last : Option Event) (init : Init) → is_plain init ≡ true → filled_init last init ≡ init
 plain-filled last init plain =
     let all = three (length init.headers == 0) (lacks_dollar init.url) (lacks_dollar_in init.body) plain in
@@ -104,7 +104,8 @@ faults_by init url some long =
     ∷ then_some (nat_lt 16384 (given_size init) || long) TooLong
     ∷ []
 
-faults-of : (init : Init) (url : Parts) → faults init url ≡ faults_by init url (is_some init.body) (is_long_body init.body)
+faults-of : (init : Init) (url : Parts)
+    → faults init url ≡ faults_by init url (is_some init.body) (is_long_body init.body)
 unfolding faults_by
 faults-of init url = refl
 

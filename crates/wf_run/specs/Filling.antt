@@ -1,5 +1,5 @@
--- What is built of a body whose placeholders are replaced: no more than tells that it is longer than a request's body may
--- be (this project's own).
+-- What is built of a body whose placeholders are replaced: no more than is needed to see that it is longer than a
+-- request's body may be (this project's own).
 use Rattle.std.specs.Prelude.{ℕ, ◌&&◌, ◌==◌, Bool, true, not, List, length, take, option_map, Option, Some, None}
 use Rattle.std.specs.List.{list_any}
 use Rattle.wf_types.specs.declared.init.Init.{Init}
@@ -8,15 +8,15 @@ use Rattle.wf_types.specs.declared.init.Init.{Init}
 abbrev pub cut_body : List ℕ → List ℕ
 cut_body body = take 65537 body
 
--- the same of what is asked for
+-- what is asked for, with its body cut so
 abbrev pub with_cut_body : Init → Init
 with_cut_body init = record init { body = option_map cut_body init.body }
 
--- no `$` stands in the text
+-- the text has no `$`
 abbrev pub lacks_dollar : List ℕ → Bool
 lacks_dollar text = not (list_any (λ byte. byte == 36) text)
 
--- there is no text, or none with a `$`
+-- there is no text, or one without a `$`
 abbrev pub lacks_dollar_in : Option (List ℕ) → Bool
 lacks_dollar_in None = true
 lacks_dollar_in (Some text) = lacks_dollar text

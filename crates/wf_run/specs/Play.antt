@@ -13,7 +13,7 @@ use Rattle.wf_print.specs.declared.events.Ending.{Ending}
 use Rattle.wf_print.specs.declared.events.Event.{Event}
 use Rattle.wf_print.specs.declared.events.Event.TheVariants.{Call, Sent, Told}
 
--- It is over, with an ending and the clock then; or it shows an event and goes on; or it acts for a
+-- A run is over, with an ending and the clock then; or it shows an event and goes on; or it acts for a
 -- request and goes on from the input that comes.
 pub data Play : Type 0 where
   over : Ending → ℕ → Play

@@ -1,7 +1,7 @@
 -- The last result of a script, as its conditions and its templates see it (this project's own; Fetch, sections 5.5 and
 -- 5.6, for what a script may read of a response).
-use Rattle.std.specs.Prelude.{ℕ, Bool, true, false, ◌==◌, List, [], ◌∷◌, drop, codes, decimal, bytes_eq, Option, Some, None}
-use Rattle.std.specs.Prelude.{option_map, option_and_then, unwrap_or, if◌then◌else◌}
+use Rattle.std.specs.Prelude.{ℕ, Bool, true, false, ◌==◌, List, [], ◌∷◌, drop, codes, decimal, bytes_eq, Option}
+use Rattle.std.specs.Prelude.{Some, None, option_map, option_and_then, unwrap_or, if◌then◌else◌}
 use Rattle.std.specs.Borrow.{Bor}
 use Rattle.std.specs.Option.{option_or}
 use Rattle.wf_text.specs.Mime.{is_text}
@@ -66,12 +66,12 @@ response_of _ = None
 abbrev pub response_in : Option Event → Option Response
 response_in last = option_and_then response_of last
 
--- its status, or 0
+-- the status of a response, or 0 where there is none
 abbrev pub status_of : Option Response → ℕ
 status_of None = 0
 status_of (Some response) = response.status
 
--- its URL, or nothing
+-- the URL of a response, or nothing where there is none
 abbrev pub url_of : Option Response → List ℕ
 url_of None = []
 url_of (Some response) = unwrap_or response.url []
@@ -85,14 +85,14 @@ abbrev pub body_in : Option Response → Option (List ℕ)
 body_in None = None
 body_in (Some response) = whole_body response.body
 
--- what "get" gives of its headers for a name, or nothing
+-- what "get" gives of a response's headers for a name, or nothing
 abbrev pub header_of : List ℕ → Option Response → List ℕ
 header_of name None = []
 header_of name (Some response) = unwrap_or (combined name response.headers) []
 
 -- ---- templates
 
--- what a placeholder's name stands for; what is not there is empty
+-- the value of a placeholder's name; what is not there is empty
 abbrev pub value_of : Option Event → List ℕ → List ℕ
 value_of last name =
     if bytes_eq name (codes "status") then decimal (status_of (response_in last))

@@ -48,21 +48,21 @@ setting client policies cookies = record { client = client; policies = policies;
 abbrev pub at_time : Setting → ℕ → Context
 at_time lent now = context_of lent.client lent.policies lent.cookies now
 
--- Where a run stands: its clock, in seconds, how many commands and how many fetches have started, and the events so
--- far.
+-- How far a run has come: its clock, in seconds, how many commands and how many fetches have started, and the events
+-- so far.
 pub record Progress : Type 0 where
   pub clock : ℕ
   pub commands : ℕ
   pub fetches : ℕ
   pub shown : List Event
 
--- what follows, by where the run stands
+-- what follows, by how far the run has come
 abbrev pub Next : Type 0
 Next = Progress → Play
 
 -- ---- what is shown
 
--- these events more were shown
+-- how far a run has come once these events were shown too
 abbrev pub after_events : List Event → Progress → Progress
 after_events events progress = record progress { shown = progress.shown ++ events }
 
@@ -130,7 +130,7 @@ filled_load last init = record init { url = filled (value_of last) init.url }
 
 -- ---- what is shown of a fetch and of a load
 
--- it starts, as the one of this number
+-- a fetch or a load starts, with this number
 abbrev pub start_event : Destination → ℕ → Event
 start_event destination.Fetch number = event.Fetch number
 start_event kind number = event.Load number kind
@@ -145,7 +145,7 @@ abbrev pub load_event : Outcome → Event
 load_event (outcome.Error error) = event.LoadFailed error
 load_event came = event.Result came
 
--- what it came to
+-- what a fetch or a load came to
 abbrev pub outcome_event : Destination → Outcome → Event
 outcome_event destination.Fetch came = event.Result came
 outcome_event kind came = load_event came
@@ -171,11 +171,11 @@ abbrev pub asked : Setting → Destination → Result Request TypeFault → Next
 asked lent kind made next progress =
     showing (start_event kind progress.fetches) (fetched lent kind made next) (fetch_started progress)
 
--- so many seconds have passed
+-- this many seconds have passed
 abbrev pub waited : ℕ → Progress → Progress
 waited seconds progress = record progress { clock = progress.clock + seconds }
 
--- a part of a script so many times
+-- a part of a script, this many times
 abbrev pub repeated : ℕ → (Next → Next) → Next → Next
 repeated zero part next progress = next progress
 repeated (suc n) part next progress = part (repeated n part next) progress

@@ -8,7 +8,7 @@ use Rattle.wf_print.specs.declared.events.Event.{Event}
 use Rattle.wf_run.specs.Play.{Play, emit, step, events_of}
 
 -- By the answers of a world, and by what the world comes to with each event that the run itself shows: with exactly
--- these items of a tape the first play shows these events, and goes on as the second in the world that is left.
+-- these items of a tape the first run shows these events, and goes on as the second in the world that is left.
 pub data PlayTrace {World : Type 0} (answers : World → Act → Input → World → Type 0)
     (settles : Event → World → World → Type 0) : Play → World → List Input → List Event → Play → World → Type 0 where
   stop : {p : Play} {world : World} → PlayTrace answers settles p world [] [] p world

@@ -15,7 +15,7 @@ use wf_types::{Init, LoadInit, Pair, Pairs};
 /// How many bytes of a body are handed on at most: one more than a request's body may have.
 const MOST_BODY: usize = 65_537;
 
-// Adds what a piece behind a `${` comes to: the value of its name, and what follows the `}`.
+// Adds what a piece after a `${` comes to: the value of its name, and what follows the `}`.
 fn add_placed(
     text: &mut Vec<u8>,
     alloc: Global,
@@ -44,7 +44,7 @@ fn fill(alloc: Global, last: Option<&Event>, template: &[u8]) -> Result<Bytes, O
     Ok(Bytes::from_vec(text))
 }
 
-// The same of a body, which stops growing once it is longer than a request's body may be.
+// A body with its placeholders replaced. It stops growing once it is longer than a request's body may be.
 fn fill_body(alloc: Global, last: Option<&Event>, template: &[u8]) -> Result<Bytes, OutOfMemory>
     ensures { IfOk result (λ text. text ≡ short.cut_body (filled (value_of (lent_result last.entry)) template.now)) }
 {
@@ -117,7 +117,8 @@ fn filled_body(
 /// that gets longer than 65,536 bytes, which no request has, stops growing there, and its first 65,537 are
 /// handed on.
 pub fn filled_init(alloc: Global, last: Option<&Event>, init: &Init) -> Result<Init, OutOfMemory>
-    ensures { IfOk result (λ filled. filled ≡ short.with_cut_body (spec.filled_init (lent_result last.entry) init.now)) }
+    ensures { IfOk result
+        (λ filled. filled ≡ short.with_cut_body (spec.filled_init (lent_result last.entry) init.now)) }
 {
     Ok(Init {
         url: fill(alloc, last, init.url.as_slice())?,
@@ -154,7 +155,7 @@ pub fn filled_load(
     })
 }
 
-// Whether no `$` stands in a text.
+// Whether a text has no `$`.
 fn lacks_dollar(text: &[u8]) -> bool
     ensures { result ≡ short.lacks_dollar text.now }
 {
@@ -166,7 +167,7 @@ fn lacks_dollar(text: &[u8]) -> bool
     true
 }
 
-// Whether there is no text, or none with a `$`.
+// Whether there is no text, or one without a `$`.
 fn lacks_dollar_in(text: &Option<Bytes>) -> bool
     ensures { result ≡ short.lacks_dollar_in text.now }
 {

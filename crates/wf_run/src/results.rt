@@ -129,7 +129,8 @@ fn add_text(filled: &mut Vec<u8>, text: Option<&[u8]>) -> Result<(), OutOfMemory
 
 // Adds the URL of the last result.
 fn add_url(filled: &mut Vec<u8>, last: Option<&Event>) -> Result<(), OutOfMemory>
-    ensures { OnOk result (filled.new.items ≡ filled.old.items ++ spec.url_of (spec.response_in (lent_result last.entry))) }
+    ensures { OnOk result
+        (filled.new.items ≡ filled.old.items ++ spec.url_of (spec.response_in (lent_result last.entry))) }
 {
     match response_in(last) {
         None => Ok(()),
@@ -159,7 +160,7 @@ fn add_header(
     }
 }
 
-// What stands behind `header:`.
+// What comes after `header:`.
 fn behind_prefix(name: &[u8]) -> &[u8]
     ensures { result.now ≡ drop 7 name.now }
 {
@@ -170,7 +171,7 @@ fn behind_prefix(name: &[u8]) -> &[u8]
     }
 }
 
-// Adds what a placeholder's name stands for.
+// Adds the value of a placeholder's name.
 pub(crate) fn add_value(
     filled: &mut Vec<u8>,
     alloc: Global,

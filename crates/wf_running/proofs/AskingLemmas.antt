@@ -1,6 +1,6 @@
 -- The requests of fetches and loads, and what comes of them.
-use Rattle.std.proofs.Common.{◌≡◌, ◌<◌, ℕ, Bool, true, false, cond, List, [], ◌∷◌, Option, Some, None, refl, ap, sym, subst}
-use Rattle.std.proofs.Common.{◌∙◌, arith, Result, Ok, Err, OnOk, OnErr}
+use Rattle.std.proofs.Common.{◌≡◌, ◌<◌, ℕ, Bool, true, false, cond, List, [], ◌∷◌, Option, Some, None, refl, ap, sym}
+use Rattle.std.proofs.Common.{subst, ◌∙◌, arith, Result, Ok, Err, OnOk, OnErr}
 use Rattle.std.specs.Prelude.{⊤, nat_le, IfOk}
 use Rattle.wf_commands.specs.Scripts.{Step, fetch as fetch_step, load as load_step}
 use Rattle.wf_print.specs.declared.events.Ending.{Ending}
@@ -61,24 +61,12 @@ world-is a b exchange own left = rw (exchange, own, left) refl
 settles-start : {State : Type 0} (kind : Destination) (number : ℕ) (a : World State)
     → Settles (start_event kind number) a a
 settles-start destination.Fetch number a = refl
-settles-start destination.Image number a = refl
-settles-start destination.Audio number a = refl
-settles-start destination.Video number a = refl
-settles-start destination.Style number a = refl
-settles-start destination.Script number a = refl
-settles-start destination.Font number a = refl
-settles-start destination.Manifest number a = refl
+settles-start kind number a = refl
 
 settles-fault : {State : Type 0} (kind : Destination) (fault : TypeFault) (a : World State)
     → Settles (fault_event kind fault) a a
 settles-fault destination.Fetch fault a = refl
-settles-fault destination.Image fault a = refl
-settles-fault destination.Audio fault a = refl
-settles-fault destination.Video fault a = refl
-settles-fault destination.Style fault a = refl
-settles-fault destination.Script fault a = refl
-settles-fault destination.Font fault a = refl
-settles-fault destination.Manifest fault a = refl
+settles-fault kind fault a = refl
 
 settles-load : {State : Type 0} (came : Outcome) (a b : World State) → IsHungUp a b → Settles (load_event came) a b
 settles-load (outcome.Answer response) a b hung = hung
@@ -88,13 +76,7 @@ settles-load (outcome.Error error) a b hung = hung
 settles-outcome : {State : Type 0} (kind : Destination) (came : Outcome) (a b : World State) → IsHungUp a b
     → Settles (outcome_event kind came) a b
 settles-outcome destination.Fetch came a b hung = hung
-settles-outcome destination.Image came a b hung = settles-load came a b hung
-settles-outcome destination.Audio came a b hung = settles-load came a b hung
-settles-outcome destination.Video came a b hung = settles-load came a b hung
-settles-outcome destination.Style came a b hung = settles-load came a b hung
-settles-outcome destination.Script came a b hung = settles-load came a b hung
-settles-outcome destination.Font came a b hung = settles-load came a b hung
-settles-outcome destination.Manifest came a b hung = settles-load came a b hung
+settles-outcome kind came a b hung = settles-load came a b hung
 
 module _ {State : Type 0} (by : Answering State) (limit document : ℕ) (lent : Setting) where
   -- ---- a request
@@ -113,16 +95,17 @@ module _ {State : Type 0} (by : Answering State) (limit document : ℕ) (lent : 
       (settles-fault kind fault a)))
 
   -- memory was refused for it
-  pub request-unshown-fault : (kind : Destination) (made : Result Request TypeFault) (a : World State) (old new : Progress)
-      (result : Result ⊤ OutOfMemory) → OnErr result (new ≡ old)
+  pub request-unshown-fault : (kind : Destination) (made : Result Request TypeFault) (a : World State)
+      (old new : Progress) (result : Result ⊤ OutOfMemory) → OnErr result (new ≡ old)
       → OnErr result (Cut by limit document (fetched lent kind made) (standing_of a old) (standing_of a new))
   request-unshown-fault kind made a old new result =
       on-err-map result (λ kept. rw kept (cut-here by limit document (λ (next : Next). fetched lent kind made next old)
       (standing_of a old)))
 
   -- its outcome
-  request-came : (kind : Destination) (made : Result Request TypeFault) (request : Request) (a b : World State) (old mid : Progress)
-      (time : ℕ) (start events : List Event) (outcome : Outcome) → made ≡ Ok request → time ≡ old.clock
+  request-came : (kind : Destination) (made : Result Request TypeFault) (request : Request) (a b : World State)
+      (old mid : Progress) (time : ℕ) (start events : List Event) (outcome : Outcome) → made ≡ Ok request
+      → time ≡ old.clock
       → start ≡ old.shown → mid ≡ record old { shown = events }
       → FetchedTo by limit document (fetch (at_time lent time) request) (moment_of a start) outcome
       (moment_of b events)
@@ -137,8 +120,8 @@ module _ {State : Type 0} (by : Answering State) (limit document : ℕ) (lent : 
       (played-fetch by limit document (fetch (at_time lent old.clock) request) old a b outcome events
       (subst (λ (n : ℕ). FetchedTo by limit document (fetch (at_time lent n) request) (moment_of a old.shown) outcome
       (moment_of b events)) then
-      (subst (λ (l : List Event). FetchedTo by limit document (fetch (at_time lent time) request) (moment_of a l) outcome
-      (moment_of b events)) began x))))
+      (subst (λ (l : List Event). FetchedTo by limit document (fetch (at_time lent time) request) (moment_of a l)
+      outcome (moment_of b events)) began x))))
 
   request-whole : (kind : Destination) (made : Result Request TypeFault) (request : Request) (a b c : World State)
       (old mid new : Progress) (time : ℕ) (start events : List Event) (outcome : Outcome) → made ≡ Ok request
@@ -171,16 +154,16 @@ module _ {State : Type 0} (by : Answering State) (limit document : ℕ) (lent : 
       (it.0 ∙ ap (λ (e : Event). after_events (e ∷ []) mid) tells)) ended
 
   -- memory was refused in the fetch
-  pub request-cut : (kind : Destination) (made : Result Request TypeFault) (request : Request) (a b : World State) (old new : Progress)
-      (time : ℕ) (start events : List Event) (result : Result ⊤ OutOfMemory) → made ≡ Ok request
+  pub request-cut : (kind : Destination) (made : Result Request TypeFault) (request : Request) (a b : World State)
+      (old new : Progress) (time : ℕ) (start events : List Event) (result : Result ⊤ OutOfMemory) → made ≡ Ok request
       → time ≡ old.clock → start ≡ old.shown → new ≡ record old { shown = events }
       → FetchCut by limit document (fetch (at_time lent time) request) (moment_of a start) (moment_of b events)
       → OnErr result (Cut by limit document (fetched lent kind made) (standing_of a old) (standing_of b new))
   unfolding onward
   request-cut kind made request a b old new time start events result is then began after x =
       on-err result (rw (is, after) (cut-inside by limit document
-      (λ (next : Outcome → Next). embed (fetch (at_time lent old.clock) request) next old) (onward kind) (standing_of a old)
-      (standing_of b (record old { shown = events }))
+      (λ (next : Outcome → Next). embed (fetch (at_time lent old.clock) request) next old) (onward kind)
+      (standing_of a old) (standing_of b (record old { shown = events }))
       (cut-fetch by limit document (fetch (at_time lent old.clock) request) old a b events
       (subst (λ (n : ℕ). FetchCut by limit document (fetch (at_time lent n) request) (moment_of a old.shown)
       (moment_of b events)) then
@@ -196,7 +179,8 @@ module _ {State : Type 0} (by : Answering State) (limit document : ℕ) (lent : 
       (moment_of b events)
       → c.own ≡ b.own → c.left ≡ b.left → OnErr result ((new ≡ mid) × (c.exchange ≡ b.exchange))
       → OnErr result (Cut by limit document (fetched lent kind made) (standing_of a old) (standing_of c new))
-  request-unshown kind made request a b c old mid new time start events outcome result is then began after x own left kept =
+  request-unshown kind made request a b c old mid new time start events outcome result is then began after x own left
+      kept =
       on-err-map result (λ it. rw (it.0, world-is c b it.1 own left) (played-cut by limit document
       (λ (next : Next). fetched lent kind made next old) (λ next. onward kind next outcome mid) (standing_of a old)
       (standing_of b mid) (standing_of b mid)
@@ -279,7 +263,8 @@ module _ {State : Type 0} (by : Answering State) (limit document : ℕ) (lent : 
   pub fetch-played : (init : Init) (last : Option Event) (made : Result Request TypeFault) (a b : World State)
       (old new : Progress) (result : Result ⊤ OutOfMemory) → last ≡ last_of old
       → made ≡ new_request lent.client (filled_init last init)
-      → OnOk result (Played by limit document (asks destination.Fetch made) (standing_of a old) None (standing_of b new))
+      → OnOk result (Played by limit document (asks destination.Fetch made) (standing_of a old) None
+      (standing_of b new))
       → OnOk result (Played by limit document (command_started lent (fetch_step init)) (standing_of a old) None
       (standing_of b new))
   fetch-played init last made a b old new result seen is =

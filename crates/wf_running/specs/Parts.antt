@@ -10,12 +10,12 @@ use Rattle.wf_run.specs.Traces.{PlayTrace}
 use Rattle.wf_wire.specs.Exchanges.{Answering}
 use Rattle.wf_drive.specs.Worlds.{Answers, Outside, Refuses, Settles, World, outside_of}
 
--- The world, and where the run stands.
+-- The world, and how far the run has come.
 pub record Standing (State : Type 0) : Type 0 where
   pub world : World State
   pub progress : Progress
 
--- a standing of these
+-- a world and a run's progress, put together
 abbrev pub standing_of : {State : Type 0} → World State → Progress → Standing State
 standing_of world progress = record { world = world; progress = progress }
 

@@ -104,12 +104,15 @@ fn run_request<R: Threads + Wait + Sync, S: Share, L: Link>(
     requires end { IsAtEnd (L.left link.old) }
     ensures played { OnOk result (Played (over_link L.answer L.next) lent.now.limit (S.document pass.old)
         (fetched (setting lent.now.client.now lent.now.policies.now lent.now.cookies.now) kind made)
-        (standing_of (world_of S.own S.left L.state L.left L.received L.faults pass.old link.old wire.old) running.old) None
-        (standing_of (world_of S.own S.left L.state L.left L.received L.faults pass.new link.new wire.new) running.new)) }
+        (standing_of (world_of S.own S.left L.state L.left L.received L.faults pass.old link.old wire.old) running.old)
+        None
+        (standing_of (world_of S.own S.left L.state L.left L.received L.faults pass.new link.new wire.new)
+        running.new)) }
     ensures cut { OnErr result (Cut (over_link L.answer L.next) lent.now.limit (S.document pass.old)
         (fetched (setting lent.now.client.now lent.now.policies.now lent.now.cookies.now) kind made)
         (standing_of (world_of S.own S.left L.state L.left L.received L.faults pass.old link.old wire.old) running.old)
-        (standing_of (world_of S.own S.left L.state L.left L.received L.faults pass.new link.new wire.new) running.new)) }
+        (standing_of (world_of S.own S.left L.state L.left L.received L.faults pass.new link.new wire.new)
+        running.new)) }
     ensures few { S.left pass.old ≤ S.left pass.new + most_asks }
     ensures hung_up { OnOk result (IsAtEnd (L.left link.new)) }
     ensures fetches { running.new.fetches ≡ running.old.fetches }
@@ -148,13 +151,16 @@ fn run_asked<R: Threads + Wait + Sync, S: Share, L: Link>(
     ensures played { OnOk result (Played (over_link L.answer L.next) lent.now.limit (S.document pass.old)
         (λ next progress. asked (setting lent.now.client.now lent.now.policies.now lent.now.cookies.now) kind made next
         (started progress))
-        (standing_of (world_of S.own S.left L.state L.left L.received L.faults pass.old link.old wire.old) running.old) None
-        (standing_of (world_of S.own S.left L.state L.left L.received L.faults pass.new link.new wire.new) running.new)) }
+        (standing_of (world_of S.own S.left L.state L.left L.received L.faults pass.old link.old wire.old) running.old)
+        None
+        (standing_of (world_of S.own S.left L.state L.left L.received L.faults pass.new link.new wire.new)
+        running.new)) }
     ensures cut { OnErr result (Cut (over_link L.answer L.next) lent.now.limit (S.document pass.old)
         (λ next progress. asked (setting lent.now.client.now lent.now.policies.now lent.now.cookies.now) kind made next
         (started progress))
         (standing_of (world_of S.own S.left L.state L.left L.received L.faults pass.old link.old wire.old) running.old)
-        (standing_of (world_of S.own S.left L.state L.left L.received L.faults pass.new link.new wire.new) running.new)) }
+        (standing_of (world_of S.own S.left L.state L.left L.received L.faults pass.new link.new wire.new)
+        running.new)) }
     ensures spent { IsSpent (S.left pass.old) running.old (S.left pass.new) running.new }
     ensures hung_up { OnOk result (IsAtEnd (L.left link.new)) }
     ensures belongs { S.belongs lent.now.share.now pass.new }
@@ -186,12 +192,15 @@ pub fn run_fetch_command<R: Threads + Wait + Sync, S: Share, L: Link>(
     requires end { IsAtEnd (L.left link.old) }
     ensures played { OnOk result (Played (over_link L.answer L.next) lent.now.limit (S.document pass.old)
         (command_started (setting lent.now.client.now lent.now.policies.now lent.now.cookies.now) (fetch init.now))
-        (standing_of (world_of S.own S.left L.state L.left L.received L.faults pass.old link.old wire.old) running.old) None
-        (standing_of (world_of S.own S.left L.state L.left L.received L.faults pass.new link.new wire.new) running.new)) }
+        (standing_of (world_of S.own S.left L.state L.left L.received L.faults pass.old link.old wire.old) running.old)
+        None
+        (standing_of (world_of S.own S.left L.state L.left L.received L.faults pass.new link.new wire.new)
+        running.new)) }
     ensures cut { OnErr result (Cut (over_link L.answer L.next) lent.now.limit (S.document pass.old)
         (command_started (setting lent.now.client.now lent.now.policies.now lent.now.cookies.now) (fetch init.now))
         (standing_of (world_of S.own S.left L.state L.left L.received L.faults pass.old link.old wire.old) running.old)
-        (standing_of (world_of S.own S.left L.state L.left L.received L.faults pass.new link.new wire.new) running.new)) }
+        (standing_of (world_of S.own S.left L.state L.left L.received L.faults pass.new link.new wire.new)
+        running.new)) }
     ensures spent { IsSpent (S.left pass.old) running.old (S.left pass.new) running.new }
     ensures hung_up { OnOk result (IsAtEnd (L.left link.new)) }
     ensures belongs { S.belongs lent.now.share.now pass.new }
@@ -219,12 +228,15 @@ pub fn run_load_command<R: Threads + Wait + Sync, S: Share, L: Link>(
     requires end { IsAtEnd (L.left link.old) }
     ensures played { OnOk result (Played (over_link L.answer L.next) lent.now.limit (S.document pass.old)
         (command_started (setting lent.now.client.now lent.now.policies.now lent.now.cookies.now) (load init.now))
-        (standing_of (world_of S.own S.left L.state L.left L.received L.faults pass.old link.old wire.old) running.old) None
-        (standing_of (world_of S.own S.left L.state L.left L.received L.faults pass.new link.new wire.new) running.new)) }
+        (standing_of (world_of S.own S.left L.state L.left L.received L.faults pass.old link.old wire.old) running.old)
+        None
+        (standing_of (world_of S.own S.left L.state L.left L.received L.faults pass.new link.new wire.new)
+        running.new)) }
     ensures cut { OnErr result (Cut (over_link L.answer L.next) lent.now.limit (S.document pass.old)
         (command_started (setting lent.now.client.now lent.now.policies.now lent.now.cookies.now) (load init.now))
         (standing_of (world_of S.own S.left L.state L.left L.received L.faults pass.old link.old wire.old) running.old)
-        (standing_of (world_of S.own S.left L.state L.left L.received L.faults pass.new link.new wire.new) running.new)) }
+        (standing_of (world_of S.own S.left L.state L.left L.received L.faults pass.new link.new wire.new)
+        running.new)) }
     ensures spent { IsSpent (S.left pass.old) running.old (S.left pass.new) running.new }
     ensures hung_up { OnOk result (IsAtEnd (L.left link.new)) }
     ensures belongs { S.belongs lent.now.share.now pass.new }

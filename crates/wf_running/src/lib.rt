@@ -1,4 +1,4 @@
-// Fetches and loads of a document's script, played, and where its run stands.
+// Fetches and loads of a document's script, played, and how far its run has come.
 #![tactic(auto)]
 
 mod asking;

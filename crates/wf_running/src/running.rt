@@ -19,7 +19,7 @@ const MOST_COMMANDS: u32 = 16_384;
 /// How many of them are fetches and loads at most.
 const MOST_FETCHES: u32 = 1_024;
 
-/// Where a document's run stands: its clock, how many commands and how many fetches and loads have
+/// How far a document's run has come: its clock, how many commands and how many fetches and loads have
 /// started, and the events that it has shown. Seen as the run's progress.
 #[derive(Drop)]
 pub struct Running {
@@ -46,7 +46,7 @@ impl Model for Running {
         × (running.clock ≤ 2 ^ 40 + running.commands * (2 ^ 32 - 1)) };
 }
 
-// A fetch, or a load of a kind, starts as the one of this number.
+// A fetch, or a load of a kind, starts with this number.
 fn start_event(kind: Destination, number: u32) -> Event
     ensures { result ≡ spec.start_event kind number }
 {
@@ -56,7 +56,7 @@ fn start_event(kind: Destination, number: u32) -> Event
     }
 }
 
-// There is no request for it.
+// There is no request for a fetch, or for a load of a kind.
 pub(crate) fn fault_event(kind: Destination, fault: TypeFault) -> Event
     ensures { result ≡ spec.fault_event kind fault }
 {
@@ -151,7 +151,7 @@ impl Running {
         self.commands += 1;
     }
 
-    /// Starts a wait of so many seconds, which are over at once. Fewer than 16,384 commands have started.
+    /// Starts a wait of this many seconds, which are over at once. Fewer than 16,384 commands have started.
     pub fn wait(&mut self, seconds: u32)
         requires { self.old.commands < most_commands }
         ensures { self.new ≡ waited seconds (started self.old) }

@@ -10,7 +10,7 @@ use Rattle.wf_safelist.specs.UnsafeNames.{unsafe_names}
 abbrev header : List ℕ → List ℕ → Header
 header name value = record { name = name; value = value }
 
--- so many bytes `a`
+-- a value of this many bytes `a`
 abbrev long_value : ℕ → List ℕ
 long_value length = replicate length 97
 

@@ -10,7 +10,7 @@ chosen : (b : Bool) (n at : ℕ) → (let o : Option ℕ = cond b (Some n) None 
 chosen true n at e = (refl, grind arith)
 chosen false n at e = grind arith
 
--- what stands before the first dash and after it
+-- what is before the first dash and after it
 pub is_span-cut : (text : List ℕ) (at : ℕ) → position (λ byte. byte == 45) text ≡ Some at → is_span text
     ≡ (is_digits (take at text) && is_end_of (take at text) (drop (at + 1) text))
 is_span-cut text at e =

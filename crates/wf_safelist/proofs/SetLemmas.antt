@@ -161,7 +161,7 @@ IsBelow-map : {X : Type 0} (text_of : X → List ℕ) (item : X) (items : List X
 IsBelow-map text_of item [] below = tt
 IsBelow-map text_of item (other ∷ items) below = (below.0, IsBelow-map text_of item items below.1)
 
--- what the names are in order, once they are sorted and freed of what stands twice
+-- what the names are in order, once they are sorted and each is there once
 pub sorted_lowercase_set-only : (names texts : List (List ℕ)) → IsSortedLowercaseSet names texts → texts
     ≡ sorted_lowercase_set names
 sorted_lowercase_set-only names texts is =
@@ -182,7 +182,7 @@ any-map : {X : Type 0} (test : List ℕ → Bool) (text_of : X → List ℕ) (it
 any-map test text_of [] = refl
 any-map test text_of (item ∷ items) = ap (λ v. test (text_of item) || v) (any-map test text_of items)
 
--- taking out what stands twice takes no text away
+-- taking out what is there twice takes no text away
 any-dedup_from : {X : Type 0} (text_of : X → List ℕ) (query : List ℕ) (item : X) (items : List X)
     → list_any (λ other. bytes_eq query (text_of other))
     (dedup_from (λ a b. bytes_eq (text_of a) (text_of b)) item items)

@@ -1,5 +1,5 @@
 -- Forbidden methods and forbidden request-headers (Fetch, sections 2.2.1 and 2.2.2). The lists are
--- closed as they stand here.
+-- closed as they are written here.
 use Rattle.std.specs.Prelude.{ℕ, Bool, ◌||◌, ◌&&◌, List, [], ◌∷◌, length, take, codes}
 use Rattle.std.specs.List.{list_any}
 use Rattle.std.specs.Str.{str_eq_ignore_ascii_case}
@@ -23,7 +23,7 @@ forbidden_names =
     ∷ codes "Origin" ∷ codes "Referer" ∷ codes "Set-Cookie" ∷ codes "TE" ∷ codes "Trailer"
     ∷ codes "Transfer-Encoding" ∷ codes "Upgrade" ∷ codes "Via" ∷ []
 
--- what other names begin with that only the user agent sets
+-- the prefixes of the other names that only the user agent sets
 abbrev pub forbidden_prefixes : List (List ℕ)
 forbidden_prefixes = codes "proxy-" ∷ codes "sec-" ∷ []
 

@@ -16,7 +16,7 @@ use Rattle.wf_safelist.specs.declared.guard.Appended.TheVariants.{Kept, Ignored,
 abbrev pub no_cors_names : List (List ℕ)
 no_cors_names = codes "Accept" ∷ codes "Accept-Language" ∷ codes "Content-Language" ∷ codes "Content-Type" ∷ []
 
--- the value behind what is there of its name
+-- the value, with what is there of its name, a comma and a space before it
 abbrev pub value_behind : Option (List ℕ) → List ℕ → List ℕ
 value_behind None value = value
 value_behind (Some there) value = there ++ (codes ", " ++ value)

@@ -6,11 +6,11 @@ use Rattle.std.specs.List.{after_first, before_first, position, starts_with}
 use Rattle.wf_text.specs.Ascii.{hyphen}
 use Rattle.wf_text.specs.Digits.{digits_at_most, is_digits}
 
--- what stands before the first dash
+-- what is before the first dash
 abbrev pub start_of : List ℕ → List ℕ
 start_of text = before_first (λ byte. byte == hyphen) text
 
--- what stands after the first dash
+-- what is after the first dash
 abbrev pub end_of : List ℕ → List ℕ
 end_of text = after_first (λ byte. byte == hyphen) text
 
@@ -18,7 +18,7 @@ end_of text = after_first (λ byte. byte == hyphen) text
 abbrev pub is_end_of : List ℕ → List ℕ → Bool
 is_end_of start end = length end == 0 || (is_digits end && digits_at_most start end)
 
--- a dash stands in the text
+-- the text has a dash
 abbrev pub has_dash : List ℕ → Bool
 has_dash text = is_some (position (λ byte. byte == hyphen) text)
 

@@ -14,7 +14,7 @@ is_unsafe_byte byte =
     (nat_lt byte space && not (byte == tab)) || list_any (λ mark. mark == byte) (codes "\"():<>?@[\\]{}")
     || byte == delete_byte
 
--- no byte of the value is one
+-- no byte of the value is a CORS-unsafe request-header byte
 abbrev pub has_no_unsafe_byte : List ℕ → Bool
 has_no_unsafe_byte value = list_all (λ byte. not (is_unsafe_byte byte)) value
 

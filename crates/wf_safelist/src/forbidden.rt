@@ -34,7 +34,7 @@ const FORBIDDEN_NAMES: [&[u8]; 21] = [
     b"Via",
 ];
 
-// What the names begin with that are forbidden for it.
+// The prefixes for which a name is forbidden.
 const FORBIDDEN_PREFIXES: [&[u8]; 2] = [b"proxy-", b"sec-"];
 
 // The names of headers whose values override the method.

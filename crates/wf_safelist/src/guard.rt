@@ -38,7 +38,7 @@ const NO_CORS_NAMES: [&[u8]; 4] = [
     b"Content-Type",
 ];
 
-// The value behind a comma and a space, and what is there of its name.
+// The value, with what is there of its name, a comma and a space before it.
 fn value_behind(alloc: Global, there: Option<Bytes>, value: &[u8]) -> Result<Bytes, OutOfMemory>
     ensures { IfOk result (λ text. text ≡ spec.value_behind there value.now) }
 {
@@ -108,7 +108,7 @@ fn outcome(
 /// `BadName` exactly where the name is no token; else `BadValue` exactly where the value is no header
 /// value. Else, under `Request`, a forbidden request-header is `Ignored`; under `NoCors` a header is
 /// `Ignored` unless its name is Accept, Accept-Language, Content-Language or Content-Type and the value,
-/// behind those of that name in the list and a comma and a space, is safelisted. Only what is `Kept`
+/// joined by a comma and a space to those of that name in the list, is safelisted. Only what is `Kept`
 /// changes the list, as "append" does. Want of memory leaves the list as it was.
 pub fn guarded_append(
     alloc: Global,

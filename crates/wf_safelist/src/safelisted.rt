@@ -6,7 +6,7 @@ ghost use Rattle.wf_safelist.specs.Safelisted as spec;
 use crate::range::is_simple_range;
 use wf_text::{essence_is, is_among_fold};
 
-// A safelisted value has at most so many bytes.
+// How many bytes a safelisted value has at most.
 const LONGEST_VALUE: usize = 128;
 
 // The CORS-unsafe request-header bytes that are neither control bytes nor DEL.
@@ -29,7 +29,7 @@ fn is_unsafe_byte(byte: u8) -> bool
     (byte < b' ' && byte != b'\t') || UNSAFE_MARKS.contains(&byte) || byte == 0x7f
 }
 
-// Whether no byte of the value is one.
+// Whether no byte of the value is a CORS-unsafe request-header byte.
 fn has_no_unsafe_byte(value: &[u8]) -> bool
     ensures { result ≡ spec.has_no_unsafe_byte value.now }
 {
@@ -43,7 +43,7 @@ fn is_language_byte(byte: u8) -> bool
     byte.is_ascii_alphanumeric() || LANGUAGE_MARKS.contains(&byte)
 }
 
-// Whether the value has such bytes alone.
+// Whether a language list may have each byte of the value.
 fn is_language_list(value: &[u8]) -> bool
     ensures { result ≡ list_all spec.is_language_byte value.now }
 {

@@ -9,7 +9,7 @@ use std::alloc::Global;
 use wf_headers::{Header, HeaderList};
 use wf_text::{BytesList, OutOfMemory, in_lower_case};
 
-// The values of the safelisted headers may have so many bytes together.
+// How many bytes the values of the safelisted headers may have together.
 const LONGEST_TOTAL: usize = 1024;
 
 // Whether the header is safelisted.
@@ -32,7 +32,7 @@ fn are_too_long(headers: &[Header]) -> bool
     size > LONGEST_TOTAL
 }
 
-// The names of the unsafe headers in lower case, as often as they stand.
+// The names of the unsafe headers in lower case, one for each header.
 fn lowered_names(
     alloc: Global,
     too_long: bool,

@@ -1,7 +1,7 @@
--- What stands in a text to which pieces were added, and how long headers on their lines are.
+-- What is in a text to which pieces were added, and how long headers on their lines are.
 use Rattle.std.proofs.Common.{◌≡◌, ℕ, List, [], ◌++◌, append_assoc, ap, ◌∙◌}
 
--- three pieces behind a text
+-- three pieces after a text
 pub added-three : (text one two three : List ℕ) (first second third : List ℕ)
     → first ≡ text ++ one → second ≡ first ++ two → third ≡ second ++ three → third ≡ text ++ (one ++ (two ++ three))
 added-three text one two three first second third a b c =

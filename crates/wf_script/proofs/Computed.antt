@@ -36,11 +36,11 @@ pub computes-places : (scenario_of (codes "{\"format\":") ≡ refused (codes "js
 unfolding url_on_literals serde_json_on_literals is_utf8 chars
 computes-places = (refl, refl, refl, refl, refl, refl)
 
--- a list of so many numbers and one more
+-- a list of n numbers and one more
 abbrev zeros : ℕ → List ℕ
 zeros n = codes "[0" ++ (concat (replicate n (codes ",0")) ++ codes "]")
 
--- 64 documents may stand in the first format and 128 in the second one; a longer list is refused before its items
+-- the first format may have 64 documents and the second one 128; a longer list is refused before its items
 pub computes-places-of-lists : (scenario_of (codes "{\"format\":1,\"documents\":" ++ zeros 64 ++ codes "}")
     ≡ refused (codes "/documents"))
     × (scenario_of (codes "{\"format\":1,\"documents\":" ++ zeros 63 ++ codes "}") ≡ refused (codes "/documents/0"))
@@ -296,7 +296,8 @@ pub computes-headers : scenario_of
         url = page;
         top = page;
         policy = policy.Origin;
-        policies = of_one false (codes "img-src") ∷ of_one true (codes "script-src") ∷ of_one true (codes "style-src") ∷ [];
+        policies =
+            of_one false (codes "img-src") ∷ of_one true (codes "script-src") ∷ of_one true (codes "style-src") ∷ [];
         script = no_steps;
       } ∷ [];
       body_limit = 262144;
@@ -308,7 +309,8 @@ computes-headers = refl
 pub computes-places-of-headers : (scenario_of
     (with_headers (codes "[[\"Content-Security-Policy\",\"a,a,a,a,a,a,a,a,a,a,a,a,a,a,a,a,a\"]]"))
     ≡ refused (codes "/documents/0/headers"))
-    × (scenario_of (with_headers (codes "[[\"A\",\"1\"],[\"A B\",\"1\"]]")) ≡ refused (codes "/documents/0/headers/1/0"))
+    × (scenario_of (with_headers (codes "[[\"A\",\"1\"],[\"A B\",\"1\"]]"))
+    ≡ refused (codes "/documents/0/headers/1/0"))
 unfolding url_on_literals serde_json_on_literals is_utf8 chars
 computes-places-of-headers = (refl, refl)
 
@@ -343,8 +345,10 @@ pub computes-formats : (scenario_of (of_document (codes "\"format\":2") (codes "
     × (scenario_of (of_document (codes "\"format\":1") []) ≡ Ok (embedded page 262144))
     × (scenario_of (of_document (codes "\"format\":1,\"body_limit\":1") []) ≡ refused (codes "/"))
     × (scenario_of (of_document (codes "\"format\":1") (codes "\"top\":0,")) ≡ refused (codes "/documents/0"))
-    × (scenario_of (of_document (codes "\"format\":2,\"body_limit\":0") (codes "\"top\":0,")) ≡ refused (codes "/body_limit"))
-    × (scenario_of (of_document (codes "\"format\":2") (codes "\"top\":\"data:,\",")) ≡ refused (codes "/documents/0/top"))
+    × (scenario_of (of_document (codes "\"format\":2,\"body_limit\":0") (codes "\"top\":0,"))
+    ≡ refused (codes "/body_limit"))
+    × (scenario_of (of_document (codes "\"format\":2") (codes "\"top\":\"data:,\","))
+    ≡ refused (codes "/documents/0/top"))
     × (scenario_of (of_document (codes "\"format\":2.0") []) ≡ refused (codes "/format"))
     × (scenario_of (of_document (codes "\"format\":3") []) ≡ refused (codes "/format"))
 unfolding url_on_literals serde_json_on_literals is_utf8 chars

@@ -1,4 +1,4 @@
--- The scenario that is generated: its URLs are those of their texts, its documents stand in order, and it is valid.
+-- The scenario that is generated: its URLs are those of their texts, its documents are in order, and it is valid.
 use Rattle.std.proofs.Common.{◌≡◌, ℕ, ◌+◌, ◌<◌, ◌≤◌, true, List, get_or, Option, Some, None, refl, ap, sym, ◌∙◌}
 use Rattle.std.proofs.Common.{◌++◌, ◌∷◌, [], subst, arith}
 use Rattle.std.specs.Prelude.{IsTrue, map}
@@ -15,7 +15,8 @@ use Rattle.wf_script.specs.Generated.{api_server, put_request, put_script, addre
 use Rattle.wf_script.specs.Generated.{preflight_rule, other_rule, generated}
 use Rattle.wf_script.specs.declared.types.Document.{Document}
 use Rattle.wf_script.specs.Urls.{is_document_url}
-use Rattle.wf_script.specs.Valid.{IsValidCookie, IsValidHost, IsValidRoute, IsValidRule, IsValidServer, IsValidDocument, IsValid}
+use Rattle.wf_script.specs.Valid.{IsValidCookie, IsValidHost, IsValidRoute, IsValidRule, IsValidServer}
+use Rattle.wf_script.specs.Valid.{IsValidDocument, IsValid}
 
 -- ---- URLs
 

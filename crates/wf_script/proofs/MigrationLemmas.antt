@@ -7,8 +7,8 @@ use Rattle.serde_json.proofs.Views.{get_member-put, get_member-put_other}
 use Rattle.serde_json.specs.Data.{Data, number, unsigned, object, Members, put}
 use Rattle.serde_json.specs.Find.{get, as_array, as_object}
 use Rattle.url.specs.Parts.{Parts}
-use Rattle.wf_form.specs.Reading.{Read, present, given, under, found_or, number_of, required, optional, count, each_from}
-use Rattle.wf_form.specs.Reading.{items_of, list_of, has_keys}
+use Rattle.wf_form.specs.Reading.{Read, present, given, under, found_or, number_of, required, optional, count}
+use Rattle.wf_form.specs.Reading.{each_from, items_of, list_of, has_keys}
 use Rattle.wf_form.proofs.FollowsLemmas.{Follows, follows-same, follows-then, follows-past, follows-required}
 use Rattle.wf_form.proofs.FollowsLemmas.{follows-optional, follows-list, follows-only_keys, apart, get-unknown}
 use Rattle.wf_form.proofs.FollowsLemmas.{has_keys-more, known-put}
@@ -19,7 +19,8 @@ use Rattle.wf_script.specs.declared.types.Place.{Place}
 use Rattle.wf_script.specs.Formats.{format_numbered, whole_number, format_of, later_keys, root_keys, body_limit_of}
 use Rattle.wf_script.specs.Formats.{most_documents, document_keys, top_of}
 use Rattle.wf_script.specs.Migration.{migrated, IsMigratedAlike}
-use Rattle.wf_script.specs.Scenarios.{host_of, cookie_of, route_of, server_of, document_of, scenario_as, scenario_in, told}
+use Rattle.wf_script.specs.Scenarios.{host_of, cookie_of, route_of, server_of, document_of, scenario_as, scenario_in}
+use Rattle.wf_script.specs.Scenarios.{told}
 use Rattle.wf_script.specs.Urls.{document_url_of}
 
 -- ---- documents
@@ -100,7 +101,8 @@ keys-migrated rest all =
     (known-put (root_keys Second) (codes "format") (number (unsigned 2)) rest refl
     (has_keys-more (codes "format") (codes "body_limit") later_keys (Some rest) all))
 
-follows-scenario : (rest : Members) → Follows (scenario_as First (object rest)) (scenario_as Second (object (migrated rest)))
+follows-scenario : (rest : Members)
+    → Follows (scenario_as First (object rest)) (scenario_as Second (object (migrated rest)))
 follows-scenario rest =
     let old = object rest in
     let new = object (migrated rest) in

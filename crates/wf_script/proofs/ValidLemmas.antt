@@ -20,8 +20,9 @@ use Rattle.wf_commands.specs.Valid.{IsValidScript}
 use Rattle.wf_form.specs.Reading.{Read, present, any, has_key, only_keys, optional, found_or, number_of, truth_of}
 use Rattle.wf_form.specs.Reading.{text_that, some_of, items_of, list_of}
 use Rattle.wf_form.proofs.KeepsLemmas.{Keeps, Anything, keeps-anything, keeps-after, keeps-then, keeps-under}
-use Rattle.wf_form.proofs.KeepsLemmas.{keeps-found_or, keeps-given, keeps-required, keeps-optional, IsListOf, keeps-items}
-use Rattle.wf_form.proofs.KeepsLemmas.{keeps-list, Within, keeps-number, keeps-text_that, keeps-some, keeps-parts}
+use Rattle.wf_form.proofs.KeepsLemmas.{keeps-found_or, keeps-given, keeps-required, keeps-optional, IsListOf}
+use Rattle.wf_form.proofs.KeepsLemmas.{keeps-items, keeps-list, Within, keeps-number, keeps-text_that, keeps-some}
+use Rattle.wf_form.proofs.KeepsLemmas.{keeps-parts}
 use Rattle.wf_steps.specs.Scripts.{document_script_of}
 use Rattle.wf_steps.proofs.ValidLemmas.{keeps-document_script}
 use Rattle.wf_script.specs.declared.format.Format.{Format}
@@ -34,8 +35,8 @@ use Rattle.wf_script.specs.Texts.{is_cookie_value}
 use Rattle.wf_script.specs.OriginTexts.{is_origin_text}
 use Rattle.wf_script.specs.Urls.{is_document_url, document_url_of}
 use Rattle.wf_script.specs.Headers.{listed, policies_of_headers, policy_or_default}
-use Rattle.wf_script.specs.Scenarios.{host_keys, host_of, cookie_of, route_of, plain_header_of, answer_of, rule_keys, rule_of}
-use Rattle.wf_script.specs.Scenarios.{server_keys, server_of, said_of, document_of, scenario_as}
+use Rattle.wf_script.specs.Scenarios.{host_keys, host_of, cookie_of, route_of, plain_header_of, answer_of, rule_keys}
+use Rattle.wf_script.specs.Scenarios.{rule_of, server_keys, server_of, said_of, document_of, scenario_as}
 use Rattle.wf_script.specs.Valid.{IsValidHost, IsValidCookie, IsValidRoute, IsValidRule, IsValidServer, IsValidDocument}
 use Rattle.wf_script.specs.Valid.{IsValid}
 
@@ -136,7 +137,8 @@ keeps-said tree =
 abbrev IsDocumentUrl : Parts → Type 0
 IsDocumentUrl url = IsTrue (is_document_url url)
 
-keeps-top : (format : Format) (url : Parts) → IsDocumentUrl url → (tree : Data) → Keeps IsDocumentUrl (top_of format url tree)
+keeps-top : (format : Format) (url : Parts) → IsDocumentUrl url → (tree : Data)
+    → Keeps IsDocumentUrl (top_of format url tree)
 keeps-top First url is tree = is
 keeps-top Second url is tree =
     keeps-under IsDocumentUrl (codes "top") (found_or (Ok url) document_url_of (get (codes "top") tree))

@@ -1,4 +1,4 @@
--- The two formats of scenarios. In the second one a document may stand in a page of another origin, the scenario says
+-- The two formats of scenarios. In the second one a document may be in a page of another origin, the scenario says
 -- how long a response's body may be, and it may have more documents.
 use Rattle.std.specs.Prelude.{ℕ, ◌==◌, List, [], ◌∷◌, codes, Option, Some, None, option_and_then, Ok, if◌then◌else◌}
 use Rattle.serde_json.specs.Data.{Data}
@@ -28,7 +28,7 @@ number_of_format Second = 2
 
 -- ---- the root
 
--- the keys behind `format`, and behind `body_limit` where there is one
+-- the keys after `format`, and after `body_limit` where there is one
 abbrev pub later_keys : List (List ℕ)
 later_keys =
     codes "now" ∷ codes "hsts" ∷ codes "cookies" ∷ codes "servers" ∷ codes "routes" ∷ codes "piece"

@@ -36,7 +36,7 @@ preflight_rule =
       answer = answer_bytes 200 (any_origin ∷ put_is_allowed ∷ []) [];
     }
 
--- and so is any other request
+-- any other request is allowed too
 abbrev pub other_rule : Rule
 other_rule = record { method = None; path = None; answer = answer_bytes 200 (any_origin ∷ []) [] }
 
@@ -86,7 +86,7 @@ address i =
       fragment = None;
     }
 
--- the document of this URL, which stands in no other page
+-- the document with this number, which is in no other page
 abbrev pub generated_document : ℕ → Document
 generated_document i =
     record {
@@ -97,7 +97,7 @@ generated_document i =
       script = put_script;
     }
 
--- so many of them, for I from 0, with the bounds on pieces and bodies that the first format has by itself
+-- n documents, for I from 0, with the bounds on pieces and bodies that the first format has by itself
 abbrev pub generated : ℕ → Scenario
 generated n =
     record {

@@ -86,7 +86,7 @@ status_answer_of tree = do
   body ← optional (codes "body") [] (text_that any) tree
   Ok (answer_bytes status headers body)
 
--- the bytes of an answer: as they stand, or by its status
+-- the bytes of an answer: as they are written, or by its status
 abbrev pub answer_of : Bool → Data → Read (List ℕ)
 answer_of true tree = required (codes "raw") (text_that any) tree
 answer_of false tree = status_answer_of tree

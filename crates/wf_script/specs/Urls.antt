@@ -11,7 +11,7 @@ use Rattle.wf_form.specs.Reading.{Read, ◌>>=◌, present, given}
 abbrev pub is_document_url : Parts → Bool
 is_document_url url = is_http url.scheme && not (has_credentials url) && is_short_url url
 
--- such a URL, of a text
+-- the URL that a text gives, where a document may have it
 abbrev pub document_url_of : Data → Read Parts
 document_url_of tree = do
   text ← present (as_str tree)

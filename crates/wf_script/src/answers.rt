@@ -71,7 +71,7 @@ pub(crate) fn answer_bytes(
     Ok(Bytes::from_vec(text))
 }
 
-// Whether what a rule says of a text takes this one.
+// Whether a rule takes this text: it asks for this one, or for none.
 fn takes(wanted: &Option<Bytes>, text: &[u8]) -> bool
     ensures { result ≡ spec.takes wanted.now text.now }
 {

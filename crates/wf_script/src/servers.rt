@@ -52,7 +52,7 @@ fn status_answer(alloc: Global, tree: &Value) -> Result<Bytes, Refused>
     Ok(answer_bytes(alloc, status, headers.as_slice(), body.as_slice())?)
 }
 
-// The bytes of an answer, as they stand or by its status.
+// The bytes of an answer, as they are written or by its status.
 fn rule_answer(alloc: Global, raw: bool, tree: &Value) -> Result<Bytes, Refused>
     ensures { Gives result (spec.answer_of raw (view tree.now)) }
 {

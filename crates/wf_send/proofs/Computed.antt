@@ -27,7 +27,7 @@ use Rattle.wf_types.specs.declared.request.Referrer.TheVariants as referrer
 use Rattle.wf_types.specs.Clients.{client_of}
 use Rattle.wf_send.specs.Heads.{head_lines, includes_credentials}
 use Rattle.wf_send.specs.Loading.{new_load}
-use Rattle.wf_types.specs.Lines.{header}
+use Rattle.wf_types.specs.Lines.{appended_where, header}
 use Rattle.wf_send.specs.Making.{is_long_body, is_too_long, made, new_request}
 
 -- https://a.test/
@@ -175,7 +175,7 @@ pub put_sent : head_lines [] (made client put target) target
     ∷ header (codes "Content-Length") (codes "1")
     ∷ header (codes "Connection") (codes "close")
     ∷ []
-unfolding url_on_literals
+unfolding url_on_literals appended_where
 put_sent = refl
 
 -- a body of so many letters is too long from 65,537 on, a method from 16,385 on
@@ -226,5 +226,5 @@ foreign_sent : head_lines cookies foreign_get foreign
     ∷ header (codes "Cookie") (codes "b=2")
     ∷ header (codes "Connection") (codes "close")
     ∷ []
-unfolding url_on_literals
+unfolding url_on_literals appended_where
 foreign_sent = refl

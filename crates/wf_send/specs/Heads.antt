@@ -1,5 +1,5 @@
--- A request as it is sent (Fetch, section 4.6 "HTTP-network-or-cache fetch"; RFC 9112, section 3.2).
-use Rattle.std.specs.Prelude.{ℕ, Bool, true, false, List, [], ◌∷◌, ◌++◌, length, codes, decimal, bytes_eq, Option}
+-- A request as it is sent (Fetch, section 4.6 "HTTP-network-or-cache fetch", step 8; RFC 9112, section 3.2).
+use Rattle.std.specs.Prelude.{ℕ, Bool, true, false, List, [], ◌∷◌, length, codes, decimal, bytes_eq, Option}
 use Rattle.std.specs.Prelude.{Some, None, if◌then◌else◌}
 use Rattle.url.specs.Parts.{Parts}
 use Rattle.wf_origin.specs.Origins.{origin_of}
@@ -12,7 +12,8 @@ use Rattle.wf_types.specs.declared.mode.Credentials.TheVariants as credentials
 use Rattle.wf_types.specs.declared.mode.Tainting.{Tainting}
 use Rattle.wf_types.specs.declared.mode.Tainting.TheVariants as tainting
 use Rattle.wf_types.specs.declared.request.Request.{Request}
-use Rattle.wf_types.specs.Lines.{accept_encoding, connection_close, header, header_where, present, user_agent}
+use Rattle.wf_types.specs.Lines.{Line, accept_encoding, all_appended_where, connection, header, line, line_where}
+use Rattle.wf_types.specs.Lines.{user_agent}
 use Rattle.wf_types.specs.Methods.{is_post_or_put}
 use Rattle.wf_types.specs.OriginHeader.{origin_value, referrer_value}
 use Rattle.wf_types.specs.Requests.{current_url}
@@ -20,7 +21,7 @@ use Rattle.wf_types.specs.Targets.{host_value, origin_text, target_of}
 
 -- ---- the values of headers
 
--- credentials are included: always, or for the same origin
+-- credentials are included: always, or for the same origin (step 8.3)
 abbrev pub includes_credentials : Credentials → Tainting → Bool
 includes_credentials credentials.Include tainting = true
 includes_credentials credentials.SameOrigin tainting.Basic = true
@@ -32,41 +33,41 @@ cookie_of origin [] = None
 cookie_of origin (cookie ∷ cookies) =
     if bytes_eq cookie.origin origin then Some cookie.value else cookie_of origin cookies
 
--- the value of Cookie, where credentials are included and the table has one
+-- the value of Cookie, where credentials are included and the table has one (step 8.21)
 abbrev pub cookie_value : List Cookie → Request → Parts → Option (List ℕ)
 cookie_value cookies request url =
     if includes_credentials request.credentials request.tainting
     then cookie_of (origin_text (origin_of url)) cookies else None
 
--- the value of Content-Length: the body's, or 0 for POST and PUT without one
+-- the value of Content-Length: the body's, or 0 for POST and PUT without one (steps 8.5 to 8.9)
 abbrev pub length_value : List ℕ → Option (List ℕ) → Option (List ℕ)
 length_value method (Some body) = Some (decimal (length body))
 length_value method None = if is_post_or_put method then Some (codes "0") else None
 
--- the user agent's own name, where the request gives none
+-- the user agent's own name, where the request gives none (step 8.15)
 abbrev pub user_agent_value : List Header → Option (List ℕ)
 user_agent_value headers =
     if contains (codes "User-Agent") headers then None else Some user_agent
 
 -- ---- the head
 
--- the headers that are sent behind the request's own
-abbrev pub added_headers : List Cookie → Request → Parts → List Header
-added_headers cookies request url =
-    present
-    (header_where (codes "User-Agent") (user_agent_value request.headers)
-    ∷ Some accept_encoding
-    ∷ header_where (codes "Referer") (referrer_value request.referrer)
-    ∷ header_where (codes "Origin") (origin_value request url)
-    ∷ header_where (codes "Cookie") (cookie_value cookies request url)
-    ∷ header_where (codes "Content-Length") (length_value request.method request.body)
-    ∷ Some connection_close
-    ∷ [])
+-- the lines that are sent after the request's own headers
+abbrev pub added_lines : List Cookie → Request → Parts → List Line
+added_lines cookies request url =
+    line_where (codes "User-Agent") (user_agent_value request.headers)
+    ∷ line (codes "Accept-Encoding") accept_encoding
+    ∷ line_where (codes "Referer") (referrer_value request.referrer)
+    ∷ line_where (codes "Origin") (origin_value request url)
+    ∷ line_where (codes "Cookie") (cookie_value cookies request url)
+    ∷ line_where (codes "Content-Length") (length_value request.method request.body)
+    ∷ line (codes "Connection") connection
+    ∷ []
 
--- the header list as it is sent, from Host on
+-- the header list as it is sent: Host, the request's own headers, and the lines after them
 abbrev pub head_lines : List Cookie → Request → Parts → List Header
 head_lines cookies request url =
-    all_appended (header (codes "Host") (host_value url) ∷ request.headers ++ added_headers cookies request url) []
+    all_appended_where (added_lines cookies request url)
+    (all_appended (header (codes "Host") (host_value url) ∷ request.headers) [])
 
 -- the request as it is sent to its current URL, without the URL's fragment and its credentials
 abbrev pub hop_to : List Cookie → Request → Parts → Hop

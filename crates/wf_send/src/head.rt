@@ -1,9 +1,7 @@
-ghost use Rattle.std.specs.Prelude.{◌≡◌, codes, option_copied, IfOk, OnOk, None, if◌then◌else◌};
+ghost use Rattle.std.specs.Prelude.{◌≡◌, option_copied, IfOk, OnOk, None, if◌then◌else◌};
 ghost use Rattle.wf_origin.specs.Origins as origins;
 ghost use Rattle.wf_send.specs.Heads as spec;
-ghost use Rattle.wf_headers.specs.Headers.{all_appended};
-ghost use Rattle.wf_types.specs.Lines.{appended_where};
-ghost use Rattle.wf_types.specs.OriginHeader.{origin_value};
+ghost use Rattle.wf_types.specs.Lines.{all_appended_where};
 ghost use Rattle.wf_types.specs.Targets.{origin_text};
 
 use std::alloc::Global;
@@ -11,12 +9,12 @@ use url::Url;
 use wf_headers::HeaderList;
 use wf_text::{Bytes, OutOfMemory};
 use wf_types::{
-    Cookie, Credentials, Request, Tainting, USER_AGENT, append_accept_encoding, append_connection,
-    append_where, host_value, is_post_or_put, origin_value, referrer_value,
+    ACCEPT_ENCODING, CONNECTION, Cookie, Credentials, Request, Tainting, USER_AGENT, append_where,
+    host_value, is_post_or_put, origin_value, referrer_value, slice_of,
 };
 
 /// Whether credentials are included: in mode include, and in mode same-origin while the tainting is
-/// basic (Fetch, section 4.6). It takes no memory.
+/// basic (Fetch, section 4.6, step 8.3). It takes no memory.
 pub fn includes_credentials(credentials: Credentials, tainting: Tainting) -> bool
     ensures { result ≡ spec.includes_credentials credentials tainting }
 {
@@ -63,43 +61,25 @@ fn user_agent_value(headers: &HeaderList) -> Option<&'static [u8]>
     }
 }
 
-// Appends Origin, where the request has one.
-fn append_origin(
+// The value of Content-Length: the body's, or 0 for POST and PUT without one.
+fn length_value(
     alloc: Global,
-    headers: &mut HeaderList,
-    request: &Request,
-    url: &Url,
-) -> Result<(), OutOfMemory>
-    ensures { OnOk result (headers.new
-        ≡ appended_where (codes "Origin") (origin_value request.now url.now) headers.old) }
-{
-    match origin_value(alloc, request, url)? {
-        None => Ok(()),
-        Some(value) => headers.append(b"Origin", value.as_slice()),
-    }
-}
-
-// Appends Content-Length: of the body, or 0 for POST and PUT without one.
-fn append_length(
-    alloc: Global,
-    headers: &mut HeaderList,
     method: &[u8],
     body: &Option<Bytes>,
-) -> Result<(), OutOfMemory>
-    ensures { OnOk result (headers.new
-        ≡ appended_where (codes "Content-Length") (spec.length_value method.now body.now) headers.old) }
+) -> Result<Option<Bytes>, OutOfMemory>
+    ensures { IfOk result (λ value. value ≡ spec.length_value method.now body.now) }
 {
     match body {
         Some(body) => {
             let length = body.len().to_string(alloc)?;
-            headers.append(b"Content-Length", length.as_bytes())
+            Ok(Some(Bytes::of(alloc, length.as_bytes())?))
         }
-        None if is_post_or_put(method) => headers.append(b"Content-Length", b"0"),
-        None => Ok(()),
+        None if is_post_or_put(method) => Ok(Some(Bytes::of(alloc, b"0")?)),
+        None => Ok(None),
     }
 }
 
-// Appends what is sent behind the request's own headers.
+// Appends the lines that are sent after the request's own headers.
 fn append_added(
     alloc: Global,
     headers: &mut HeaderList,
@@ -110,15 +90,17 @@ fn append_added(
 ) -> Result<(), OutOfMemory>
     requires { origin.now ≡ origin_text (origins.origin_of url.now) }
     ensures { OnOk result (headers.new
-        ≡ all_appended (spec.added_headers cookies.now request.now url.now) headers.old) }
+        ≡ all_appended_where (spec.added_lines cookies.now request.now url.now) headers.old) }
 {
+    let own = origin_value(alloc, request, url)?;
+    let length = length_value(alloc, request.method.as_slice(), &request.body)?;
     append_where(headers, b"User-Agent", user_agent_value(&request.headers))?;
-    append_accept_encoding(headers)?;
+    append_where(headers, b"Accept-Encoding", Some(ACCEPT_ENCODING))?;
     append_where(headers, b"Referer", referrer_value(&request.referrer))?;
-    append_origin(alloc, headers, request, url)?;
+    append_where(headers, b"Origin", slice_of(&own))?;
     append_where(headers, b"Cookie", cookie_value(cookies, request, origin))?;
-    append_length(alloc, headers, request.method.as_slice(), &request.body)?;
-    append_connection(headers)?;
+    append_where(headers, b"Content-Length", slice_of(&length))?;
+    append_where(headers, b"Connection", Some(CONNECTION))?;
     Ok(())
 }
 

@@ -11,18 +11,18 @@ use Rattle.wf_script.specs.declared.types.Server.{Server}
 use Rattle.wf_sim.specs.Sim.{is_space, answer_to}
 use Rattle.wf_sim.specs.Laws.{AnswersByParts}
 
--- how many bytes stand before the first space
+-- how many bytes there are before the first space
 space-at : (front rest : List ℕ) → IsTrue (lacks_space front) → length front
     ≡ prefix_len (λ byte. not (is_space byte)) (front ++ (codes " " ++ rest))
 space-at [] rest lacks = grind arith
 space-at (byte ∷ front) rest lacks = grind (arith, common_steps, space-at front rest)
 
--- what stands before the first space
+-- what is before the first space
 before-space : (front rest : List ℕ) → IsTrue (lacks_space front)
     → before_first is_space (front ++ (codes " " ++ rest)) ≡ front
 before-space front rest lacks = take_at front (codes " " ++ rest) _ (space-at front rest lacks)
 
--- what stands after it
+-- what is after it
 after-space : (front rest : List ℕ) → IsTrue (lacks_space front) → after_first is_space (front ++ (codes " " ++ rest))
     ≡ rest
 after-space [] rest lacks = grind arith

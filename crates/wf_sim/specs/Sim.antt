@@ -14,11 +14,11 @@ use Rattle.wf_script.specs.declared.types.Server.{Server}
 abbrev pub is_space : ℕ → Bool
 is_space byte = byte == space
 
--- the method: what stands before the first space
+-- the method: what is before the first space
 abbrev pub method_of : List ℕ → List ℕ
 method_of request = before_first is_space request
 
--- the request target: what stands between the first and the second space
+-- the request target: what is between the first and the second space
 abbrev pub target_of : List ℕ → List ℕ
 target_of request = before_first is_space (after_first is_space request)
 

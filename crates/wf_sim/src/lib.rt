@@ -1,4 +1,4 @@
-// Scripted servers: a link whose answers stand in the scenario.
+// Scripted servers: a link that answers as the scenario says.
 #![tactic(auto)]
 
 mod laws;

@@ -4,14 +4,14 @@ ghost use Rattle.wf_sim.specs.Sim as spec;
 
 use wf_text::{after_byte, before_byte};
 
-// The method of a request: what stands before the first space.
+// The method of a request: what is before the first space.
 pub(crate) fn method_of(request: &[u8]) -> &[u8]
     ensures { result.now ≡ spec.method_of request.now }
 {
     before_byte(request, b' ')
 }
 
-// The target of a request: what stands between the first space and the second.
+// The target of a request: what is between the first space and the second.
 pub(crate) fn target_of(request: &[u8]) -> &[u8]
     ensures { result.now ≡ spec.target_of request.now }
 {

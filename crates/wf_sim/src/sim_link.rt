@@ -1,4 +1,5 @@
-ghost use Rattle.std.specs.Prelude.{◌≡◌, ◌⊎◌, ◌<◌, ◌≤◌, ◌++◌, [], List, take, drop, length, Some, Ok, IfOk, OnOk, OnErr};
+ghost use Rattle.std.specs.Prelude.{◌≡◌, ◌⊎◌, ◌<◌, ◌≤◌, ◌++◌, [], List, take, drop, length};
+ghost use Rattle.std.specs.Prelude.{Some, Ok, IfOk, OnOk, OnErr};
 ghost use Rattle.std.specs.Io.{ReadsAtMost};
 ghost use Rattle.wf_link.specs.Counts.{HasCause};
 ghost use Rattle.wf_link.specs.Links.{Asked, Awaits, MayHaveAsked, Received};
@@ -37,7 +38,8 @@ impl<'a> SimLink<'a> {
     /// of the scenario's size.
     pub fn new(scenario: &'a Scenario) -> SimLink<'a>
         requires { IsValid scenario.now }
-        ensures { result ≡ record { servers = scenario.entry.now.servers; piece = scenario.entry.now.piece; left = [] } }
+        ensures { result
+            ≡ record { servers = scenario.entry.now.servers; piece = scenario.entry.now.piece; left = [] } }
     {
         SimLink::to(&scenario.servers, scenario.piece as usize)
     }

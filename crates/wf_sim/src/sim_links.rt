@@ -36,7 +36,8 @@ impl<'a> SimLinks<'a> {
     /// Links to the servers of a valid scenario.
     pub fn new(scenario: &'a Scenario) -> SimLinks<'a>
         requires { IsValid scenario.now }
-        ensures { result ≡ record { servers = scenario.entry.now.servers; piece = scenario.entry.now.piece; left = [] } }
+        ensures { result
+            ≡ record { servers = scenario.entry.now.servers; piece = scenario.entry.now.piece; left = [] } }
     {
         SimLinks {
             servers: &scenario.servers,

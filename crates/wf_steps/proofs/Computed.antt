@@ -40,8 +40,9 @@ plain url = record {
   upload = false;
 }
 
--- where a template stands, and where `${` is plain text
-pub computes-places-of-fetches : (of_text (codes "[{\"fetch\":{\"url\":\"/${bod}\"}}]") ≡ refused (codes "/0/fetch/url"))
+-- where there is a template, and where `${` is plain text
+pub computes-places-of-fetches :
+    (of_text (codes "[{\"fetch\":{\"url\":\"/${bod}\"}}]") ≡ refused (codes "/0/fetch/url"))
     × (of_text (codes "[{\"fetch\":{\"url\":\"/${\"}}]") ≡ refused (codes "/0/fetch/url"))
     × (of_text (codes "[{\"fetch\":{\"url\":\"/\",\"mode\":\"websocket\"}}]") ≡ refused (codes "/0/fetch/mode"))
     × (of_text (codes "[{\"fetch\":{\"url\":\"/\",\"headers\":[[\"${\",\"${header:A B}\"]]}}]")
@@ -143,12 +144,12 @@ pub computes-inside : of_text
 unfolding serde_json_on_literals is_utf8 chars digits
 computes-inside = refl
 
--- a text so many times
+-- a text a number of times
 abbrev times : ℕ → List ℕ → List ℕ
 times zero text = []
 times (suc n) text = text ++ times n text
 
--- so many commands inside each other
+-- a number of commands inside each other
 abbrev nested : ℕ → List ℕ → List ℕ
 nested n begin = codes "[" ++ (times n begin ++ (times n (codes "]}") ++ codes "]"))
 

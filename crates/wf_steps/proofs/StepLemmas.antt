@@ -20,7 +20,7 @@ pub in_order-listed : (script : Steps) → in_order (listed script) ≡ script
 in_order-listed no_steps = refl
 in_order-listed (step one more) = ap (λ (script : Steps). step one script) (in_order-listed more)
 
--- a script is a list of commands, with what may stand inside them
+-- a script is a list of commands, with what may be inside them
 pub script_of_is : (repeats ifs : ℕ) (tree : Data)
     → script_of repeats ifs tree ≡ commands_of (command_in repeats ifs) tree
 script_of_is zero zero tree = refl

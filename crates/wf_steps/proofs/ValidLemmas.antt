@@ -1,9 +1,10 @@
--- Every script that is read is valid, and holds no more `repeat` and `if` inside each other than may stand there.
+-- Every script that is read is valid, and holds no more `repeat` and `if` inside each other than it may.
 use Rattle.std.proofs.Common.{◌≡◌, ℕ, zero, suc, ◌+◌, ◌≤◌, Bool, true, false, List, [], ◌∷◌, Option, Some, None}
 use Rattle.std.proofs.Common.{Ok, Err, refl, subst, arith}
 use Rattle.std.specs.Prelude.{codes, decimal, IfSome, IsTrue, option_map, option_and_then, ◌≢◌}
 use Rattle.std.specs.List.{AllByRecursion}
 use Rattle.std.proofs.lemmas.List.Elements.{All-nil, recursion_from_All}
+use Rattle.std.proofs.lemmas.List.Sums.{AllPass-from_list_all}
 use Rattle.serde_json.specs.Data.{Data}
 use Rattle.serde_json.specs.Find.{as_array}
 use Rattle.wf_types.specs.declared.init.Pair.{Pair}
@@ -17,10 +18,10 @@ use Rattle.wf_commands.specs.Valid.{step_repeats, repeats, step_choices, choices
 use Rattle.wf_commands.specs.declared.command.Test.TheVariants.{TypeIs, StatusIs, BodyIs}
 use Rattle.wf_form.specs.Reading.{Read, under, present, number_of, truth_of, text_that, any, word_of, some_of}
 use Rattle.wf_form.specs.Reading.{has_key, only_keys, optional, list_of, count, each_from}
-use Rattle.wf_form.proofs.KeepsLemmas.{Keeps, Anything, keeps-anything, keeps-after, keeps-weaker, keeps-then, keeps-under}
-use Rattle.wf_form.proofs.KeepsLemmas.{keeps-there, keeps-if, keeps-required, keeps-optional, IsListOf, keeps-each}
+use Rattle.wf_form.proofs.KeepsLemmas.{Keeps, Anything, keeps-anything, keeps-after, keeps-weaker, keeps-then}
+use Rattle.wf_form.proofs.KeepsLemmas.{keeps-under, keeps-there, keeps-if, keeps-required, keeps-optional, IsListOf}
 use Rattle.wf_form.proofs.KeepsLemmas.{keeps-list, Within, keeps-number, keeps-word, keeps-text_that, keeps-some}
-use Rattle.wf_form.proofs.KeepsLemmas.{keeps-parts}
+use Rattle.wf_form.proofs.KeepsLemmas.{keeps-each, keeps-parts}
 use Rattle.wf_steps.specs.Conditions.{subjects, second_part, parts_of, test_about, test_of}
 use Rattle.wf_steps.specs.Fetches.{header_of, content_of, manner_of, referring_of, fetch_keys, fetch_of}
 use Rattle.wf_steps.specs.Loads.{kinds, settings, load_keys, load_of}
@@ -85,7 +86,10 @@ not_fetch : (kind : Destination) → IsLoadKind kind → kind ≢ destination.Fe
 not_fetch kind is same = let no : false ≡ true = subst IsLoadKind same is in let bad : ⊥ = cc no in absurd bad
 
 keeps-kind : (tree : Data) → Keeps IsLoadKind (word_of kinds tree)
-keeps-kind = keeps-word IsLoadKind kinds (refl, (refl, (refl, (refl, (refl, (refl, (refl, tt)))))))
+keeps-kind =
+    keeps-word IsLoadKind kinds
+    (recursion_from_All (λ (entry : List ℕ × Destination). IsLoadKind entry.1) kinds
+    (AllPass-from_list_all (λ (entry : List ℕ × Destination). is_load entry.1) kinds refl))
 
 keeps-load : (tree : Data) → Keeps IsValidLoad (load_of tree)
 keeps-load tree =
@@ -128,7 +132,7 @@ keeps-test tree =
 
 -- ---- commands
 
--- the step is valid, and no more `repeat` and `if` than so many stand inside each other
+-- the step is valid, and at most these numbers of `repeat` and `if` are inside each other
 record IsStepWithin (most_repeats most_choices : ℕ) (one : Step) : Type 0 where
   valid : IsValidStep one
   few_repeats : step_repeats one ≤ most_repeats
@@ -140,13 +144,13 @@ record IsWithin (most_repeats most_choices : ℕ) (script : Steps) : Type 0 wher
   few_repeats : repeats script ≤ most_repeats
   few_choices : choices script ≤ most_choices
 
--- the script may stand inside a `repeat`, where no more than so many stand inside each other
+-- the script may be inside a `repeat`, where at most this many may be inside each other
 record FitsRepeat (most_repeats most_choices : ℕ) (script : Steps) : Type 0 where
   valid : AreValid script
   few_repeats : repeats script + 1 ≤ most_repeats
   few_choices : choices script ≤ most_choices
 
--- the script may stand inside an `if`
+-- the script may be inside an `if`
 record FitsIf (most_repeats most_choices : ℕ) (script : Steps) : Type 0 where
   valid : AreValid script
   few_repeats : repeats script ≤ most_repeats
@@ -236,7 +240,7 @@ keeps-commands r i read each tree =
     (keeps-each (IsStepWithin r i) read each 0 items) (λ steps all.
     within r i steps (recursion_from_All (IsStepWithin r i) steps all.all)))
 
--- what stands inside a `repeat`, read with so many `if` left
+-- what is inside a `repeat`, read with i `if` left
 inside : (r i : ℕ) (deeper : Option (ℕ → Data → Read Steps))
     → IfSome deeper (λ read. (n : ℕ) → Reads (FitsRepeat r n) (read n))
     → IfSome (option_map (λ (read : ℕ → Data → Read Steps). read i) deeper) (Reads (FitsRepeat r i))

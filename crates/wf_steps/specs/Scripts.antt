@@ -1,10 +1,11 @@
--- Scripts: the tables of commands, and how deep they stand inside each other.
+-- Scripts: the tables of commands, and how deep they may be inside each other.
 use Rattle.std.specs.Prelude.{ℕ, zero, suc, List, [], ◌∷◌, codes, Option, Some, None, option_map, Ok, Err}
 use Rattle.std.specs.Prelude.{if◌then◌else◌}
 use Rattle.serde_json.specs.Data.{Data, Items}
 use Rattle.serde_json.specs.Find.{as_array}
 use Rattle.wf_commands.specs.Scripts.{Step, fetch, load, wait, repeat, choose, Steps, no_steps, step}
-use Rattle.wf_form.specs.Reading.{Read, ◌>>=◌, under, present, number_of, has_key, only_keys, required, optional, each_from}
+use Rattle.wf_form.specs.Reading.{Read, ◌>>=◌, under, present, number_of, has_key, only_keys, required, optional}
+use Rattle.wf_form.specs.Reading.{each_from}
 use Rattle.wf_steps.specs.Conditions.{test_of}
 use Rattle.wf_steps.specs.Fetches.{fetch_of}
 use Rattle.wf_steps.specs.Loads.{load_of}
@@ -23,14 +24,14 @@ load_command_of tree = do
   init ← required (codes "load") load_of tree
   Ok (load init)
 
--- so many seconds that pass
+-- a number of seconds that pass
 abbrev pub wait_command_of : Data → Read Step
 wait_command_of tree = do
   known ← only_keys (codes "wait" ∷ []) tree
   seconds ← required (codes "wait") (number_of 0 4294967295) tree
   Ok (wait seconds)
 
--- A script so many times, with what reads the script. Where no `repeat` may stand here it is refused at its key, and
+-- A script that is repeated, with what reads the script. Where no `repeat` may be here it is refused at its key, and
 -- nothing of it is read.
 abbrev pub repeat_command_of : Option (Data → Read Steps) → Data → Read Step
 repeat_command_of inside tree = do
@@ -40,8 +41,8 @@ repeat_command_of inside tree = do
   script ← required (codes "do") deeper tree
   Ok (repeat times script)
 
--- One of two scripts, with what reads them, the second of which is empty by itself. Where no `if` may stand here it is
--- refused at its key, and nothing of it is read.
+-- One of two scripts, with what reads them; the second is empty where no key says otherwise. Where no `if` may be here
+-- it is refused at its key, and nothing of it is read.
 abbrev pub if_command_of : Option (Data → Read Steps) → Data → Read Step
 if_command_of inside tree = do
   known ← only_keys (codes "if" ∷ codes "then" ∷ codes "else" ∷ []) tree
@@ -79,31 +80,31 @@ commands_of read tree = do
   items ← present (as_array tree)
   steps_in read items
 
--- a script, with what reads the one inside a `repeat`, and how many `if` may stand inside each other
+-- a script, with what reads the one inside a `repeat`, and how many `if` may be inside each other
 abbrev pub script_with : Option (ℕ → Data → Read Steps) → ℕ → Data → Read Steps
 script_with deeper zero tree = commands_of (command_of (option_map (λ read. read zero) deeper) None) tree
 script_with deeper (suc ifs) tree =
     commands_of (command_of (option_map (λ read. read (suc ifs)) deeper) (Some (script_with deeper ifs))) tree
 
--- a script in which so many `repeat` and so many `if` may stand inside each other
+-- a script, by how many `repeat` and how many `if` may be inside each other
 abbrev pub script_of : ℕ → ℕ → Data → Read Steps
 script_of zero = script_with None
 script_of (suc repeats) = script_with (Some (script_of repeats))
 
--- what reads the script inside a `repeat`, where one may stand
+-- what reads the script inside a `repeat`, where there may be a `repeat`
 abbrev pub inside_repeat : ℕ → ℕ → Option (Data → Read Steps)
 inside_repeat zero ifs = None
 inside_repeat (suc repeats) ifs = Some (script_of repeats ifs)
 
--- what reads the scripts inside an `if`, where one may stand
+-- what reads the scripts inside an `if`, where there may be an `if`
 abbrev pub inside_if : ℕ → ℕ → Option (Data → Read Steps)
 inside_if repeats zero = None
 inside_if repeats (suc ifs) = Some (script_of repeats ifs)
 
--- a command where so many `repeat` and so many `if` may stand inside each other
+-- a command, by how many `repeat` and how many `if` may be inside each other
 abbrev pub command_in : ℕ → ℕ → Data → Read Step
 command_in repeats ifs tree = command_of (inside_repeat repeats ifs) (inside_if repeats ifs) tree
 
--- the script of a document: eight `repeat` and 16 `if` at most stand inside each other
+-- the script of a document: eight `repeat` and 16 `if` at most are inside each other
 abbrev pub document_script_of : Data → Read Steps
 document_script_of tree = script_of 8 16 tree

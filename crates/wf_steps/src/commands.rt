@@ -37,7 +37,7 @@ pub(crate) fn load_command(alloc: Global, tree: &Value) -> Result<Command, Refus
     Ok(Command::Load(init))
 }
 
-// So many seconds that pass.
+// A number of seconds that pass.
 pub(crate) fn wait_command(alloc: Global, tree: &Value) -> Result<Command, Refused>
     ensures { GivesAs step_of result (spec.wait_command_of (view tree.now)) }
 {

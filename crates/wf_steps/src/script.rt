@@ -1,4 +1,4 @@
-// Scripts, with those that stand inside their commands.
+// Scripts, with the scripts inside their commands.
 ghost use Rattle.std.specs.Prelude.{decimal};
 ghost use Rattle.serde_json.specs.View.{view, items_view};
 ghost use Rattle.wf_commands.specs.Commands.{step_of};
@@ -14,10 +14,10 @@ use std::alloc::Global;
 use wf_commands::{Command, Script};
 use wf_form::{Form, Number, Refused, at_segment, only_keys, refused_at, refused_here, required};
 
-// How many `repeat` may stand inside each other.
+// How many `repeat` may be inside each other.
 const REPEATS: u32 = 8;
 
-// How many `if` may stand inside each other.
+// How many `if` may be inside each other.
 const IFS: u32 = 16;
 
 const TIMES: Number = Number {
@@ -25,7 +25,7 @@ const TIMES: Number = Number {
     most: 1000,
 };
 
-// A script, in which so many `repeat` and so many `if` may stand inside each other.
+// A script, in which at most `repeats` `repeat` and `ifs` `if` are inside each other.
 #[cycle(scripts)]
 #[tactic(auto, using(crate::proofs::StepLemmas::script_of_is))]
 fn script(alloc: Global, tree: &Value, repeats: u32, ifs: u32) -> Result<Script, Refused>
@@ -88,7 +88,7 @@ fn command(alloc: Global, tree: &Value, repeats: u32, ifs: u32) -> Result<Comman
     }
 }
 
-// A script so many times.
+// A script that is repeated.
 #[cycle(scripts)]
 fn repeat_command(alloc: Global, tree: &Value, repeats: u32, ifs: u32) -> Result<Command, Refused>
     ensures { GivesAs step_of result
@@ -155,10 +155,10 @@ fn script_or_none(
 }
 
 /// The script of a document: a list of commands, in which at most eight `repeat` and at most 16 `if`
-/// stand inside each other. A value that is no list is refused at its own place, and else the first
+/// are inside each other. A value that is no list is refused at its own place, and else the first
 /// bad command, in order, under its number, at the place that its table says: a command that has
 /// none of the keys `fetch`, `load`, `wait`, `repeat` and `if`, or one that does not belong beside
-/// the first of them, at its own place; a `repeat` or an `if` that stands too deep at that key; a
+/// the first of them, at its own place; a `repeat` or an `if` that is too deep, at that key; a
 /// required key that is missing, and a value that is not taken, at the key or below it.
 #[derive(Drop)]
 pub struct DocumentScript;

@@ -1,4 +1,4 @@
--- The type and the subtype stand at the front of a MIME type, with the slash between them.
+-- The type and the subtype are at the front of a MIME type, with the slash between them.
 use Rattle.std.proofs.Common.{◌≡◌, ◌≤◌, ◌<◌, ◌+◌, ◌==◌, ℕ, Bool, true, List, ◌∷◌, ◌++◌, length, take, drop, get_or}
 use Rattle.std.proofs.Common.{refl, ap, sym, ◌∙◌, arith, append_assoc, length-append, length-drop, Some, None, ◌&&◌}
 use Rattle.std.proofs.Common.{if◌then◌else◌}
@@ -16,7 +16,7 @@ use Rattle.wf_text.proofs.TrimLemmas.{trimmed_end-rest}
 token-some : (text : List ℕ) → is_token text ≡ true → 0 < length text
 token-some text token = grind (arith, common_steps)
 
--- the subtype stands at the front of what follows the slash
+-- the subtype is at the front of what follows the slash
 subtype-rest : (text : List ℕ) → (more : List ℕ) × (after_first (λ byte. byte == 47) text ≡ subtype_of text ++ more)
 subtype-rest text =
     let after : List ℕ = after_first (λ byte. byte == 47) text in
@@ -27,7 +27,7 @@ subtype-rest text =
           ∙ append_assoc (subtype_of text) back.0 (drop k after),
     )
 
--- the type, the slash and the subtype stand at the front of the text
+-- the type, the slash and the subtype are at the front of the text
 pub essence-front : (text : List ℕ) → is_token (subtype_of text) ≡ true → (more : List ℕ)
     × (text ≡ (type_of text ++ 47 ∷ subtype_of text) ++ more)
 essence-front text token =

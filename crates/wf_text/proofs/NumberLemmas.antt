@@ -1,4 +1,4 @@
--- Numbers in decimal digits compare by how many digits they have behind their first zeros, and then by
+-- Numbers in decimal digits compare by how many digits they have after their leading zeros, and then by
 -- these digits.
 use Rattle.std.proofs.Common.{arith, inl, inr, ◌≡◌, ◌≤◌, ◌<◌, ◌+◌, ◌*◌, ◌-◌, ◌==◌, ◌&&◌, ◌||◌, ◌∷◌, [], ℕ, suc, List}
 use Rattle.std.proofs.Common.{length, refl, subst, ◌∙◌, Bool, true, false, nat_le, nat_lt}
@@ -30,7 +30,7 @@ value-grows : (n : ℕ) (text : List ℕ) → n ≤ digits_value_after 10 n text
 value-grows n [] = omega arith
 value-grows n (byte ∷ text) = omega (arith, value-grows (n * 10 + digit_value byte) text)
 
--- of two numbers the less stays so behind no more digits than the other
+-- the smaller of two numbers stays smaller if no more digits follow it than follow the other
 stays-less : (m n : ℕ) (a b : List ℕ) → m < n → length a ≤ length b → are_digits a ≡ true
     → digits_value_after 10 m a < digits_value_after 10 n b
 stays-less m n [] b less within digits = omega (arith, value-grows n b)
@@ -91,7 +91,7 @@ without_zeros-digits : (text : List ℕ) → are_digits text ≡ true → are_di
 without_zeros-digits [] digits = refl
 without_zeros-digits (byte ∷ text) digits = grind (arith, common_steps, without_zeros-digits text)
 
--- fewer digits than another has behind its zeros make less
+-- fewer digits than another number has after its leading zeros make a smaller number
 fewer-digits : (a text : List ℕ) → are_digits a ≡ true → are_digits text ≡ true
     → length a < length (without_zeros text) → digits_value 10 a < digits_value 10 (without_zeros text)
 fewer-digits a [] digits_a digits fewer = absurd (omega arith)

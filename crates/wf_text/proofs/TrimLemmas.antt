@@ -1,11 +1,11 @@
--- What trimming leaves stands in the text.
+-- What trimming leaves is a part of the text.
 use Rattle.std.proofs.Common.{◌≡◌, ◌==◌, ℕ, true, false, List, [], ◌∷◌, ◌++◌, reverse, refl, ap, sym, ◌∙◌}
 use Rattle.std.proofs.Common.{if◌then◌else◌}
 use Rattle.std.proofs.lemmas.List.{reverse-append, reverse-reverse}
 use Rattle.std.specs.List.{list_any}
 use Rattle.wf_text.specs.Trims.{trimmed_end, trimmed_start}
 
--- at the end of it
+-- the end of it
 pub trimmed_start-rest : (blanks text : List ℕ) → (front : List ℕ) × (text ≡ front ++ trimmed_start blanks text)
 trimmed_start-rest blanks [] = ([], refl)
 trimmed_start-rest blanks (byte ∷ text) =
@@ -16,7 +16,7 @@ trimmed_start-rest blanks (byte ∷ text) =
           ([], refl)
     ]
 
--- or at the front
+-- or its front
 pub trimmed_end-rest : (blanks text : List ℕ) → (back : List ℕ) × (text ≡ trimmed_end blanks text ++ back)
 trimmed_end-rest blanks text =
     let rest = trimmed_start-rest blanks (reverse text) in (

@@ -18,7 +18,7 @@ are_symbols text = is_filled text && list_all is_symbol text
 abbrev pub is_padding_end : List ℕ → Bool
 is_padding_end text = list_any (λ end. bytes_eq end text) ([] ∷ codes "=" ∷ [])
 
--- base64-value: one symbol or more, then at most two `=`; behind a first `=` stands at most one more
+-- base64-value: one symbol or more, then at most two `=`: after the first `=` comes at most one more
 abbrev pub is_base64_value : List ℕ → Bool
 is_base64_value text =
     are_symbols (before_first (λ byte. byte == equals_sign) text)

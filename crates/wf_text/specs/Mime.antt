@@ -7,11 +7,11 @@ use Rattle.wf_text.specs.Tokens.{is_token}
 use Rattle.wf_text.specs.Trims.{http_whitespace, trimmed, trimmed_end}
 use Rattle.wf_text.specs.Ascii.{semicolon, slash}
 
--- the type: what stands before the slash
+-- the type: what is before the slash
 abbrev pub type_of : List ℕ → List ℕ
 type_of text = before_first (λ byte. byte == slash) text
 
--- the subtype: what stands after the slash, up to a semicolon or the end, without whitespace at its end
+-- the subtype: what is after the slash, up to a semicolon or the end, without whitespace at its end
 abbrev pub subtype_of : List ℕ → List ℕ
 subtype_of text =
     trimmed_end http_whitespace (before_first (λ byte. byte == semicolon) (after_first (λ byte. byte == slash) text))
@@ -22,11 +22,11 @@ type_and_subtype text =
     if is_token (type_of text) && is_token (subtype_of text) then Some (type_of text ++ slash ∷ subtype_of text)
     else None
 
--- the same of a value with whitespace around it; none where it is no MIME type
+-- the type, a slash and the subtype of a value, which may have whitespace around it; none where it is no MIME type
 abbrev pub written_essence : List ℕ → Option (List ℕ)
 written_essence value = type_and_subtype (trimmed http_whitespace value)
 
--- the essence of a MIME type: both in lower case
+-- the essence of a MIME type: its type, the slash and its subtype in lower case
 abbrev pub essence_of_value : List ℕ → Option (List ℕ)
 essence_of_value value = option_map str_to_ascii_lowercase (written_essence value)
 

@@ -1,4 +1,4 @@
--- `*` in a list of methods or header names, where it stands for all of them but one ("CORS non-wildcard request-header
+-- `*` in a list of methods or header names, where it covers all of them but one ("CORS non-wildcard request-header
 -- name", Fetch, section 2.2.2).
 use Rattle.std.specs.Prelude.{ℕ, Bool, List, bytes_eq, codes}
 use Rattle.std.specs.List.{list_any}
@@ -12,7 +12,7 @@ is_wildcard text = bytes_eq text (codes "*")
 abbrev pub has_wildcard : List (List ℕ) → Bool
 has_wildcard texts = list_any is_wildcard texts
 
--- the header name that the wildcard does not stand for, in lower case: names are compared ASCII case aside
+-- the header name that the wildcard does not cover, in lower case: names are compared ASCII case aside
 abbrev pub authorization : List ℕ
 authorization = codes "authorization"
 

@@ -7,6 +7,6 @@ use Rattle.std.specs.List.{slice_split}
 abbrev pub is_filled : List ℕ → Bool
 is_filled text = not (length text == 0)
 
--- "split on ASCII whitespace": what stands between its tabs, LF, FF, CR and spaces
+-- "split on ASCII whitespace": what is between the text's tabs, LF, FF, CR and spaces
 abbrev pub words : List ℕ → List (List ℕ)
 words text = filter is_filled (slice_split is_ascii_whitespace text)

@@ -8,7 +8,7 @@ use crate::find::{after_byte, before_byte};
 // The bytes of a base64 value beside letters and digits.
 const MARKS: &[u8] = b"+/-_";
 
-// What may stand behind the first `=` of a base64 value.
+// What may follow the first `=` of a base64 value.
 const PADDING_ENDS: [&[u8]; 2] = [b"", b"="];
 
 // Whether the byte is a letter, a digit or a mark.

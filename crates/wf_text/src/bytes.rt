@@ -5,8 +5,8 @@ use crate::short::{SHORT, Short};
 use std::alloc::Global;
 use std::marker::Model;
 
-/// A text of any bytes, seen as the list of them. A copy of up to 23 bytes stands in the value itself and takes no memory
-/// beside it, since many names and values of headers are that short; the bytes of a vector stay where they are.
+/// A text of any bytes, seen as the list of them. A copy of up to 23 bytes is kept in the value itself and takes no
+/// other memory, since many names and values of headers are that short. The bytes of a vector stay where they are.
 #[derive(Drop)]
 pub struct Bytes {
     // One of the two is empty.
@@ -25,7 +25,7 @@ impl Model for Bytes {
     ghost invariant = { λ text. IsInOnePlace text.short text.long.items };
 }
 
-// A text is moved often, so its size tells.
+// A text is moved often, so its size matters.
 const _: () = prove!(size_of::<Bytes>() == 48);
 
 // Two pieces, joined.
@@ -84,8 +84,8 @@ impl Bytes {
         }
     }
 
-    /// The bytes as a vector. Those that stand in the text itself are copied, and others are not. Where memory is refused,
-    /// the text is gone.
+    /// The bytes as a vector. Bytes that are kept in the text itself are copied, and others are not. Where memory is
+    /// refused, the text is gone.
     #[tactic(auto, unfolding(crate::specs::Private::Stores::whole, crate::specs::Private::Stores::IsInOnePlace))]
     pub fn into_vec(self) -> Result<Vec<u8>, OutOfMemory>
         ensures { IfOk result (λ items. items.items ≡ self) }
@@ -146,7 +146,7 @@ impl Bytes {
     }
 }
 
-/// An equal text, where there is one.
+/// A copy of the text, where there is one.
 pub fn copy_of(alloc: Global, text: &Option<Bytes>) -> Result<Option<Bytes>, OutOfMemory>
     ensures { IfOk result (λ copy. copy ≡ text.now) }
 {

@@ -8,7 +8,7 @@ pub fn position_of(text: &[u8], byte: u8) -> Option<usize>
     text.iter().position(|b| *b == byte)
 }
 
-/// What stands before the first such byte, or all of the text where there is none. It takes no
+/// What is before the first such byte, or all of the text where there is none. It takes no
 /// memory.
 pub fn before_byte(text: &[u8], byte: u8) -> &[u8]
     ensures { result.now ≡ before_first (λ b. b == byte) text.now }
@@ -19,7 +19,7 @@ pub fn before_byte(text: &[u8], byte: u8) -> &[u8]
     }
 }
 
-/// What stands after the first such byte, or nothing where there is none. It takes no memory.
+/// What is after the first such byte, or nothing where there is none. It takes no memory.
 pub fn after_byte(text: &[u8], byte: u8) -> &[u8]
     ensures { result.now ≡ after_first (λ b. b == byte) text.now }
 {

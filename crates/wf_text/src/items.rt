@@ -4,7 +4,7 @@ use crate::memory::OutOfMemory;
 use std::alloc::Global;
 use std::marker::Model;
 
-/// A list of items, seen as the list.
+/// A list of items, seen as the list of them.
 #[derive(Drop)]
 pub struct Items<T> {
     items: Vec<T>,
@@ -75,7 +75,7 @@ impl<T: Drop> Items<T> {
         Ok(())
     }
 
-    /// Puts an item in the place of the last. It takes no memory.
+    /// Replaces the last item by this one. It takes no memory.
     pub fn set_last(&mut self, item: T)
         requires { 0 < length self.old }
         ensures { self.new ≡ take (length self.old - 1) self.old ++ item ∷ [] }

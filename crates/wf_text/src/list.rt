@@ -5,7 +5,7 @@ use crate::memory::OutOfMemory;
 use std::alloc::Global;
 use std::marker::Model;
 
-/// A list of texts, seen as the list of their lists.
+/// A list of texts, seen as a list of lists of bytes.
 #[derive(Drop)]
 pub struct BytesList {
     texts: Vec<Bytes>,

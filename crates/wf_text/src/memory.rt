@@ -1,7 +1,7 @@
 use std::alloc::{AllocError, AllocFailed};
 
-/// Memory was refused. Every call that allocates may answer it. What the call was lent is then as it was, and what it was
-/// given is gone.
+/// Memory was refused. Every call that allocates may answer it. A call's clauses say what is left then of what it was
+/// lent. Where they say nothing, nothing is promised.
 #[derive(Clone, Copy, Debug, PartialEq, Eq)]
 pub struct OutOfMemory;
 

@@ -39,14 +39,14 @@ fn type_and_subtype(text: &[u8]) -> Option<&[u8]>
     }
 }
 
-// What stands before the slash.
+// What is before the slash.
 fn type_of(text: &[u8]) -> &[u8]
     ensures { result.now ≡ type_of text.now }
 {
     before_byte(text, b'/')
 }
 
-// What stands after the slash, up to a semicolon or the end, without whitespace at its end.
+// What is after the slash, up to a semicolon or the end, without whitespace at its end.
 fn subtype_of(text: &[u8]) -> &[u8]
     ensures { result.now ≡ subtype_of text.now }
 {

@@ -5,10 +5,10 @@ use std::marker::Model;
 /// How many bytes a short text has at most.
 pub(crate) const SHORT: usize = 23;
 
-/// A text of up to 23 bytes, which stand in the value itself; seen as the list of them.
+/// A text of up to 23 bytes, which are kept in the value itself; seen as the list of them.
 #[derive(Drop)]
 pub(crate) struct Short {
-    // They are at the front.
+    // The bytes of the text are at the front.
     bytes: [u8; SHORT],
     len: u8,
 }

@@ -34,7 +34,7 @@ fn filled<'a>(alloc: Global, parts: &[&'a [u8]]) -> Result<Vec<&'a [u8]>, AllocE
     Ok(words)
 }
 
-/// The words of a text: what stands between its ASCII whitespace, which is tab, LF, FF, CR and space
+/// The words of a text: what is between its ASCII whitespace, which is tab, LF, FF, CR and space
 /// (Infra, "split on ASCII whitespace"). No word is empty.
 pub fn words(alloc: Global, text: &[u8]) -> Result<Vec<&[u8]>, OutOfMemory>
     ensures { IfOk result (λ words. map (λ word. word.now) words.items ≡ spec.words text.now) }

@@ -5,7 +5,7 @@ use crate::among::has_text;
 use crate::bytes::Bytes;
 use crate::fold::eq_fold;
 
-/// The header name that `*` does not stand for in a list of names ("CORS non-wildcard request-header
+/// The header name that `*` in a list of names does not cover ("CORS non-wildcard request-header
 /// name", Fetch, section 2.2.2), in lower case.
 pub const AUTHORIZATION: &[u8] = b"authorization";
 
@@ -23,7 +23,7 @@ pub fn has_wildcard(texts: &[Bytes]) -> bool
     has_text(texts, b"*")
 }
 
-/// Whether the header name is the one that `*` does not stand for, ASCII case aside. It takes no
+/// Whether the header name is the one that `*` does not cover, ASCII case aside. It takes no
 /// memory.
 pub fn is_non_wildcard_name(name: &[u8]) -> bool
     ensures { result ≡ spec.is_non_wildcard_name name.now }

@@ -98,7 +98,7 @@ module _ (z id : ℕ) (v : View) (new document : ℕ) (op : Op) (d : Desk) (live
       (grows_skip v (item ∙ (ap (λ (x : Desk). drop (length v.seen) x.history) made ∙ drop-length v.seen)) legal
       turns) some-slot)
 
--- an op that was made stands as the last entry of what the pass has seen, and is one more of its own
+-- an op that was made is the last entry of what the pass has seen, and is one more of its own
 pub extends_if : (v₀ v : View) (document : ℕ) (op : Op) (d : Desk) (m₄ m₅ : Sat) → v.opening ≡ v₀.opening → v.own
     ≡ v₀.own → StartsWith v.seen v₀.seen → Legal v.opening v.seen → AllTurnsBelow v.ticket v.seen
     → v.item ≡ drop (length v.seen) d.history → m₄ ≡ (v, (0, Some d) ∷ []) → m₅ ≡ (passed m₄.0, [])

@@ -8,8 +8,8 @@ use Rattle.wf_book.specs.Entries.{book_after, Legal, entries_of, StartsWith}
 use Rattle.wf_turn.specs.Counts.{times}
 use Rattle.wf_turn.specs.declared.pass.TurnPass.{TurnPass}
 
--- the book that its shared book was opened with, the entries of its own calls, and the history that it
--- has seen: up to its last turn
+-- of a pass: the book that its shared book was opened with, the entries of its own calls, and the history
+-- that it has seen: up to its last turn
 abbrev pub opening_of : TurnPass → Book
 opening_of pass = pass.seat.me.0.opening
 
@@ -19,11 +19,11 @@ own_of pass = pass.seat.me.0.own
 abbrev pub seen_of : TurnPass → List Entry
 seen_of pass = pass.seat.me.0.seen
 
--- the documents that it has made passes for
+-- the documents that the pass has made passes for
 abbrev pub made_of : TurnPass → List ℕ
 made_of pass = pass.seat.me.0.made
 
--- how many calls were made on it, and how many may still be made
+-- how many calls were made on the pass, and how many may still be made
 abbrev pub calls_of : TurnPass → ℕ
 calls_of pass = pass.seat.me.0.draws
 

@@ -104,8 +104,8 @@ impl Share for TurnBook {
 
     ghost left = { λ p. left_of p };
 
-    /// As any share does an operation: it waits for its turn, works on the book and passes the turn. The
-    /// documents that the pass has made passes for stay as well.
+    /// Does an operation, as any share does: it waits for its turn, works on the book and passes the turn.
+    /// The documents that the pass has made passes for stay as well.
     fn call<R: Threads + Wait + Sync>(
         &self,
         rt: &R,

@@ -18,7 +18,7 @@ pub struct Closed {
     pub history: History,
 }
 
-// Where the first pass stands.
+// The index of the first pass.
 fn first_at(passes: &[TurnPass]) -> usize
     requires { 0 < count_by (is_of 4294967295) passes.now }
     ensures bound { result < length passes.now }

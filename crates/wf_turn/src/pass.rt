@@ -5,8 +5,8 @@ use crate::turn::Held;
 /// The document of the first pass.
 pub const FIRST: u32 = u32::MAX;
 
-/// The right to call a book as one document. The first pass is that of no document of a play: it makes
-/// the others, and they come back to it.
+/// The right to call a book as one document. The first pass is for no document of a play: it makes the
+/// others, and they come back to it.
 #[derive(Drop)]
 pub struct TurnPass {
     pub(crate) document: u32,

@@ -56,8 +56,8 @@ fn work(
         .apply(alloc, &mut desk.book, turn, document, op)
 }
 
-// Draws a ticket, waits, works on the desk and passes the turn. The desk is back, and what it has more
-// is noted, before the turn is passed.
+// Draws a ticket, waits, works on the desk and passes the turn. Before the turn is passed the desk is put
+// back, and what was added to its history is noted.
 pub(crate) fn take_turn<R: Wait>(
     rt: &R,
     alloc: Global,

@@ -3,22 +3,22 @@ use wf_book::{Book, Entry};
 
 /// What a pass knows. No value of it is made: contracts alone speak of it.
 pub struct View {
-    /// It hasn't been taken in by another pass.
+    /// The pass hasn't been taken in by another pass.
     pub live: bool,
     pub document: u32,
     /// The book that the shared book was opened with.
     pub opening: Book,
-    /// How many tickets it drew, one a call.
+    /// How many tickets the pass drew, one a call.
     pub draws: u64,
-    /// It waits with this ticket, or has its turn.
+    /// The pass waits with this ticket, or has its turn.
     pub waits: bool,
     pub ticket: u64,
-    /// It has its turn.
+    /// The pass has its turn.
     pub served: bool,
-    /// It has noted what its turn adds to the history: an entry, or nothing.
+    /// The pass has noted what its turn adds to the history: an entry, or nothing.
     pub noted: bool,
     pub item: LinkedList<Entry>,
-    /// The entries of its own calls.
+    /// The entries of the pass's own calls.
     pub own: LinkedList<Entry>,
     /// The history up to its last turn.
     pub seen: LinkedList<Entry>,

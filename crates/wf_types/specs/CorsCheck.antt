@@ -1,4 +1,4 @@
--- The CORS check of a response (Fetch, "CORS check").
+-- The CORS check of a response (Fetch, section 4.10 "CORS check").
 use Rattle.std.specs.Prelude.{ℕ, Bool, true, false, ◌&&◌, ◌||◌, List, codes, if◌then◌else◌}
 use Rattle.wf_headers.specs.declared.headers.Header.{Header}
 use Rattle.wf_headers.specs.Headers.{has_value}
@@ -25,7 +25,7 @@ abbrev pub allows_credentials : List Header → Bool
 allows_credentials headers = has_value (codes "Access-Control-Allow-Credentials") (codes "true") headers
 
 -- "CORS check" of a serialised request origin, and whether the credentials mode is include: with it the origin itself
--- and credentials are to be allowed; without it any origin, or this one
+-- and credentials are to be allowed (steps 4, 6 and 7); without it any origin, or this one (steps 3 to 5)
 abbrev pub passes_cors_check : List ℕ → Bool → List Header → Bool
 passes_cors_check origin include headers =
     if include then allows_origin origin headers && allows_credentials headers

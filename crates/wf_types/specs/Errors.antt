@@ -6,84 +6,67 @@ use Rattle.wf_types.specs.declared.error.NetError.TheVariants as error
 use Rattle.wf_types.specs.declared.fault.TypeFault.{TypeFault}
 use Rattle.wf_types.specs.declared.fault.TypeFault.TheVariants as fault
 
+-- a number and a name
+pub record Label : Type 0 where
+  pub number : ℕ
+  pub name : List ℕ
+
+abbrev pub label : ℕ → List ℕ → Label
+label number name = record { number = number; name = name }
+
+-- the network errors; the name of a header is left out
+abbrev pub error_label : NetError → Label
+error_label error.Scheme = label 1 (codes "Scheme")
+error_label error.BadPort = label 2 (codes "BadPort")
+error_label error.Mixed = label 3 (codes "Mixed")
+error_label error.CspRequest = label 4 (codes "CspRequest")
+error_label error.SameOriginMode = label 5 (codes "SameOriginMode")
+error_label error.NoCorsRedirectMode = label 6 (codes "NoCorsRedirectMode")
+error_label error.PreflightCors = label 7 (codes "PreflightCors")
+error_label error.PreflightStatus = label 8 (codes "PreflightStatus")
+error_label error.PreflightList = label 9 (codes "PreflightList")
+error_label error.PreflightMethod = label 10 (codes "PreflightMethod")
+error_label (error.PreflightHeader name) = label 11 (codes "PreflightHeader")
+error_label error.CorsCheck = label 12 (codes "CorsCheck")
+error_label error.Corp = label 13 (codes "Corp")
+error_label error.RedirectMode = label 14 (codes "RedirectMode")
+error_label error.BadLocation = label 15 (codes "BadLocation")
+error_label error.RedirectScheme = label 16 (codes "RedirectScheme")
+error_label error.TooManyRedirects = label 17 (codes "TooManyRedirects")
+error_label error.RedirectCredentials = label 18 (codes "RedirectCredentials")
+error_label error.CspResponse = label 19 (codes "CspResponse")
+error_label error.Mime = label 20 (codes "Mime")
+error_label error.NoSniff = label 21 (codes "NoSniff")
+error_label error.Integrity = label 22 (codes "Integrity")
+error_label error.Coding = label 23 (codes "Coding")
+error_label error.LinkFault = label 24 (codes "LinkFault")
+error_label error.BadHead = label 25 (codes "BadHead")
+error_label error.HeadTooBig = label 26 (codes "HeadTooBig")
+
 -- the number of a network error
 abbrev pub error_number : NetError → ℕ
-error_number error.Scheme = 1
-error_number error.BadPort = 2
-error_number error.Mixed = 3
-error_number error.CspRequest = 4
-error_number error.SameOriginMode = 5
-error_number error.NoCorsRedirectMode = 6
-error_number error.PreflightCors = 7
-error_number error.PreflightStatus = 8
-error_number error.PreflightList = 9
-error_number error.PreflightMethod = 10
-error_number (error.PreflightHeader name) = 11
-error_number error.CorsCheck = 12
-error_number error.Corp = 13
-error_number error.RedirectMode = 14
-error_number error.BadLocation = 15
-error_number error.RedirectScheme = 16
-error_number error.TooManyRedirects = 17
-error_number error.RedirectCredentials = 18
-error_number error.CspResponse = 19
-error_number error.Mime = 20
-error_number error.NoSniff = 21
-error_number error.Integrity = 22
-error_number error.Coding = 23
-error_number error.LinkFault = 24
-error_number error.BadHead = 25
-error_number error.HeadTooBig = 26
+error_number refusal = (error_label refusal).number
 
 -- the name of a network error, without the header's
 abbrev pub error_name : NetError → List ℕ
-error_name error.Scheme = codes "Scheme"
-error_name error.BadPort = codes "BadPort"
-error_name error.Mixed = codes "Mixed"
-error_name error.CspRequest = codes "CspRequest"
-error_name error.SameOriginMode = codes "SameOriginMode"
-error_name error.NoCorsRedirectMode = codes "NoCorsRedirectMode"
-error_name error.PreflightCors = codes "PreflightCors"
-error_name error.PreflightStatus = codes "PreflightStatus"
-error_name error.PreflightList = codes "PreflightList"
-error_name error.PreflightMethod = codes "PreflightMethod"
-error_name (error.PreflightHeader name) = codes "PreflightHeader"
-error_name error.CorsCheck = codes "CorsCheck"
-error_name error.Corp = codes "Corp"
-error_name error.RedirectMode = codes "RedirectMode"
-error_name error.BadLocation = codes "BadLocation"
-error_name error.RedirectScheme = codes "RedirectScheme"
-error_name error.TooManyRedirects = codes "TooManyRedirects"
-error_name error.RedirectCredentials = codes "RedirectCredentials"
-error_name error.CspResponse = codes "CspResponse"
-error_name error.Mime = codes "Mime"
-error_name error.NoSniff = codes "NoSniff"
-error_name error.Integrity = codes "Integrity"
-error_name error.Coding = codes "Coding"
-error_name error.LinkFault = codes "LinkFault"
-error_name error.BadHead = codes "BadHead"
-error_name error.HeadTooBig = codes "HeadTooBig"
+error_name refusal = (error_label refusal).name
+
+-- the faults; the index of a header is left out
+abbrev pub fault_label : TypeFault → Label
+fault_label fault.BadUrl = label 1 (codes "BadUrl")
+fault_label fault.UrlCredentials = label 2 (codes "UrlCredentials")
+fault_label fault.BadMethod = label 3 (codes "BadMethod")
+fault_label fault.ForbiddenMethod = label 4 (codes "ForbiddenMethod")
+fault_label fault.BodyWithGet = label 5 (codes "BodyWithGet")
+fault_label fault.NoCorsMethod = label 6 (codes "NoCorsMethod")
+fault_label (fault.BadHeader index) = label 7 (codes "BadHeader")
+fault_label fault.NavigateMode = label 8 (codes "NavigateMode")
+fault_label fault.TooLong = label 9 (codes "TooLong")
 
 -- the number of a fault
 abbrev pub fault_number : TypeFault → ℕ
-fault_number fault.BadUrl = 1
-fault_number fault.UrlCredentials = 2
-fault_number fault.BadMethod = 3
-fault_number fault.ForbiddenMethod = 4
-fault_number fault.BodyWithGet = 5
-fault_number fault.NoCorsMethod = 6
-fault_number (fault.BadHeader index) = 7
-fault_number fault.NavigateMode = 8
-fault_number fault.TooLong = 9
+fault_number refusal = (fault_label refusal).number
 
 -- the name of a fault, without the header's index
 abbrev pub fault_name : TypeFault → List ℕ
-fault_name fault.BadUrl = codes "BadUrl"
-fault_name fault.UrlCredentials = codes "UrlCredentials"
-fault_name fault.BadMethod = codes "BadMethod"
-fault_name fault.ForbiddenMethod = codes "ForbiddenMethod"
-fault_name fault.BodyWithGet = codes "BodyWithGet"
-fault_name fault.NoCorsMethod = codes "NoCorsMethod"
-fault_name (fault.BadHeader index) = codes "BadHeader"
-fault_name fault.NavigateMode = codes "NavigateMode"
-fault_name fault.TooLong = codes "TooLong"
+fault_name refusal = (fault_label refusal).name

@@ -35,71 +35,52 @@ pub enum NetError {
 }
 
 impl NetError {
-    /// The number of the error, from 1 to 26.
+    // The number of the error, and its name without the header's.
+    fn label(&self) -> (u32, &'static str)
+        ensures number { result.0 ≡ error_number self.now }
+        ensures name { result.1.now ≡ error_name self.now }
+    {
+        match self {
+            NetError::Scheme => (1, "Scheme"),
+            NetError::BadPort => (2, "BadPort"),
+            NetError::Mixed => (3, "Mixed"),
+            NetError::CspRequest => (4, "CspRequest"),
+            NetError::SameOriginMode => (5, "SameOriginMode"),
+            NetError::NoCorsRedirectMode => (6, "NoCorsRedirectMode"),
+            NetError::PreflightCors => (7, "PreflightCors"),
+            NetError::PreflightStatus => (8, "PreflightStatus"),
+            NetError::PreflightList => (9, "PreflightList"),
+            NetError::PreflightMethod => (10, "PreflightMethod"),
+            NetError::PreflightHeader(_) => (11, "PreflightHeader"),
+            NetError::CorsCheck => (12, "CorsCheck"),
+            NetError::Corp => (13, "Corp"),
+            NetError::RedirectMode => (14, "RedirectMode"),
+            NetError::BadLocation => (15, "BadLocation"),
+            NetError::RedirectScheme => (16, "RedirectScheme"),
+            NetError::TooManyRedirects => (17, "TooManyRedirects"),
+            NetError::RedirectCredentials => (18, "RedirectCredentials"),
+            NetError::CspResponse => (19, "CspResponse"),
+            NetError::Mime => (20, "Mime"),
+            NetError::NoSniff => (21, "NoSniff"),
+            NetError::Integrity => (22, "Integrity"),
+            NetError::Coding => (23, "Coding"),
+            NetError::LinkFault => (24, "LinkFault"),
+            NetError::BadHead => (25, "BadHead"),
+            NetError::HeadTooBig => (26, "HeadTooBig"),
+        }
+    }
+
+    /// The number of the error.
     pub fn number(&self) -> u32
         ensures { result ≡ error_number self.now }
     {
-        match self {
-            NetError::Scheme => 1,
-            NetError::BadPort => 2,
-            NetError::Mixed => 3,
-            NetError::CspRequest => 4,
-            NetError::SameOriginMode => 5,
-            NetError::NoCorsRedirectMode => 6,
-            NetError::PreflightCors => 7,
-            NetError::PreflightStatus => 8,
-            NetError::PreflightList => 9,
-            NetError::PreflightMethod => 10,
-            NetError::PreflightHeader(_) => 11,
-            NetError::CorsCheck => 12,
-            NetError::Corp => 13,
-            NetError::RedirectMode => 14,
-            NetError::BadLocation => 15,
-            NetError::RedirectScheme => 16,
-            NetError::TooManyRedirects => 17,
-            NetError::RedirectCredentials => 18,
-            NetError::CspResponse => 19,
-            NetError::Mime => 20,
-            NetError::NoSniff => 21,
-            NetError::Integrity => 22,
-            NetError::Coding => 23,
-            NetError::LinkFault => 24,
-            NetError::BadHead => 25,
-            NetError::HeadTooBig => 26,
-        }
+        self.label().0
     }
 
     /// The name of the error, without the header's.
     pub fn name(&self) -> &'static str
         ensures { result.now ≡ error_name self.now }
     {
-        match self {
-            NetError::Scheme => "Scheme",
-            NetError::BadPort => "BadPort",
-            NetError::Mixed => "Mixed",
-            NetError::CspRequest => "CspRequest",
-            NetError::SameOriginMode => "SameOriginMode",
-            NetError::NoCorsRedirectMode => "NoCorsRedirectMode",
-            NetError::PreflightCors => "PreflightCors",
-            NetError::PreflightStatus => "PreflightStatus",
-            NetError::PreflightList => "PreflightList",
-            NetError::PreflightMethod => "PreflightMethod",
-            NetError::PreflightHeader(_) => "PreflightHeader",
-            NetError::CorsCheck => "CorsCheck",
-            NetError::Corp => "Corp",
-            NetError::RedirectMode => "RedirectMode",
-            NetError::BadLocation => "BadLocation",
-            NetError::RedirectScheme => "RedirectScheme",
-            NetError::TooManyRedirects => "TooManyRedirects",
-            NetError::RedirectCredentials => "RedirectCredentials",
-            NetError::CspResponse => "CspResponse",
-            NetError::Mime => "Mime",
-            NetError::NoSniff => "NoSniff",
-            NetError::Integrity => "Integrity",
-            NetError::Coding => "Coding",
-            NetError::LinkFault => "LinkFault",
-            NetError::BadHead => "BadHead",
-            NetError::HeadTooBig => "HeadTooBig",
-        }
+        self.label().1
     }
 }

@@ -18,37 +18,35 @@ pub enum TypeFault {
 }
 
 impl TypeFault {
-    /// The number of the fault, from 1 to 9.
+    // The number of the fault, and its name without the header's index.
+    fn label(self) -> (u32, &'static str)
+        ensures number { result.0 ≡ fault_number self }
+        ensures name { result.1.now ≡ fault_name self }
+    {
+        match self {
+            TypeFault::BadUrl => (1, "BadUrl"),
+            TypeFault::UrlCredentials => (2, "UrlCredentials"),
+            TypeFault::BadMethod => (3, "BadMethod"),
+            TypeFault::ForbiddenMethod => (4, "ForbiddenMethod"),
+            TypeFault::BodyWithGet => (5, "BodyWithGet"),
+            TypeFault::NoCorsMethod => (6, "NoCorsMethod"),
+            TypeFault::BadHeader(_) => (7, "BadHeader"),
+            TypeFault::NavigateMode => (8, "NavigateMode"),
+            TypeFault::TooLong => (9, "TooLong"),
+        }
+    }
+
+    /// The number of the fault.
     pub fn number(self) -> u32
         ensures { result ≡ fault_number self }
     {
-        match self {
-            TypeFault::BadUrl => 1,
-            TypeFault::UrlCredentials => 2,
-            TypeFault::BadMethod => 3,
-            TypeFault::ForbiddenMethod => 4,
-            TypeFault::BodyWithGet => 5,
-            TypeFault::NoCorsMethod => 6,
-            TypeFault::BadHeader(_) => 7,
-            TypeFault::NavigateMode => 8,
-            TypeFault::TooLong => 9,
-        }
+        self.label().0
     }
 
     /// The name of the fault, without the header's index.
     pub fn name(self) -> &'static str
         ensures { result.now ≡ fault_name self }
     {
-        match self {
-            TypeFault::BadUrl => "BadUrl",
-            TypeFault::UrlCredentials => "UrlCredentials",
-            TypeFault::BadMethod => "BadMethod",
-            TypeFault::ForbiddenMethod => "ForbiddenMethod",
-            TypeFault::BodyWithGet => "BodyWithGet",
-            TypeFault::NoCorsMethod => "NoCorsMethod",
-            TypeFault::BadHeader(_) => "BadHeader",
-            TypeFault::NavigateMode => "NavigateMode",
-            TypeFault::TooLong => "TooLong",
-        }
+        self.label().1
     }
 }

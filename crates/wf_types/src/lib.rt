@@ -30,7 +30,7 @@ pub use error::NetError;
 pub use fault::TypeFault;
 pub use hop::{Head, Hop};
 pub use init::{CrossOrigin, Init, LoadInit, Pair, Pairs};
-pub use lines::{USER_AGENT, append_accept_encoding, append_connection, append_where};
+pub use lines::{ACCEPT_ENCODING, CONNECTION, USER_AGENT, append_where, slice_of};
 pub use method::{is_get_or_head, is_post_or_put, is_safelisted_method, normalized_method};
 pub use mode::{Credentials, Mode, RedirectMode, ReferrerPolicy, Tainting};
 pub use names::has_name_among;

@@ -68,7 +68,7 @@ pub fn unless_long(url: Option<Url>) -> Option<Url>
     }
 }
 
-/// Whether the URL has a user name or a password (URL Standard, section 4.4, "includes credentials").
+/// Whether the URL has a user name or a password (URL Standard, section 4.2, "includes credentials").
 /// It takes no memory.
 pub fn has_credentials(url: &Url) -> bool
     ensures { result ≡ has_credentials url.now }

@@ -108,7 +108,7 @@ end-most how limit most bytes end is le =
 
 -- ---- the last bytes
 
--- the bytes decide the body, so it comes to that end behind them
+-- the bytes decide the body, so it has that end after them
 pub decided-end : (how : Framing) (limit : ℕ) (bytes piece now : List ℕ) (end : BodyEnd) → piece ≡ now
     → IsDecided how limit (bytes ++ piece) end → end ≡ body_end how limit (bytes ++ now)
 decided-end how limit bytes piece now end same decides =
@@ -170,7 +170,7 @@ module _ (window : List ℕ) (left : Option (List ℕ)) (how : Framing) (limit :
   body-goes-on next more left'' fed gave =
       receives-more window left reading.bytes now next.bytes more left' left'' (body-read next fed) gave so_far
 
-  -- or the answer ended behind some more
+  -- or the answer ended after some more
   pub body-ended : (next : BodyReading) (more : List ℕ) (left'' : Option (List ℕ)) (end : BodyEnd)
       → IsFed reading piece (bodies.More next) → Gave left' left'' more → IsAtEnd left''
       → end ≡ body_end next.framing next.limit (next.bytes ++ more) → HasBody how limit (onto_left window left) end
@@ -186,7 +186,7 @@ module _ (window : List ℕ) (left : Option (List ℕ)) (how : Framing) (limit :
             ∙ ap (λ (l : List ℕ). body_end how limit l) all;
       }
 
-  -- or the link failed behind fewer than may decide the body
+  -- or the link failed after fewer than may decide the body
   pub body-fails : (next : BodyReading) (more : List ℕ) (left'' : Option (List ℕ)) (end : BodyEnd) (n fewest : ℕ)
       → IsFed reading piece (bodies.More next) → Gave left' left'' more → (0 < length more → length more < fewest)
       → ((bytes : List ℕ) → length bytes < fewest → IsOpen next.framing next.limit (next.bytes ++ bytes))

@@ -124,7 +124,7 @@ read-long old new it window left is finds few idle state later = record {
   caused = uncaused HeadLong old.faults new.faults later refl;
 }
 
--- the final head came, and what stands behind it is to come
+-- the final head came, and the bytes after it are to come
 pub read-final : {State : Type 0} (old new : Exchange State) (it : Found) (window : List ℕ) (head : Head) (n : ℕ)
     → it ≡ found.Head head n → Finds old.coming it window new.left
     → GivesAtMost old.left new.left old.received new.received (most_bytes + 1)

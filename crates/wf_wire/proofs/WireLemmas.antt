@@ -35,7 +35,7 @@ uncaused input before now later none =
 
 -- ---- what was received
 
--- What was received since there were a window and what the link had left: it was read, or stands in the window now.
+-- What was received since there were a window and what the link had left: it was read, or is in the window now.
 pub record Receives (window : List ℕ) (left : Option (List ℕ)) (read now : List ℕ) (left' : Option (List ℕ))
     : Type 0 where
   pub given : List ℕ
@@ -136,7 +136,7 @@ front-is buffer from to front =
     let all : to - 0 ≡ to = omega arith in
     ap (λ (n : ℕ). slice_range buffer n to) front ∙ ap (λ (n : ℕ). take n buffer) all
 
--- more was received behind it
+-- more was received after it
 gathered-on : (a b c : Option (List ℕ)) (old new : List ℕ) (from to count : ℕ) → from ≡ 0
     → Gave a b (slice_range old from to) → take to new ≡ take to old → Gave b c (take count (drop to new))
     → Gave a c (slice_range new from (to + count))
@@ -160,7 +160,7 @@ gathered-more a b c old lent new now from to count front so_far same kept gave i
 
 -- ---- what was received is counted
 
--- So many bytes were received since there were a window and counts: they were read, or stand in the window now.
+-- So many bytes were received since there were a window and counts: they were read, or are in the window now.
 pub record Counts (window : List ℕ) (received : Option (List ℕ)) (read now : List ℕ) (received' : Option (List ℕ))
     : Type 0 where
   pub count : ℕ
@@ -225,7 +225,7 @@ pub few-on : (left left' left'' received received' received'' : Option (List ℕ
     → GivesAtMost left left'' received received'' most
 few-on left left' left'' received received' received'' most same alike few = rw (same, alike) few
 
--- and they are not more than were read and stand in the window
+-- and they are not more than were read and are in the window
 pub gives-few : (window : List ℕ) (left received : Option (List ℕ)) (read now : List ℕ)
     (left' received' : Option (List ℕ)) (most : ℕ) → length read + length now ≤ most
     → Receives window left read now left' → Counts window received read now received'
@@ -263,7 +263,7 @@ front-length : (buffer : List ℕ) (from to : ℕ) → from ≡ 0 → to ≤ len
 front-length buffer from to front within =
     omega (arith, ap length (front-is buffer from to front), length-take to buffer, within)
 
--- and more was received behind what stands there
+-- and more was received after what is there
 pub gathered-counted : (a b c : Option (List ℕ)) (old now : List ℕ) (from to count : ℕ) → from ≡ 0 → to ≤ length old
     → to + count ≤ length now → Received (length (slice_range old from to)) a b → Received count b c
     → Received (length (slice_range now from (to + count))) a c

@@ -1,7 +1,8 @@
 -- What comes of the acts of a fetch over a link (RFC 9112): a request is sent, and the head and the body are read
 -- of the bytes of its answer, or the link fails. A link may tell its state and the bytes to come, or not: of bytes
 -- that are not told it is said that there are some, and not which.
-use Rattle.std.specs.Prelude.{◌≡◌, ◌⊎◌, ℕ, ◌+◌, ◌≤◌, Bool, true, false, List, take, length, Option, Some, None, option_map}
+use Rattle.std.specs.Prelude.{◌≡◌, ◌⊎◌, ℕ, ◌+◌, ◌≤◌, Bool, true, false, List, take, length, Option, Some, None}
+use Rattle.std.specs.Prelude.{option_map}
 use Rattle.wf_types.specs.declared.hop.Head.{Head}
 use Rattle.wf_types.specs.declared.hop.Hop.{Hop}
 use Rattle.wf_types.specs.declared.response.BodyEnd.{BodyEnd}
@@ -19,14 +20,14 @@ use Rattle.wf_act.specs.declared.act.Act.TheVariants.{Ask, Send, ReadHead, ReadB
 use Rattle.wf_act.specs.declared.act.Input.{Input}
 use Rattle.wf_act.specs.declared.act.Input.TheVariants.{Sent, HeadIs, HeadBad, HeadLong, BodyIs, Fault}
 
--- What answers: in a state, the bytes of the answer to a hop, and the state behind it.
+-- What answers requests: in a state, the bytes of the answer to a hop, and the state after it.
 pub record Answering (State : Type 0) : Type 0 where
   pub answer : State → Hop → List ℕ
   pub next : State → Hop → State
 
--- Where an exchange stands: the state, where told; the bytes of the answer still to come, where told, and those of
--- them that the link itself has left; how many bytes of each answer were received of it, where told; how the body is
--- framed, where its head was read; and how often the link failed.
+-- What is known of an exchange over a link: the link's state, where told; the bytes of the answer still to come, where
+-- told, and those of them that the link has not given yet; how many bytes of each answer the link gave, where told; how
+-- the body is framed, once its head was read; and how often the link failed.
 pub record Exchange (State : Type 0) : Type 0 where
   pub state : Option State
   pub coming : Option (List ℕ)
@@ -71,7 +72,8 @@ IsAnswered answer old Sent new = (new.coming ≡ option_map answer old.state) ×
 IsAnswered answer old Fault new = IsAtEnd new.coming
 IsAnswered answer old _ new = ⊥
 
--- what was received of an answer more is counted then; where the link failed it may be
+-- the counts of received bytes, one for each answer: a request that was sent adds a count of 0; one that failed may add
+-- one too
 abbrev pub IsAwaited : Input → Option (List ℕ) → Option (List ℕ) → Type 0
 IsAwaited Sent old new = Awaits old new
 IsAwaited _ old new = Awaits old new ⊎ (new ≡ old)
@@ -101,13 +103,14 @@ ends_answer _ = false
 
 -- The link gave so many bytes of its answer, which were counted; where it was not hung up they are gone from what it
 -- has left.
-pub record Gives {State : Type 0} (old : Exchange State) (input : Input) (new : Exchange State) (count : ℕ) : Type 0 where
+pub record Gives {State : Type 0} (old : Exchange State) (input : Input) (new : Exchange State) (count : ℕ)
+    : Type 0 where
   pub counted : Received count old.received new.received
   pub gone : ends_answer input ≡ false → GaveJust old.left new.left count
 
 -- ---- the head
 
--- Some bytes, those to come where told, have this final head, and what stands behind it is to come then.
+-- Some bytes, those to come where told, have this final head, and those after it are to come then.
 pub record HasHead (coming : Option (List ℕ)) (head : Head) (behind : Option (List ℕ)) : Type 0 where
   pub bytes : List ℕ
   pub are_all : AreToCome coming bytes
@@ -135,7 +138,7 @@ FindsHead old HeadLong new = HasNoHead old.coming long × IsIdle new
 FindsHead old Fault new = LeavesHead old.coming new.left × IsBrokenOff new
 FindsHead old _ new = ⊥
 
--- The head was read, or the link failed. It gave 65,537 bytes at most.
+-- The head was read, or the link failed. In this read the link gave 65,537 bytes at most.
 pub record IsHeadRead {State : Type 0} (old : Exchange State) (input : Input) (new : Exchange State) : Type 0 where
   pub head_is : FindsHead old input new
   pub count : ℕ
@@ -171,7 +174,7 @@ abbrev pub EndsBody : Framing → ℕ → Option (List ℕ) → BodyEnd → Opti
 EndsBody how limit coming (body.Fault n) left = LeavesBody how limit coming left n
 EndsBody how limit coming end left = HasBody how limit coming end
 
--- behind a body nothing is to come; behind a fault nothing is kept
+-- after a body nothing is to come; after a fault nothing is kept of what was received
 abbrev pub IsBehind : {State : Type 0} → BodyEnd → Exchange State → Type 0
 IsBehind (body.Fault n) new = IsBrokenOff new
 IsBehind end new = IsIdle new
@@ -192,8 +195,8 @@ pub record IsBodyRead {State : Type 0} (limit : ℕ) (old : Exchange State) (inp
 
 -- ---- acts
 
--- what comes of an act over a link, and where the exchange stands then; the shared book and the document are not
--- asked over one
+-- what comes of an act over a link, and the exchange after it; calls of the shared book, and what the document is told,
+-- do not go over a link
 abbrev pub Exchanges : {State : Type 0} → Answering State → ℕ → Exchange State → Act → Input → Exchange State → Type 0
 Exchanges by limit old (Send hop) input new = IsSent by old hop input new
 Exchanges by limit old ReadHead input new = IsHeadRead old input new

@@ -20,7 +20,7 @@ use wf_types::{BodyEnd, Head, Hop};
 /// How many bytes of an answer a head takes at most: the last is one too many.
 const MOST_OF_HEAD: usize = 65_537;
 
-/// What the bytes of an answer have before its body.
+/// What is found where a head is read.
 #[derive(Drop)]
 pub(crate) enum Found {
     /// The final head, and how many bytes of the window belong to it.
@@ -33,10 +33,10 @@ pub(crate) enum Found {
     Fault,
 }
 
-/// What the bytes of an answer have behind its head.
+/// What is found where a body is read.
 #[derive(Drop)]
 pub(crate) enum Ended {
-    /// A body that comes to this end.
+    /// The end of the body.
     Body(BodyEnd),
     /// So many bytes of a body, and then the link failed.
     Fault(u32),
@@ -143,8 +143,8 @@ impl Wire {
         }
     }
 
-    // Finds the final head in what was received and as much more as it needs. Of the link it takes no
-    // byte behind the one that makes a head too long.
+    // Finds the final head in what was received, and receives as much more as that needs, but no byte
+    // after the one that makes the head too long.
     fn find_head<L: Link>(&mut self, link: &mut L, alloc: Global) -> Result<Found, OutOfMemory>
         ensures found { IfOk result (λ found. Finds (coming_of L.left link.old self.old) found (window_of self.new)
             (L.left link.new)) }
@@ -172,10 +172,10 @@ impl Wire {
         }
     }
 
-    /// Reads the body behind the last head, of so many bytes at most (RFC 9112, section 6), and hangs up. A
-    /// body `Fault`, with the number of bytes that had come of it, only where the link's count of faults
-    /// rose while the body was open; then what was received is dropped. Where memory was refused nothing is
-    /// said of what is to come.
+    /// Reads the body whose head was read last, of so many bytes at most (RFC 9112, section 6), and hangs up,
+    /// unless the link fails. The body ends in `Fault`, with the number of bytes that had come of it, only
+    /// where the link's count of faults rose while the body was open; then what was received is dropped.
+    /// Where memory was refused nothing is said of what is to come.
     #[tactic(auto, using(crate::proofs::WireLemmas::onto_nothing))]
     pub fn read_body<L: Link>(
         &mut self,
@@ -202,7 +202,7 @@ impl Wire {
         }
     }
 
-    // Finds the end of the body behind the last head in what was received and as much more as it needs.
+    // Finds the end of the body in what was received, and receives as much more as that needs.
     fn find_end<L: Link>(
         &mut self,
         link: &mut L,
@@ -230,7 +230,7 @@ impl Wire {
         }
     }
 
-    // How a body comes to its end where the answer ends behind the window.
+    // How the body ends where no more bytes come after those in the window.
     fn last(&self, reader: BodyReader) -> BodyEnd
         ensures { result ≡ body_end reader.framing reader.limit (reader.bytes ++ window_of self.now) }
     {

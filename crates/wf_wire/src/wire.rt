@@ -11,8 +11,9 @@ use wf_text::OutOfMemory;
 /// How many bytes are received at once at most.
 pub(crate) const RECEIVED: usize = 4_096;
 
-/// A wire over a link that it is lent: a buffer for what the link gives, where in the buffer the bytes
-/// stand that were received and not yet read, and how the body behind the last head is framed.
+/// A wire over a link, which each call is lent: a buffer for what the link gives; from where to where the
+/// buffer has bytes that were received and not yet read, the window; and how the body of the last head is
+/// framed.
 #[derive(Drop)]
 pub struct Wire {
     pub(crate) buffer: Vec<u8>,
@@ -43,7 +44,7 @@ fn receive<L: Link>(link: &mut L, buffer: &mut [u8], most: usize) -> Result<usiz
     link.recv(&mut buffer[..room])
 }
 
-// Receives bytes behind so many in the buffer, which stay, and answers how many.
+// Receives bytes into the buffer after its first `behind` bytes, which stay as they are, and answers how many came.
 fn receive_behind<L: Link>(link: &mut L, buffer: &mut [u8], behind: usize) -> Result<usize, Failed>
     requires { behind < length buffer.old }
     ensures state { L.state link.new ≡ L.state link.old }
@@ -149,9 +150,9 @@ impl Wire {
         Ok(count != 0)
     }
 
-    // Receives bytes in place of those in the window, until there are so many, or as many as the buffer holds. Answers
-    // whether more may come: not where the answer ended. What came before its end, or before the link failed, stands in
-    // the window.
+    // Empties the window and receives into it, once at least, until it has `fewest` bytes or the buffer is full.
+    // Answers whether more may come: no where the answer ended. What came before that end, or before the link failed,
+    // is in the window.
     pub(crate) fn gather<L: Link>(&mut self, link: &mut L, fewest: usize) -> Result<bool, Failed>
         ensures state { L.state link.new ≡ L.state link.old }
         ensures framing { self.new.framing ≡ self.old.framing }

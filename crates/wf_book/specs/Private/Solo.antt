@@ -4,8 +4,8 @@ use Rattle.wf_book.specs.declared.book.Book.{Book}
 use Rattle.wf_book.specs.declared.entry.Entry.{Entry}
 use Rattle.wf_book.specs.Entries.{AllTurnsBelow, Legal, book_after, entries_of}
 
--- its book is the one after its entries, which are legal and all of its document; each has the number of its call as
--- its turn
+-- the pass's book is the one after its entries, which are legal and all of its document; each entry has the number of
+-- its call as its turn
 pub record IsSolo (book opening : Book) (entries : List Entry) (calls : ℕ) : Type 0 where
   pub book_is : book ≡ book_after opening entries
   pub legal : Legal opening entries

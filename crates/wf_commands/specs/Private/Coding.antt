@@ -14,7 +14,9 @@ abbrev pub Token : Type 0
 Token = Init ⊎ (LoadInit ⊎ (ℕ ⊎ (ℕ ⊎ (Test ⊎ (ℕ ⊎ ℕ)))))
 
 abbrev pub token_code : Coded Token
-token_code = coded⊎ fetch_init.the_row.coded (coded⊎ load_init.the_row.coded (coded⊎ coded_ℕ (coded⊎ coded_ℕ (coded⊎ condition.the_row.coded (coded⊎ coded_ℕ coded_ℕ)))))
+token_code =
+    coded⊎ fetch_init.the_row.coded (coded⊎ load_init.the_row.coded (coded⊎ coded_ℕ (coded⊎ coded_ℕ
+    (coded⊎ condition.the_row.coded (coded⊎ coded_ℕ coded_ℕ)))))
 
 abbrev mutual
   pub tokens_of_step : Step → List Token
@@ -73,7 +75,8 @@ first_list (s ∷ lists) = s
 abbrev pub steps_of_tokens : List Token → Steps
 steps_of_tokens ts = first_list (read_tokens ts (record { done = []; lists = [] })).lists
 
-pub read_tokens-append : (xs ys : List Token) (stack : Stack) → read_tokens (xs ++ ys) stack ≡ read_tokens ys (read_tokens xs stack)
+pub read_tokens-append : (xs ys : List Token) (stack : Stack)
+    → read_tokens (xs ++ ys) stack ≡ read_tokens ys (read_tokens xs stack)
 read_tokens-append [] ys stack = refl
 read_tokens-append (x ∷ xs) ys stack = read_tokens-append xs ys (read_token x stack)
 
@@ -82,16 +85,22 @@ mutual
   read-step (fetch asked) stack = refl
   read-step (load asked) stack = refl
   read-step (wait n) stack = refl
-  read-step (repeat n s) stack = read_tokens-append (tokens s) (inr (inr (inr (inl n))) ∷ []) stack ∙ ap (λ (k : Stack). read_tokens (inr (inr (inr (inl n))) ∷ []) k) (read-steps s stack)
+  read-step (repeat n s) stack =
+      read_tokens-append (tokens s) (inr (inr (inr (inl n))) ∷ []) stack
+      ∙ ap (λ (k : Stack). read_tokens (inr (inr (inr (inl n))) ∷ []) k) (read-steps s stack)
   read-step (choose test s t) stack =
-      read_tokens-append (tokens s) (tokens t ++ inr (inr (inr (inr (inl test)))) ∷ []) stack ∙ ap (λ (k : Stack). read_tokens (tokens t ++ inr (inr (inr (inr (inl test)))) ∷ []) k) (read-steps s stack)
-      ∙ read_tokens-append (tokens t) (inr (inr (inr (inr (inl test)))) ∷ []) (with_list s stack) ∙ ap (λ (k : Stack). read_tokens (inr (inr (inr (inr (inl test)))) ∷ []) k) (read-steps t (with_list s stack))
+      read_tokens-append (tokens s) (tokens t ++ inr (inr (inr (inr (inl test)))) ∷ []) stack
+      ∙ ap (λ (k : Stack). read_tokens (tokens t ++ inr (inr (inr (inr (inl test)))) ∷ []) k) (read-steps s stack)
+      ∙ read_tokens-append (tokens t) (inr (inr (inr (inr (inl test)))) ∷ []) (with_list s stack)
+      ∙ ap (λ (k : Stack). read_tokens (inr (inr (inr (inr (inl test)))) ∷ []) k) (read-steps t (with_list s stack))
 
   pub read-steps : (s : Steps) (stack : Stack) → read_tokens (tokens s) stack ≡ with_list s stack
   read-steps no_steps stack = refl
   read-steps (step x s) stack =
-      read_tokens-append (tokens_of_step x) (tokens s ++ inr (inr (inr (inr (inr (inr 0))))) ∷ []) stack ∙ ap (λ (k : Stack). read_tokens (tokens s ++ inr (inr (inr (inr (inr (inr 0))))) ∷ []) k) (read-step x stack)
-      ∙ read_tokens-append (tokens s) (inr (inr (inr (inr (inr (inr 0))))) ∷ []) (with_step x stack) ∙ ap (λ (k : Stack). read_tokens (inr (inr (inr (inr (inr (inr 0))))) ∷ []) k) (read-steps s (with_step x stack))
+      read_tokens-append (tokens_of_step x) (tokens s ++ inr (inr (inr (inr (inr (inr 0))))) ∷ []) stack
+      ∙ ap (λ (k : Stack). read_tokens (tokens s ++ inr (inr (inr (inr (inr (inr 0))))) ∷ []) k) (read-step x stack)
+      ∙ read_tokens-append (tokens s) (inr (inr (inr (inr (inr (inr 0))))) ∷ []) (with_step x stack)
+      ∙ ap (λ (k : Stack). read_tokens (inr (inr (inr (inr (inr (inr 0))))) ∷ []) k) (read-steps s (with_step x stack))
 
 pub steps-tokens : (s : Steps) → steps_of_tokens (tokens s) ≡ s
 steps-tokens s = ap (λ (k : Stack). first_list k.lists) (read-steps s (record { done = []; lists = [] }))

@@ -2,7 +2,7 @@
 use Rattle.std.specs.Prelude.{ℕ, Bool, false, not, ◌&&◌, List, [], ◌∷◌, Option, Some, None}
 use Rattle.wf_csp_match.specs.Paths.{pieces, same_piece}
 
--- the pieces of what is left of a path behind a slash, where there is one
+-- the pieces of what is left of a path after a slash, where there is one
 abbrev pub pieces_left : Option (List ℕ) → List (List ℕ)
 pieces_left None = []
 pieces_left (Some text) = pieces text

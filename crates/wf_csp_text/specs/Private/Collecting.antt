@@ -12,7 +12,7 @@ is_new found directive = not (list_any (λ other. is_named other.name directive)
 abbrev pub with_new : Directive → List Directive → List Directive
 with_new directive found = if is_new found directive then found ++ directive ∷ [] else found
 
--- the same, where there is a directive
+-- the directives found and one more, where there is one and it is new
 abbrev pub with_found : Option Directive → List Directive → List Directive
 with_found None found = found
 with_found (Some directive) found = with_new directive found

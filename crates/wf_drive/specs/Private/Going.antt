@@ -17,7 +17,7 @@ use Rattle.wf_drive.specs.Worlds.{Answers}
 abbrev pub from_act : Context → Fetching → Act → Process
 from_act context fetching first = act fetching.level.request.value first (rest context fetching)
 
--- The input of the act came, what it shows was added to the events, and the fetch stands at its next step.
+-- The input of the act came, what it shows was added to the events, and the fetch is at its next step.
 pub record WentOn {State : Type 0} (by : Answering State) (limit document : ℕ) (context : Context) (fetching : Fetching)
     (first : Act) (old : Moment State) (at : Step) (new : Moment State) : Type 0 where
   pub input : Input

@@ -3,7 +3,7 @@ use Rattle.std.specs.Prelude.{◌≡◌, ◌<◌, ℕ, List, length, slice_get, 
 use Rattle.wf_print.specs.declared.events.Event.{Event}
 use Rattle.wf_run.specs.Results.{is_result, last_result}
 
--- with an event more behind so many
+-- where it is once an event was added after so many
 abbrev pub last_index : Option ℕ → ℕ → Event → Option ℕ
 last_index last count event = if is_result event then Some count else last
 

@@ -1,4 +1,4 @@
--- Where a header stands in a list.
+-- Where a header is in a list.
 use Rattle.std.specs.Prelude.{ℕ, List, [], ◌∷◌, ◌+◌, if◌then◌else◌}
 use Rattle.wf_headers.specs.Headers.{is_named}
 use Rattle.wf_headers.specs.declared.headers.Header.{Header}

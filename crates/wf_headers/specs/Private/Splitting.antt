@@ -1,4 +1,4 @@
--- What stands in a splitter of header values: the pieces of all that it was fed and of what follows.
+-- What a splitter of header values holds: the pieces of all that it was fed and of what follows.
 use Rattle.std.specs.Prelude.{ℕ, List, [], ◌∷◌, ◌++◌, map, Option, Some, None}
 use Rattle.wf_text.specs.Pieces.{with_front}
 use Rattle.wf_text.specs.Trims.{tab_or_space, trimmed}
@@ -13,7 +13,7 @@ pieces_at Outside rest = pieces rest
 pieces_at Quoted rest = in_quoted_string rest
 pieces_at Escaped rest = behind_backslash rest
 
--- the same behind a byte, which ends a piece or leads to a place
+-- the same after a byte, which ends a piece or leads to a place
 abbrev pub pieces_behind : ℕ → Option Place → List ℕ → List (List ℕ)
 pieces_behind byte None rest = [] ∷ pieces rest
 pieces_behind byte (Some place) rest = with_front byte (pieces_at place rest)

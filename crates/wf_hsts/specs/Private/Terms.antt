@@ -36,12 +36,12 @@ IsLeaving (Some name) host hosts =
 abbrev pub holds_alive : List KnownHost → List ℕ → ℕ → Bool
 holds_alive hosts host now = list_any (λ known. bytes_eq known.host host && nat_lt now known.until) hosts
 
--- the same, with subdomains
+-- the list has this host with subdomains, and its term has not ended
 abbrev pub covers : List KnownHost → List ℕ → ℕ → Bool
 covers hosts host now =
     list_any (λ known. bytes_eq known.host host && (known.subdomains && nat_lt now known.until)) hosts
 
--- the text is a dot and such a host
+-- the text is a dot and a host with subdomains whose term has not ended
 abbrev pub begins_under : List KnownHost → List ℕ → ℕ → Bool
 begins_under hosts [] now = false
 begins_under hosts (byte ∷ text) now = byte == dot && covers hosts text now

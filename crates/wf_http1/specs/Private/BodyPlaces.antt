@@ -10,7 +10,7 @@ use Rattle.wf_http1.specs.declared.taking.Found.TheVariants as found
 use Rattle.wf_http1.specs.Bodies.{body_end, ended}
 use Rattle.wf_http1.specs.Private.Places.{decoded_at, IsLive}
 
--- what the bytes that follow come to, behind the bytes that are held and at a place
+-- how the body ends where bytes are held, the reader is at a place, and these bytes follow
 abbrev pub rest_end : Framing → ℕ → List ℕ → Place → List ℕ → BodyEnd
 rest_end framing.Chunked limit held place more =
     ended limit (decoded_at place more).complete (held ++ (decoded_at place more).data_is)
@@ -40,8 +40,8 @@ IsWaiting framing.ToEnd held place = Unit {0}
 IsWaiting (framing.Length total) held place = length held < total
 IsWaiting framing.Chunked held place = IsLive place
 
--- A reader of a body with this framing and limit, after these bytes, holds bytes with room for all that it
--- may hold and stands at a place.
+-- A reader of a body with this framing and limit, after all bytes so far: it holds decoded bytes, has room for all
+-- that it may hold, and is at a place.
 pub record IsReading (how : Framing) (limit : ℕ) (bytes held : List ℕ) (room : ℕ) (place : Place) : Type 0 where
   pub meaning : (more : List ℕ) → body_end how limit (bytes ++ more) ≡ rest_end how limit held place more
   pub within : length held ≤ limit
@@ -57,7 +57,7 @@ pub record IsOn (how : Framing) (limit : ℕ) (after : List ℕ → BodyEnd) (he
   pub reserved : most_held how limit ≤ room
   pub waiting : IsWaiting how held place
 
--- The body is decided behind a piece, and these bytes are held.
+-- The body is decided after a piece, and these bytes are held.
 pub record IsAtEnd (limit : ℕ) (after : List ℕ → BodyEnd) (held : List ℕ) (end : BodyEnd) : Type 0 where
   pub meaning : (more : List ℕ) → after more ≡ end
   pub within : length held ≤ limit

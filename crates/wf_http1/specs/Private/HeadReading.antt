@@ -12,7 +12,7 @@ use Rattle.wf_http1.specs.declared.block.Judged.{Judged}
 use Rattle.wf_http1.specs.declared.block.Judged.TheVariants as judged
 use Rattle.wf_http1.specs.declared.head.HeadReader.TheInside.{Inside}
 
--- skipped heads are gone, and the block that stands behind them is not at its end
+-- the reader has dropped the skipped heads, and the block after them is not at its end
 pub record IsReading (reader : Inside) : Type 0 where
   pub skips : Skips reader.past.bytes []
   pub undecided : (n : ℕ) → is_block (take n reader.block) ≡ false

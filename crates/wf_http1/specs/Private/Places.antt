@@ -1,5 +1,5 @@
 -- What the places of a reader of a chunked body mean: what the bytes that follow come to there (RFC
--- 9112, section 7.1). The coding itself stands in `Chunks`.
+-- 9112, section 7.1). The coding itself is defined in `Chunks`.
 use Rattle.std.specs.Prelude.{ℕ, ◌+◌, ◌-◌, ◌*◌, ◌^◌, ◌≤◌, ◌<◌, true, ◌||◌, ◌==◌, nat_le, List, [], ◌∷◌, if◌then◌else◌}
 use Rattle.std.specs.Char.{digit_value, is_ascii_hexdigit}
 use Rattle.wf_text.specs.Ascii.{carriage_return, line_feed, semicolon, space, tab}
@@ -43,7 +43,7 @@ in_extension size line byte =
     else if nat_le 4094 line then Broken
     else To (Extension size (line + 1))
 
--- what follows the line of a chunk: its data, or the trailers behind the last chunk
+-- what follows the line of a chunk: its data, or after the last chunk the trailers
 abbrev pub behind_line : ℕ → Place
 behind_line size = if size == 0 then Trailers 0 else Data size
 
@@ -74,7 +74,7 @@ abbrev pub data_left : Place → ℕ
 data_left (Data left) = left
 data_left _ = 0
 
--- what is decoded behind a turn
+-- what is decoded after a turn
 abbrev pub behind_turn : (Place → Decoded) → Turn → Decoded
 behind_turn next (To place) = next place
 behind_turn next Ended = record { data_is = []; complete = true }

@@ -3,7 +3,7 @@ use Rattle.std.specs.Prelude.{ℕ, ◌+◌, List, [], ◌∷◌, take, drop}
 use Rattle.wf_link.specs.declared.kept_asks.AskSize.{AskSize}
 use Rattle.wf_link.specs.declared.target.Ask.{Ask}
 
--- the asks of these sizes, whose bytes stand one after another
+-- the asks of these sizes, whose bytes follow one another in a text
 abbrev pub asks_in : List AskSize → List ℕ → List Ask
 asks_in [] text = []
 asks_in (size ∷ sizes) text =

@@ -44,7 +44,7 @@ drawn v = v.draws + total (λ e. e.draws) v.ended
 abbrev pub passes_of : View → ℕ
 passes_of v = one v.live + length v.ended
 
--- whether it waits, as a number
+-- whether the pass waits, as a number
 abbrev pub waiting : View → ℕ
 waiting v = one v.waits
 

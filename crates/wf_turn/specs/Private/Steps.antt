@@ -22,7 +22,7 @@ Sat = Me (Option Desk) View
 abbrev pub Tells : Type 1
 Tells = Step (Option Desk) → Sat → ℕ → Sat → Type 0
 
--- with a ticket more, for which it waits
+-- what the pass knows with one ticket more, for which it waits
 abbrev pub drew : View → ℕ → View
 drew v n = record v { waits = true; ticket = n; draws = v.draws + 1 }
 
@@ -38,7 +38,7 @@ pub record Served (m : Sat) (h : List Entry) (w : Sat) : Type 0 where
   pub own : entries_of m.0.document h ≡ m.0.own
   pub is : w ≡ (record m.0 { served = true; seen = h }, (0, Some (desk (book_after m.0.opening h) h)) ∷ m.1)
 
--- where the ticket is its own the turn has come
+-- where the ticket that is served is the pass's own, its turn has come
 abbrev pub Looks : Tells
 Looks st m n w = (n ≡ m.0.ticket → Served m w.0.seen w) × (n ≢ m.0.ticket → w ≡ m)
 

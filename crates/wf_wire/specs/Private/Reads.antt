@@ -13,8 +13,8 @@ use Rattle.wf_wire.specs.declared.exchange.Found.TheVariants as found
 use Rattle.wf_wire.specs.Exchanges.{HasBody, HasHead, HasNoHead, LeavesBody, LeavesHead}
 use Rattle.wf_wire.specs.Wires.{onto_left}
 
--- what was to come has a final head, which ends so many bytes into the window; or none, or too long a one; or the
--- link failed behind bytes that leave the head open
+-- what was found of the head in the bytes to come: a final head that ends so many bytes into the window, no head, too
+-- long a one, or that the link failed after bytes that leave the head open
 abbrev pub Finds : Option (List ℕ) → Found → List ℕ → Option (List ℕ) → Type 0
 Finds coming (found.Head head count) window left =
     (count ≤ length window) × HasHead coming head (onto_left (drop count window) left)
@@ -38,7 +38,7 @@ abbrev pub HasAtMost : BodyEnd → ℕ → Type 0
 HasAtMost (body.Whole bytes) most = length bytes ≤ most
 HasAtMost _ most = Unit {0}
 
--- what was to come has a body with this end, or the link failed behind bytes that leave it open
+-- what was found of the body in the bytes to come: its end, or that the link failed after bytes that leave it open
 abbrev pub Reads : Framing → ℕ → Option (List ℕ) → Ended → Option (List ℕ) → Type 0
 Reads how limit coming (ended.Body end) left = HasBody how limit coming end
 Reads how limit coming (ended.Fault n) left = LeavesBody how limit coming left n

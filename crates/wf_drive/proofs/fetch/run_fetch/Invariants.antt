@@ -9,7 +9,7 @@ use Rattle.wf_drive.specs.Worlds.{world_of}
 use Rattle.wf_drive.proofs.FetchLemmas.{IsFetching}
 use Rattle.wf_drive.proofs.fetch.run_fetch.Given as goal
 
--- the fetch stands at this step, and has shown what was added to the events; the pass is the document's still
+-- the fetch is at this step, and has shown what was added to the events; the pass is the document's still
 abbrev pub invariant-loop-step : goal.invariant-loop-step
 invariant-loop-step g l =
     let context = context_of l.lent.client.now l.lent.policies.now l.lent.cookies.now l.fn.now in

@@ -8,5 +8,6 @@ use Rattle.wf_filter.proofs.responses.keep_safelisted.Goals as goal
 pub returns : goal.returns
 returns c =
     let headers : List Header = c.args.headers.now in
-    c.retain.ensures ∙ (ap (λ (exposure : Exposure). filter (is_safelisted_in exposure) headers) c.in_ok-exposure.ensures
+    c.retain.ensures
+    ∙ (ap (λ (exposure : Exposure). filter (is_safelisted_in exposure) headers) c.in_ok-exposure.ensures
     ∙ safelisted-headers c.args.request.now headers)

@@ -5,7 +5,7 @@ use Rattle.wf_headers.specs.declared.headers.Header.{Header}
 use Rattle.wf_http1.specs.Requests.{header_line, request_line}
 use Rattle.wf_http1.proofs.request.write_request.Goals as goal
 
--- four parts, each behind the one before
+-- four parts, each added after the one before
 in-four : (a b c d s t u w : List ℕ) → s ≡ [] ++ a → t ≡ s ++ b → u ≡ t ++ c → w ≡ u ++ d → w ≡ a ++ (b ++ (c ++ d))
 in-four a b c d s t u w one two three four =
     four ∙ ap (λ (l : List ℕ). l ++ d) (three ∙ ap (λ (l : List ℕ). l ++ c) (two ∙ ap (λ (l : List ℕ). l ++ b) one))

@@ -1,4 +1,4 @@
-use Rattle.std.proofs.Common.{ℕ, List, Bor, Option, ◌∙◌, ap, arith}
+use Rattle.std.proofs.Common.{ℕ, List, Bor, ◌∙◌, ap, arith}
 use Rattle.std.specs.Prelude.{option_map}
 use Rattle.wf_run.specs.Results.{lent_result, value_of}
 use Rattle.wf_run.proofs.FillingLemmas.{cut-grown, cut-whole}

@@ -1,4 +1,4 @@
-use Rattle.std.proofs.Common.{◌≡◌, ℕ, drop}
+use Rattle.std.proofs.Common.{◌≡◌, drop}
 use Rattle.wf_run.specs.Filling.{lacks_dollar}
 use Rattle.wf_run.proofs.filling.lacks_dollar.Given as goal
 

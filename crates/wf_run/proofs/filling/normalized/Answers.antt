@@ -1,4 +1,4 @@
-use Rattle.std.proofs.Common.{ℕ, List, length, arith, ap, sym, ◌∙◌}
+use Rattle.std.proofs.Common.{length, arith, ap, sym, ◌∙◌}
 use Rattle.wf_text.specs.Trims.{http_whitespace, trimmed}
 use Rattle.wf_run.proofs.TrimLemmas.{trimmed-same}
 use Rattle.wf_run.proofs.filling.normalized.Goals as goal

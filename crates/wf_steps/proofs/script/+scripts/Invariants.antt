@@ -6,7 +6,7 @@ use Rattle.wf_steps.specs.Scripts.{command_in}
 use Rattle.wf_steps.proofs.StepLemmas.{listed}
 use Rattle.wf_steps.proofs.script.+scripts.Given as goal
 
--- the commands so far stand before those that are left
+-- the commands so far come before those that are left
 abbrev pub invariant-commands-loop-i : goal.invariant-commands-loop-i
 invariant-commands-loop-i l =
     each_from (command_in l.repeats l.ifs) 0 (items_view l.items)

@@ -4,4 +4,11 @@ use Rattle.wf_commands.proofs.CommandLemmas.{count-steps_of}
 use Rattle.wf_commands.proofs.command.Script.len.Goals as goal
 
 pub returns : goal.returns
-returns c = omega (arith, c.len.ensures, count-steps_of c.self.inside.commands.items, c.self.inside.commands.ok.0, ap count c.self.view_is)
+returns c =
+    omega (
+      arith,
+      c.len.ensures,
+      count-steps_of c.self.inside.commands.items,
+      c.self.inside.commands.ok.0,
+      ap count c.self.view_is,
+    )

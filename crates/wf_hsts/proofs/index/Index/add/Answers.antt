@@ -33,8 +33,8 @@ invariant_of-self-in-Err c =
       same = subst (λ es. Agree bytes_of es c.remove.new.self.keys) (sym c.in-Err.ensures.err)
           (agree-undone bytes_of c.args.host.items c.in-Err.refused.value.0 c.in_ok-from_slice.field-0 c.args.term
           c.self.inside.terms.entries c.self.inside.ends.keys c.insert.new.self.keys c.remove.new.self.keys named
-          (c.in_ok-from_slice.ensures.items ∙ c.as_slice.ensures.value) absent c.self.invariant.same c.in_ok-insert.ensures.updates.0
-          c.remove.ensures.updates.0);
+          (c.in_ok-from_slice.ensures.items ∙ c.as_slice.ensures.value) absent c.self.invariant.same
+          c.in_ok-insert.ensures.updates.0 c.remove.ensures.updates.0);
     }
 
 pub returns-in-Ok-clause-ok : goal.returns-in-Ok-clause-ok

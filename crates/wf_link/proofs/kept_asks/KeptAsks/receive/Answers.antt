@@ -1,8 +1,7 @@
-use Rattle.std.proofs.Common.{◌≡◌, ◌∙◌, ◌∷◌, [], ◌++◌, ℕ, List, arith, refl, ap, sym}
+use Rattle.std.proofs.Common.{◌≡◌, ◌∙◌, List, arith, refl, ap, sym}
 use Rattle.std.specs.Prelude.{map}
 use Rattle.wf_link.specs.Counts.{counted_on}
 use Rattle.wf_link.specs.Links.{with_bytes}
-use Rattle.wf_link.specs.MemoryLink.{KeptState}
 use Rattle.wf_link.specs.Private.KeptAsks.{asks_in, bytes_of}
 use Rattle.wf_link.specs.declared.kept_asks.AskSize.{AskSize}
 use Rattle.wf_link.proofs.ReceivedLemmas.{asks_in-last, bytes_of-last, received-last}

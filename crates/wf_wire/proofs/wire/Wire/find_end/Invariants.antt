@@ -4,7 +4,7 @@ use Rattle.wf_wire.specs.Wires.{window_of}
 use Rattle.wf_wire.proofs.WireLemmas.{Counts, Receives}
 use Rattle.wf_wire.proofs.wire.Wire.find_end.Given as goal
 
--- what was received was read or stands in the window
+-- what was received was read or is in the window
 abbrev pub invariant-loop-end : goal.invariant-loop-end
 invariant-loop-end g l = record {
   received : Receives (window_of l.fn.self) (g.L.Link.left l.fn.link) l.reader.bytes (window_of l.self)

@@ -5,7 +5,7 @@ use Rattle.wf_wire.specs.Wires.{window_of}
 use Rattle.wf_wire.proofs.WireLemmas.{Counts, Receives}
 use Rattle.wf_wire.proofs.wire.Wire.find_head.Given as goal
 
--- what was received was read or stands in the window, and the link has given a few bytes
+-- what was received was read or is in the window, and the link has given 65,537 bytes at most
 abbrev pub invariant-loop-head : goal.invariant-loop-head
 invariant-loop-head g l = record {
   received : Receives (window_of l.fn.self) (g.L.Link.left l.fn.link) l.reader (window_of l.self)
@@ -18,6 +18,6 @@ invariant-loop-head g l = record {
   later : g.L.Link.faults l.fn.link ≤ g.L.Link.faults l.link;
 }
 
--- each receive takes a byte, and bytes that leave a head open are a few
+-- each receive takes a byte, and bytes that leave a head open are 65,536 at most
 abbrev pub decreases-loop-head : goal.decreases-loop-head
 decreases-loop-head g l = (most_bytes + 1) - (length l.reader + length (window_of l.self))

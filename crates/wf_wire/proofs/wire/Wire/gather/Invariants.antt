@@ -4,7 +4,7 @@ use Rattle.wf_link.specs.Sources.{Gave}
 use Rattle.wf_wire.specs.Wires.{window_of}
 use Rattle.wf_wire.proofs.wire.Wire.gather.Given as goal
 
--- what was received stands in the window, at the front of the buffer, and there is room
+-- what was received is in the window, at the front of the buffer, and there is room
 abbrev pub invariant-loop-count : goal.invariant-loop-count
 invariant-loop-count g l = record {
   gave : Gave (g.L.Link.left l.fn.link) (g.L.Link.left l.link) (window_of l.self);
