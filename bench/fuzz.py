@@ -315,7 +315,7 @@ def is_tree(text):
 
 
 def nesting(text):
-    """How deep brackets stand inside each other in a JSON text."""
+    """How deep brackets are inside each other in a JSON text."""
     depth = most = 0
     for bracket in re.findall(r'"(?:[^"\\]|\\.)*"|[\[\]{}]', text):
         if bracket in '[{':
@@ -345,7 +345,7 @@ def on_alarm(_signal, _frame):
 def play(program, text):
     """Status (128 more than a signal that ended it), output, complaints, seconds, kilobytes at the peak.
 
-    GNU time stands in between, since the peak that the system tells of a process begins with that of its starter.
+    GNU time is in between, since the peak that the system tells of a process begins with that of its starter.
     """
     files = [os.memfd_create('fuzz') for _ in range(4)]
     try:

@@ -59,7 +59,7 @@ def is_shared(stored):
     assert int(count) == sum(map(len, calls.values()))
 
     def taken(output):
-        """How many entries of a legal history the output has behind its documents, and whether it has no more."""
+        """How many entries of a legal history the output has after its documents, and whether it has no more."""
         front = documents + b'history\n'
         if not output.startswith(front):
             return None

@@ -1,9 +1,9 @@
 #!/usr/bin/env python3
 """Writes the rows of crates/worked_books that are made by a rule, and what a plain list of entries and a
 plain list of hosts come to on all rows: its `stdin` and `stdout`. `bench/worked_books.py` compares what
-stands there with what this script would write; with `--write` it writes them.
+is there with what this script would write; with `--write` it writes them.
 
-The rows by hand stand in ROWS, each with its answer."""
+The rows by hand are in ROWS, each with its answer."""
 import os
 import sys
 
@@ -243,7 +243,7 @@ def played():
 
 
 def calls():
-    """The lines of the stored `stdout` on the calls of a book, which the program makes behind its input."""
+    """The lines of the stored `stdout` on the calls of a book, which the program makes after its input."""
     with open(os.path.join(CRATE, "stdout")) as file:
         stored = file.read().splitlines()
     return stored[stored.index("# one book"):]
