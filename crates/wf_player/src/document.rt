@@ -49,7 +49,7 @@ fn run_whole<R: Threads + Wait + Sync, S: Share, L: Link>(
     requires client { IsClient lent.now.client.now }
     requires valid { AreValid script.now }
     requires belongs { S.belongs lent.now.share.now pass.old }
-    requires left { 129024 ≤ S.left pass.old }
+    requires left { most_calls ≤ S.left pass.old }
     requires base { running.old ≡ beginning running.old.clock }
     ensures ran { IfOk result (λ made. Ran (over_link L.answer L.next) lent.now.limit (S.document pass.old)
         (script_run (setting lent.now.client.now lent.now.policies.now lent.now.cookies.now) script.now finished
@@ -61,7 +61,7 @@ fn run_whole<R: Threads + Wait + Sync, S: Share, L: Link>(
         running.old)
         (outside S.own S.left L.state L.received L.faults pass.old link.old) running.new.shown
         (outside S.own S.left L.state L.received L.faults pass.new link.new)) }
-    ensures few { S.left pass.old ≤ S.left pass.new + 129024 }
+    ensures few { S.left pass.old ≤ S.left pass.new + most_calls }
     ensures hung_up { OnOk result (IsAtEnd (L.left link.new)) }
     ensures has_text { IfOk result (λ made. made.0 ≢ Memory) }
     ensures key { IfOk result (λ made. made.1 ≡ lent.now.client.now.key) }
