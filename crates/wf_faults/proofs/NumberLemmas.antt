@@ -2,6 +2,7 @@
 use Rattle.std.proofs.Common.{◌≡◌, ℕ, ◌+◌, ◌≤◌, Bool, true, false, Option, Some, None, refl, ap, arith}
 use Rattle.std.proofs.Common.{List, [], ◌∷◌, ◌++◌, IsTrue}
 use Rattle.std.specs.Option.{option_or}
+use Rattle.std.proofs.lemmas.List.Sums.{sum_by-cons}
 use Rattle.wf_types.specs.declared.request.Request.{Request}
 use Rattle.wf_types.specs.declared.response.BodyEnd.TheVariants as body
 use Rattle.wf_types.specs.declared.response.Outcome.{Outcome}
@@ -86,11 +87,16 @@ emit-shows (Some failure) (Some came) told hidden later faults is le = omega (ar
 -- the events of an act show no outcome
 act-silent : (is : Outcome → Bool) (first : Act) (input : Input) (events : List Event)
     → outcomes_that is (events_of first input ++ events) ≡ outcomes_that is events
-act-silent is (Ask op) input events = omega arith
-act-silent is (Send hop) input events = omega arith
+act-silent is (Ask op) input events = refl
+act-silent is (Send hop) input events = refl
 act-silent is ReadHead input events = refl
 act-silent is ReadBody input events = refl
-act-silent is (Tell violation) input events = omega arith
+act-silent is (Tell violation) input events = refl
+
+-- an event more
+event-more : (is : Outcome → Bool) (shown : Event) (events : List Event)
+    → outcomes_that is (shown ∷ events) ≡ one_if is (outcome_of shown) + outcomes_that is events
+event-more is shown events = sum_by-cons (λ (s : Event). one_if is (outcome_of s)) shown events
 
 -- ---- runs
 
@@ -110,8 +116,10 @@ tells : (failure : Option Failure) (play : Play) → ShowsFailures failure play 
     → outcomes_that tells_fault (run_play play tape).events ≤ faults_of play tape + owed failure
 tells failure (over ending clock) shows tape = omega arith
 tells failure (emit shown rest) shows tape =
-    emit-tells failure (outcome_of shown) (outcomes_that tells_fault (run_play rest tape).events) (faults_of rest tape)
-    shows.0 (tells (left_after (outcome_of shown) failure) rest shows.1 tape)
+    let events = (run_play rest tape).events in
+    rw (event-more tells_fault shown events)
+    (emit-tells failure (outcome_of shown) (outcomes_that tells_fault events) (faults_of rest tape)
+    shows.0 (tells (left_after (outcome_of shown) failure) rest shows.1 tape))
 tells failure (step request first after) shows [] = omega arith
 tells failure (step request first after) shows (input ∷ tape) =
     step-tells failure request first after input tape (fits first input) refl (λ fit. (shows input fit).0)
@@ -140,9 +148,10 @@ shows : (failure : Option Failure) (play : Play) → ShowsFailures failure play 
 shows failure (over ending clock) is tape = omega (arith, ap owed is)
 shows failure (emit shown rest) is tape =
     let ran = run_play rest tape in
-    emit-shows failure (outcome_of shown) (outcomes_that tells_fault ran.events)
+    rw (event-more tells_fault shown ran.events, event-more may_hide_fault shown ran.events)
+    (emit-shows failure (outcome_of shown) (outcomes_that tells_fault ran.events)
     (outcomes_that may_hide_fault ran.events) (unshown ran.ending) (faults_of rest tape) is.0
-    (shows (left_after (outcome_of shown) failure) rest is.1 tape)
+    (shows (left_after (outcome_of shown) failure) rest is.1 tape))
 shows failure (step request first after) is [] = omega (arith, owed-at-most failure)
 shows failure (step request first after) is (input ∷ tape) =
     step-shows failure request first after input tape (fits first input) refl (λ fit. (is input fit).0)

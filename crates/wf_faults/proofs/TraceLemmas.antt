@@ -1,7 +1,8 @@
 -- The count of a link rises with each fault of a run.
 use Rattle.std.proofs.Common.{◌≡◌, ℕ, ◌+◌, ◌-◌, ◌^◌, ◌≤◌, Bool, true, false, refl, ap, sym, subst, ◌∙◌, arith}
-use Rattle.std.proofs.Common.{List, [], ◌∷◌, ◌++◌}
+use Rattle.std.proofs.Common.{List, [], ◌++◌}
 use Rattle.std.specs.Prelude.{min}
+use Rattle.std.proofs.lemmas.List.Sums.{sum_by-append}
 use Rattle.wf_act.specs.declared.act.Act.{Act}
 use Rattle.wf_act.specs.declared.act.Act.TheVariants.{Ask, Send, ReadHead, ReadBody, Tell}
 use Rattle.wf_act.specs.declared.act.Input.{Input}
@@ -18,10 +19,10 @@ use Rattle.wf_run.specs.Runs.{document_run}
 use Rattle.wf_run.specs.Traces.{PlayTrace, shown, stepped, stop}
 use Rattle.wf_drive.specs.Worlds.{Answers, Outside, Settles, World}
 use Rattle.wf_player.specs.Playing.{Began, Came, Ran}
-use Rattle.wf_types.specs.declared.response.Outcome.{Outcome}
 use Rattle.wf_faults.specs.Failures.{tells_fault}
 use Rattle.wf_faults.specs.Laws.{AreShown, FaultsCounted, FaultsCountedShort, RanShown, ToldCounted}
-use Rattle.wf_faults.specs.Numbers.{faults_of, one_where, outcomes_that}
+use Rattle.wf_faults.specs.Numbers.{faults_of, one_if, one_where, outcomes_that}
+use Rattle.wf_faults.specs.Places.{outcome_of}
 use Rattle.wf_faults.proofs.NumberLemmas.{faults-shown}
 
 -- ---- counts
@@ -108,11 +109,6 @@ ran-shown State by limit number cookies base document old events ending clock ne
     subst (AreShown (faults_of (document_run cookies base document) ran.tape)) ran.runs
     (faults-shown cookies base document ran.tape)
 
-told-append : (is : Outcome → Bool) (one two : List Event)
-    → outcomes_that is (one ++ two) ≡ outcomes_that is one + outcomes_that is two
-told-append is [] two = omega arith
-told-append is (first ∷ one) two = omega (arith, told-append is one two)
-
 module _ {State : Type 0} (by : Answering State) (limit number : ℕ) (cookies : List Cookie) (base : ℕ)
     (document : Document) (old : Outside State) (events : List Event) (new : Outside State) where
   abbrev whole : Play
@@ -137,7 +133,7 @@ module _ {State : Type 0} (by : Answering State) (limit number : ℕ) (cookies :
         arith,
         shown,
         ap (outcomes_that tells_fault) began.runs,
-        told-append tells_fault events rest,
+        sum_by-append (λ (s : Event). one_if tells_fault (outcome_of s)) events rest,
       ))
       (faults-counted_short State by limit number whole old events new began)
 

@@ -1,5 +1,6 @@
 -- How often the link fails in a document's run, and how many of its outcomes tell so (this project's own definition).
 use Rattle.std.specs.Prelude.{ℕ, ◌+◌, Bool, List, [], ◌∷◌, Option, Some, None, if◌then◌else◌}
+use Rattle.std.specs.List.{sum_by}
 use Rattle.wf_types.specs.declared.response.Outcome.{Outcome}
 use Rattle.wf_act.specs.declared.act.Input.{Input}
 use Rattle.wf_act.specs.Process.{fits}
@@ -28,8 +29,7 @@ one_if is (Some came) = one_where (is came)
 
 -- how many of the outcomes that events show pass the test
 abbrev pub outcomes_that : (Outcome → Bool) → List Event → ℕ
-outcomes_that is [] = 0
-outcomes_that is (shown ∷ events) = one_if is (outcome_of shown) + outcomes_that is events
+outcomes_that is events = sum_by (λ shown. one_if is (outcome_of shown)) events
 
 -- how many failures may have come that no outcome shows yet: one, unless the run is over
 abbrev pub unshown : Option (Ending × ℕ) → ℕ
