@@ -18,6 +18,7 @@ use Rattle.wf_fetch.specs.declared.place.Step.TheVariants.{Going, Over}
 use Rattle.wf_fetch.specs.Machine.{Does, rest}
 use Rattle.wf_fetch.specs.Then.{Context}
 use Rattle.wf_http1.specs.declared.framing.Framing.TheVariants as framing
+use Rattle.wf_laws.specs.Laws.{most_asks}
 use Rattle.wf_laws.specs.Own.{IsOwnAct}
 use Rattle.wf_laws.specs.Prices.{fetch_price, level_price, levels}
 use Rattle.wf_print.specs.declared.events.Event.{Event}
@@ -179,8 +180,8 @@ module _ {State : Type 0} (by : Answering State) (limit document : ℕ) where
       fetching-can = can first is.does.plain asks-here.0 asks-here.1.left asks-here.1.enough
 
       -- where it takes no more calls than it asks for, those are left that are none of the fetch's
-      pub fetching-spent : (left : ℕ) → old.world.left ≤ slack + 126 → now.world.left ≤ left + price_of asks first
-          → old.world.left ≤ left + 126
+      pub fetching-spent : (left : ℕ) → old.world.left ≤ slack + most_asks → now.world.left ≤ left + price_of asks first
+          → old.world.left ≤ left + most_asks
       unfolding asks-here
       fetching-spent left few spent = omega (arith, few, spent, is.enough, asks-here.1.enough)
 
@@ -287,7 +288,7 @@ module _ {State : Type 0} (by : Answering State) (limit document : ℕ) where
 
     -- with calls left that are none of the fetch's
     pub fetching-kept : (count : ℕ) (now : Moment State) (at : Step) → IsFetching count now at
-        → old.world.left ≤ slack + 126 → old.world.left ≤ now.world.left + 126
+        → old.world.left ≤ slack + most_asks → old.world.left ≤ now.world.left + most_asks
     fetching-kept count now at is few = omega (arith, few, is.enough)
 
 -- a fetch by itself that came to its outcome

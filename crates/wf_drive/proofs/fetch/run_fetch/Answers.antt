@@ -4,6 +4,7 @@ use Rattle.wf_act.proofs.WithinLemmas.{within-more}
 use Rattle.wf_fetch.specs.Fetch.{fetch}
 use Rattle.wf_fetch.specs.Then.{context_of}
 use Rattle.wf_fetch.specs.declared.place.Step.{Step}
+use Rattle.wf_laws.specs.Laws.{most_asks}
 use Rattle.wf_laws.specs.Own.{IsOwnAct}
 use Rattle.wf_laws.specs.Prices.{fetch_price}
 use Rattle.wf_laws.proofs.OwnLemmas.{asks-at-most, fetch-within}
@@ -23,7 +24,7 @@ returns-in_err-step-clause-cut g c =
     (g.S.Share.document c.args.pass.now) context (fetch context c.args.request)
     (moment_of (world_of g.S.Share.own g.S.Share.left g.L.Link.state g.L.Link.left g.L.Link.received g.L.Link.faults c.args.pass.now
     c.args.link.now c.args.wire.now) c.args.shown.now)
-    (fetch_price acts context c.args.request) (g.S.Share.left c.args.pass.now - 126) c.from_residual.result
+    (fetch_price acts context c.args.request) (g.S.Share.left c.args.pass.now - most_asks) c.from_residual.result
 
 pub loop-step-init : goal.loop-step-init
 loop-step-init g c =
@@ -34,10 +35,10 @@ loop-step-init g c =
           (g.S.Share.document c.args.pass.now) context (fetch context c.args.request)
           (moment_of (world_of g.S.Share.own g.S.Share.left g.L.Link.state g.L.Link.left g.L.Link.received g.L.Link.faults
           c.args.pass.now c.args.link.now c.args.wire.now) c.args.shown.now)
-          (fetch_price acts context c.args.request) (g.S.Share.left c.args.pass.now - 126) 126 c.in_ok-step.step
-          c.in_ok-step.ensures.process (fetch-within acts context c.args.request c.requires.timely)
-          (within-more (price_of asks) Anything (IsOwnAct context) (fetch_price asks context c.args.request) 126
-          (fetch context c.args.request) (fetch-within asks context c.args.request c.requires.timely)
+          (fetch_price acts context c.args.request) (g.S.Share.left c.args.pass.now - most_asks) most_asks
+          c.in_ok-step.step c.in_ok-step.ensures.process (fetch-within acts context c.args.request c.requires.timely)
+          (within-more (price_of asks) Anything (IsOwnAct context) (fetch_price asks context c.args.request)
+          most_asks (fetch context c.args.request) (fetch-within asks context c.args.request c.requires.timely)
           (asks-at-most context c.args.request))
           (omega (arith, c.requires.left));
       belongs = c.requires.belongs;
@@ -58,7 +59,7 @@ overflow_add-acts g c =
     let now = moment_of (world_of g.S.Share.own g.S.Share.left g.L.Link.state g.L.Link.left g.L.Link.received g.L.Link.faults
     c.loop-step.pass c.loop-step.link c.loop-step.wire) c.loop-step.shown in
     let most = fetch_price acts context c.args.request in
-    let slack = g.S.Share.left c.args.pass.now - 126 in
+    let slack = g.S.Share.left c.args.pass.now - most_asks in
     let here = subst (λ (s : Step). IsFetching by limit document context whole old most slack c.loop-step.acts now s)
     c.in-Going.is c.loop-step.invariant.fetching in
     let room = fetching-room by limit document context whole old most slack c.loop-step.acts now c.in-Going.fetching
@@ -78,7 +79,7 @@ returns-in_err-step-in-Going-clause-cut g c =
     let now = moment_of (world_of g.S.Share.own g.S.Share.left g.L.Link.state g.L.Link.left g.L.Link.received g.L.Link.faults
     c.loop-step.pass c.loop-step.link c.loop-step.wire) c.loop-step.shown in
     let most = fetch_price acts context c.args.request in
-    let slack = g.S.Share.left c.args.pass.now - 126 in
+    let slack = g.S.Share.left c.args.pass.now - most_asks in
     let here = subst (λ (s : Step). IsFetching by limit document context whole old most slack c.loop-step.acts now s)
     c.in-Going.is c.loop-step.invariant.fetching in
     let mid = world_of g.S.Share.own g.S.Share.left g.L.Link.state g.L.Link.left g.L.Link.received g.L.Link.faults c.go_on.new.pass
@@ -103,7 +104,7 @@ loop-step-preserved g c =
     let now = moment_of (world_of g.S.Share.own g.S.Share.left g.L.Link.state g.L.Link.left g.L.Link.received g.L.Link.faults
     c.loop-step.pass c.loop-step.link c.loop-step.wire) c.loop-step.shown in
     let most = fetch_price acts context c.args.request in
-    let slack = g.S.Share.left c.args.pass.now - 126 in
+    let slack = g.S.Share.left c.args.pass.now - most_asks in
     let here = subst (λ (s : Step). IsFetching by limit document context whole old most slack c.loop-step.acts now s)
     c.in-Going.is c.loop-step.invariant.fetching in
     let mid = world_of g.S.Share.own g.S.Share.left g.L.Link.state g.L.Link.left g.L.Link.received g.L.Link.faults c.go_on.new.pass
@@ -133,7 +134,7 @@ returns-in-Over-clause-fetched g c =
     let now = moment_of (world_of g.S.Share.own g.S.Share.left g.L.Link.state g.L.Link.left g.L.Link.received g.L.Link.faults
     c.loop-step.pass c.loop-step.link c.loop-step.wire) c.loop-step.shown in
     let most = fetch_price acts context c.args.request in
-    let slack = g.S.Share.left c.args.pass.now - 126 in
+    let slack = g.S.Share.left c.args.pass.now - most_asks in
     fetching-over by limit document context whole old most slack c.loop-step.acts now c.in-Over.outcome
     (subst (λ (s : Step). IsFetching by limit document context whole old most slack c.loop-step.acts now s)
     c.in-Over.is c.loop-step.invariant.fetching)
@@ -151,7 +152,7 @@ returns-in_err-step-in-Going-clause-few g c =
     let now = moment_of (world_of g.S.Share.own g.S.Share.left g.L.Link.state g.L.Link.left g.L.Link.received g.L.Link.faults
     c.loop-step.pass c.loop-step.link c.loop-step.wire) c.loop-step.shown in
     let most = fetch_price acts context c.args.request in
-    let slack = g.S.Share.left c.args.pass.now - 126 in
+    let slack = g.S.Share.left c.args.pass.now - most_asks in
     let here = subst (λ (s : Step). IsFetching by limit document context whole old most slack c.loop-step.acts now s)
     c.in-Going.is c.loop-step.invariant.fetching in
     fetching-spent by limit document context whole old most slack c.loop-step.acts now c.in-Going.fetching
@@ -170,6 +171,6 @@ returns-in-Over-clause-few g c =
     let now = moment_of (world_of g.S.Share.own g.S.Share.left g.L.Link.state g.L.Link.left g.L.Link.received g.L.Link.faults
     c.loop-step.pass c.loop-step.link c.loop-step.wire) c.loop-step.shown in
     let most = fetch_price acts context c.args.request in
-    let slack = g.S.Share.left c.args.pass.now - 126 in
+    let slack = g.S.Share.left c.args.pass.now - most_asks in
     fetching-kept by limit document context whole old most slack c.loop-step.acts now c.loop-step.step
     c.loop-step.invariant.fetching (omega arith)

@@ -2,6 +2,7 @@ use Rattle.std.proofs.Common.{◌≡◌, ◌-◌}
 use Rattle.wf_act.specs.Within.{acts}
 use Rattle.wf_fetch.specs.Fetch.{fetch}
 use Rattle.wf_fetch.specs.Then.{context_of}
+use Rattle.wf_laws.specs.Laws.{most_asks}
 use Rattle.wf_laws.specs.Prices.{fetch_price}
 use Rattle.wf_wire.specs.Wires.{over_link}
 use Rattle.wf_drive.specs.Driving.{moment_of}
@@ -18,7 +19,7 @@ invariant-loop-step g l =
           (fetch context l.fn.request)
           (moment_of (world_of g.S.Share.own g.S.Share.left g.L.Link.state g.L.Link.left g.L.Link.received g.L.Link.faults l.fn.pass
           l.fn.link l.fn.wire) l.fn.shown)
-          (fetch_price acts context l.fn.request) (g.S.Share.left l.fn.pass - 126) l.acts
+          (fetch_price acts context l.fn.request) (g.S.Share.left l.fn.pass - most_asks) l.acts
           (moment_of (world_of g.S.Share.own g.S.Share.left g.L.Link.state g.L.Link.left g.L.Link.received g.L.Link.faults l.pass l.link
           l.wire) l.shown) l.step;
       belongs : g.S.Share.belongs l.lent.share.now l.pass;
