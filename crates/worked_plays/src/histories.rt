@@ -133,7 +133,7 @@ fn are_of_key(history: &[Bytes]) -> bool {
     true
 }
 
-// Whether the calls are for the key, and as many as they should be.
+// Whether all calls of the preflight cache are for the key, and there are as many calls as there should be.
 fn are_joint(history: &[Bytes]) -> bool {
     let expected = if asked_before(history) == 2 { 12 } else { 11 };
     are_of_key(history) && count_of(history) == expected

@@ -88,7 +88,8 @@ pub(crate) fn tell(link: &MemoryLink, shown: &mut Shown) {
     shown.add(b"\n");
 }
 
-// Plays a row's document over its link, and tells of the link. What it shows is added to the transcripts.
+// Plays a row's document over its link, and tells of the link. The document's transcript is added to the
+// others.
 fn play_row<R: Threads + Wait + Sync, S: Share>(
     rt: &R,
     alloc: Global,

@@ -57,7 +57,11 @@ pub(crate) fn play<R: Threads + Wait + Sync + AllocGlobal>(
 ) -> Result<(), Failed> {
     let alloc = rt.alloc();
     let row = row.as_bytes();
-    let now = number(before_byte(row, b'\t'), u64::MAX)?;
+    let digits = before_byte(row, b'\t');
+    if digits.len() == row.len() {
+        return Err(Failed);
+    }
+    let now = number(digits, u64::MAX)?;
     let mut links = links_of(alloc, rows)?;
     play_over(
         rt,

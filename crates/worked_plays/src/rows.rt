@@ -24,6 +24,9 @@ const TAIL: usize = 4;
 /// How many bytes of them.
 const WIDTH: usize = 64;
 
+/// How often a part of a scenario is repeated at most.
+const MOST_TIMES: u64 = 16_777_216;
+
 /// The words of a row, or what they begin with up to `=`.
 const WORDS: [(&[u8], ()); 10] = [
     (b"words", ()),
@@ -54,6 +57,9 @@ fn check_words(words: &[u8]) -> Result<(), Failed> {
 fn repeated(alloc: Global, text: &[u8], times: u64) -> Result<Bytes, Failed> {
     let rest = after_byte(text, b'<');
     let part = before_byte(rest, b'>');
+    if before_byte(text, b'<').len() == text.len() || part.len() == rest.len() {
+        return Err(Failed);
+    }
     let mut whole = Shown::new(alloc);
     whole.add(before_byte(text, b'<'));
     for _ in 0..times {
@@ -67,12 +73,15 @@ fn repeated(alloc: Global, text: &[u8], times: u64) -> Result<Bytes, Failed> {
 fn scenario_of(alloc: Global, words: &[u8], written: &[u8]) -> Result<Bytes, Failed> {
     match value_of(words, b"times") {
         [] => Ok(Bytes::of(alloc, written)?),
-        digits => repeated(alloc, written, number(digits, u64::MAX)?),
+        digits => repeated(alloc, written, number(digits, MOST_TIMES)?),
     }
 }
 
 // A scenario whose answers come in pieces of this size.
 fn in_pieces(alloc: Global, scenario: &[u8], piece: &[u8]) -> Result<Bytes, Failed> {
+    if !scenario.starts_with(b"{") {
+        return Err(Failed);
+    }
     let mut text = Shown::new(alloc);
     text.add(b"{\"piece\":");
     text.add(piece);

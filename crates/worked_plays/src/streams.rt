@@ -21,7 +21,7 @@ pub(crate) struct Streams {
     complaints: Held<MemorySink>,
 }
 
-// The numbers of all words `NAME=N,N`, in order.
+// The numbers of the first word `NAME=N,N`, in order; none where there is no such word.
 pub(crate) fn numbers_of(alloc: Global, words: &[u8], name: &[u8]) -> Result<Vec<u64>, Failed> {
     let mut numbers = Vec::new(alloc);
     let mut rest = value_of(words, name);
@@ -35,7 +35,6 @@ pub(crate) fn numbers_of(alloc: Global, words: &[u8], name: &[u8]) -> Result<Vec
     Ok(numbers)
 }
 
-// Adds the numbers of a text, which has commas between them.
 // A sink of which some calls fail, and others take nothing.
 fn sink(alloc: Global, fails: Vec<u64>, zeros: Vec<u64>) -> Result<Held<MemorySink>, Failed> {
     Ok(Held {
@@ -122,7 +121,6 @@ impl Streams {
     }
 }
 
-// The words of the program, from a text that has commas between them.
 // The text that bytes are.
 pub(crate) fn text_of(bytes: &[u8]) -> Result<&str, Failed> {
     match str::from_utf8(bytes) {
