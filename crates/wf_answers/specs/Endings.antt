@@ -27,7 +27,7 @@ use Rattle.wf_answers.specs.Bodies.{has_null_body, is_coded}
 
 -- ---- what is handed over
 
--- what a response comes to: it is the answer to a `fetch`, and a load has succeeded
+-- what a response comes to: a `fetch` gets it as its answer, and of a load it is only told that it succeeded
 abbrev pub handed_over : Request → Response → Outcome
 handed_over request response = if is_fetch request.destination then Answer response else Loaded
 

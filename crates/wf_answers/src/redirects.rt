@@ -129,7 +129,7 @@ fn redirection_by(
 /// What comes of the head of an answer as a redirect (Fetch, section 4.5 "HTTP-redirect fetch", steps 3 to 10, and
 /// section 2.2.6 "location URL").
 /// It `Stays` where the status is no redirect status, the redirect mode is not follow, or there is no
-/// Location. It is refused, by the first of these that applies: `BadLocation` where Location stands
+/// Location. It is refused, by the first of these that applies: `BadLocation` where Location is there
 /// twice, is not UTF-8 or no URL against the current URL, or the text of that URL, with the fragment of
 /// the current URL where it has none, is longer than 8,192 bytes (this project's own choice);
 /// `RedirectScheme` where the URL is neither http nor https; `TooManyRedirects` at redirect count 20;

@@ -2,14 +2,15 @@ ghost use Rattle.std.specs.Prelude.{◌≡◌, IfOk, option_copied};
 ghost use Rattle.wf_types.specs.Requests.{IsRequest};
 ghost use Rattle.wf_cors.specs.Verdict as spec;
 
-use crate::check::cors_check;
 use std::alloc::Global;
 use wf_headers::{Extracted, HeaderList, Rule};
 use wf_text::{
     AUTHORIZATION, Bytes, BytesList, OutOfMemory, has_text, has_text_fold, has_wildcard,
     parse_digits,
 };
-use wf_types::{Credentials, Head, NetError, Request, is_ok_status, is_safelisted_method};
+use wf_types::{
+    Credentials, Head, NetError, Request, is_ok_status, is_safelisted_method, passes_cors_check,
+};
 
 /// The verdict on a preflight's answer.
 #[derive(Drop)]
@@ -209,7 +210,7 @@ fn verdict_of(
 /// `*` covers where it is listed and the credentials mode is not include. Where
 /// Access-Control-Allow-Methods is absent, no method is listed, or with the use-CORS-preflight flag the
 /// request's own. A pass tells the two lists, and for how many seconds they hold:
-/// Access-Control-Max-Age, at most 7,200, and 5 where it is absent, stands twice or is no number.
+/// Access-Control-Max-Age, at most 7,200, and 5 where it is absent, is there twice or is no number.
 pub fn verdict(
     alloc: Global,
     request: &Request,
@@ -220,7 +221,7 @@ pub fn verdict(
     requires { IsRequest request.now }
     ensures { IfOk result (λ checked. checked ≡ spec.verdict request.now origin.now names.now head.now) }
 {
-    if !cors_check(origin, request.credentials.is_include(), &head.headers) {
+    if !passes_cors_check(origin, request.credentials.is_include(), &head.headers) {
         return Ok(Checked::Refused(NetError::PreflightCors));
     }
     if !is_ok_status(head.status) {

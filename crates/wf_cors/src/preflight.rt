@@ -70,8 +70,8 @@ fn preflight_lines(
 
 /// The CORS-preflight request of a request with these CORS-unsafe request-header names, as it is sent
 /// to the request's current URL (Fetch, section 4.8, "CORS-preflight fetch", and section 4.6): OPTIONS
-/// without a body. Its header list is in `preflight_lines` of `specs/Preflight.antt`. No credentials
-/// are sent. Neither its method nor its target has a space.
+/// without a body. Its header list has the lines of `preflight_lines` (`specs/Preflight.antt`) that have a
+/// value. No credentials are sent. Neither its method nor its target has a space.
 pub fn preflight_of(alloc: Global, request: &Request, names: &BytesList) -> Result<Hop, OutOfMemory>
     requires request { IsRequest request.now }
     requires at_http { IsAtHttp request.now }

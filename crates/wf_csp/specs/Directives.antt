@@ -21,14 +21,14 @@ effective_directive destination.Manifest = directive.ManifestSrc
 effective_directive destination.Style = directive.StyleSrcElem
 effective_directive destination.Script = directive.ScriptSrcElem
 
--- the names of the directives that it is a part of
+-- the names of the directives that cover it and more, other than default-src
 abbrev pub broader_names : Directive → List (List ℕ)
 broader_names directive.StyleSrcElem = codes "style-src" ∷ []
 broader_names directive.ScriptSrcElem = codes "script-src" ∷ []
 broader_names _ = []
 
--- "get fetch directive fallback list": the names of the directives that decide in its place, the first that a policy
--- has. Its own name is the first, and default-src the last
+-- "get fetch directive fallback list": the first of these names that a policy has decides. A directive's own name is the
+-- first, and default-src the last
 abbrev pub fallback_list : Directive → List (List ℕ)
 fallback_list asked = directive_name asked ∷ broader_names asked ++ codes "default-src" ∷ []
 

@@ -21,8 +21,8 @@ use Rattle.wf_csp_match.specs.Paths.{path_part_matches}
 abbrev pub is_scheme : List ℕ → List ℕ → Bool
 is_scheme name scheme = str_eq_ignore_ascii_case scheme name
 
--- "scheme-part matches": b is a, or the secure form of a, or an HTTP form of a WebSocket scheme a. `ws` doesn't match
--- `wss` (profile: no URL that is fetched has either).
+-- "scheme-part matches": b is a, or `http` matches `https` too; `ws` matches also `http` and `https`, `wss` also `https`.
+-- `ws` doesn't match `wss` (this project's own choice: no URL that is fetched has either).
 abbrev pub scheme_part_matches : List ℕ → List ℕ → Bool
 scheme_part_matches a b =
     is_scheme a b
@@ -30,7 +30,7 @@ scheme_part_matches a b =
     || (is_scheme (codes "ws") a && (is_scheme (codes "http") b || is_scheme (codes "https") b))
     || (is_scheme (codes "wss") a && is_scheme (codes "https") b)
 
--- the text has this end, ASCII case aside
+-- the text ends with this, ASCII case aside
 abbrev pub ends_in : List ℕ → List ℕ → Bool
 ends_in end text = str_eq_ignore_ascii_case (drop (length text - length end) text) end
 

@@ -10,7 +10,7 @@ use url::Url;
 use wf_origin::{Origin, is_default_port, is_host_of, is_http_url, is_origin_of, port_of};
 use wf_text::{Bytes, eq_fold, parse_digits};
 
-// "scheme-part matches".
+// "scheme-part matches": the scheme `a` of an expression against the scheme `b` of a URL.
 fn scheme_part_matches(a: &[u8], b: &[u8]) -> bool
     ensures { result ≡ spec.scheme_part_matches a.now b.now }
 {
@@ -20,7 +20,7 @@ fn scheme_part_matches(a: &[u8], b: &[u8]) -> bool
         || (eq_fold(a, b"wss") && eq_fold(b, b"https"))
 }
 
-// Whether the text has this end, ASCII case aside.
+// Whether the text ends with this, ASCII case aside.
 fn ends_in(end: &[u8], text: &[u8]) -> bool
     ensures { result ≡ spec.ends_in end.now text.now }
 {

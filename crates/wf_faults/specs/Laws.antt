@@ -52,7 +52,7 @@ FaultsCounted State =
     → (ran : Ran by limit document whole old events ending clock new)
     → grown_by old.faults (faults_of whole ran.tape) ≤ new.faults
 
--- the count rises by at least as many too where a run ended for memory
+-- the same of a run that ended because memory was refused: the count rose by as many as it has faults, at least
 abbrev pub FaultsCountedShort : Type 0 → Type 0
 FaultsCountedShort State =
     (by : Answering State) (limit document : ℕ) (whole : Play) (old : Outside State) (events : List Event)

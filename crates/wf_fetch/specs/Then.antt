@@ -30,7 +30,7 @@ abbrev pub context_of : Client → List Policy → List Cookie → ℕ → Conte
 context_of client policies cookies now =
     record { client = client; policies = policies; cookies = cookies; now = now }
 
--- what is done with the request as it stands and with what a level of the fetch came to: a head, or a network error
+-- what is done with the request as it is now and with what a level of the fetch came to: a head, or a network error
 abbrev pub Then : Type 0
 Then = Request → Result Head NetError → Process
 

@@ -11,7 +11,7 @@ use wf_csp::Violations;
 use wf_text::OutOfMemory;
 use wf_types::{Head, NetError, Outcome, Request, Response};
 
-/// The request as it stands, how many outer levels owe a clear, whether this one does, and the time.
+/// The request as it is now, how many outer levels owe a clear, whether this one does, and the time.
 #[derive(Drop)]
 pub struct Level {
     pub(crate) request: Box<Request>,
@@ -62,7 +62,7 @@ pub enum Place {
     Ending(Violations, usize, Ended),
     /// The body of the response is read.
     BodyReading(Response),
-    /// After an error the preflight cache was told to forget the request as it then stood.
+    /// After an error the preflight cache was told to forget the request as it then was.
     Clearing(NetError),
 }
 

@@ -55,7 +55,8 @@ pub enum Keep<'a> {
     Told(Tainting, &'a [&'a [u8]]),
     /// Those with a CORS-safelisted response-header name, of a list that exposes this.
     Safelisted(&'a Exposure),
-    /// The safelisted ones of such a list, and those that the end of main fetch rests on.
+    /// Those of `Safelisted`, the header by which a host becomes known, and those that the CORS check and the end of
+    /// main fetch rest on.
     ToldCors(&'a Exposure),
 }
 

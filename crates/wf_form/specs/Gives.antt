@@ -14,7 +14,7 @@ abbrev pub Gives : {A : Type 0} → Result A Refused → Read A → Type 0
 Gives (Ok x) read = read ≡ Ok x
 Gives (Err refused) read = Refuses refused read
 
--- what a function returned, as contracts see it, is what the reading gives, unless memory ran out
+-- what a function returned, seen through `seen`, is what the reading gives, unless memory ran out
 abbrev pub GivesAs : {X A : Type 0} → (X → A) → Result X Refused → Read A → Type 0
 GivesAs seen (Ok x) read = read ≡ Ok (seen x)
 GivesAs seen (Err refused) read = Refuses refused read

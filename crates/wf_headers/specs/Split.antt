@@ -24,7 +24,7 @@ abbrev mutual
       else if byte == backslash then with_front byte (behind_backslash text)
       else with_front byte (in_quoted_string text)
 
-  -- the same from after a backslash in it, which takes the next byte with it
+  -- the same right after a backslash in it: the next byte is part of the piece, whatever it is
   pub behind_backslash : List ℕ → List (List ℕ)
   behind_backslash [] = [] ∷ []
   behind_backslash (byte ∷ text) = with_front byte (in_quoted_string text)

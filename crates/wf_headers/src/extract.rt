@@ -102,7 +102,7 @@ fn tokens_in(alloc: Global, headers: &[Header], name: &[u8]) -> Result<Extracted
     }
 }
 
-// The value of a name, where the name is there once.
+// What there is of the values of a name: none, one, or at least two.
 fn find<'a>(headers: &'a [Header], name: &[u8]) -> Found<'a>
     ensures { WasFound result (values_of name.now headers.now) }
 {

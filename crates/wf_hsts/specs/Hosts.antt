@@ -60,8 +60,8 @@ without_first_to_end hosts = filter (λ known. list_any (λ other. ends_before o
 abbrev pub with_room : List KnownHost → List KnownHost
 with_room others = if nat_lt (length others) 4096 then others else without_first_to_end others
 
--- the list after a field of a host: with max-age 0 the host is forgotten, else it is known for max-age
--- seconds from now, in the place of what was known of it (RFC 6797, sections 6.1.1 and 8.1)
+-- the list after a field of a host: with max-age 0 the host is forgotten, else it is known for that many seconds from
+-- now, in the place of what was known of it (RFC 6797, sections 6.1.1 and 8.1)
 abbrev pub noted : List ℕ → Sts → ℕ → List KnownHost → List KnownHost
 noted host sts now hosts =
     if sts.age == 0 then without host hosts

@@ -44,7 +44,7 @@ abbrev mutual
       else if byte == backslash then behind_backslash text
       else option_map (λ value. byte ∷ value) (unquoted text)
 
-  -- the value of a quoted string, of what follows a backslash in it
+  -- the same right after a backslash in it: the next byte is part of the value, whatever it is
   pub behind_backslash : List ℕ → Option (List ℕ)
   behind_backslash [] = None
   behind_backslash (byte ∷ text) = option_map (λ value. byte ∷ value) (unquoted text)

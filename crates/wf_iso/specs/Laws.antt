@@ -39,7 +39,7 @@ CallsOwn =
     → AllByRecursion (λ (call : Made). is_of_key (document_client document).key call.op ≡ true)
     (calls_in (run_play (document_run cookies base document) tape).events)
 
--- each of its calls is in range, where the script is valid and the run begins at 2^40 seconds at the latest
+-- where the script is valid and the run begins at 2^40 seconds at the latest, each of its calls is in range
 abbrev pub CallsInRange : Type 0
 CallsInRange =
     (cookies : List Cookie) (base : ℕ) (document : Document) (tape : List Input) → AreValid document.script

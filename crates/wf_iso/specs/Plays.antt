@@ -58,9 +58,9 @@ outside_on way own left = record {
   left = left;
 }
 
--- From one moment of its link to another, over its answers, whose bodies have at most `limit` bytes, the document's run
--- shows these events and comes to this ending. It makes the calls of these entries, in order, and no others. (How many
--- more it might make does not matter.)
+-- From one moment of its link to another, over its answers, the document's run shows these events and comes to this
+-- ending; a body of more than `limit` bytes is too big. It makes the calls of these entries, in order, and no others.
+-- (How many more it might make does not matter.)
 pub record RunsOver {State : Type 0} (by : Answering State) (limit document : ℕ) (old new : Way State)
     (entries : List Entry) (whole : Play) (events : List Event) (ending : Ending) (clock : ℕ) : Type 0 where
   pub before : ℕ

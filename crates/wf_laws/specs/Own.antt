@@ -12,7 +12,7 @@ use Rattle.wf_fetch.specs.Then.{Context}
 abbrev pub IsOwnOp : Context → Op → Type 0
 IsOwnOp context op = InRange op × (is_of_key context.client.key op ≡ true)
 
--- where the act asks an op, that op is in range and the client's own; nothing is wanted of other acts
+-- an op that the act asks is such an op; nothing is wanted of other acts
 abbrev pub IsOwn : Context → Act → Type 0
 IsOwn context (Ask op) = IsOwnOp context op
 IsOwn context _ = Unit {0}

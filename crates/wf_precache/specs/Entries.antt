@@ -27,7 +27,7 @@ abbrev pub allows_method : List ℕ → Allowed → Bool
 allows_method method (Method allowed) = bytes_eq allowed method || is_wildcard allowed
 allows_method method (HeaderName allowed) = false
 
--- what an entry allows is this header name, or every name that the wildcard covers
+-- what an entry allows is this header name, ASCII case aside, or the wildcard where that covers the name
 abbrev pub allows_name : List ℕ → Allowed → Bool
 allows_name name (Method allowed) = false
 allows_name name (HeaderName allowed) =

@@ -81,7 +81,7 @@ pub fn has_word(text: &[u8], name: &[u8]) -> bool {
     word_named(text, name).is_some()
 }
 
-/// The same of each such word, in order.
+/// What follows `NAME=` in each word that begins with it, in order.
 pub fn values_of(alloc: Global, text: &[u8], name: &[u8]) -> Result<BytesList, Failed> {
     let mut values = BytesList::new(alloc);
     for word in texts_between(alloc, text, b' ')?.as_slice() {

@@ -43,6 +43,6 @@ learn_of client request age methods names now = Learn (record {
   names = names;
 }) now
 
--- the entries of the request as it is are taken back (main fetch, step 12)
+-- the preflight cache forgets what it has of the request's origin and current URL (main fetch, step 12)
 abbrev pub clear_of : Client → Request → ℕ → Op
 clear_of client request now = Clear client.key (serialized_request_origin request) (url_text request) now

@@ -20,7 +20,7 @@ abbrev pub is_basic : Tainting → Bool
 is_basic tainting.Basic = true
 is_basic _ = false
 
--- the current URL is of the request's own origin, and its tainting is basic
+-- the current URL is of the request's own origin, and the request's response tainting is basic
 abbrev pub is_at_home : Request → Bool
 is_at_home request = is_basic request.tainting && is_origin_of request.origin (current_url request)
 

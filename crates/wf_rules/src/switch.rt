@@ -19,7 +19,7 @@ pub enum Switch {
     Refuses(NetError),
 }
 
-// Whether the current URL is of the request's own origin, and its tainting is basic.
+// Whether the current URL is of the request's own origin, and the request's response tainting is basic.
 fn is_at_home(request: &Request) -> bool
     requires { IsRequest request.now }
     ensures { result ≡ spec.is_at_home request.now }

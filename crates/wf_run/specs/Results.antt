@@ -92,7 +92,8 @@ header_of name (Some response) = unwrap_or (combined name response.headers) []
 
 -- ---- templates
 
--- the value of a placeholder's name; what is not there is empty
+-- the value of a placeholder's name; without a response the status is 0, without a result the type is `none`, and
+-- whatever else is not there is empty
 abbrev pub value_of : Option Event → List ℕ → List ℕ
 value_of last name =
     if bytes_eq name (codes "status") then decimal (status_of (response_in last))

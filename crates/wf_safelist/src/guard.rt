@@ -108,8 +108,8 @@ fn outcome(
 /// `BadName` exactly where the name is no token; else `BadValue` exactly where the value is no header
 /// value. Else, under `Request`, a forbidden request-header is `Ignored`; under `NoCors` a header is
 /// `Ignored` unless its name is Accept, Accept-Language, Content-Language or Content-Type and the value,
-/// joined by a comma and a space to those of that name in the list, is safelisted. Only what is `Kept`
-/// changes the list, as "append" does. Want of memory leaves the list as it was.
+/// joined by a comma and a space to the values of that name in the list, is safelisted. Only what is
+/// `Kept` changes the list, as "append" does. Want of memory leaves the list as it was.
 pub fn guarded_append(
     alloc: Global,
     headers: &mut HeaderList,

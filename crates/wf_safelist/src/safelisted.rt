@@ -43,7 +43,7 @@ fn is_language_byte(byte: u8) -> bool
     byte.is_ascii_alphanumeric() || LANGUAGE_MARKS.contains(&byte)
 }
 
-// Whether a language list may have each byte of the value.
+// Whether each byte of the value is one that a language list may have.
 fn is_language_list(value: &[u8]) -> bool
     ensures { result ≡ list_all spec.is_language_byte value.now }
 {

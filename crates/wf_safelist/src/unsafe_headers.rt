@@ -32,7 +32,7 @@ fn are_too_long(headers: &[Header]) -> bool
     size > LONGEST_TOTAL
 }
 
-// The names of the unsafe headers in lower case, one for each header.
+// The names of the unsafe headers in lower case: one for each such header, in order.
 fn lowered_names(
     alloc: Global,
     too_long: bool,

@@ -97,7 +97,7 @@ generated_document i =
       script = put_script;
     }
 
--- n documents, for I from 0, with the bounds on pieces and bodies that the first format has by itself
+-- n documents, numbered from 0; pieces and bodies are bounded as in a scenario that gives no bounds
 abbrev pub generated : ℕ → Scenario
 generated n =
     record {

@@ -24,7 +24,7 @@ answer_bytes status headers body = status_line status ++ (flat_map header_line h
 
 -- ---- which answer a request gets
 
--- a rule takes this text: it asks for this one, or for none
+-- a rule takes this text: it names this text, or none
 abbrev pub takes : Option (List ℕ) → List ℕ → Bool
 takes None text = true
 takes (Some wanted) text = bytes_eq wanted text

@@ -71,7 +71,7 @@ pub(crate) fn answer_bytes(
     Ok(Bytes::from_vec(text))
 }
 
-// Whether a rule takes this text: it asks for this one, or for none.
+// Whether a rule takes this text: it names this text, or none.
 fn takes(wanted: &Option<Bytes>, text: &[u8]) -> bool
     ensures { result ≡ spec.takes wanted.now text.now }
 {

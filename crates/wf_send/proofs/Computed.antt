@@ -77,7 +77,7 @@ pub credentials_included : (includes_credentials credentials.SameOrigin Basic �
     × (includes_credentials credentials.SameOrigin Cors ≡ false)
 credentials_included = (refl, refl)
 
--- each fault before those behind it
+-- of two faults the earlier one is told
 pub faults_in_order : (new_request client (record put { url = codes "http://" }) ≡ Err BadUrl)
     × (new_request client (record put { url = codes "http://u@b.test/"; method = codes "A B" }) ≡ Err UrlCredentials)
     × (new_request client (record put { method = codes "A B" }) ≡ Err BadMethod)

@@ -1,7 +1,8 @@
-ghost use Rattle.std.specs.Prelude.{◌≡◌, option_copied, IfOk, OnOk, None, if◌then◌else◌};
+ghost use Rattle.std.specs.Prelude.{◌≡◌, option_copied, IfOk, OnOk, None, codes, if◌then◌else◌};
 ghost use Rattle.wf_origin.specs.Origins as origins;
 ghost use Rattle.wf_send.specs.Heads as spec;
-ghost use Rattle.wf_types.specs.Lines.{all_appended_where};
+ghost use Rattle.wf_types.specs.Lines.{all_appended_where, appended_where};
+ghost use Rattle.wf_types.specs.OriginHeader.{origin_value};
 ghost use Rattle.wf_types.specs.Targets.{origin_text};
 
 use std::alloc::Global;
@@ -79,6 +80,34 @@ fn length_value(
     }
 }
 
+// Appends Origin, where the request gives its origin.
+fn append_origin(
+    alloc: Global,
+    headers: &mut HeaderList,
+    request: &Request,
+    url: &Url,
+) -> Result<(), OutOfMemory>
+    ensures { OnOk result (headers.new
+        ≡ appended_where (codes "Origin") (origin_value request.now url.now) headers.old) }
+{
+    let value = origin_value(alloc, request, url)?;
+    append_where(headers, b"Origin", slice_of(&value))
+}
+
+// Appends Content-Length, where it is sent.
+fn append_length(
+    alloc: Global,
+    headers: &mut HeaderList,
+    method: &[u8],
+    body: &Option<Bytes>,
+) -> Result<(), OutOfMemory>
+    ensures { OnOk result (headers.new
+        ≡ appended_where (codes "Content-Length") (spec.length_value method.now body.now) headers.old) }
+{
+    let value = length_value(alloc, method, body)?;
+    append_where(headers, b"Content-Length", slice_of(&value))
+}
+
 // Appends the lines that are sent after the request's own headers.
 fn append_added(
     alloc: Global,
@@ -92,16 +121,13 @@ fn append_added(
     ensures { OnOk result (headers.new
         ≡ all_appended_where (spec.added_lines cookies.now request.now url.now) headers.old) }
 {
-    let own = origin_value(alloc, request, url)?;
-    let length = length_value(alloc, request.method.as_slice(), &request.body)?;
     append_where(headers, b"User-Agent", user_agent_value(&request.headers))?;
     append_where(headers, b"Accept-Encoding", Some(ACCEPT_ENCODING))?;
     append_where(headers, b"Referer", referrer_value(&request.referrer))?;
-    append_where(headers, b"Origin", slice_of(&own))?;
+    append_origin(alloc, headers, request, url)?;
     append_where(headers, b"Cookie", cookie_value(cookies, request, origin))?;
-    append_where(headers, b"Content-Length", slice_of(&length))?;
-    append_where(headers, b"Connection", Some(CONNECTION))?;
-    Ok(())
+    append_length(alloc, headers, request.method.as_slice(), &request.body)?;
+    append_where(headers, b"Connection", Some(CONNECTION))
 }
 
 // The header list as it is sent to a URL of an origin, from Host on.

@@ -9,9 +9,9 @@ use wf_text::{Bytes, OutOfMemory, copy_of};
 use wf_types::{Cookies, Hop, Request, origin_text, target_of};
 
 /// The request as it is sent to its current URL (Fetch, section 4.6; RFC 9112, section 3.2): the
-/// target of its request line, and its header list: Host, then the request's own headers, then what is
-/// added to each request (`added_lines` of `specs/Heads.antt`). The credentials and the fragment of a
-/// URL are not sent. The target has no space.
+/// target of its request line, and its header list: Host, then the request's own headers, then those of
+/// `added_lines` (`specs/Heads.antt`) that have a value. The credentials and the fragment of a URL are not
+/// sent. The target has no space.
 pub fn hop_of(alloc: Global, request: &Request, cookies: &Cookies) -> Result<Hop, OutOfMemory>
     requires request { IsRequest request.now }
     requires at_http { IsAtHttp request.now }

@@ -41,8 +41,8 @@ repeat_command_of inside tree = do
   script ← required (codes "do") deeper tree
   Ok (repeat times script)
 
--- One of two scripts, with what reads them; the second is empty where no key says otherwise. Where no `if` may be here
--- it is refused at its key, and nothing of it is read.
+-- One of two scripts, with what reads them; the second is empty where there is no `else`. Where no `if` may be here it
+-- is refused at its key, and nothing of it is read.
 abbrev pub if_command_of : Option (Data → Read Steps) → Data → Read Step
 if_command_of inside tree = do
   known ← only_keys (codes "if" ∷ codes "then" ∷ codes "else" ∷ []) tree

@@ -26,12 +26,12 @@ line name value = record { name = name; value = Some value }
 abbrev pub line_where : List ℕ → Option (List ℕ) → Line
 line_where name value = record { name = name; value = value }
 
--- the header appended to a list, where there is a value
+-- the list with the header appended, where there is a value
 unfoldable pub appended_where : List ℕ → Option (List ℕ) → List Header → List Header
 appended_where name None headers = headers
 appended_where name (Some value) headers = appended name value headers
 
--- each line that has a value, appended in order
+-- the list with each line appended that has a value, in order
 abbrev pub all_appended_where : List Line → List Header → List Header
 all_appended_where [] headers = headers
 all_appended_where (one ∷ more) headers = all_appended_where more (appended_where one.name one.value headers)
@@ -42,10 +42,10 @@ all_appended_where (one ∷ more) headers = all_appended_where more (appended_wh
 abbrev pub user_agent : List ℕ
 user_agent = codes "fetchplay/1"
 
--- the value of Accept-Encoding: bodies come as they are, without a coding
+-- the value of Accept-Encoding: it asks for bodies as they are, without a coding
 abbrev pub accept_encoding : List ℕ
 accept_encoding = codes "identity"
 
--- the value of Connection: it is closed after the answer
+-- the value of Connection: it asks that the connection is closed after the answer
 abbrev pub connection : List ℕ
 connection = codes "close"

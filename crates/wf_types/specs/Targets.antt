@@ -8,7 +8,7 @@ use Rattle.wf_origin.specs.Origins.{serialized}
 use Rattle.wf_text.specs.Ascii.{lacks_space}
 use Rattle.wf_types.specs.declared.hop.Hop.{Hop}
 
--- the query behind its question mark, where there is one
+-- a question mark and the query, where there is one
 abbrev pub query_text : Option (List ℕ) → List ℕ
 query_text None = []
 query_text (Some query) = codes "?" ++ query
@@ -17,7 +17,7 @@ query_text (Some query) = codes "?" ++ query
 abbrev pub target_of : Parts → List ℕ
 target_of url = url.path ++ query_text url.query
 
--- the port behind its colon, where there is one
+-- a colon and the port, where there is one
 abbrev pub port_text : Option ℕ → List ℕ
 port_text None = []
 port_text (Some port) = codes ":" ++ decimal port

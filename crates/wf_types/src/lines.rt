@@ -7,10 +7,10 @@ use wf_text::{Bytes, OutOfMemory};
 /// The user agent's name, as the value of User-Agent.
 pub const USER_AGENT: &[u8] = b"fetchplay/1";
 
-/// The value of Accept-Encoding: bodies come as they are, without a coding.
+/// The value of Accept-Encoding: it asks for bodies as they are, without a coding.
 pub const ACCEPT_ENCODING: &[u8] = b"identity";
 
-/// The value of Connection: it is closed after the answer.
+/// The value of Connection: it asks that the connection is closed after the answer.
 pub const CONNECTION: &[u8] = b"close";
 
 /// The text, where there is one. It takes no memory.

@@ -9,11 +9,11 @@ ghost use Rattle.wf_types.specs.Requests.{IsAtHttp, IsRequest, is_determined};
 
 use crate::responses::head_of;
 use std::alloc::Global;
-use wf_cors::{Checked, corp_blocks, preflight_of, verdict};
+use wf_cors::{Checked, preflight_of, verdict};
 use wf_origin::tuple_origin;
 use wf_rows::{Failed, Held, Row, Shown, list_of, texts_between};
 use wf_text::BytesList;
-use wf_types::{Hop, NetError, Request, serialized_origin};
+use wf_types::{Hop, NetError, Request, corp_blocks, serialized_origin};
 
 // Whether the row's headers keep an answer from a request.
 pub(crate) fn blocked(
@@ -29,7 +29,7 @@ pub(crate) fn blocked(
         value: list_of(alloc, row, 1)?,
     };
     let url = tuple_origin(alloc, request.current_url())?;
-    shown.add_yes_or_no(corp_blocks(request, &url, &headers.value));
+    shown.add_yes_or_no(corp_blocks(&request.origin, &url, &headers.value));
     Ok(())
 }
 

@@ -6,20 +6,19 @@
 //     policy OPS                         the referrer policy of the headers, `empty` where there is none
 //     exposed CREDENTIALS OPS            the names that the headers expose
 use std::alloc::Global;
-use wf_cors::cors_check;
 use wf_filter::exposed_names;
 use wf_headers::HeaderList;
 use wf_mime::{essence_of, nosniff};
 use wf_rows::{Failed, Row, Shown};
 use wf_safelist::unsafe_names;
-use wf_types::{ReferrerPolicy, policy_of_header};
+use wf_types::{ReferrerPolicy, passes_cors_check, policy_of_header};
 
 // The answer to a row that takes no memory, and whether the row is one.
 pub(crate) fn is_asked(kind: &str, row: &Row, list: &HeaderList, shown: &mut Shown) -> bool {
     match kind {
         "nosniff" => shown.add_yes_or_no(nosniff(list)),
         "cors_check" => {
-            shown.add_yes_or_no(cors_check(row.text(0), row.has(1, b"include"), list));
+            shown.add_yes_or_no(passes_cors_check(row.text(0), row.has(1, b"include"), list));
         }
         _ => return false,
     }

@@ -4,8 +4,8 @@ use Rattle.wf_book.specs.declared.book.Book.{Book}
 use Rattle.wf_book.specs.declared.entry.Entry.{Entry}
 use Rattle.wf_book.specs.Entries.{AllTurnsBelow, Legal, book_after, entries_of}
 
--- the pass's book is the one after its entries, which are legal and all of its document; each entry has the number of
--- its call as its turn
+-- the pass's book is the one after its entries, which are legal and all of its document; the turn of each is below the
+-- number of calls, which is at most 2^32 - 1
 pub record IsSolo (book opening : Book) (entries : List Entry) (calls : ℕ) : Type 0 where
   pub book_is : book ≡ book_after opening entries
   pub legal : Legal opening entries

@@ -1,4 +1,4 @@
--- What a search finds for a value that may be there once.
+-- What a search finds of the values of a name: none, one, or at least two.
 use Rattle.std.specs.Prelude.{ℕ, List, [], ◌∷◌, ◌≡◌, ◌≤◌, length}
 use Rattle.wf_headers.specs.declared.extract.Found.{Found}
 use Rattle.wf_headers.specs.declared.extract.Found.TheVariants.{Nothing, Once, Repeated}
@@ -9,7 +9,7 @@ WasFound Nothing values = values ≡ []
 WasFound (Once value) values = values ≡ value.now ∷ []
 WasFound Repeated values = 2 ≤ length values
 
--- all values are those that were found, and then those that are left
+-- all values are what was found and then those that are left; where two were found, there are at least two
 abbrev pub FoundBefore : Found → List (List ℕ) → List (List ℕ) → Type 0
 FoundBefore Nothing left values = values ≡ left
 FoundBefore (Once value) left values = values ≡ value.now ∷ left

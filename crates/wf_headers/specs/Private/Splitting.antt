@@ -1,4 +1,4 @@
--- What a splitter of header values holds: the pieces of all that it was fed and of what follows.
+-- What a splitter of header values comes to: the pieces of all that it was fed, together with what follows.
 use Rattle.std.specs.Prelude.{ℕ, List, [], ◌∷◌, ◌++◌, map, Option, Some, None}
 use Rattle.wf_text.specs.Pieces.{with_front}
 use Rattle.wf_text.specs.Trims.{tab_or_space, trimmed}
