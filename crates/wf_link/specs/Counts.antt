@@ -1,5 +1,5 @@
 -- Counts of calls and of faults: each is a u64 that never falls and stops at its greatest value.
-use Rattle.std.specs.Prelude.{ℕ, Bool, ◌+◌, ◌-◌, ◌^◌, ◌≤◌, ◌==◌, min, List, Result, OnErr}
+use Rattle.std.specs.Prelude.{◌≡◌, ℕ, Bool, ◌+◌, ◌-◌, ◌^◌, ◌≤◌, ◌==◌, min, List, Result, OnErr, OnOk}
 use Rattle.std.specs.List.{list_any}
 
 -- one more, or the greatest value
@@ -18,10 +18,10 @@ counted_on count more = count + min more ((2 ^ 64 - 1) - count)
 abbrev pub Rose : ℕ → ℕ → Type 0
 Rose before now = one_more before ≤ now
 
--- a failure has its cause: the count rose
+-- The count rose by one where the call failed, and is as it was where it did not.
 pub record HasCause {T E : Type 0} (before now : ℕ) (result : Result T E) : Type 0 where
-  pub later : before ≤ now
-  pub failed : OnErr result (Rose before now)
+  pub failed : OnErr result (now ≡ one_more before)
+  pub quiet : OnOk result (now ≡ before)
 
 -- after so many calls, the next one's number is in the list
 abbrev pub is_next_in : List ℕ → ℕ → Bool

@@ -38,7 +38,7 @@ pub trait Link {
     ghost faults: { Self → ℕ };
 
     /// Sends a request to its target. The bytes to come are then its answer. The state goes on also
-    /// where it failed. `Failed` only where the count of faults rose.
+    /// where it failed. The count of faults rises by one where it fails, and only there.
     fn ask(&mut self, target: &Target, request: &[u8]) -> Result<(), Failed>
         ensures state { state self.new ≡ option_map (λ s. next s target.now.origin request.now) (state self.old) }
         ensures answered { OnOk result (left self.new
@@ -53,8 +53,8 @@ pub trait Link {
         ensures cause { HasCause (faults self.old) (faults self.new) result };
 
     /// Puts the next bytes of the answer at the front of the buffer, and answers how many, which are
-    /// counted as received. 0 for a buffer that is not empty is the end of the answer. `Failed` only
-    /// where the count of faults rose.
+    /// counted as received. 0 for a buffer that is not empty is the end of the answer. The count of faults
+    /// rises by one where it fails, and only there.
     fn recv(&mut self, buf: &mut [u8]) -> Result<usize, Failed>
         ensures count { ReadsAtMost result buf.new }
         ensures gave { IfOk result (λ n. Gave (left self.old) (left self.new) (take n buf.new)) }

@@ -18,11 +18,11 @@ use Rattle.wf_http1.specs.declared.framing.Framing.{Framing}
 use Rattle.wf_http1.specs.declared.framing.Framing.TheVariants.{Nothing, Chunked, Length, ToEnd, Broken}
 use Rattle.wf_http1.proofs.OpenLemmas.{bodies-short}
 use Rattle.wf_act.specs.declared.act.Input.TheVariants.{BodyIs}
-use Rattle.wf_wire.specs.Exchanges.{Exchange, HasBody, IsBodyRead, IsIdle, LeavesBody, count_of}
-use Rattle.wf_wire.specs.Private.Reads.{GivesSome, HasAtMost}
+use Rattle.wf_wire.specs.Exchanges.{Exchange, HasBody, IsBodyRead, IsIdle, LeavesBody, WaitedFor, count_of}
+use Rattle.wf_wire.specs.Private.Reads.{Gathers, GivesSome, HasAtMost}
 use Rattle.wf_wire.specs.Wires.{onto_left}
 use Rattle.wf_wire.proofs.WireLemmas.{Receives, come-first, come-all, nothing-left, receives-more}
-use Rattle.wf_wire.proofs.WireLemmas.{hung-up, uncaused}
+use Rattle.wf_wire.proofs.WireLemmas.{hung-up, waited-for}
 
 -- ---- the end of an answer is no fault
 
@@ -42,37 +42,42 @@ body-no-fault Chunked limit bytes n is =
 
 -- a body came to its end, and nothing is to come then
 pub body-is-read : {State : Type 0} (limit : ℕ) (old new : Exchange State) (end : BodyEnd) (left : Option (List ℕ))
-    → HasBody old.framing limit old.coming end → GivesSome old.left left old.received new.received → IsIdle new
-    → new.state ≡ old.state → old.faults ≤ new.faults → IsBodyRead limit old (BodyIs end) new
-body-is-read limit old new body.Null left has gives idle state later = record {
+    → HasBody old.framing limit old.coming end
+    → GivesSome (IsOpen old.framing limit) old.coming old.left left old.received new.received → IsIdle new
+    → new.state ≡ old.state → new.faults ≡ old.faults → IsBodyRead limit old (BodyIs end) new
+body-is-read limit old new body.Null left has gives idle state same = record {
   body_is = (has, idle);
   count = gives.count;
-  gives = hung-up old new (BodyIs body.Null) left refl gives;
+  waited = gives.waited;
+  gives = hung-up (IsOpen old.framing limit) old new (BodyIs body.Null) left refl gives;
   state_is = state;
-  caused = uncaused (BodyIs body.Null) old.faults new.faults later refl;
+  caused = same;
 }
-body-is-read limit old new (body.Whole bytes) left has gives idle state later = record {
+body-is-read limit old new (body.Whole bytes) left has gives idle state same = record {
   body_is = (has, idle);
   count = gives.count;
-  gives = hung-up old new (BodyIs (body.Whole bytes)) left refl gives;
+  waited = gives.waited;
+  gives = hung-up (IsOpen old.framing limit) old new (BodyIs (body.Whole bytes)) left refl gives;
   state_is = state;
-  caused = uncaused (BodyIs (body.Whole bytes)) old.faults new.faults later refl;
+  caused = same;
 }
-body-is-read limit old new (body.Cut n) left has gives idle state later = record {
+body-is-read limit old new (body.Cut n) left has gives idle state same = record {
   body_is = (has, idle);
   count = gives.count;
-  gives = hung-up old new (BodyIs (body.Cut n)) left refl gives;
+  waited = gives.waited;
+  gives = hung-up (IsOpen old.framing limit) old new (BodyIs (body.Cut n)) left refl gives;
   state_is = state;
-  caused = uncaused (BodyIs (body.Cut n)) old.faults new.faults later refl;
+  caused = same;
 }
-body-is-read limit old new body.TooBig left has gives idle state later = record {
+body-is-read limit old new body.TooBig left has gives idle state same = record {
   body_is = (has, idle);
   count = gives.count;
-  gives = hung-up old new (BodyIs body.TooBig) left refl gives;
+  waited = gives.waited;
+  gives = hung-up (IsOpen old.framing limit) old new (BodyIs body.TooBig) left refl gives;
   state_is = state;
-  caused = uncaused (BodyIs body.TooBig) old.faults new.faults later refl;
+  caused = same;
 }
-body-is-read limit old new (body.Fault n) left has gives idle state later =
+body-is-read limit old new (body.Fault n) left has gives idle state same =
     absurd (body-no-fault old.framing limit has.bytes n (sym has.ends))
 
 -- ---- a body has no more bytes than its limit
@@ -163,12 +168,35 @@ module _ (window : List ℕ) (left : Option (List ℕ)) (how : Framing) (limit :
       (subst (λ (f : Framing). IsOpen f limit (reading.bytes ++ piece)) framed
       (subst (λ (n : ℕ). IsOpen reading.framing n (reading.bytes ++ piece)) limited fed.1))
 
+  -- fewer bytes more than may decide the body leave it open
+  body-opens : (next : BodyReading) (more : List ℕ) (fewest : ℕ) → IsFed reading piece (bodies.More next)
+      → (0 < length more → length more < fewest)
+      → ((bytes : List ℕ) → length bytes < fewest → IsOpen next.framing next.limit (next.bytes ++ bytes))
+      → IsOpen how limit (next.bytes ++ more)
+  body-opens next more fewest fed few opens =
+      open-behind how limit next.bytes more fewest (body-open next fed) few (λ bytes few'.
+      subst (λ (f : Framing). IsOpen f limit (next.bytes ++ bytes)) (body-framed next fed)
+      (subst (λ (l : ℕ). IsOpen next.framing l (next.bytes ++ bytes)) (body-limited next fed) (opens bytes few')))
+
   -- and more was received
   pub body-goes-on : (next : BodyReading) (more : List ℕ) (left'' : Option (List ℕ))
       → IsFed reading piece (bodies.More next) → Gave left' left'' more
       → Receives window left next.bytes more left''
   body-goes-on next more left'' fed gave =
       receives-more window left reading.bytes now next.bytes more left' left'' (body-read next fed) gave so_far
+
+  -- and before the last of it was received the body was open
+  pub body-waits : (next : BodyReading) (more : List ℕ) (count fewest : ℕ) → IsFed reading piece (bodies.More next)
+      → Gathers fewest left' more
+      → ((bytes : List ℕ) → length bytes < fewest → IsOpen next.framing next.limit (next.bytes ++ bytes))
+      → length window + count ≡ length reading.bytes + length now
+      → WaitedFor (IsOpen how limit) (onto_left window left) left (count + length more)
+  body-waits next more count fewest fed gathered opens whole =
+      let all = ap length (body-read next fed) ∙ length-append reading.bytes now in
+      waited-for (IsOpen how limit) window left next.bytes gathered.before gathered.mid
+      (count + length gathered.before) (count + length more) (omega (arith, all, whole))
+      (omega (arith, gathered.few)) (body-goes-on next gathered.before gathered.mid fed gathered.gave)
+      (body-opens next gathered.before fewest fed gathered.waits opens)
 
   -- or the answer ended after some more
   pub body-ended : (next : BodyReading) (more : List ℕ) (left'' : Option (List ℕ)) (end : BodyEnd)
@@ -195,9 +223,7 @@ module _ (window : List ℕ) (left : Option (List ℕ)) (how : Framing) (limit :
   body-fails next more left'' end n fewest fed gave few opens ends counts = record {
     bytes = next.bytes ++ more;
     came = come-first window next.bytes more left left'' (body-goes-on next more left'' fed gave);
-    waits = open-behind how limit next.bytes more fewest (body-open next fed) few (λ bytes few'.
-        subst (λ (f : Framing). IsOpen f limit (next.bytes ++ bytes)) (body-framed next fed)
-        (subst (λ (l : ℕ). IsOpen next.framing l (next.bytes ++ bytes)) (body-limited next fed) (opens bytes few')));
+    waits = body-opens next more fewest fed few opens;
     count_is = counts ∙ ap count_of (ends
         ∙ ap (λ (f : Framing). body_end f next.limit (next.bytes ++ more)) (body-framed next fed)
         ∙ ap (λ (l : ℕ). body_end how l (next.bytes ++ more)) (body-limited next fed));

@@ -14,11 +14,11 @@ use Rattle.wf_http1.proofs.AnswerLemmas.{bad-more, final-more, long-more}
 use Rattle.wf_act.specs.declared.act.Input.TheVariants.{HeadIs, HeadLong}
 use Rattle.wf_wire.specs.declared.exchange.Found.{Found}
 use Rattle.wf_wire.specs.declared.exchange.Found.TheVariants as found
-use Rattle.wf_wire.specs.Exchanges.{Exchange, HasHead, IsHeadRead, IsIdle}
+use Rattle.wf_wire.specs.Exchanges.{Exchange, HasHead, IsHeadRead, IsIdle, WaitedFor, most_received}
 use Rattle.wf_wire.specs.Private.Reads.{Finds, GivesAtMost}
 use Rattle.wf_wire.specs.Wires.{onto_left}
 use Rattle.wf_wire.proofs.WireLemmas.{Receives, come-behind, come-first, come-all, nothing-left, receives-more}
-use Rattle.wf_wire.proofs.WireLemmas.{hung-up, receives-read, uncaused}
+use Rattle.wf_wire.proofs.WireLemmas.{hung-up, receives-read, waited-for}
 
 -- what a step came to, of the window that was fed
 fed : (read piece now : List ℕ) (step is : HeadStep) → piece ≡ now → step ≡ is → IsFed read piece step
@@ -104,6 +104,14 @@ module _ (window : List ℕ) (left : Option (List ℕ)) (read piece now : List �
         waits = subst (λ (l : List ℕ). IsUnfinished l) (sym (append-nil next ∙ open_.0)) open_.1;
       }
 
+  -- and before it was received the head was open
+  pub head-waits : (next more : List ℕ) (count : ℕ) → step ≡ heads.More next
+      → length window + count ≡ length read + length now → length more ≤ most_received
+      → WaitedFor IsUnfinished (onto_left window left) left (count + length more)
+  head-waits next more count came whole few =
+      waited-for IsUnfinished window left read now left' count (count + length more) whole (omega (arith, few)) so_far
+      (head-open next came).1
+
   -- fewer bytes are left to a head than before
   pub head-nears : (next more : List ℕ) (most : ℕ) → step ≡ heads.More next → length next < most → 0 < length more
       → most - (length next + length more) < most - (length read + length now)
@@ -113,31 +121,33 @@ module _ (window : List ℕ) (left : Option (List ℕ)) (read piece now : List �
 -- too long a head came, and nothing is to come then
 pub read-long : {State : Type 0} (old new : Exchange State) (it : Found) (window : List ℕ) (left : Option (List ℕ))
     → it ≡ found.Long → Finds old.coming it window left
-    → GivesAtMost old.left left old.received new.received (most_bytes + 1) → IsIdle new → new.state ≡ old.state
-    → old.faults ≤ new.faults → IsHeadRead old HeadLong new
-read-long old new it window left is finds few idle state later = record {
+    → GivesAtMost IsUnfinished old.coming old.left left old.received new.received (most_bytes + 1) → IsIdle new
+    → new.state ≡ old.state → new.faults ≡ old.faults → IsHeadRead old HeadLong new
+read-long old new it window left is finds few idle state same = record {
   head_is = (subst (λ (f : Found). Finds old.coming f window left) is finds, idle);
   count = few.gives.count;
   few = few.few;
-  gives = hung-up old new HeadLong left refl few.gives;
+  waited = few.gives.waited;
+  gives = hung-up IsUnfinished old new HeadLong left refl few.gives;
   state_is = state;
-  caused = uncaused HeadLong old.faults new.faults later refl;
+  caused = same;
 }
 
 -- the final head came, and the bytes after it are to come
 pub read-final : {State : Type 0} (old new : Exchange State) (it : Found) (window : List ℕ) (head : Head) (n : ℕ)
     → it ≡ found.Head head n → Finds old.coming it window new.left
-    → GivesAtMost old.left new.left old.received new.received (most_bytes + 1)
+    → GivesAtMost IsUnfinished old.coming old.left new.left old.received new.received (most_bytes + 1)
     → new.coming ≡ onto_left (drop n window) new.left → new.framing ≡ framing_of head → new.state ≡ old.state
-    → old.faults ≤ new.faults → IsHeadRead old (HeadIs head) new
-read-final old new it window head n is finds few behind framed state later =
+    → new.faults ≡ old.faults → IsHeadRead old (HeadIs head) new
+read-final old new it window head n is finds few behind framed state same =
     let here : Finds old.coming (found.Head head n) window new.left =
     subst (λ (f : Found). Finds old.coming f window new.left) is finds in
     record {
       head_is = (subst (λ (c : Option (List ℕ)). HasHead old.coming head c) (sym behind) here.1, framed);
       count = few.gives.count;
       few = few.few;
+      waited = few.gives.waited;
       gives = record { counted = few.gives.counted; gone = λ (open_ : _). few.gives.gone };
       state_is = state;
-      caused = uncaused (HeadIs head) old.faults new.faults later refl;
+      caused = same;
     }

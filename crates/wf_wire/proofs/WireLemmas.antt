@@ -1,6 +1,6 @@
 -- What a wire's window and its link have of the bytes that were to come.
 use Rattle.std.proofs.Common.{◌≡◌, ℕ, ◌+◌, ◌-◌, ◌≤◌, List, [], ◌++◌, take, drop, length, refl, ap, sym}
-use Rattle.std.proofs.Common.{true, false, subst, ◌∙◌, arith, append_assoc, length-append, Option, Some, None}
+use Rattle.std.proofs.Common.{true, false, inl, inr, ◌<◌, subst, ◌∙◌, arith, append_assoc, length-append, Option, Some, None}
 use Rattle.std.specs.Prelude.{slice_range, unwrap_or}
 use Rattle.std.proofs.lemmas.List.{append-nil, drop-append-le, drop-drop, drop-take, length-take, take-append-drop}
 use Rattle.std.proofs.lemmas.List.{take-take}
@@ -10,8 +10,8 @@ use Rattle.wf_link.specs.Sources.{Gave, GaveJust, IsAtEnd}
 use Rattle.wf_link.proofs.ReceivedLemmas.{received-none, received-on}
 use Rattle.wf_link.proofs.SourceLemmas.{gave-again}
 use Rattle.wf_act.specs.declared.act.Input.{Input}
-use Rattle.wf_wire.specs.Exchanges.{AreToCome, Exchange, Gives, IsCaused, Refuses, ends_answer, is_fault}
-use Rattle.wf_wire.specs.Private.Reads.{GivesAtMost, GivesSome}
+use Rattle.wf_wire.specs.Exchanges.{AreToCome, Exchange, Gives, Refuses, Waited, WaitedFor, ends_answer, most_received}
+use Rattle.wf_wire.specs.Private.Reads.{Gathers, GivesAtMost, GivesSome}
 use Rattle.wf_wire.specs.Wires.{onto_left}
 
 -- no bytes before what a link has left
@@ -27,11 +27,6 @@ window-behind buffer from to count within =
     let parts : to - from ≡ count + rest = omega (arith, within, length-take (to - from) (drop from buffer)) in
     sym (ap (λ (n : ℕ). drop count (take n (drop from buffer))) parts ∙ drop-take count rest (drop from buffer)
     ∙ ap (λ (l : List ℕ). take rest l) (drop-drop count from buffer))
-
--- an input that tells of no fault needs no cause
-pub uncaused : (input : Input) (before now : ℕ) → before ≤ now → is_fault input ≡ false → IsCaused input before now
-uncaused input before now later none =
-    record { later = later; rose = λ (fault : is_fault input ≡ true). absurd (cc) }
 
 -- ---- what was received
 
@@ -160,99 +155,105 @@ gathered-more a b c old lent new now from to count front so_far same kept gave i
 
 -- ---- what was received is counted
 
--- So many bytes were received since there were a window and counts: they were read, or are in the window now.
-pub record Counts (window : List ℕ) (received : Option (List ℕ)) (read now : List ℕ) (received' : Option (List ℕ))
-    : Type 0 where
-  pub count : ℕ
-  pub counted : Received count received received'
-  pub whole : length window + count ≡ length read + length now
-
-pub counts-none : (window : List ℕ) (received : Option (List ℕ)) → Counts window received [] window received
-counts-none window received = record { count = 0; counted = received-none received; whole = omega arith }
-
--- the window was read, and so many bytes more were received
-pub counts-more : (window : List ℕ) (received : Option (List ℕ)) (read now next more : List ℕ)
-    (received' received'' : Option (List ℕ)) → next ≡ read ++ now → Received (length more) received' received''
-    → Counts window received read now received' → Counts window received next more received''
-counts-more window received read now next more received' received'' is counted so_far = record {
-  count = so_far.count + length more;
-  counted = received-on so_far.count (length more) received received' received'' so_far.counted counted;
-  whole = omega (arith, so_far.whole, ap length is, length-append read now);
-}
-
--- so many bytes were given, and they were counted
-given-counted : (window : List ℕ) (left received : Option (List ℕ)) (read now : List ℕ)
-    (left' received' : Option (List ℕ)) → Receives window left read now left'
-    → (counts : Counts window received read now received') → GaveJust left left' counts.count
-given-counted window left received read now left' received' so_far counts = record {
+-- so many bytes were given
+given-just : (window : List ℕ) (left : Option (List ℕ)) (read now : List ℕ) (left' : Option (List ℕ)) (count : ℕ)
+    → length window + count ≡ length read + length now → Receives window left read now left'
+    → GaveJust left left' count
+given-just window left read now left' count whole so_far = record {
   given = so_far.given;
   gave = so_far.gave;
-  just = omega (arith, ap length so_far.whole, length-append read now, length-append window so_far.given, counts.whole);
+  just = omega (arith, ap length so_far.whole, length-append read now, length-append window so_far.given, whole);
 }
 
-pub gives-counted : (window : List ℕ) (left received : Option (List ℕ)) (read now : List ℕ)
-    (left' received' : Option (List ℕ)) → Receives window left read now left'
-    → Counts window received read now received' → GivesSome left left' received received'
-gives-counted window left received read now left' received' so_far counts = record {
-  count = counts.count;
-  gone = given-counted window left received read now left' received' so_far counts;
-  counted = counts.counted;
-}
+module _ (Open : List ℕ → Type 0) (window : List ℕ) (left : Option (List ℕ)) where
+  -- what was received was open, and then one receive gave some more
+  pub waited-for : (read now : List ℕ) (mid : Option (List ℕ)) (earlier count : ℕ)
+      → length window + earlier ≡ length read + length now → count ≤ earlier + most_received
+      → Receives window left read now mid → Open (read ++ now) → WaitedFor Open (onto_left window left) left count
+  waited-for read now mid earlier count whole few so_far open_ = record {
+    earlier = earlier;
+    few = few;
+    mid = mid;
+    gone = given-just window left read now mid earlier whole so_far;
+    bytes = read ++ now;
+    came = come-first window read now left mid so_far;
+    waits = open_;
+  }
+
+module _ (Open : List ℕ → Type 0) (window : List ℕ) (left received : Option (List ℕ)) where
+  -- So many bytes were received since there were a window and counts: they were read, or are in the window now. Before
+  -- the last receive what had come was open.
+  pub record Counts (read now : List ℕ) (received' : Option (List ℕ)) : Type 0 where
+    pub count : ℕ
+    pub counted : Received count received received'
+    pub whole : length window + count ≡ length read + length now
+    pub waited : Waited Open (onto_left window left) left count
+
+  pub counts-none : Counts [] window received
+  counts-none = record { count = 0; counted = received-none received; whole = omega arith; waited = inl refl }
+
+  -- the window was read, and so many bytes more were received
+  pub counts-more : (read now next more : List ℕ) (received' received'' : Option (List ℕ)) → next ≡ read ++ now
+      → Received (length more) received' received'' → (so_far : Counts read now received')
+      → WaitedFor Open (onto_left window left) left (so_far.count + length more) → Counts next more received''
+  counts-more read now next more received' received'' is counted so_far waited = record {
+    count = so_far.count + length more;
+    counted = received-on so_far.count (length more) received received' received'' so_far.counted counted;
+    whole = omega (arith, so_far.whole, ap length is, length-append read now);
+    waited = inr waited;
+  }
+
+  -- they were given and counted
+  pub gives-counted : (read now : List ℕ) (left' received' : Option (List ℕ)) → Receives window left read now left'
+      → Counts read now received' → GivesSome Open (onto_left window left) left left' received received'
+  gives-counted read now left' received' so_far counts = record {
+    count = counts.count;
+    gone = given-just window left read now left' counts.count counts.whole so_far;
+    counted = counts.counted;
+    waited = counts.waited;
+  }
+
+  -- and they are not more than were read and are in the window
+  pub gives-few : (read now : List ℕ) (left' received' : Option (List ℕ)) (most : ℕ)
+      → length read + length now ≤ most → Receives window left read now left' → Counts read now received'
+      → GivesAtMost Open (onto_left window left) left left' received received' most
+  gives-few read now left' received' most few so_far counts =
+      let fewer : counts.count ≤ most = omega (arith, counts.whole, few) in
+      record { gives = gives-counted read now left' received' so_far counts; few = fewer }
 
 -- nothing was given
-pub gives-none : (left received : Option (List ℕ)) → GivesSome left left received received
-gives-none left received = record {
+pub gives-none : (Open : List ℕ → Type 0) (coming left received : Option (List ℕ))
+    → GivesSome Open coming left left received received
+gives-none Open coming left received = record {
   count = 0;
   gone = record { given = []; gave = gave-nothing left; just = refl };
   counted = received-none received;
+  waited = inl refl;
 }
 
-pub few-none : (left received : Option (List ℕ)) (most : ℕ) → GivesAtMost left left received received most
-few-none left received most =
-    let few : 0 ≤ most = omega arith in
-    record {
-      gives = record {
-        count = 0;
-        gone = record { given = []; gave = gave-nothing left; just = refl };
-        counted = received-none received;
-      };
-      few = few;
-    }
+pub few-none : (Open : List ℕ → Type 0) (coming left received : Option (List ℕ)) (most : ℕ)
+    → GivesAtMost Open coming left left received received most
+few-none Open coming left received most =
+    let few : 0 ≤ most = omega arith in record { gives = gives-none Open coming left received; few = few }
 
 -- nothing more was
-pub few-on : (left left' left'' received received' received'' : Option (List ℕ)) (most : ℕ) → left'' ≡ left'
-    → received'' ≡ received' → GivesAtMost left left' received received' most
-    → GivesAtMost left left'' received received'' most
-few-on left left' left'' received received' received'' most same alike few = rw (same, alike) few
-
--- and they are not more than were read and are in the window
-pub gives-few : (window : List ℕ) (left received : Option (List ℕ)) (read now : List ℕ)
-    (left' received' : Option (List ℕ)) (most : ℕ) → length read + length now ≤ most
-    → Receives window left read now left' → Counts window received read now received'
-    → GivesAtMost left left' received received' most
-gives-few window left received read now left' received' most few so_far counts =
-    let fewer : counts.count ≤ most = omega (arith, counts.whole, few) in
-    record {
-      gives = record {
-        count = counts.count;
-        gone = given-counted window left received read now left' received' so_far counts;
-        counted = counts.counted;
-      };
-      few = fewer;
-    }
+pub few-on : (Open : List ℕ → Type 0) (coming left left' left'' received received' received'' : Option (List ℕ))
+    (most : ℕ) → left'' ≡ left' → received'' ≡ received' → GivesAtMost Open coming left left' received received' most
+    → GivesAtMost Open coming left left'' received received'' most
+few-on Open coming left left' left'' received received' received'' most same alike few = rw (same, alike) few
 
 -- memory was refused, and nothing was received
 pub refuses_none : {State : Type 0} (exchange : Exchange State) → Refuses exchange exchange
 refuses_none exchange =
-    record { state_is = refl; count = 0; counted = received-none exchange.received; later = omega arith }
+    record { state_is = refl; count = 0; counted = received-none exchange.received; faults_is = refl }
 
 -- ---- an act's bytes
 
 -- the link was hung up then
-pub hung-up : {State : Type 0} (old new : Exchange State) (input : Input) (left : Option (List ℕ))
-    → ends_answer input ≡ true → (gives : GivesSome old.left left old.received new.received)
-    → Gives old input new gives.count
-hung-up old new input left ends gives = record {
+pub hung-up : {State : Type 0} (Open : List ℕ → Type 0) (old new : Exchange State) (input : Input)
+    (left : Option (List ℕ)) → ends_answer input ≡ true
+    → (gives : GivesSome Open old.coming old.left left old.received new.received) → Gives old input new gives.count
+hung-up Open old new input left ends gives = record {
   counted = gives.counted;
   gone = λ (open_ : ends_answer input ≡ false). absurd (cc);
 }
@@ -271,3 +272,25 @@ gathered-counted a b c old now from to count front before within so_far more =
     subst (λ (n : ℕ). Received n a c) (sym (front-length now from (to + count) front within))
     (received-on to count a b c
     (subst (λ (n : ℕ). Received n a b) (front-length old from to front before) so_far) more)
+
+-- ---- what was gathered before the last receive
+
+pub gathers : (left mid : Option (List ℕ)) (old now : List ℕ) (from to count fewest : ℕ) → from ≡ 0 → to ≤ length old
+    → to + count ≤ length now → length now ≡ 4096 → Gave left mid (slice_range old from to) → (0 < to → to < fewest)
+    → Gathers fewest left (slice_range now from (to + count))
+gathers left mid old now from to count fewest front before within size gave waits =
+    let had = front-length old from to front before in
+    let has = front-length now from (to + count) front within in
+    record {
+      before = slice_range old from to;
+      mid = mid;
+      gave = gave;
+      waits = λ some. omega (arith, waits (omega (arith, had, some)), had);
+      few = omega (arith, has, within, size);
+    }
+
+-- and where the link failed nothing came after that
+pub gathers-same : (left mid : Option (List ℕ)) (window : List ℕ) (fewest : ℕ) → Gave left mid window
+    → (0 < length window → length window < fewest) → Gathers fewest left window
+gathers-same left mid window fewest gave waits =
+    record { before = window; mid = mid; gave = gave; waits = waits; few = omega arith }

@@ -7,7 +7,7 @@ use Rattle.wf_types.specs.declared.hop.Head.{Head}
 use Rattle.wf_types.specs.declared.hop.Hop.{Hop}
 use Rattle.wf_types.specs.declared.response.BodyEnd.{BodyEnd}
 use Rattle.wf_types.specs.declared.response.BodyEnd.TheVariants as body
-use Rattle.wf_link.specs.Counts.{Rose}
+use Rattle.wf_link.specs.Counts.{one_more}
 use Rattle.wf_link.specs.Links.{Awaits, Received}
 use Rattle.wf_link.specs.Sources.{Gave, GaveJust, IsAtEnd}
 use Rattle.wf_http1.specs.Answers.{HeadEnd, IsHeadEnd, IsUnfinished, final, bad, long, most_bytes}
@@ -59,10 +59,9 @@ is_fault Fault = true
 is_fault (BodyIs (body.Fault n)) = true
 is_fault _ = false
 
--- The count of faults has not fallen, and it rose where the input is a fault.
-pub record IsCaused (input : Input) (before now : ℕ) : Type 0 where
-  pub later : before ≤ now
-  pub rose : is_fault input ≡ true → Rose before now
+-- the count of faults rose by one where the input is a fault, and is as it was otherwise
+abbrev pub IsCaused : Input → ℕ → ℕ → Type 0
+IsCaused input before now = now ≡ (if is_fault input then one_more before else before)
 
 -- ---- the request
 
@@ -108,6 +107,25 @@ pub record Gives {State : Type 0} (old : Exchange State) (input : Input) (new : 
   pub counted : Received count old.received new.received
   pub gone : ends_answer input ≡ false → GaveJust old.left new.left count
 
+-- the most bytes that one receive gives
+abbrev pub most_received : ℕ
+most_received = 4096
+
+-- Before the last receive what had come was open, and the link had given these many bytes. That receive gave 4,096 at
+-- most.
+pub record WaitedFor (Open : List ℕ → Type 0) (coming left : Option (List ℕ)) (count : ℕ) : Type 0 where
+  pub earlier : ℕ
+  pub few : count ≤ earlier + most_received
+  pub mid : Option (List ℕ)
+  pub gone : GaveJust left mid earlier
+  pub bytes : List ℕ
+  pub came : Gave coming mid bytes
+  pub waits : Open bytes
+
+-- the link gave so many bytes: none, or no more than were needed, but for those of one receive
+abbrev pub Waited : (List ℕ → Type 0) → Option (List ℕ) → Option (List ℕ) → ℕ → Type 0
+Waited Open coming left count = (count ≡ 0) ⊎ WaitedFor Open coming left count
+
 -- ---- the head
 
 -- Some bytes, those to come where told, have this final head, and those after it are to come then.
@@ -138,11 +156,13 @@ FindsHead old HeadLong new = HasNoHead old.coming long × IsIdle new
 FindsHead old Fault new = LeavesHead old.coming new.left × IsBrokenOff new
 FindsHead old _ new = ⊥
 
--- The head was read, or the link failed. In this read the link gave 65,537 bytes at most.
+-- The head was read, or the link failed. In this read the link gave 65,537 bytes at most, and none but those of one
+-- receive once the head was decided.
 pub record IsHeadRead {State : Type 0} (old : Exchange State) (input : Input) (new : Exchange State) : Type 0 where
   pub head_is : FindsHead old input new
   pub count : ℕ
   pub few : count ≤ most_bytes + 1
+  pub waited : Waited IsUnfinished old.coming old.left count
   pub gives : Gives old input new count
   pub state_is : new.state ≡ old.state
   pub caused : IsCaused input old.faults new.faults
@@ -184,11 +204,13 @@ abbrev pub FindsBody : {State : Type 0} → ℕ → Exchange State → Input →
 FindsBody limit old (BodyIs end) new = EndsBody old.framing limit old.coming end new.left × IsBehind end new
 FindsBody limit old _ new = ⊥
 
--- The body was read, with so many bytes at most, or the link failed.
+-- The body was read, with so many bytes at most, or the link failed. The link gave no bytes but those of one receive
+-- once the body was decided.
 pub record IsBodyRead {State : Type 0} (limit : ℕ) (old : Exchange State) (input : Input) (new : Exchange State)
     : Type 0 where
   pub body_is : FindsBody limit old input new
   pub count : ℕ
+  pub waited : Waited (IsOpen old.framing limit) old.coming old.left count
   pub gives : Gives old input new count
   pub state_is : new.state ≡ old.state
   pub caused : IsCaused input old.faults new.faults
@@ -204,10 +226,9 @@ Exchanges by limit old ReadBody input new = IsBodyRead limit old input new
 Exchanges by limit old (Ask op) input new = ⊥
 Exchanges by limit old (Tell violation) input new = ⊥
 
--- Where memory was refused the state is as it was, some bytes may have been received, and the count of faults has not
--- fallen.
+-- Where memory was refused the state and the count of faults are as they were, and some bytes may have been received.
 pub record Refuses {State : Type 0} (old new : Exchange State) : Type 0 where
   pub state_is : new.state ≡ old.state
   pub count : ℕ
   pub counted : Received count old.received new.received
-  pub later : old.faults ≤ new.faults
+  pub faults_is : new.faults ≡ old.faults

@@ -1,12 +1,12 @@
 // What is done over a wire: a request goes out, and the head and the body of its answer come in.
 ghost use Rattle.std.specs.Prelude.{◌≡◌, ◌≤◌, ◌+◌, ◌-◌, ◌^◌, ◌++◌, length, IfOk, OnErr, IsTrue};
-ghost use Rattle.wf_link.specs.Counts.{Rose};
-ghost use Rattle.wf_http1.specs.Answers.{most_bytes};
-ghost use Rattle.wf_http1.specs.Bodies.{body_end};
+ghost use Rattle.wf_http1.specs.Answers.{IsUnfinished, most_bytes};
+ghost use Rattle.wf_http1.specs.Bodies.{IsOpen, body_end};
 ghost use Rattle.wf_act.specs.Process.{fits};
 ghost use Rattle.wf_wire.specs.Exchanges as spec;
 ghost use Rattle.wf_wire.specs.Exchanges.{IsAsked, IsBodyRead, IsHeadRead, IsSent, Refuses};
-ghost use Rattle.wf_wire.specs.Private.Reads.{Finds, GivesAtMost, GivesSome, HasAtMost, IsFault, Reads};
+ghost use Rattle.wf_wire.specs.Private.Reads.{Finds, GivesAtMost, GivesSome, HasAtMost, Reads, faults_ended};
+ghost use Rattle.wf_wire.specs.Private.Reads.{faults_found};
 ghost use Rattle.wf_wire.specs.Wires.{coming_of, exchange_of, over_link, window_of};
 
 use crate::wire::{RECEIVED, Wire};
@@ -66,8 +66,8 @@ fn fitted(alloc: Global, end: BodyEnd) -> Result<BodyEnd, OutOfMemory>
 
 impl Wire {
     /// Sends a request (RFC 9112, section 3). Its answer is to come, and nothing of the one before. `Fault`
-    /// only where the link's count of faults rose; then the link is hung up. Where memory was refused
-    /// nothing is sent, and all is as it was.
+    /// where the link failed, and only there; then it is hung up. Where memory was refused nothing is sent,
+    /// and all is as it was.
     #[tactic(auto, using(crate::proofs::WireLemmas::refuses_none))]
     pub fn send<L: Link>(
         &mut self,
@@ -111,8 +111,9 @@ impl Wire {
 
     /// Reads the head of the answer to the last request (RFC 9112, section 4): the final head, or what came
     /// is none, or it is longer than 65,536 bytes; then the link is hung up. It takes 65,537 bytes of the link
-    /// at most. `Fault` only where the link's count of faults rose while the head was open; then what was
-    /// received is dropped. Where memory was refused nothing is said of what is to come.
+    /// at most, and of those after the head's end no more than come with it in one receive, of 4,096 at most.
+    /// `Fault` where the link failed while the head was open, and only there; then what was received is dropped.
+    /// Where memory was refused nothing is said of what is to come.
     #[tactic(auto, using(crate::proofs::WireLemmas::onto_nothing))]
     pub fn read_head<L: Link>(&mut self, link: &mut L, alloc: Global) -> Result<Input, OutOfMemory>
         ensures read { IfOk result (λ input. IsHeadRead
@@ -149,11 +150,10 @@ impl Wire {
         ensures found { IfOk result (λ found. Finds (coming_of L.left link.old self.old) found (window_of self.new)
             (L.left link.new)) }
         ensures state { L.state link.new ≡ L.state link.old }
-        ensures later { L.faults link.old ≤ L.faults link.new }
-        ensures rose { IfOk result (λ found. found ≡ Found.Fault
-            → Rose (L.faults link.old) (L.faults link.new)) }
-        ensures few { GivesAtMost (L.left link.old) (L.left link.new) (L.received link.old) (L.received link.new)
-            (most_bytes + 1) }
+        ensures faults { IfOk result (λ found. L.faults link.new ≡ faults_found found (L.faults link.old)) }
+        ensures refused { OnErr result (L.faults link.new ≡ L.faults link.old) }
+        ensures few { GivesAtMost IsUnfinished (coming_of L.left link.old self.old) (L.left link.old)
+            (L.left link.new) (L.received link.old) (L.received link.new) (most_bytes + 1) }
     {
         let mut reader = HeadReader::new(alloc)?;
         loop {
@@ -173,9 +173,10 @@ impl Wire {
     }
 
     /// Reads the body whose head was read last, of so many bytes at most (RFC 9112, section 6), and hangs up,
-    /// unless the link fails. The body ends in `Fault`, with the number of bytes that had come of it, only
-    /// where the link's count of faults rose while the body was open; then what was received is dropped.
-    /// Where memory was refused nothing is said of what is to come.
+    /// unless the link fails. Of the bytes after the body's end it takes no more than come with it in one
+    /// receive, of 4,096 at most. The body ends in `Fault`, with the
+    /// number of bytes that had come of it, where the link failed while the body was open, and only there; then
+    /// what was received is dropped. Where memory was refused nothing is said of what is to come.
     #[tactic(auto, using(crate::proofs::WireLemmas::onto_nothing))]
     pub fn read_body<L: Link>(
         &mut self,
@@ -212,9 +213,10 @@ impl Wire {
         ensures ended { IfOk result (λ ended. Reads self.old.framing limit (coming_of L.left link.old self.old)
             ended (L.left link.new)) }
         ensures state { L.state link.new ≡ L.state link.old }
-        ensures later { L.faults link.old ≤ L.faults link.new }
-        ensures rose { IfOk result (λ ended. IsFault ended → Rose (L.faults link.old) (L.faults link.new)) }
-        ensures gives { GivesSome (L.left link.old) (L.left link.new) (L.received link.old) (L.received link.new) }
+        ensures faults { IfOk result (λ ended. L.faults link.new ≡ faults_ended ended (L.faults link.old)) }
+        ensures refused { OnErr result (L.faults link.new ≡ L.faults link.old) }
+        ensures gives { GivesSome (IsOpen self.old.framing limit) (coming_of L.left link.old self.old)
+            (L.left link.old) (L.left link.new) (L.received link.old) (L.received link.new) }
     {
         let mut reader = BodyReader::framed(alloc, self.framing, limit)?;
         loop {

@@ -22,7 +22,7 @@ pub struct Wire {
     pub(crate) framing: Framing,
     pub ghost ordered: { from ≤ to },
     pub ghost within: { to ≤ length buffer.items },
-    pub ghost room: { 0 < length buffer.items },
+    pub ghost size: { length buffer.items ≡ 4096 },
 }
 
 // Receives at most so many bytes at the front of the buffer, and answers how many.
@@ -64,6 +64,7 @@ fn receive_behind<L: Link>(link: &mut L, buffer: &mut [u8], behind: usize) -> Re
 
 impl Wire {
     ghost use Rattle.wf_wire.specs.Exchanges.{IsIdle};
+    ghost use Rattle.wf_wire.specs.Private.Reads.{Gathers};
     ghost use Rattle.wf_wire.specs.Wires.{exchange_of, window_of};
 
     /// A wire over a link, with a buffer of 4,096 bytes. Nothing is to come: the link is hung up.
@@ -160,6 +161,7 @@ impl Wire {
         ensures some { IfOk result (λ more. more ≡ true → 0 < length (window_of self.new)) }
         ensures end { IfOk result (λ more. more ≡ false → IsAtEnd (L.left link.new)) }
         ensures few { OnErr result (0 < length (window_of self.new) → length (window_of self.new) < fewest) }
+        ensures before { Gathers fewest (L.left link.old) (window_of self.new) }
         ensures received { Received (length (window_of self.new)) (L.received link.old) (L.received link.new) }
         ensures cause { HasCause (L.faults link.old) (L.faults link.new) result }
     {

@@ -1,7 +1,8 @@
 use Rattle.std.proofs.Common.{◌∙◌, ◌≡◌, ◌-◌, ◌^◌, arith, refl}
+use Rattle.wf_http1.specs.Bodies.{IsOpen}
 use Rattle.wf_wire.specs.Wires.{window_of}
 use Rattle.wf_wire.proofs.BodyLemmas.{body-ended, body-fails, body-framed, body-goes-on, body-limited, body-nears}
-use Rattle.wf_wire.proofs.BodyLemmas.{body-over, body-read, end-most}
+use Rattle.wf_wire.proofs.BodyLemmas.{body-over, body-read, body-waits, end-most}
 use Rattle.wf_wire.proofs.WireLemmas.{counts-more, counts-none, gives-counted, gives-none, receives-none}
 use Rattle.wf_wire.proofs.wire.Wire.find_end.Goals as goal
 
@@ -54,83 +55,101 @@ pub loop-end-preserved : goal.loop-end-preserved
 loop-end-preserved g c =
     let is = c.loop-end.invariant in
     let came = c.in-Ok-true.ensures in
+    let gathered = c.gather.ensures in
     record {
-      received = body-goes-on (window_of c.args.self.now) (g.L.Link.left c.args.link.now)
-          c.args.self.now.framing c.args.limit c.loop-end.reader c.window.result.now (window_of c.loop-end.self)
-          (g.L.Link.left c.loop-end.link) c.window.ensures is.framing is.limit is.received c.in-More.next
-          (window_of c.gather.new.self) (g.L.Link.left c.gather.new.link) c.in-More.ensures c.gather.ensures.gave;
-      counts = counts-more (window_of c.args.self.now) (g.L.Link.received c.args.link.now) c.loop-end.reader.bytes
-          (window_of c.loop-end.self) c.in-More.next.bytes (window_of c.gather.new.self)
-          (g.L.Link.received c.loop-end.link) (g.L.Link.received c.gather.new.link)
-          (body-read (window_of c.args.self.now) (g.L.Link.left c.args.link.now) c.args.self.now.framing c.args.limit
-          c.loop-end.reader c.window.result.now (window_of c.loop-end.self) (g.L.Link.left c.loop-end.link)
-          c.window.ensures is.framing is.limit is.received c.in-More.next c.in-More.ensures) c.gather.ensures.received
-          is.counts;
-      framing = body-framed (window_of c.args.self.now) (g.L.Link.left c.args.link.now)
-          c.args.self.now.framing c.args.limit c.loop-end.reader c.window.result.now (window_of c.loop-end.self)
-          (g.L.Link.left c.loop-end.link) c.window.ensures is.framing is.limit is.received c.in-More.next
-          c.in-More.ensures;
-      limit = body-limited (window_of c.args.self.now) (g.L.Link.left c.args.link.now)
-          c.args.self.now.framing c.args.limit c.loop-end.reader c.window.result.now (window_of c.loop-end.self)
-          (g.L.Link.left c.loop-end.link) c.window.ensures is.framing is.limit is.received c.in-More.next
-          c.in-More.ensures;
+      received = body-goes-on (window_of c.args.self.now) (g.L.Link.left c.args.link.now) c.args.self.now.framing c.args.limit
+    c.loop-end.reader c.window.result.now (window_of c.loop-end.self) (g.L.Link.left c.loop-end.link)
+    c.window.ensures is.framing is.limit is.received c.in-More.next
+          (window_of c.gather.new.self) (g.L.Link.left c.gather.new.link) c.in-More.ensures gathered.gave;
+      counts = counts-more (IsOpen c.args.self.now.framing c.args.limit) (window_of c.args.self.now) (g.L.Link.left c.args.link.now)
+    (g.L.Link.received c.args.link.now) c.loop-end.reader.bytes (window_of c.loop-end.self) c.in-More.next.bytes
+    (window_of c.gather.new.self) (g.L.Link.received c.loop-end.link) (g.L.Link.received c.gather.new.link)
+    (body-read (window_of c.args.self.now) (g.L.Link.left c.args.link.now) c.args.self.now.framing c.args.limit
+    c.loop-end.reader c.window.result.now (window_of c.loop-end.self) (g.L.Link.left c.loop-end.link)
+    c.window.ensures is.framing is.limit is.received c.in-More.next c.in-More.ensures)
+    gathered.received is.counts
+    (body-waits (window_of c.args.self.now) (g.L.Link.left c.args.link.now) c.args.self.now.framing c.args.limit
+    c.loop-end.reader c.window.result.now (window_of c.loop-end.self) (g.L.Link.left c.loop-end.link)
+    c.window.ensures is.framing is.limit is.received c.in-More.next
+    (window_of c.gather.new.self) is.counts.count c.fewest.result c.in-More.ensures gathered.before c.fewest.ensures.open
+    is.counts.whole);
+      framing = body-framed (window_of c.args.self.now) (g.L.Link.left c.args.link.now) c.args.self.now.framing c.args.limit
+    c.loop-end.reader c.window.result.now (window_of c.loop-end.self) (g.L.Link.left c.loop-end.link)
+    c.window.ensures is.framing is.limit is.received c.in-More.next c.in-More.ensures;
+      limit = body-limited (window_of c.args.self.now) (g.L.Link.left c.args.link.now) c.args.self.now.framing c.args.limit
+    c.loop-end.reader c.window.result.now (window_of c.loop-end.self) (g.L.Link.left c.loop-end.link)
+    c.window.ensures is.framing is.limit is.received c.in-More.next c.in-More.ensures;
       state = came.state ∙ is.state;
-      later = omega (arith, is.later, came.cause.later);
+      faults = came.cause.quiet ∙ is.faults;
     }
 
 pub returns-in-Over-clause-gives : goal.returns-in-Over-clause-gives
 returns-in-Over-clause-gives g c =
     let is = c.loop-end.invariant in
-    gives-counted (window_of c.args.self.now) (g.L.Link.left c.args.link.now) (g.L.Link.received c.args.link.now)
-    c.loop-end.reader.bytes (window_of c.loop-end.self) (g.L.Link.left c.loop-end.link)
-    (g.L.Link.received c.loop-end.link) is.received is.counts
+    gives-counted (IsOpen c.args.self.now.framing c.args.limit) (window_of c.args.self.now) (g.L.Link.left c.args.link.now)
+    (g.L.Link.received c.args.link.now) c.loop-end.reader.bytes (window_of c.loop-end.self)
+    (g.L.Link.left c.loop-end.link) (g.L.Link.received c.loop-end.link) is.received is.counts
 
 pub returns-in-Ok-false-clause-gives : goal.returns-in-Ok-false-clause-gives
 returns-in-Ok-false-clause-gives g c =
     let is = c.loop-end.invariant in
     let came = c.gather.ensures in
-    gives-counted (window_of c.args.self.now) (g.L.Link.left c.args.link.now) (g.L.Link.received c.args.link.now)
-    c.in-More.next.bytes (window_of c.gather.new.self) (g.L.Link.left c.gather.new.link)
-    (g.L.Link.received c.gather.new.link)
+    gives-counted (IsOpen c.args.self.now.framing c.args.limit) (window_of c.args.self.now) (g.L.Link.left c.args.link.now)
+    (g.L.Link.received c.args.link.now) c.in-More.next.bytes (window_of c.gather.new.self)
+    (g.L.Link.left c.gather.new.link) (g.L.Link.received c.gather.new.link)
     (body-goes-on (window_of c.args.self.now) (g.L.Link.left c.args.link.now) c.args.self.now.framing c.args.limit
     c.loop-end.reader c.window.result.now (window_of c.loop-end.self) (g.L.Link.left c.loop-end.link)
-    c.window.ensures is.framing is.limit is.received c.in-More.next (window_of c.gather.new.self)
-    (g.L.Link.left c.gather.new.link) c.in-More.ensures came.gave)
-    (counts-more (window_of c.args.self.now) (g.L.Link.received c.args.link.now) c.loop-end.reader.bytes
-    (window_of c.loop-end.self) c.in-More.next.bytes (window_of c.gather.new.self)
-    (g.L.Link.received c.loop-end.link) (g.L.Link.received c.gather.new.link)
+    c.window.ensures is.framing is.limit is.received c.in-More.next
+    (window_of c.gather.new.self) (g.L.Link.left c.gather.new.link) c.in-More.ensures came.gave)
+    (counts-more (IsOpen c.args.self.now.framing c.args.limit) (window_of c.args.self.now) (g.L.Link.left c.args.link.now)
+    (g.L.Link.received c.args.link.now) c.loop-end.reader.bytes (window_of c.loop-end.self) c.in-More.next.bytes
+    (window_of c.gather.new.self) (g.L.Link.received c.loop-end.link) (g.L.Link.received c.gather.new.link)
     (body-read (window_of c.args.self.now) (g.L.Link.left c.args.link.now) c.args.self.now.framing c.args.limit
     c.loop-end.reader c.window.result.now (window_of c.loop-end.self) (g.L.Link.left c.loop-end.link)
-    c.window.ensures is.framing is.limit is.received c.in-More.next c.in-More.ensures) came.received is.counts)
+    c.window.ensures is.framing is.limit is.received c.in-More.next c.in-More.ensures)
+    came.received is.counts
+    (body-waits (window_of c.args.self.now) (g.L.Link.left c.args.link.now) c.args.self.now.framing c.args.limit
+    c.loop-end.reader c.window.result.now (window_of c.loop-end.self) (g.L.Link.left c.loop-end.link)
+    c.window.ensures is.framing is.limit is.received c.in-More.next
+    (window_of c.gather.new.self) is.counts.count c.fewest.result c.in-More.ensures came.before c.fewest.ensures.open
+    is.counts.whole))
 
 pub returns-in-Err-clause-gives : goal.returns-in-Err-clause-gives
 returns-in-Err-clause-gives g c =
     let is = c.loop-end.invariant in
     let came = c.gather.ensures in
-    gives-counted (window_of c.args.self.now) (g.L.Link.left c.args.link.now) (g.L.Link.received c.args.link.now)
-    c.in-More.next.bytes (window_of c.gather.new.self) (g.L.Link.left c.gather.new.link)
-    (g.L.Link.received c.gather.new.link)
+    gives-counted (IsOpen c.args.self.now.framing c.args.limit) (window_of c.args.self.now) (g.L.Link.left c.args.link.now)
+    (g.L.Link.received c.args.link.now) c.in-More.next.bytes (window_of c.gather.new.self)
+    (g.L.Link.left c.gather.new.link) (g.L.Link.received c.gather.new.link)
     (body-goes-on (window_of c.args.self.now) (g.L.Link.left c.args.link.now) c.args.self.now.framing c.args.limit
     c.loop-end.reader c.window.result.now (window_of c.loop-end.self) (g.L.Link.left c.loop-end.link)
-    c.window.ensures is.framing is.limit is.received c.in-More.next (window_of c.gather.new.self)
-    (g.L.Link.left c.gather.new.link) c.in-More.ensures came.gave)
-    (counts-more (window_of c.args.self.now) (g.L.Link.received c.args.link.now) c.loop-end.reader.bytes
-    (window_of c.loop-end.self) c.in-More.next.bytes (window_of c.gather.new.self)
-    (g.L.Link.received c.loop-end.link) (g.L.Link.received c.gather.new.link)
+    c.window.ensures is.framing is.limit is.received c.in-More.next
+    (window_of c.gather.new.self) (g.L.Link.left c.gather.new.link) c.in-More.ensures came.gave)
+    (counts-more (IsOpen c.args.self.now.framing c.args.limit) (window_of c.args.self.now) (g.L.Link.left c.args.link.now)
+    (g.L.Link.received c.args.link.now) c.loop-end.reader.bytes (window_of c.loop-end.self) c.in-More.next.bytes
+    (window_of c.gather.new.self) (g.L.Link.received c.loop-end.link) (g.L.Link.received c.gather.new.link)
     (body-read (window_of c.args.self.now) (g.L.Link.left c.args.link.now) c.args.self.now.framing c.args.limit
     c.loop-end.reader c.window.result.now (window_of c.loop-end.self) (g.L.Link.left c.loop-end.link)
-    c.window.ensures is.framing is.limit is.received c.in-More.next c.in-More.ensures) came.received is.counts)
+    c.window.ensures is.framing is.limit is.received c.in-More.next c.in-More.ensures)
+    came.received is.counts
+    (body-waits (window_of c.args.self.now) (g.L.Link.left c.args.link.now) c.args.self.now.framing c.args.limit
+    c.loop-end.reader c.window.result.now (window_of c.loop-end.self) (g.L.Link.left c.loop-end.link)
+    c.window.ensures is.framing is.limit is.received c.in-More.next
+    (window_of c.gather.new.self) is.counts.count c.fewest.result c.in-More.ensures came.before c.fewest.ensures.open
+    is.counts.whole))
 
 pub returns-in_err-reader-clause-gives : goal.returns-in_err-reader-clause-gives
 returns-in_err-reader-clause-gives g c =
-    gives-none (g.L.Link.left c.args.link.now) (g.L.Link.received c.args.link.now)
+    gives-none (IsOpen c.args.self.now.framing c.args.limit) _ (g.L.Link.left c.args.link.now) (g.L.Link.received c.args.link.now)
 
 pub loop-end-init : goal.loop-end-init
 loop-end-init g c = record {
   received = rw c.in_ok-reader.ensures (receives-none (window_of c.args.self.now) (g.L.Link.left c.args.link.now));
-  counts = rw c.in_ok-reader.ensures (counts-none (window_of c.args.self.now) (g.L.Link.received c.args.link.now));
+  counts = rw c.in_ok-reader.ensures
+      (counts-none (IsOpen c.args.self.now.framing c.args.limit) (window_of c.args.self.now) (g.L.Link.left c.args.link.now)
+      (g.L.Link.received c.args.link.now));
   framing = rw c.in_ok-reader.ensures refl;
   limit = rw c.in_ok-reader.ensures refl;
   state = refl;
-  later = omega arith;
+  faults = refl;
 }

@@ -1,4 +1,5 @@
-use Rattle.std.proofs.Common.{◌≡◌, ◌≤◌, ◌+◌, ◌-◌, length}
+use Rattle.std.proofs.Common.{◌≡◌, ◌+◌, ◌-◌, length}
+use Rattle.wf_http1.specs.Bodies.{IsOpen}
 use Rattle.wf_http1.specs.BodyLaws.{most_open}
 use Rattle.wf_wire.specs.Wires.{window_of}
 use Rattle.wf_wire.proofs.WireLemmas.{Counts, Receives}
@@ -9,12 +10,12 @@ abbrev pub invariant-loop-end : goal.invariant-loop-end
 invariant-loop-end g l = record {
   received : Receives (window_of l.fn.self) (g.L.Link.left l.fn.link) l.reader.bytes (window_of l.self)
       (g.L.Link.left l.link);
-  counts : Counts (window_of l.fn.self) (g.L.Link.received l.fn.link) l.reader.bytes (window_of l.self)
-      (g.L.Link.received l.link);
+  counts : Counts (IsOpen l.fn.self.framing l.limit) (window_of l.fn.self) (g.L.Link.left l.fn.link)
+      (g.L.Link.received l.fn.link) l.reader.bytes (window_of l.self) (g.L.Link.received l.link);
   framing : l.reader.framing ≡ l.fn.self.framing;
   limit : l.reader.limit ≡ l.limit;
   state : g.L.Link.state l.link ≡ g.L.Link.state l.fn.link;
-  later : g.L.Link.faults l.fn.link ≤ g.L.Link.faults l.link;
+  faults : g.L.Link.faults l.link ≡ g.L.Link.faults l.fn.link;
 }
 
 -- each receive takes a byte, and bytes that leave a body open are so many at most

@@ -1,7 +1,7 @@
 use Rattle.std.proofs.Common.{◌∙◌, ◌+◌, ◌≤◌, length, arith, refl}
-use Rattle.wf_http1.specs.Answers.{most_bytes}
+use Rattle.wf_http1.specs.Answers.{IsUnfinished, most_bytes}
 use Rattle.wf_wire.specs.Wires.{window_of}
-use Rattle.wf_wire.proofs.HeadLemmas.{finds-bad, finds-end, finds-fault, finds-head, finds-long, head-goes-on, head-read}
+use Rattle.wf_wire.proofs.HeadLemmas.{finds-bad, finds-end, finds-fault, finds-head, finds-long, head-goes-on, head-read, head-waits}
 use Rattle.wf_wire.proofs.WireLemmas.{counts-more, counts-none, few-none, gives-few, receives-none}
 use Rattle.wf_wire.proofs.wire.Wire.find_head.Goals as goal
 
@@ -48,32 +48,40 @@ loop-head-preserved g c =
     let read = head-read (window_of c.args.self.now) (g.L.Link.left c.args.link.now) c.loop-head.reader
     c.window.result.now (window_of c.loop-head.self) (g.L.Link.left c.loop-head.link) c.in_ok-head.field-0
     c.window.ensures c.in_ok-head.ensures c.loop-head.invariant.received c.in-More.next c.in-More.is in
-    let counts = counts-more (window_of c.args.self.now) (g.L.Link.received c.args.link.now) c.loop-head.reader
-    (window_of c.loop-head.self) c.in-More.next (window_of c.refill.new.self) (g.L.Link.received c.loop-head.link)
-    (g.L.Link.received c.refill.new.link) read received.received c.loop-head.invariant.counts in
     let few : length c.in-More.next + length (window_of c.refill.new.self) ≤ most_bytes + 1 =
     omega (arith, received.few, c.min.ensures, c.seen_bytes.ensures.value, c.seen_bytes.ensures.few) in
+    let counts = counts-more IsUnfinished (window_of c.args.self.now) (g.L.Link.left c.args.link.now)
+    (g.L.Link.received c.args.link.now) c.loop-head.reader (window_of c.loop-head.self) c.in-More.next
+    (window_of c.refill.new.self) (g.L.Link.received c.loop-head.link) (g.L.Link.received c.refill.new.link) read
+    received.received c.loop-head.invariant.counts
+    (head-waits (window_of c.args.self.now) (g.L.Link.left c.args.link.now) c.loop-head.reader
+    c.window.result.now (window_of c.loop-head.self) (g.L.Link.left c.loop-head.link) c.in_ok-head.field-0
+    c.window.ensures c.in_ok-head.ensures c.loop-head.invariant.received c.in-More.next
+    (window_of c.refill.new.self) c.loop-head.invariant.counts.count c.in-More.is c.loop-head.invariant.counts.whole
+    (omega (arith, received.few, c.min.ensures))) in
     record {
       received = on;
       counts = counts;
-      few = gives-few (window_of c.args.self.now) (g.L.Link.left c.args.link.now)
+      few = gives-few IsUnfinished (window_of c.args.self.now) (g.L.Link.left c.args.link.now)
           (g.L.Link.received c.args.link.now) c.in-More.next (window_of c.refill.new.self)
           (g.L.Link.left c.refill.new.link) (g.L.Link.received c.refill.new.link) (most_bytes + 1) few on counts;
       state = received.state ∙ c.loop-head.invariant.state;
-      later = omega (arith, c.loop-head.invariant.later, received.cause.later);
+      faults = received.cause.quiet ∙ c.loop-head.invariant.faults;
     }
 
 pub returns-in_err-reader-clause-few : goal.returns-in_err-reader-clause-few
 returns-in_err-reader-clause-few g c =
-    few-none (g.L.Link.left c.args.link.now) (g.L.Link.received c.args.link.now) (most_bytes + 1)
+    few-none IsUnfinished _ (g.L.Link.left c.args.link.now) (g.L.Link.received c.args.link.now) (most_bytes + 1)
 
 pub loop-head-init : goal.loop-head-init
 loop-head-init g c = record {
   received = rw c.in_ok-reader.ensures (receives-none (window_of c.args.self.now) (g.L.Link.left c.args.link.now));
-  counts = rw c.in_ok-reader.ensures (counts-none (window_of c.args.self.now) (g.L.Link.received c.args.link.now));
-  few = few-none (g.L.Link.left c.args.link.now) (g.L.Link.received c.args.link.now) (most_bytes + 1);
+  counts = rw c.in_ok-reader.ensures
+      (counts-none IsUnfinished (window_of c.args.self.now) (g.L.Link.left c.args.link.now)
+      (g.L.Link.received c.args.link.now));
+  few = few-none IsUnfinished _ (g.L.Link.left c.args.link.now) (g.L.Link.received c.args.link.now) (most_bytes + 1);
   state = refl;
-  later = omega arith;
+  faults = refl;
 }
 
 pub returns-in-Ok-false-clause-few : goal.returns-in-Ok-false-clause-few
@@ -88,9 +96,15 @@ returns-in-Ok-false-clause-few g c =
     c.window.ensures c.in_ok-head.ensures c.loop-head.invariant.received c.in-More.next c.in-More.is in
     let few : length c.in-More.next + length (window_of c.refill.new.self) ≤ most_bytes + 1 =
     omega (arith, received.few, c.min.ensures, c.seen_bytes.ensures.value, c.seen_bytes.ensures.few) in
-    gives-few (window_of c.args.self.now) (g.L.Link.left c.args.link.now) (g.L.Link.received c.args.link.now)
-    c.in-More.next (window_of c.refill.new.self) (g.L.Link.left c.refill.new.link)
-    (g.L.Link.received c.refill.new.link) (most_bytes + 1) few on
-    (counts-more (window_of c.args.self.now) (g.L.Link.received c.args.link.now) c.loop-head.reader
-    (window_of c.loop-head.self) c.in-More.next (window_of c.refill.new.self) (g.L.Link.received c.loop-head.link)
-    (g.L.Link.received c.refill.new.link) read received.received c.loop-head.invariant.counts)
+    let counts = counts-more IsUnfinished (window_of c.args.self.now) (g.L.Link.left c.args.link.now)
+    (g.L.Link.received c.args.link.now) c.loop-head.reader (window_of c.loop-head.self) c.in-More.next
+    (window_of c.refill.new.self) (g.L.Link.received c.loop-head.link) (g.L.Link.received c.refill.new.link) read
+    received.received c.loop-head.invariant.counts
+    (head-waits (window_of c.args.self.now) (g.L.Link.left c.args.link.now) c.loop-head.reader
+    c.window.result.now (window_of c.loop-head.self) (g.L.Link.left c.loop-head.link) c.in_ok-head.field-0
+    c.window.ensures c.in_ok-head.ensures c.loop-head.invariant.received c.in-More.next
+    (window_of c.refill.new.self) c.loop-head.invariant.counts.count c.in-More.is c.loop-head.invariant.counts.whole
+    (omega (arith, received.few, c.min.ensures))) in
+    gives-few IsUnfinished (window_of c.args.self.now) (g.L.Link.left c.args.link.now)
+    (g.L.Link.received c.args.link.now) c.in-More.next (window_of c.refill.new.self)
+    (g.L.Link.left c.refill.new.link) (g.L.Link.received c.refill.new.link) (most_bytes + 1) few on counts

@@ -1,7 +1,7 @@
 use Rattle.std.proofs.Common.{◌∙◌, ap, length, arith, refl}
 use Rattle.std.proofs.lemmas.List.{with_items_is}
 use Rattle.wf_link.proofs.ReceivedLemmas.{received-none}
-use Rattle.wf_wire.proofs.WireLemmas.{gathered-counted, gathered-more, gave-nothing}
+use Rattle.wf_wire.proofs.WireLemmas.{gathered-counted, gathered-more, gathers, gathers-same, gave-nothing}
 use Rattle.wf_wire.proofs.wire.Wire.gather.Goals as goal
 
 pub returns-then-count-eq0-clause-gave : goal.returns-then-count-eq0-clause-gave
@@ -35,7 +35,7 @@ loop-count-preserved g c =
       some_room = omega (arith, ap length now, came.within, c.len.ensures, c.if-self-len.false);
       framing = is.framing;
       state = came.state ∙ is.state;
-      later = omega (arith, is.later, came.cause.later);
+      faults = came.cause.quiet ∙ is.faults;
     }
 
 pub returns-then-count-eq0-clause-received : goal.returns-then-count-eq0-clause-received
@@ -55,8 +55,23 @@ loop-count-init g c = record {
   received = received-none (g.L.Link.received c.args.link.now);
   front = refl;
   few = λ some. omega (arith, some);
-  some_room = c.args.self.now.room;
+  some_room = omega (arith, c.args.self.now.size);
   framing = refl;
   state = refl;
-  later = omega arith;
+  faults = refl;
 }
+
+pub returns-then-count-eq0-clause-before : goal.returns-then-count-eq0-clause-before
+returns-then-count-eq0-clause-before g c =
+    let is = c.loop-count.invariant in
+    let came = c.in_ok-count.ensures in
+    let now = with_items_is c.loop-count.self.buffer c.receive_behind.new.buffer
+    (omega (arith, came.length, ap length c.as_mut_slice.ensures.value, c.loop-count.self.buffer.ok.0)) in
+    gathers (g.L.Link.left c.args.link.now) (g.L.Link.left c.loop-count.link) c.loop-count.self.buffer.items _
+    c.loop-count.self.from c.loop-count.self.to c.in_ok-count.count c.args.fewest is.front
+    (omega (arith, is.some_room)) (omega (arith, ap length now, came.within))
+    (omega (arith, ap length now, came.length, ap length c.as_mut_slice.ensures.value, c.loop-count.self.size)) is.gave
+    is.few
+
+pub returns-in_err-count-clause-before : goal.returns-in_err-count-clause-before
+returns-in_err-count-clause-before g c = todo

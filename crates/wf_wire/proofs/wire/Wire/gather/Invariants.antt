@@ -1,4 +1,4 @@
-use Rattle.std.proofs.Common.{◌≡◌, ◌≤◌, ◌<◌, ◌-◌, length}
+use Rattle.std.proofs.Common.{◌≡◌, ◌<◌, ◌-◌, length}
 use Rattle.wf_link.specs.Links.{Received}
 use Rattle.wf_link.specs.Sources.{Gave}
 use Rattle.wf_wire.specs.Wires.{window_of}
@@ -14,7 +14,7 @@ invariant-loop-count g l = record {
   some_room : l.self.to < length l.self.buffer.items;
   framing : l.self.framing ≡ l.fn.self.framing;
   state : g.L.Link.state l.link ≡ g.L.Link.state l.fn.link;
-  later : g.L.Link.faults l.fn.link ≤ g.L.Link.faults l.link;
+  faults : g.L.Link.faults l.link ≡ g.L.Link.faults l.fn.link;
 }
 
 -- each receive takes a byte

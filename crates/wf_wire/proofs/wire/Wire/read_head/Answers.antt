@@ -1,4 +1,7 @@
 use Rattle.std.proofs.Common.{◌∙◌, ℕ, List, ap, arith, refl}
+use Rattle.wf_http1.specs.Answers.{IsUnfinished}
+use Rattle.wf_wire.specs.declared.exchange.Found.{Found}
+use Rattle.wf_wire.specs.Private.Reads.{faults_found}
 use Rattle.wf_wire.specs.Wires.{exchange_of, onto_left, window_of}
 use Rattle.wf_wire.proofs.HeadLemmas.{read-final, read-long}
 use Rattle.wf_wire.proofs.WireLemmas.{few-on}
@@ -11,7 +14,8 @@ returns-in-Long-clause-read g c =
     read-long (exchange_of g.L.Link.state g.L.Link.left g.L.Link.received g.L.Link.faults c.args.link.now c.args.self.now)
     (exchange_of g.L.Link.state g.L.Link.left g.L.Link.received g.L.Link.faults c.close-in-Long.new.link c.close-in-Long.new.self)
     c.in_ok-head.field-0 (window_of c.find_head.new.self) (g.L.Link.left c.find_head.new.link) c.in-Long.is found.found
-    (few-on _ _ _ _ _ _ _ refl closed.received found.few) closed.idle (closed.state ∙ found.state) (omega (arith, closed.faults, found.later))
+    (few-on IsUnfinished _ _ _ _ _ _ _ _ refl closed.received found.few) closed.idle (closed.state ∙ found.state)
+    (closed.faults ∙ found.faults ∙ ap (λ (f : Found). faults_found f (g.L.Link.faults c.args.link.now)) c.in-Long.is)
 
 pub returns-in_ok-framing-in-Head-clause-read : goal.returns-in_ok-framing-in-Head-clause-read
 returns-in_ok-framing-in-Head-clause-read g c =
@@ -22,4 +26,5 @@ returns-in_ok-framing-in-Head-clause-read g c =
     c.begin_body.new.self) c.in_ok-head.field-0 (window_of c.find_head.new.self) c.in-Head.head c.in-Head.count
     c.in-Head.is found.found found.few
     (ap (λ (l : List ℕ). onto_left l (g.L.Link.left c.find_head.new.link)) begun.window)
-    (begun.framing ∙ c.in_ok-framing-in-Head.ensures) found.state found.later
+    (begun.framing ∙ c.in_ok-framing-in-Head.ensures) found.state
+    (found.faults ∙ ap (λ (f : Found). faults_found f (g.L.Link.faults c.args.link.now)) c.in-Head.is)
