@@ -20,6 +20,7 @@ Rose before now = one_more before ≤ now
 
 -- The count rose by one where the call failed, and is as it was where it did not.
 pub record HasCause {T E : Type 0} (before now : ℕ) (result : Result T E) : Type 0 where
+  pub later : before ≤ now
   pub failed : OnErr result (now ≡ one_more before)
   pub quiet : OnOk result (now ≡ before)
 

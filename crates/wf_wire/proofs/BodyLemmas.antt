@@ -22,7 +22,7 @@ use Rattle.wf_wire.specs.Exchanges.{Exchange, HasBody, IsBodyRead, IsIdle, Leave
 use Rattle.wf_wire.specs.Private.Reads.{Gathers, GivesSome, HasAtMost}
 use Rattle.wf_wire.specs.Wires.{onto_left}
 use Rattle.wf_wire.proofs.WireLemmas.{Receives, come-first, come-all, nothing-left, receives-more}
-use Rattle.wf_wire.proofs.WireLemmas.{hung-up, waited-for}
+use Rattle.wf_wire.proofs.WireLemmas.{hung-up, uncaused, waited-for}
 
 -- ---- the end of an answer is no fault
 
@@ -51,7 +51,7 @@ body-is-read limit old new body.Null left has gives idle state same = record {
   waited = gives.waited;
   gives = hung-up (IsOpen old.framing limit) old new (BodyIs body.Null) left refl gives;
   state_is = state;
-  caused = same;
+  caused = uncaused (BodyIs body.Null) old.faults new.faults same refl;
 }
 body-is-read limit old new (body.Whole bytes) left has gives idle state same = record {
   body_is = (has, idle);
@@ -59,7 +59,7 @@ body-is-read limit old new (body.Whole bytes) left has gives idle state same = r
   waited = gives.waited;
   gives = hung-up (IsOpen old.framing limit) old new (BodyIs (body.Whole bytes)) left refl gives;
   state_is = state;
-  caused = same;
+  caused = uncaused (BodyIs (body.Whole bytes)) old.faults new.faults same refl;
 }
 body-is-read limit old new (body.Cut n) left has gives idle state same = record {
   body_is = (has, idle);
@@ -67,7 +67,7 @@ body-is-read limit old new (body.Cut n) left has gives idle state same = record 
   waited = gives.waited;
   gives = hung-up (IsOpen old.framing limit) old new (BodyIs (body.Cut n)) left refl gives;
   state_is = state;
-  caused = same;
+  caused = uncaused (BodyIs (body.Cut n)) old.faults new.faults same refl;
 }
 body-is-read limit old new body.TooBig left has gives idle state same = record {
   body_is = (has, idle);
@@ -75,7 +75,7 @@ body-is-read limit old new body.TooBig left has gives idle state same = record {
   waited = gives.waited;
   gives = hung-up (IsOpen old.framing limit) old new (BodyIs body.TooBig) left refl gives;
   state_is = state;
-  caused = same;
+  caused = uncaused (BodyIs body.TooBig) old.faults new.faults same refl;
 }
 body-is-read limit old new (body.Fault n) left has gives idle state same =
     absurd (body-no-fault old.framing limit has.bytes n (sym has.ends))

@@ -18,7 +18,7 @@ use Rattle.wf_wire.specs.Exchanges.{Exchange, HasHead, IsHeadRead, IsIdle, Waite
 use Rattle.wf_wire.specs.Private.Reads.{Finds, GivesAtMost}
 use Rattle.wf_wire.specs.Wires.{onto_left}
 use Rattle.wf_wire.proofs.WireLemmas.{Receives, come-behind, come-first, come-all, nothing-left, receives-more}
-use Rattle.wf_wire.proofs.WireLemmas.{hung-up, receives-read, waited-for}
+use Rattle.wf_wire.proofs.WireLemmas.{hung-up, receives-read, uncaused, waited-for}
 
 -- what a step came to, of the window that was fed
 fed : (read piece now : List ℕ) (step is : HeadStep) → piece ≡ now → step ≡ is → IsFed read piece step
@@ -130,7 +130,7 @@ read-long old new it window left is finds few idle state same = record {
   waited = few.gives.waited;
   gives = hung-up IsUnfinished old new HeadLong left refl few.gives;
   state_is = state;
-  caused = same;
+  caused = uncaused HeadLong old.faults new.faults same refl;
 }
 
 -- the final head came, and the bytes after it are to come
@@ -149,5 +149,5 @@ read-final old new it window head n is finds few behind framed state same =
       waited = few.gives.waited;
       gives = record { counted = few.gives.counted; gone = λ (open_ : _). few.gives.gone };
       state_is = state;
-      caused = same;
+      caused = uncaused (HeadIs head) old.faults new.faults same refl;
     }

@@ -10,7 +10,7 @@ use Rattle.wf_link.specs.Sources.{Gave, GaveJust, IsAtEnd}
 use Rattle.wf_link.proofs.ReceivedLemmas.{received-none, received-on}
 use Rattle.wf_link.proofs.SourceLemmas.{gave-again}
 use Rattle.wf_act.specs.declared.act.Input.{Input}
-use Rattle.wf_wire.specs.Exchanges.{AreToCome, Exchange, Gives, Refuses, Waited, WaitedFor, ends_answer, most_received}
+use Rattle.wf_wire.specs.Exchanges.{AreToCome, Exchange, Gives, IsCaused, Refuses, Waited, WaitedFor, ends_answer, is_fault, most_received}
 use Rattle.wf_wire.specs.Private.Reads.{Gathers, GivesAtMost, GivesSome}
 use Rattle.wf_wire.specs.Wires.{onto_left}
 
@@ -27,6 +27,10 @@ window-behind buffer from to count within =
     let parts : to - from ≡ count + rest = omega (arith, within, length-take (to - from) (drop from buffer)) in
     sym (ap (λ (n : ℕ). drop count (take n (drop from buffer))) parts ∙ drop-take count rest (drop from buffer)
     ∙ ap (λ (l : List ℕ). take rest l) (drop-drop count from buffer))
+
+-- a link that has not failed since has a cause for each input that is no fault
+pub uncaused : (input : Input) (before now : ℕ) → now ≡ before → is_fault input ≡ false → IsCaused input before now
+uncaused input before now same none = record { later = omega (arith, same); counted = rw none same }
 
 -- ---- what was received
 
@@ -245,7 +249,7 @@ few-on Open coming left left' left'' received received' received'' most same ali
 -- memory was refused, and nothing was received
 pub refuses_none : {State : Type 0} (exchange : Exchange State) → Refuses exchange exchange
 refuses_none exchange =
-    record { state_is = refl; count = 0; counted = received-none exchange.received; faults_is = refl }
+    record { state_is = refl; count = 0; counted = received-none exchange.received; faults_are = refl }
 
 -- ---- an act's bytes
 

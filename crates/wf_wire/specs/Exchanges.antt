@@ -59,9 +59,14 @@ is_fault Fault = true
 is_fault (BodyIs (body.Fault n)) = true
 is_fault _ = false
 
--- the count of faults rose by one where the input is a fault, and is as it was otherwise
-abbrev pub IsCaused : Input → ℕ → ℕ → Type 0
-IsCaused input before now = now ≡ (if is_fault input then one_more before else before)
+-- the count of faults once an input came: one more where it is a fault
+abbrev pub faults_with : Input → ℕ → ℕ
+faults_with input count = if is_fault input then one_more count else count
+
+-- The count of faults rose by one where the input is a fault, and is as it was otherwise. It has not fallen.
+pub record IsCaused (input : Input) (before now : ℕ) : Type 0 where
+  pub later : before ≤ now
+  pub counted : now ≡ faults_with input before
 
 -- ---- the request
 
@@ -231,4 +236,4 @@ pub record Refuses {State : Type 0} (old new : Exchange State) : Type 0 where
   pub state_is : new.state ≡ old.state
   pub count : ℕ
   pub counted : Received count old.received new.received
-  pub faults_is : new.faults ≡ old.faults
+  pub faults_are : new.faults ≡ old.faults

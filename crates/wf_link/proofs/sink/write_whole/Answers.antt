@@ -8,6 +8,6 @@ loop-rest-preserved g c = record {
       (wrote-more (g.K.Sink.taken c.args.sink.now) (g.K.Sink.taken c.loop-rest.sink) (g.K.Sink.taken c.write.new.self)
       c.args.text.now c.loop-rest.rest.now c.in-Ok.count c.loop-rest.invariant.wrote c.in-Ok.ensures.count
       c.in-Ok.ensures.took);
-  faults = omega (arith, c.loop-rest.invariant.faults, c.in-Ok.ensures.cause.quiet);
+  faults = omega (arith, c.loop-rest.invariant.faults, c.in-Ok.ensures.cause.later);
   zeros = omega (arith, c.loop-rest.invariant.zeros, c.in-Ok.ensures.zero.later);
 }
