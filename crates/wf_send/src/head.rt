@@ -127,7 +127,8 @@ fn append_added(
     append_origin(alloc, headers, request, url)?;
     append_where(headers, b"Cookie", cookie_value(cookies, request, origin))?;
     append_length(alloc, headers, request.method.as_slice(), &request.body)?;
-    append_where(headers, b"Connection", Some(CONNECTION))
+    append_where(headers, b"Connection", Some(CONNECTION))?;
+    Ok(())
 }
 
 // The header list as it is sent to a URL of an origin, from Host on.
