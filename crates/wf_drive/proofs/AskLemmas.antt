@@ -53,7 +53,7 @@ refuses-none a = record {
   state_is = refl;
   count = 0;
   counted = received-none a.received;
-  later = omega arith;
+  faults_are = refl;
   own_is = refl;
   fewer = omega arith;
 }
@@ -65,7 +65,7 @@ refused-call a own left is = record {
   state_is = refl;
   count = 0;
   counted = received-none a.received;
-  later = omega arith;
+  faults_are = refl;
   own_is = is.own_is;
   fewer = is.fewer;
 }
@@ -78,7 +78,7 @@ refused-exchange old new own left is = record {
   state_is = is.state_is;
   count = is.count;
   counted = is.counted;
-  later = is.later;
+  faults_are = is.faults_are;
   own_is = refl;
   fewer = omega arith;
 }

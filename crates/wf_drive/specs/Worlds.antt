@@ -93,12 +93,12 @@ Settles (Result outcome) old new = IsHungUp old new
 Settles (LoadFailed error) old new = IsHungUp old new
 Settles _ old new = new ≡ old
 
--- Memory was refused: the document has made no call more, the link's state is as it was, some bytes more may have been
--- received, and its count of faults has not fallen.
+-- Memory was refused: the document has made no call more, the link's state and its count of faults are as they were, and
+-- some bytes more may have been received.
 pub record Refuses {State : Type 0} (old new : Outside State) : Type 0 where
   pub state_is : new.state ≡ old.state
   pub count : ℕ
   pub counted : Received count old.received new.received
-  pub later : old.faults ≤ new.faults
+  pub faults_are : new.faults ≡ old.faults
   pub own_is : new.own ≡ old.own
   pub fewer : new.left ≤ old.left

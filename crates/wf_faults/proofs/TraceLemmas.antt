@@ -1,13 +1,14 @@
 -- The count of a link rises with each fault of a run.
 use Rattle.std.proofs.Common.{◌≡◌, ℕ, ◌+◌, ◌-◌, ◌^◌, ◌≤◌, Bool, true, false, refl, ap, sym, subst, ◌∙◌, arith}
 use Rattle.std.proofs.Common.{List, [], ◌++◌}
-use Rattle.std.specs.Prelude.{min}
+use Rattle.std.specs.Prelude.{min, if◌then◌else◌}
 use Rattle.std.proofs.lemmas.List.Sums.{sum_by-append}
 use Rattle.wf_act.specs.declared.act.Act.{Act}
 use Rattle.wf_act.specs.declared.act.Act.TheVariants.{Ask, Send, ReadHead, ReadBody, Tell}
 use Rattle.wf_act.specs.declared.act.Input.{Input}
-use Rattle.wf_link.specs.Counts.{grown_by}
+use Rattle.wf_link.specs.Counts.{counted_on, grown_by, one_more}
 use Rattle.wf_wire.specs.Exchanges.{Answering, Exchange, IsCaused, is_fault}
+use Rattle.wf_wire.proofs.WireLemmas.{uncaused}
 use Rattle.wf_types.specs.declared.client.Cookie.{Cookie}
 use Rattle.wf_print.specs.declared.events.Ending.{Ending}
 use Rattle.wf_print.specs.declared.events.Ending.TheVariants as ending
@@ -27,33 +28,28 @@ use Rattle.wf_faults.proofs.NumberLemmas.{faults-shown}
 
 -- ---- counts
 
-min-rises : (most a mid more b : ℕ) → min (a + 1) most ≤ mid → min (mid + more) most ≤ b
-    → min (a + (1 + more)) most ≤ b
-min-rises most a mid more b rose le = omega (arith, rose, le)
+-- one more below a bound, and then some more as far as there is room
+rises : (most a mid more b : ℕ) → a ≤ mid → mid ≡ min (a + 1) most → b ≡ mid + min more (most - mid)
+    → b ≡ a + min (1 + more) (most - a)
+rises most a mid more b later rose is = omega (arith, later, rose, is)
 
-min-later : (most a mid more b : ℕ) → a ≤ mid → min (mid + more) most ≤ b → min (a + more) most ≤ b
-min-later most a mid more b later le = omega (arith, later, le)
+fewer-told : (most a fewer more b : ℕ) → fewer ≤ more → b ≡ a + min more (most - a) → min (a + fewer) most ≤ b
+fewer-told most a fewer more b few is = omega (arith, few, is)
 
-min-fewer : (most a fewer more b : ℕ) → fewer ≤ more → min (a + more) most ≤ b → min (a + fewer) most ≤ b
-min-fewer most a fewer more b few le = omega (arith, few, le)
+none-more : (most a : ℕ) → a ≡ a + min 0 (most - a)
+none-more most a = omega arith
 
-min-none : (most a : ℕ) → min (a + 0) most ≤ a
-min-none most a = omega arith
+same-more : (most a mid more b : ℕ) → mid ≡ a → b ≡ mid + min more (most - mid) → b ≡ a + min (0 + more) (most - a)
+same-more most a mid more b same is = omega (arith, same, is)
 
--- an input that is a fault raises the count
+-- an input that is a fault raises the count, and no other does
 count-input : (input : Input) (a mid more b : ℕ) (is : Bool) → is_fault input ≡ is → IsCaused input a mid
-    → grown_by mid more ≤ b → grown_by a (one_where is + more) ≤ b
-count-input input a mid more b true is caused le = min-rises (2 ^ 64 - 1) a mid more b (caused.rose is) le
-count-input input a mid more b false is caused le =
-    min-later (2 ^ 64 - 1) a mid (0 + more) b caused.later
-    (min-fewer (2 ^ 64 - 1) mid (0 + more) more b (omega arith) le)
-
--- what is no fault has its cause
-quiet-caused : (input : Input) (a b : ℕ) → is_fault input ≡ false → b ≡ a → IsCaused input a b
-quiet-caused input a b quiet same = record {
-  later = omega (arith, same);
-  rose = λ fault. let untrue : false ≡ true = sym quiet ∙ fault in let bad : ⊥ = cc untrue in absurd bad;
-}
+    → b ≡ counted_on mid more → b ≡ counted_on a (one_where is + more)
+count-input input a mid more b true is caused on =
+    rises (2 ^ 64 - 1) a mid more b caused.later
+    (caused.counted ∙ ap (λ (f : Bool). if f then one_more a else a) is) on
+count-input input a mid more b false is caused on =
+    same-more (2 ^ 64 - 1) a mid more b (caused.counted ∙ ap (λ (f : Bool). if f then one_more a else a) is) on
 
 -- ---- traces
 
@@ -66,14 +62,14 @@ module _ {State : Type 0} (by : Answering State) (limit document : ℕ) where
   act-caused : (a b : World State) (first : Act) (input : Input) → Answers by limit document a first input b
       → IsCaused input a.exchange.faults b.exchange.faults
   act-caused a b (Ask op) input is =
-      quiet-caused input a.exchange.faults b.exchange.faults (rw is.asked.input_is refl)
-      (ap (λ (e : Exchange State). e.faults) is.exchange_is)
+      uncaused input a.exchange.faults b.exchange.faults (ap (λ (e : Exchange State). e.faults) is.exchange_is)
+      (rw is.asked.input_is refl)
   act-caused a b (Send hop) input is = is.1.exchanged.caused
   act-caused a b ReadHead input is = is.exchanged.caused
   act-caused a b ReadBody input is = is.exchanged.caused
   act-caused a b (Tell violation) input is =
-      quiet-caused input a.exchange.faults b.exchange.faults (rw is.0 refl)
-      (ap (λ (w : World State). w.exchange.faults) is.1)
+      uncaused input a.exchange.faults b.exchange.faults (ap (λ (w : World State). w.exchange.faults) is.1)
+      (rw is.0 refl)
 
   event-faults : (a b : World State) (one : Event) → Settles one a b → b.exchange.faults ≡ a.exchange.faults
   event-faults a b (event.Result came) is = ap (λ (o : Outside State). o.faults) is.outside_is
@@ -82,8 +78,8 @@ module _ {State : Type 0} (by : Answering State) (limit document : ℕ) where
 
   counts : {p q : Play} {a b : World State} {t : List Input} {e : List Event}
       → PlayTrace (Answers by limit document) Settles p a t e q b
-      → grown_by a.exchange.faults (faults_of p t) ≤ b.exchange.faults
-  counts {p = p} {a = a} stop = rw (no-faults p) (min-none (2 ^ 64 - 1) a.exchange.faults)
+      → b.exchange.faults ≡ counted_on a.exchange.faults (faults_of p t)
+  counts {p = p} {a = a} stop = rw (no-faults p) (none-more (2 ^ 64 - 1) a.exchange.faults)
   counts {a = a} {b = b} (shown {q = rest} {mid = mid} {tape = tape} one is x) =
       rw (sym (event-faults a mid one is)) (counts x)
   counts {a = a} {b = b} (stepped {mid = mid} {tape = tape} request first after input is fit x) =
@@ -98,9 +94,8 @@ faults-counted State by limit document whole old events ending clock new ran =
 
 pub faults-counted_short : (State : Type 0) → FaultsCountedShort State
 faults-counted_short State by limit document whole old events new began =
-    let counted = counts by limit document began.trace in
-    let from = ap (λ (o : Outside State). o.faults) began.from in
-    rw (sym from) (omega (arith, counted, began.left.later))
+    rw (sym (ap (λ (o : Outside State). o.faults) began.from))
+    (began.left.faults_are ∙ counts by limit document began.trace)
 
 -- ---- what a document is told
 
@@ -119,7 +114,7 @@ module _ {State : Type 0} (by : Answering State) (limit number : ℕ) (cookies :
   told-ran ending clock ran =
       let shown = (faults-shown cookies base document ran.tape).none_more in
       let events_are : (run_play whole ran.tape).events ≡ events = ap (λ (r : PlayRun). r.events) ran.runs in
-      min-fewer (2 ^ 64 - 1) old.faults (outcomes_that tells_fault events) (faults_of whole ran.tape) new.faults
+      fewer-told (2 ^ 64 - 1) old.faults (outcomes_that tells_fault events) (faults_of whole ran.tape) new.faults
       (omega (arith, shown, ap (outcomes_that tells_fault) events_are))
       (faults-counted State by limit number whole old events ending clock new ran)
 
@@ -128,7 +123,7 @@ module _ {State : Type 0} (by : Answering State) (limit number : ℕ) (cookies :
   told-began began =
       let shown = (faults-shown cookies base document began.tape).none_more in
       let rest = began.missed ++ (run_play began.place []).events in
-      min-fewer (2 ^ 64 - 1) old.faults (outcomes_that tells_fault events) (faults_of whole began.tape) new.faults
+      fewer-told (2 ^ 64 - 1) old.faults (outcomes_that tells_fault events) (faults_of whole began.tape) new.faults
       (omega (
         arith,
         shown,

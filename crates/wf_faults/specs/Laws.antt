@@ -3,7 +3,7 @@
 use Rattle.std.specs.Prelude.{ℕ, ◌+◌, ◌≤◌, List, Some, None}
 use Rattle.wf_act.specs.declared.act.Input.{Input}
 use Rattle.wf_types.specs.declared.client.Cookie.{Cookie}
-use Rattle.wf_link.specs.Counts.{grown_by}
+use Rattle.wf_link.specs.Counts.{counted_on, grown_by}
 use Rattle.wf_print.specs.declared.events.Ending.{Ending}
 use Rattle.wf_print.specs.declared.events.Event.{Event}
 use Rattle.wf_script.specs.declared.types.Document.{Document}
@@ -44,20 +44,20 @@ RanShown State =
     → AreShown (faults_of (document_run cookies base document) ran.tape)
     (record { events = events; ending = Some (ending, clock) })
 
--- the count of a link rises by as many as a run has faults, at least
+-- the count of a link rises by as many as a run has faults
 abbrev pub FaultsCounted : Type 0 → Type 0
 FaultsCounted State =
     (by : Answering State) (limit document : ℕ) (whole : Play) (old : Outside State) (events : List Event)
     (ending : Ending) (clock : ℕ) (new : Outside State)
     → (ran : Ran by limit document whole old events ending clock new)
-    → grown_by old.faults (faults_of whole ran.tape) ≤ new.faults
+    → new.faults ≡ counted_on old.faults (faults_of whole ran.tape)
 
--- the same of a run that ended because memory was refused: the count rose by as many as it has faults, at least
+-- the same of a run that ended because memory was refused
 abbrev pub FaultsCountedShort : Type 0 → Type 0
 FaultsCountedShort State =
     (by : Answering State) (limit document : ℕ) (whole : Play) (old : Outside State) (events : List Event)
     (new : Outside State) → (began : Began by limit document whole old events new)
-    → grown_by old.faults (faults_of whole began.tape) ≤ new.faults
+    → new.faults ≡ counted_on old.faults (faults_of whole began.tape)
 
 -- so the count rises by as many as a document is told of, at least
 abbrev pub ToldCounted : Type 0 → Type 0

@@ -3,12 +3,12 @@ use Rattle.std.proofs.Common.{◌≡◌, ℕ, Bool, true, false, List, ◌++◌,
 use Rattle.std.proofs.Common.{refl, ap}
 use Rattle.std.proofs.Common.{sym, subst, ◌∙◌, arith}
 use Rattle.std.proofs.lemmas.List.{append_cancel_left}
-use Rattle.std.specs.Prelude.{option_map}
+use Rattle.std.specs.Prelude.{if◌then◌else◌, option_map}
 use Rattle.wf_types.specs.declared.hop.Head.{Head}
 use Rattle.wf_types.specs.declared.hop.Hop.{Hop}
 use Rattle.wf_types.specs.declared.response.BodyEnd.{BodyEnd}
 use Rattle.wf_types.specs.declared.response.BodyEnd.TheVariants as body
-use Rattle.wf_link.specs.Counts.{Rose}
+use Rattle.wf_link.specs.Counts.{one_more}
 use Rattle.wf_http1.specs.Answers.{HeadEnd, IsHeadEnd, bad, final, long}
 use Rattle.wf_http1.specs.Bodies.{body_end}
 use Rattle.wf_http1.specs.Framings.{framing_of}
@@ -25,13 +25,14 @@ use Rattle.wf_iso.proofs.OrderLemmas.{Stage, asking, headed, idle, stage_after}
 
 -- ---- no faults
 
-risen : (before now : ℕ) → Rose before now → now ≡ 0 → ⊥
+risen : (before now : ℕ) → now ≡ one_more before → now ≡ 0 → ⊥
 risen before now rose none = omega (arith, rose, none)
 
 -- where the link has not failed no input tells so
 no-fault-by : (input : Input) (before now : ℕ) (is : Bool) → is_fault input ≡ is → IsCaused input before now → now ≡ 0
     → is_fault input ≡ false
-no-fault-by input before now true is caused none = absurd (risen before now (caused.rose is) none)
+no-fault-by input before now true is caused none =
+    absurd (risen before now (caused.counted ∙ ap (λ (b : Bool). if b then one_more before else before) is) none)
 no-fault-by input before now false is caused none = is
 
 pub no-fault : (input : Input) (before now : ℕ) → IsCaused input before now → now ≡ 0 → is_fault input ≡ false

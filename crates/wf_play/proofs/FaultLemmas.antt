@@ -1,7 +1,7 @@
 -- The faults of the links of a play are shown and counted, by the laws of wf_faults.
 use Rattle.std.proofs.Common.{◌≡◌, ℕ, ◌+◌, ◌≤◌, List, [], map, Option, arith, ap, sym, ◌∙◌}
 use Rattle.wf_book.specs.declared.entry.Entry.{Entry}
-use Rattle.wf_link.specs.Counts.{grown_by}
+use Rattle.wf_link.specs.Counts.{counted_on, grown_by}
 use Rattle.wf_print.specs.declared.events.Transcript.{Transcript}
 use Rattle.wf_run.specs.Runs.{document_run}
 use Rattle.wf_script.specs.declared.types.Document.{Document}
@@ -16,7 +16,7 @@ use Rattle.wf_play.specs.Links.{Maker, TookBack, grown_by_all, way_of}
 use Rattle.wf_play.proofs.PlayLemmas.{map-map}
 
 -- so many more of so many more
-grown-sum : (start old new faults rest : ℕ) → grown_by old faults ≤ new
+grown-sum : (start old new faults rest : ℕ) → new ≡ counted_on old faults
     → grown_by start (faults + rest) ≤ grown_by (grown_by start new) rest
 grown-sum start old new faults rest counted = omega (arith, counted)
 

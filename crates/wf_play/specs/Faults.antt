@@ -1,9 +1,9 @@
--- Faults of the links of a play: they come only where outcomes show them, and there are at most as many as were counted
+-- Faults of the links of a play: they come only where outcomes show them, and there are as many as were counted
 -- (this project's own; how an outcome shows one is wf_faults's definition).
-use Rattle.std.specs.Prelude.{ℕ, ◌+◌, ◌≤◌, List, Some, None}
+use Rattle.std.specs.Prelude.{◌≡◌, ℕ, ◌+◌, List, Some, None}
 use Rattle.wf_act.specs.declared.act.Input.{Input}
 use Rattle.wf_book.specs.declared.entry.Entry.{Entry}
-use Rattle.wf_link.specs.Counts.{grown_by}
+use Rattle.wf_link.specs.Counts.{counted_on}
 use Rattle.wf_print.specs.declared.events.Transcript.{Transcript}
 use Rattle.wf_run.specs.Play.{Play}
 use Rattle.wf_run.specs.Runs.{document_run}
@@ -16,14 +16,14 @@ use Rattle.wf_faults.specs.Places.{ShowsFailures}
 use Rattle.wf_iso.specs.Plays.{AreTranscripts, Way}
 
 -- Of a document's run over this tape, from one moment of its link to another: in each fetch and each load there is one
--- fault at most, and the outcome shows it; so the outcomes show the faults of the tape; and the link's count rose by as
--- many at least.
+-- fault at most, and the outcome shows it; so the outcomes show the faults of the tape; and the link's count rose by just
+-- as many.
 pub record AreTold {State : Type 0} (whole : Play) (tape : List Input) (old new : Way State) (transcript : Transcript)
     : Type 0 where
   pub placed : ShowsFailures None whole
   pub shown : AreShown (faults_of whole tape)
       (record { events = transcript.events; ending = Some (transcript.ending, transcript.clock) })
-  pub counted : grown_by old.faults (faults_of whole tape) ≤ new.faults
+  pub counted : new.faults ≡ counted_on old.faults (faults_of whole tape)
 
 module _ {State : Type 0} {by : Answering State} {scenario : Scenario} {base : ℕ} {history : List Entry} where
   -- so it is of each document
