@@ -223,7 +223,15 @@ module _ (Open : List ℕ → Type 0) (window : List ℕ) (left received : Optio
       → GivesAtMost Open (onto_left window left) left left' received received' most
   gives-few read now left' received' most few so_far counts =
       let fewer : counts.count ≤ most = omega (arith, counts.whole, few) in
-      record { gives = gives-counted read now left' received' so_far counts; few = fewer }
+      record {
+        gives = record {
+          count = counts.count;
+          gone = given-just window left read now left' counts.count counts.whole so_far;
+          counted = counts.counted;
+          waited = counts.waited;
+        };
+        few = fewer;
+      }
 
 -- nothing was given
 pub gives-none : (Open : List ℕ → Type 0) (coming left received : Option (List ℕ))
@@ -238,7 +246,16 @@ gives-none Open coming left received = record {
 pub few-none : (Open : List ℕ → Type 0) (coming left received : Option (List ℕ)) (most : ℕ)
     → GivesAtMost Open coming left left received received most
 few-none Open coming left received most =
-    let few : 0 ≤ most = omega arith in record { gives = gives-none Open coming left received; few = few }
+    let few : 0 ≤ most = omega arith in
+    record {
+      gives = record {
+        count = 0;
+        gone = record { given = []; gave = gave-nothing left; just = refl };
+        counted = received-none received;
+        waited = inl refl;
+      };
+      few = few;
+    }
 
 -- nothing more was
 pub few-on : (Open : List ℕ → Type 0) (coming left left' left'' received received' received'' : Option (List ℕ))
@@ -294,7 +311,18 @@ gathers left mid old now from to count fewest front before within size gave wait
     }
 
 -- and where the link failed nothing came after that
-pub gathers-same : (left mid : Option (List ℕ)) (window : List ℕ) (fewest : ℕ) → Gave left mid window
-    → (0 < length window → length window < fewest) → Gathers fewest left window
-gathers-same left mid window fewest gave waits =
-    record { before = window; mid = mid; gave = gave; waits = waits; few = omega arith }
+pub gathers-same : (left mid : Option (List ℕ)) (old lent new now : List ℕ) (from to fewest : ℕ) → from ≡ 0
+    → to ≤ length now → Gave left mid (slice_range old from to) → (0 < to → to < fewest) → lent ≡ old
+    → take to new ≡ take to lent → now ≡ new → Gathers fewest left (slice_range now from to)
+gathers-same left mid old lent new now from to fewest front within gave waits same kept is =
+    let had = front-length now from to front within in
+    let alike : slice_range old from to ≡ slice_range now from to =
+    front-is old from to front ∙ sym (ap (λ (l : List ℕ). take to l) same) ∙ sym kept
+    ∙ sym (ap (λ (l : List ℕ). take to l) is) ∙ sym (front-is now from to front) in
+    record {
+      before = slice_range now from to;
+      mid = mid;
+      gave = subst (λ (l : List ℕ). Gave left mid l) alike gave;
+      waits = λ some. omega (arith, waits (omega (arith, had, some)), had);
+      few = omega arith;
+    }

@@ -2,7 +2,7 @@
 -- of the bytes of its answer, or the link fails. A link may tell its state and the bytes to come, or not: of bytes
 -- that are not told it is said that there are some, and not which.
 use Rattle.std.specs.Prelude.{◌≡◌, ◌⊎◌, ℕ, ◌+◌, ◌≤◌, Bool, true, false, List, take, length, Option, Some, None}
-use Rattle.std.specs.Prelude.{option_map}
+use Rattle.std.specs.Prelude.{if◌then◌else◌, option_map}
 use Rattle.wf_types.specs.declared.hop.Head.{Head}
 use Rattle.wf_types.specs.declared.hop.Hop.{Hop}
 use Rattle.wf_types.specs.declared.response.BodyEnd.{BodyEnd}

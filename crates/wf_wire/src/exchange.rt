@@ -150,6 +150,7 @@ impl Wire {
         ensures found { IfOk result (λ found. Finds (coming_of L.left link.old self.old) found (window_of self.new)
             (L.left link.new)) }
         ensures state { L.state link.new ≡ L.state link.old }
+        ensures later { L.faults link.old ≤ L.faults link.new }
         ensures faults { IfOk result (λ found. L.faults link.new ≡ faults_found found (L.faults link.old)) }
         ensures refused { OnErr result (L.faults link.new ≡ L.faults link.old) }
         ensures few { GivesAtMost IsUnfinished (coming_of L.left link.old self.old) (L.left link.old)
@@ -213,6 +214,7 @@ impl Wire {
         ensures ended { IfOk result (λ ended. Reads self.old.framing limit (coming_of L.left link.old self.old)
             ended (L.left link.new)) }
         ensures state { L.state link.new ≡ L.state link.old }
+        ensures later { L.faults link.old ≤ L.faults link.new }
         ensures faults { IfOk result (λ ended. L.faults link.new ≡ faults_ended ended (L.faults link.old)) }
         ensures refused { OnErr result (L.faults link.new ≡ L.faults link.old) }
         ensures gives { GivesSome (IsOpen self.old.framing limit) (coming_of L.left link.old self.old)

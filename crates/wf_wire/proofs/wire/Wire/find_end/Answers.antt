@@ -58,27 +58,27 @@ loop-end-preserved g c =
     let gathered = c.gather.ensures in
     record {
       received = body-goes-on (window_of c.args.self.now) (g.L.Link.left c.args.link.now) c.args.self.now.framing c.args.limit
-    c.loop-end.reader c.window.result.now (window_of c.loop-end.self) (g.L.Link.left c.loop-end.link)
-    c.window.ensures is.framing is.limit is.received c.in-More.next
+          c.loop-end.reader c.window.result.now (window_of c.loop-end.self) (g.L.Link.left c.loop-end.link)
+          c.window.ensures is.framing is.limit is.received c.in-More.next
           (window_of c.gather.new.self) (g.L.Link.left c.gather.new.link) c.in-More.ensures gathered.gave;
       counts = counts-more (IsOpen c.args.self.now.framing c.args.limit) (window_of c.args.self.now) (g.L.Link.left c.args.link.now)
-    (g.L.Link.received c.args.link.now) c.loop-end.reader.bytes (window_of c.loop-end.self) c.in-More.next.bytes
-    (window_of c.gather.new.self) (g.L.Link.received c.loop-end.link) (g.L.Link.received c.gather.new.link)
-    (body-read (window_of c.args.self.now) (g.L.Link.left c.args.link.now) c.args.self.now.framing c.args.limit
-    c.loop-end.reader c.window.result.now (window_of c.loop-end.self) (g.L.Link.left c.loop-end.link)
-    c.window.ensures is.framing is.limit is.received c.in-More.next c.in-More.ensures)
-    gathered.received is.counts
-    (body-waits (window_of c.args.self.now) (g.L.Link.left c.args.link.now) c.args.self.now.framing c.args.limit
-    c.loop-end.reader c.window.result.now (window_of c.loop-end.self) (g.L.Link.left c.loop-end.link)
-    c.window.ensures is.framing is.limit is.received c.in-More.next
-    (window_of c.gather.new.self) is.counts.count c.fewest.result c.in-More.ensures gathered.before c.fewest.ensures.open
-    is.counts.whole);
+          (g.L.Link.received c.args.link.now) c.loop-end.reader.bytes (window_of c.loop-end.self) c.in-More.next.bytes
+          (window_of c.gather.new.self) (g.L.Link.received c.loop-end.link) (g.L.Link.received c.gather.new.link)
+          (body-read (window_of c.args.self.now) (g.L.Link.left c.args.link.now) c.args.self.now.framing c.args.limit
+          c.loop-end.reader c.window.result.now (window_of c.loop-end.self) (g.L.Link.left c.loop-end.link)
+          c.window.ensures is.framing is.limit is.received c.in-More.next c.in-More.ensures)
+          gathered.received is.counts
+          (body-waits (window_of c.args.self.now) (g.L.Link.left c.args.link.now) c.args.self.now.framing c.args.limit
+          c.loop-end.reader c.window.result.now (window_of c.loop-end.self) (g.L.Link.left c.loop-end.link)
+          c.window.ensures is.framing is.limit is.received c.in-More.next
+          (window_of c.gather.new.self) is.counts.count c.fewest.result c.in-More.ensures gathered.before c.fewest.ensures.open
+          is.counts.whole);
       framing = body-framed (window_of c.args.self.now) (g.L.Link.left c.args.link.now) c.args.self.now.framing c.args.limit
-    c.loop-end.reader c.window.result.now (window_of c.loop-end.self) (g.L.Link.left c.loop-end.link)
-    c.window.ensures is.framing is.limit is.received c.in-More.next c.in-More.ensures;
+          c.loop-end.reader c.window.result.now (window_of c.loop-end.self) (g.L.Link.left c.loop-end.link)
+          c.window.ensures is.framing is.limit is.received c.in-More.next c.in-More.ensures;
       limit = body-limited (window_of c.args.self.now) (g.L.Link.left c.args.link.now) c.args.self.now.framing c.args.limit
-    c.loop-end.reader c.window.result.now (window_of c.loop-end.self) (g.L.Link.left c.loop-end.link)
-    c.window.ensures is.framing is.limit is.received c.in-More.next c.in-More.ensures;
+          c.loop-end.reader c.window.result.now (window_of c.loop-end.self) (g.L.Link.left c.loop-end.link)
+          c.window.ensures is.framing is.limit is.received c.in-More.next c.in-More.ensures;
       state = came.state ∙ is.state;
       faults = came.cause.quiet ∙ is.faults;
     }

@@ -74,4 +74,13 @@ returns-then-count-eq0-clause-before g c =
     is.few
 
 pub returns-in_err-count-clause-before : goal.returns-in_err-count-clause-before
-returns-in_err-count-clause-before g c = todo
+returns-in_err-count-clause-before g c =
+    let is = c.loop-count.invariant in
+    let came = c.in_err-count.ensures in
+    let now = with_items_is c.loop-count.self.buffer c.receive_behind.new.buffer
+    (omega (arith, came.length, ap length c.as_mut_slice.ensures.value, c.loop-count.self.buffer.ok.0)) in
+    gathers-same (g.L.Link.left c.args.link.now) (g.L.Link.left c.loop-count.link) c.loop-count.self.buffer.items
+    c.as_mut_slice.result.now c.receive_behind.new.buffer _ c.loop-count.self.from c.loop-count.self.to c.args.fewest
+    is.front
+    (omega (arith, ap length now, came.length, ap length c.as_mut_slice.ensures.value, is.some_room)) is.gave is.few
+    c.as_mut_slice.ensures.value came.kept now
