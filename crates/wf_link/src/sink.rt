@@ -17,8 +17,8 @@ pub trait Sink {
     /// How often it took nothing of a piece that is not empty.
     ghost zeros: { Self → ℕ };
 
-    /// Takes a first part of the piece, and answers how many bytes. `Failed` only where the count
-    /// of faults rose.
+    /// Takes a first part of the piece, and answers how many bytes. The count of faults
+    /// rises by one where it fails, and only there.
     fn write(&mut self, piece: &[u8]) -> Result<usize, Failed>
         ensures count { WritesAtMost result piece.now }
         ensures took { IfOk result (λ n. Took (taken self.old) (taken self.new) (take n piece.now)) }

@@ -20,7 +20,7 @@ pub trait Source {
     ghost faults: { Self → ℕ };
 
     /// Puts the next bytes at the front of the buffer, and answers how many. 0 for a buffer that
-    /// is not empty is the end. `Failed` only where the count of faults rose.
+    /// is not empty is the end. The count of faults rises by one where it fails, and only there.
     fn read(&mut self, buf: &mut [u8]) -> Result<usize, Failed>
         ensures count { ReadsAtMost result buf.new }
         ensures gave { IfOk result (λ n. Gave (left self.old) (left self.new) (take n buf.new)) }
