@@ -1,6 +1,6 @@
 -- Laws of documents' runs: where the failures of a link show, and that there are at most as many as the link counted
 -- (this project's own definition).
-use Rattle.std.specs.Prelude.{ℕ, ◌+◌, ◌≤◌, List, Some, None}
+use Rattle.std.specs.Prelude.{◌≡◌, ℕ, ◌+◌, ◌≤◌, List, Some, None}
 use Rattle.wf_act.specs.declared.act.Input.{Input}
 use Rattle.wf_types.specs.declared.client.Cookie.{Cookie}
 use Rattle.wf_link.specs.Counts.{counted_on, grown_by}
