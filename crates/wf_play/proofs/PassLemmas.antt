@@ -1,11 +1,12 @@
 -- Passes and links, one after another.
 use Rattle.std.proofs.Common.{◌≡◌, ℕ, zero, suc, ◌+◌, ◌<◌, ◌≤◌, List, [], ◌∷◌, ◌++◌, length, Option, Some}
-use Rattle.std.proofs.Common.{refl, ap, sym, subst, ◌∙◌, arith, ◌⊎◌, inl, inr}
+use Rattle.std.proofs.Common.{Bool, cond, refl, ap, subst, ◌∙◌, arith, ◌⊎◌, inl, inr}
 use Rattle.std.specs.Prelude.{◌==◌, slice_get}
 use Rattle.std.specs.List.{range_with_len}
 use Rattle.std.proofs.lemmas.Bool.Decides.{eqb_tells}
+use Rattle.std.proofs.lemmas.List.Sums.{sum_by-cons, sum_by_push}
 use Rattle.wf_link.specs.Links.{IsTold}
-use Rattle.wf_turn.specs.Counts.{one, times}
+use Rattle.wf_turn.specs.Counts.{times}
 use Rattle.wf_play.specs.Links.{AreOpened}
 
 -- a number more
@@ -20,6 +21,10 @@ range-more from count end is = ap (range_with_len from) (one-more count) ∙ las
     last a zero e is = let same : a ≡ e = omega (arith, is) in ap (λ (k : ℕ). k ∷ []) same
     last a (suc n) e is = ap (λ (l : List ℕ). a ∷ l) (last (a + 1) n e (omega (arith, is)))
 
+-- what a number adds to how often d is in a list
+abbrev adds : ℕ → ℕ → ℕ
+adds d x = cond (x == d) 1 0
+
 -- a number that is among those from one on is not below it, and below the end
 pub times-range : (d from count : ℕ) → 0 < times d (range_with_len from count) → (from ≤ d) × (d < from + count)
 times-range d from zero some = absurd (omega (arith, some))
@@ -27,13 +32,14 @@ times-range d from (suc count) some = elim (eqb_tells from d) [
   | inl same ↦ (omega (arith, same.1), omega (arith, same.1))
   | inr apart ↦
       let later : 0 < times d (range_with_len (from + 1) count) =
-      omega (arith, some, ap one apart.0) in
+      omega (
+        arith,
+        some,
+        sum_by-cons (adds d) from (range_with_len (from + 1) count),
+        ap {B = ℕ} (λ (b : Bool). cond b 1 0) apart.0,
+      ) in
       let rest = times-range d (from + 1) count later in (omega (arith, rest.0), omega (arith, rest.1))
 ]
-
-times-snoc : (d : ℕ) (xs : List ℕ) (x : ℕ) → times d (xs ++ x ∷ []) ≡ one (x == d) + times d xs
-times-snoc d [] x = refl
-times-snoc d (y ∷ ys) x = omega (arith, times-snoc d ys x)
 
 -- the next document has no pass yet
 pub fresh : (count : ℕ) (made : List ℕ) → ((d : ℕ) → times d made ≡ times d (range_with_len 0 count))
@@ -52,8 +58,14 @@ fresh count made is = none (times count made) (λ some. omega (
 pub made-more : (count : ℕ) (made made' : List ℕ) → ((d : ℕ) → times d made ≡ times d (range_with_len 0 count))
     → made' ≡ count ∷ made → (d : ℕ) → times d made' ≡ times d (range_with_len 0 (count + 1))
 made-more count made made' is more d =
-    ap (times d) more ∙ ap (λ (n : ℕ). one (count == d) + n) (is d)
-    ∙ sym (times-snoc d (range_with_len 0 count) count) ∙ sym (ap (times d) (range-more 0 count count (zero_before count)))
+    omega (
+      arith,
+      is d,
+      ap (times d) more,
+      sum_by-cons (adds d) count made,
+      sum_by_push (adds d) (range_with_len 0 count) count,
+      ap (times d) (range-more 0 count count (zero_before count)),
+    )
   where
     zero_before : (n : ℕ) → 0 + n ≡ n
     zero_before n = omega arith

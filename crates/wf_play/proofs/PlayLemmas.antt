@@ -32,7 +32,7 @@ use Rattle.wf_player.specs.Playing.{Came, Ran}
 use Rattle.wf_player.specs.Seats.{ArePlayed, AreRefused, IsPlayed, Seat}
 use Rattle.wf_player.proofs.CallLemmas.{trace-calls}
 use Rattle.wf_player.specs.declared.seating.Seating.{Seating}
-use Rattle.wf_turn.specs.Counts.{one, times}
+use Rattle.wf_turn.specs.Counts.{times}
 use Rattle.wf_turn.specs.Passes.{IsOneHistory, IsWhole, calls_of, is_of, opening_of, own_of}
 use Rattle.wf_turn.specs.declared.pass.TurnPass.{TurnPass}
 use Rattle.wf_turn.proofs.Count.{turns-are-places}
@@ -248,9 +248,12 @@ map-map {Z = Z} f g (x ∷ xs) = ap (λ (l : List Z). g (f x) ∷ l) (map-map f 
 count-times : (d : ℕ) (passes : List TurnPass)
     → count_by (is_of d) passes ≡ times d (map (λ (p : TurnPass). p.document) passes)
 count-times d [] = refl
-count-times d (p ∷ ps) =
-    sum_by-cons (λ (q : TurnPass). cond (is_of d q) 1 0) p ps
-    ∙ ap (λ (n : ℕ). one (p.document == d) + n) (count-times d ps)
+count-times d (p ∷ ps) = omega (
+  arith,
+  count-times d ps,
+  sum_by-cons (λ (q : TurnPass). cond (is_of d q) 1 0) p ps,
+  sum_by-cons (λ (x : ℕ). cond (x == d) 1 0) p.document (map (λ (q : TurnPass). q.document) ps),
+)
 
 -- the documents' passes are not the first one
 others-apart : (count from : ℕ) (passes : List TurnPass) → from + count ≤ 4294967295
@@ -321,7 +324,7 @@ named-below count first back (e ∷ es) is documents named apart = (
           arith,
           there,
           sum_by-cons (λ (q : TurnPass). cond (is_of e.document q) 1 0) first back,
-          ap one other.0,
+          ap {B = ℕ} (λ (b : Bool). cond b 1 0) other.0,
           count-times e.document back,
           ap (times e.document) documents,
         ) in
@@ -387,7 +390,7 @@ module _ {L State : Type 0} (by : Answering State) (state : L → Option State)
       let present : 0 < count_by (is_of 4294967295) (first ∷ passes_in back) = omega (
         arith,
         sum_by-cons (λ (q : TurnPass). cond (is_of 4294967295 q) 1 0) first (passes_in back),
-        ap one (eq-eqb first.document 4294967295 are.first_is.document_is),
+        ap {B = ℕ} (λ (b : Bool). cond b 1 0) (eq-eqb first.document 4294967295 are.first_is.document_is),
       ) in
       turns-from 0 history (λ i e at. turns-are-places (first ∷ passes_in back) book history closed present calls i e at
       ∙ sym (zero_before i))

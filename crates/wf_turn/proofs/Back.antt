@@ -15,7 +15,8 @@ use lib.ListN.{get_elem?}
 use Rattle.wf_book.specs.declared.book.Book.{Book}
 use Rattle.wf_book.specs.declared.entry.Entry.{Entry}
 use Rattle.wf_book.specs.Entries.{book_after, Legal, entries_of, AllTurnsBelow, StartsWith}
-use Rattle.wf_turn.specs.Counts.{total, one, times}
+use Rattle.wf_turn.specs.Counts.{times}
+use Rattle.wf_turn.specs.Private.Sums.{total, one, often}
 use Rattle.wf_turn.specs.Private.Rule.{HasDocument, desk, drawn}
 use Rattle.wf_turn.specs.Private.Steps.{ending, joined}
 use Rattle.wf_turn.specs.Passes.{is_of, calls_of, IsWhole, IsOneHistory}
@@ -25,7 +26,7 @@ use Rattle.wf_turn.specs.declared.desk.Desk.{Desk}
 use Rattle.wf_turn.specs.declared.view.View.{View}
 use Rattle.wf_turn.specs.declared.view.Ended.{Ended}
 use Rattle.wf_turn.proofs.Ends.{Closes}
-use Rattle.wf_turn.proofs.Sums.{at-most, eqb-sym, sum-total, times-here, total-plus, total-same, total-zero}
+use Rattle.wf_turn.proofs.Sums.{at-most, eqb-sym, sum-total, often-here, times-often, total-plus, total-same, total-zero}
 use Rattle.wf_turn.proofs.Turns.{some_desk}
 
 endings-snoc : (ps : List TurnPass) (p : TurnPass) (more : List Ended) → endings ps ++ (ending p.seat.me.0 ∷ more)
@@ -75,41 +76,41 @@ abbrev met : List TurnPass → ℕ → ℕ
 met ps d = total (λ p. one (is_of d p)) ps
 
 -- documents that are all different meet each pass at most once
-met-once : (docs : List ℕ) (ps : List TurnPass) → ((d : ℕ) → times d docs ≤ 1) → total (met ps) docs ≤ length ps
+met-once : (docs : List ℕ) (ps : List TurnPass) → ((d : ℕ) → often d docs ≤ 1) → total (met ps) docs ≤ length ps
 met-once docs [] once = let z : total (met []) docs ≡ 0 = total-zero docs in omega arith
 met-once docs (p ∷ ps) once =
     let split : total (met (p ∷ ps)) docs ≡ total (λ (d : ℕ). one (is_of d p)) docs + total (met ps) docs =
     total-plus (λ (d : ℕ). one (is_of d p)) (met ps) docs in
-    let same : total (λ (d : ℕ). one (is_of d p)) docs ≡ times p.document docs =
+    let same : total (λ (d : ℕ). one (is_of d p)) docs ≡ often p.document docs =
     total-same (λ (d : ℕ). one (is_of d p)) (λ (d : ℕ). one (eqb d p.document)) docs
     (λ d. ap one (eqb-sym p.document d)) in
     omega (arith, once p.document, met-once docs ps once)
 
-met-none : (docs : List ℕ) (ps : List TurnPass) (d : ℕ) → times d docs ≡ 0 → All (λ p. 0 < times p.document docs) ps
+met-none : (docs : List ℕ) (ps : List TurnPass) (d : ℕ) → often d docs ≡ 0 → All (λ p. 0 < often p.document docs) ps
     → met ps d ≡ 0
 met-none docs [] d none-there known = refl
 met-none docs (p ∷ ps) d none-there known =
-    let P : TurnPass → Type 0 = λ q. 0 < times q.document docs in
-    let here : 0 < times p.document docs = All-head P p ps known in
+    let P : TurnPass → Type 0 = λ q. 0 < often q.document docs in
+    let here : 0 < often p.document docs = All-head P p ps known in
     let z : one (is_of d p) ≡ 0 =
-    ap one (ne_eqb p.document d (λ e. let q : times p.document docs ≡ times d docs =
-    ap (λ (k : ℕ). times k docs) e in absurd (omega arith))) in
+    ap one (ne_eqb p.document d (λ e. let q : often p.document docs ≡ often d docs =
+    ap (λ (k : ℕ). often k docs) e in absurd (omega arith))) in
     omega (arith, met-none docs ps d none-there (All-tail P p ps known))
 
 -- as many passes as documents, which are all different and each have one: no document has two
-met-apart : (docs : List ℕ) (ps : List TurnPass) → ((d : ℕ) → times d docs ≤ 1)
-    → All (λ p. 0 < times p.document docs) ps → ((d : ℕ) → 0 < times d docs → 1 ≤ met ps d) → length ps ≡ length docs
+met-apart : (docs : List ℕ) (ps : List TurnPass) → ((d : ℕ) → often d docs ≤ 1)
+    → All (λ p. 0 < often p.document docs) ps → ((d : ℕ) → 0 < often d docs → 1 ≤ met ps d) → length ps ≡ length docs
     → (d : ℕ) → met ps d ≤ 1
-met-apart docs ps once known some-there long d = dite (ℕ_discrete (times d docs) 0)
-    (λ (z : times d docs ≡ 0). let n = met-none docs ps d z known in omega arith)
-    (λ (ne : times d docs ≢ 0). omega (arith, at-most (met ps) docs some-there d (omega arith), met-once docs ps once))
+met-apart docs ps once known some-there long d = dite (ℕ_discrete (often d docs) 0)
+    (λ (z : often d docs ≡ 0). let n = met-none docs ps d z known in omega arith)
+    (λ (ne : often d docs ≢ 0). omega (arith, at-most (met ps) docs some-there d (omega arith), met-once docs ps once))
 
 turns-all : (n : ℕ) (h : List Entry) → AllTurnsBelow n h → All (λ e. e.turn < n) h
 turns-all n [] a = All-nil (λ (e : Entry). e.turn < n)
 turns-all n (e ∷ es) a = All-cons (λ (e : Entry). e.turn < n) e es a.0 (turns-all n es a.1)
 
 named-all : (passes : List TurnPass) (docs : List ℕ) (h : List Entry)
-    → ((d : ℕ) → 0 < times d docs → 0 < count_by (is_of d) passes) → HasDocument h docs
+    → ((d : ℕ) → 0 < often d docs → 0 < count_by (is_of d) passes) → HasDocument h docs
     → All (λ e. 0 < count_by (is_of e.document) passes) h
 named-all passes docs [] up a = All-nil (λ (e : Entry). 0 < count_by (is_of e.document) passes)
 named-all passes docs (e ∷ es) up a =
@@ -122,12 +123,12 @@ module _ (passes rest : List TurnPass) (first : TurnPass) (same : IsPermutation 
   WholeOf : TurnPass → Type 0
   WholeOf p = p.document ≡ 4294967295 → (d : ℕ) → 0 < times d p.seat.me.0.made → 0 < count_by (is_of d) passes
 
-  made-here : (d : ℕ) → 0 < times d v.made → 0 < count_by (is_of d) passes
+  made-here : (d : ℕ) → 0 < often d v.made → 0 < count_by (is_of d) passes
   unfolding WholeOf
   made-here d h = All-head WholeOf first rest (All-permutation WholeOf passes (first ∷ rest) same all.whole) is-first
-      d (subst (λ (l : List ℕ). 0 < times d l) (ap (λ (x : View). x.made) taken) h)
+      d (subst (λ (l : List ℕ). 0 < times d l) (ap (λ (x : View). x.made) taken) (omega (arith, h, times-often d v.made)))
 
-  pub whole-here : (d : ℕ) → d ≢ 4294967295 → 0 < times d v.made → (k : ℕ) × (e : Ended)
+  pub whole-here : (d : ℕ) → d ≢ 4294967295 → 0 < often d v.made → (k : ℕ) × (e : Ended)
       × (get_elem? v.ended k ≡ some e) × (e.document ≡ d)
   whole-here d ne h =
       let counted = made-here d h in let moved =
@@ -154,7 +155,7 @@ module _ (passes rest : List TurnPass) (first : TurnPass) (same : IsPermutation 
       λ Q q qs. All-permutation Q (first ∷ rest) passes (IsPermutation-sym passes (first ∷ rest) same)
       (All-cons Q first rest q qs) in
       let P : Ended → Type 0 = λ e. (entries_of e.document cl.history ≡ e.own) × StartsWith cl.history e.seen
-      × (v.document ≢ e.document) × (0 < times e.document (4294967295 ∷ v.made)) in
+      × (v.document ≢ e.document) × (0 < often e.document (4294967295 ∷ v.made)) in
       let those : (k : ℕ) (e : Ended) → get_elem? (endings rest ++ first.seat.me.0.ended) k ≡ some e → P e =
       λ k e at. cl.ended k e (ap (λ (l : List Ended). get_elem? l k) kept ∙ at) in
       let Legals : TurnPass → Type 0 = λ p. p.document ≡ 4294967295 → Legal p.seat.me.0.opening history
@@ -172,16 +173,16 @@ module _ (passes rest : List TurnPass) (first : TurnPass) (same : IsPermutation 
         sum_by-IsPermutation calls_of passes (first ∷ rest) same,
       ) in
       let docs : List ℕ = 4294967295 ∷ v.made in
-      let Known : TurnPass → Type 0 = λ p. 0 < times p.document docs in
+      let Known : TurnPass → Type 0 = λ p. 0 < often p.document docs in
       let known : All Known (first ∷ rest) =
-      All-cons Known first rest (subst (λ (k : ℕ). 0 < times k docs) (sym is-first) (times-here 4294967295 v.made))
-      (each P Known rest first.seat.me.0.ended (λ p q. subst (λ (k : ℕ). 0 < times k docs) p.rests.1 q.3) those) in
+      All-cons Known first rest (subst (λ (k : ℕ). 0 < often k docs) (sym is-first) (often-here 4294967295 v.made))
+      (each P Known rest first.seat.me.0.ended (λ p q. subst (λ (k : ℕ). 0 < often k docs) p.rests.1 q.3) those) in
       let counts : (d : ℕ) → count_by (is_of d) passes ≡ met (first ∷ rest) d =
       λ d. (let Weight : TurnPass → ℕ = λ q. cond (is_of d q) 1 0 in
       let a : sum_by Weight passes ≡ sum_by Weight (first ∷ rest) =
       sym (sum_by-IsPermutation Weight passes (first ∷ rest) same) in
       let b : sum_by Weight (first ∷ rest) ≡ met (first ∷ rest) d = sum-total Weight (first ∷ rest) in a ∙ b) in
-      let has : (d : ℕ) → 0 < times d docs → 0 < count_by (is_of d) passes =
+      let has : (d : ℕ) → 0 < often d docs → 0 < count_by (is_of d) passes =
       λ d some-there. dite (ℕ_discrete 4294967295 d)
       (λ (z : 4294967295 ≡ d). subst (λ (k : ℕ). 0 < count_by (is_of k) passes) z all.first)
       (λ ne. let z : one (eqb 4294967295 d) ≡ 0 = ap one (ne_eqb 4294967295 d ne) in made-here d (omega arith)) in

@@ -12,7 +12,7 @@ use Rattle.wf_book.specs.declared.book.Book.{Book}
 use Rattle.wf_book.specs.declared.entry.Entry.{Entry}
 use Rattle.wf_book.specs.Book.{after}
 use Rattle.wf_book.specs.Entries.{AllTurnsBelow, Legal, LegalFrom, book_after, entries_of}
-use Rattle.wf_turn.specs.Counts.{one, total}
+use Rattle.wf_turn.specs.Private.Sums.{one, total}
 use Rattle.wf_turn.specs.Laws.{TurnsArePlaces}
 use Rattle.wf_turn.proofs.Sums.{eqb-sym, sum-total, total-alike, total-plus, total-same, total-zero}
 use Rattle.wf_turn.specs.Passes.{calls_of, is_of, opening_of, own_of}

@@ -11,7 +11,7 @@ use Rattle.wf_book.specs.declared.book.Book.{Book}
 use Rattle.wf_book.specs.declared.entry.Entry.{Entry}
 use Rattle.wf_book.specs.Entries.{book_after, Legal, entries_of, AllTurnsBelow, StartsWith}
 use Rattle.wf_book.proofs.EntryLemmas.{AllTurnsBelow-mono}
-use Rattle.wf_turn.specs.Counts.{total, one, times}
+use Rattle.wf_turn.specs.Private.Sums.{total, one, often}
 use Rattle.wf_turn.specs.Private.Rule.{desk, first_view, drawn, passes_of, HasDocument, Fits, Keeps}
 use Rattle.wf_turn.specs.declared.desk.Desk.{Desk}
 use Rattle.wf_turn.specs.declared.view.View.{View}
@@ -79,14 +79,14 @@ pub record Closes (v : View) (xs : List (Option Desk)) : Type 0 where
   pub seen : StartsWith history v.seen
   pub turns : AllTurnsBelow (drawn v) history
   pub named : HasDocument history (4294967295 ∷ v.made)
-  pub once : (d : ℕ) → times d (4294967295 ∷ v.made) ≤ 1
+  pub once : (d : ℕ) → often d (4294967295 ∷ v.made) ≤ 1
   pub count : passes_of v ≡ length (4294967295 ∷ v.made)
   pub ended : (k : ℕ) (e : Ended) → get_elem? v.ended k ≡ some e → (entries_of e.document history ≡ e.own)
-      × StartsWith history e.seen × (v.document ≢ e.document) × (0 < times e.document (4294967295 ∷ v.made))
+      × StartsWith history e.seen × (v.document ≢ e.document) × (0 < often e.document (4294967295 ∷ v.made))
 
 pub closes : (id : ℕ) (v : View) (ws : List ℕ) (xs : List (Option Desk)) → Final (Seen Keeps id v) ws xs → v.live
     ≡ true → v.document ≡ 4294967295 → v.served ≡ false
-    → ((d : ℕ) → d ≢ 4294967295 → 0 < times d v.made → (k : ℕ) × (e : Ended) × (get_elem? v.ended k ≡ some e)
+    → ((d : ℕ) → d ≢ 4294967295 → 0 < often d v.made → (k : ℕ) × (e : Ended) × (get_elem? v.ended k ≡ some e)
     × (e.document ≡ d)) → Closes v xs
 closes id v ws xs final live first unserved whole =
     let s = final.0 in let o = final.1.0 in let me = final.1.1 in
@@ -98,7 +98,7 @@ closes id v ws xs final live first unserved whole =
     let not-first : u.document ≢ 4294967295 = λ h. a.documents z live (h ∙ sym first) in
     let zero-first : one (eqb 4294967295 u.document) ≡ 0 =
     ap one (ne_eqb 4294967295 u.document (λ h. not-first (sym h))) in
-    let some-made : 0 < times u.document v.made = let q = ap (times u.document) was in omega arith in
+    let some-made : 0 < often u.document v.made = let q = ap (often u.document) was in omega arith in
     let r = whole u.document not-first some-made in
     absurd (a.ended z r.0 r.1 r.2 (sym r.3))) (λ (z : u.live ≡ false). z) (either_way u.live) in
     let none-served : (j : ℕ) (u : View) → get_elem? s.views j ≡ some u → u.served ≡ false =
@@ -128,8 +128,8 @@ closes id v ws xs final live first unserved whole =
       seen = l.seen;
       turns = AllTurnsBelow-mono n (drawn v) o.history (omega (arith, o.queue, o.sum)) o.turns;
       named = subst (HasDocument o.history) was o.named;
-      once = subst (λ (l : List ℕ). (d : ℕ) → times d l ≤ 1) was o.once;
+      once = subst (λ (l : List ℕ). (d : ℕ) → often d l ≤ 1) was o.once;
       count = sym lone ∙ (o.count ∙ ap (λ (l : List ℕ). length l) was);
       ended = λ k e at. let q = f.ended k e at in
-          (q.own, q.seen, q.apart, subst (λ (l : List ℕ). 0 < times e.document l) was q.known);
+          (q.own, q.seen, q.apart, subst (λ (l : List ℕ). 0 < often e.document l) was q.known);
     }

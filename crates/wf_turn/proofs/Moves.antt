@@ -18,7 +18,7 @@ use Rattle.std.proofs.lemmas.List.{append-nil}
 use Rattle.wf_book.proofs.EntryLemmas.{StartsWith-refl, StartsWith-trans, StartsWith-more, LegalFrom-snoc}
 use Rattle.wf_book.proofs.EntryLemmas.{AllTurnsBelow-mono, AllTurnsBelow-snoc, entries_of-snoc_same}
 use Rattle.wf_book.proofs.EntryLemmas.{entries_of-snoc_other}
-use Rattle.wf_turn.specs.Counts.{one, times}
+use Rattle.wf_turn.specs.Private.Sums.{one, often}
 use Rattle.wf_turn.specs.Private.Rule.{desk, HasDocument, Fits, Keeps}
 use Rattle.wf_turn.specs.Private.Steps.{Sat, drew, Draws, Looks, held, noting, Notes, passed, Passes}
 use Rattle.wf_turn.specs.declared.desk.Desk.{Desk}
@@ -165,7 +165,7 @@ pub record Grows (v : View) (h : List Entry) : Type 0 where
   pub item : h ≡ v.seen ++ v.item
   pub own : entries_of v.document h ≡ entries_of v.document v.seen ++ v.item
   pub others : (d : ℕ) → d ≢ v.document → entries_of d h ≡ entries_of d v.seen
-  pub named : (docs : List ℕ) → 0 < times v.document docs → HasDocument v.seen docs → HasDocument h docs
+  pub named : (docs : List ℕ) → 0 < often v.document docs → HasDocument v.seen docs → HasDocument h docs
   pub later : StartsWith h v.seen
 
 pub passes_at : (z id : ℕ) (v : View) (new : ℕ) (h : List Entry) → v.live ≡ true → v.waits ≡ true → v.served ≡ true
@@ -279,7 +279,7 @@ grows_skip v empty legal turns = record {
   later = StartsWith-refl v.seen;
 }
 
-HasDocument-snoc : (h : List Entry) (e : Entry) (docs : List ℕ) → HasDocument h docs → 0 < times e.document docs
+HasDocument-snoc : (h : List Entry) (e : Entry) (docs : List ℕ) → HasDocument h docs → 0 < often e.document docs
     → HasDocument (h ++ e ∷ []) docs
 HasDocument-snoc [] e docs a lt = (lt, tt)
 HasDocument-snoc (x ∷ xs) e docs a lt = (a.0, HasDocument-snoc xs e docs a.1 lt)
@@ -297,7 +297,7 @@ grows_entry v e item legal turns turn document is = record {
       ∙ ap (λ (x : List Entry). entries_of v.document v.seen ++ x) (sym item);
   others = λ d ne. entries_of-snoc_other d v.seen e (λ z. ne (sym z ∙ document));
   named = λ docs known named. HasDocument-snoc v.seen e docs named
-      (subst (λ (k : ℕ). 0 < times k docs) (sym document) known);
+      (subst (λ (k : ℕ). 0 < often k docs) (sym document) known);
   later = StartsWith-more v.seen (e ∷ []) v.seen (StartsWith-refl v.seen);
 }
 

@@ -3,9 +3,10 @@ use Rattle.std.proofs.Common.{◌≡◌, ◌≢◌, ℕ, ◌<◌, cond, eqb, Lis
 use Rattle.std.specs.List.{count_by}
 use Rattle.std.proofs.lemmas.List.Sums.{sum_by-cons}
 use Rattle.std.proofs.lemmas.List.Elements.{All-cons, All-weaker}
-use Rattle.wf_turn.specs.Counts.{one, times}
+use Rattle.wf_turn.specs.Counts.{times}
 use Rattle.wf_turn.specs.Laws.{AreAllPasses}
 use Rattle.wf_turn.specs.Passes.{is_of, made_of}
+use Rattle.wf_turn.specs.Private.Sums.{one}
 use Rattle.wf_turn.specs.declared.pass.TurnPass.{TurnPass}
 
 more-of : (d : ℕ) (p : TurnPass) (ps : List TurnPass) → 0 < count_by (is_of d) ps → 0 < count_by (is_of d) (p ∷ ps)

@@ -2,4 +2,5 @@
 pub mod Rest
 pub mod Rule
 pub mod Steps
+pub mod Sums
 pub mod Taken

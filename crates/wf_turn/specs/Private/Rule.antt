@@ -9,7 +9,7 @@ use Rattle.atomic_table.specs.Table.{State}
 use Rattle.wf_book.specs.declared.book.Book.{Book}
 use Rattle.wf_book.specs.declared.entry.Entry.{Entry}
 use Rattle.wf_book.specs.Entries.{book_after, Legal, entries_of, AllTurnsBelow, StartsWith}
-use Rattle.wf_turn.specs.Counts.{total, one, times}
+use Rattle.wf_turn.specs.Private.Sums.{total, one, often}
 use Rattle.wf_turn.specs.declared.desk.Desk.{Desk}
 use Rattle.wf_turn.specs.declared.view.View.{View}
 use Rattle.wf_turn.specs.declared.view.Ended.{Ended}
@@ -51,13 +51,13 @@ waiting v = one v.waits
 -- each entry is of one of these documents
 abbrev pub HasDocument : List Entry → List ℕ → Type 0
 HasDocument [] docs = Unit {0}
-HasDocument (e ∷ es) docs = (0 < times e.document docs) × HasDocument es docs
+HasDocument (e ∷ es) docs = (0 < often e.document docs) × HasDocument es docs
 
 -- an ended pass: its own entries are all that the history has of its document
 pub record FitsEnded (history : List Entry) (docs : List ℕ) (document : ℕ) (e : Ended) : Type 0 where
   pub own : entries_of e.document history ≡ e.own
   pub seen : StartsWith history e.seen
-  pub known : 0 < times e.document docs
+  pub known : 0 < often e.document docs
   pub apart : document ≢ e.document
 
 -- what a live pass knows, part by part
@@ -66,7 +66,7 @@ pub record FitsLive (opening : Book) (history : List Entry) (docs : List ℕ) (k
   pub opening_is : knows ≡ opening
   pub own : entries_of document history ≡ mine
   pub seen : StartsWith history view
-  pub known : 0 < times document docs
+  pub known : 0 < often document docs
   pub made : document ≡ 4294967295 → docs ≡ 4294967295 ∷ others
 
 -- a pass that has its turn
@@ -108,8 +108,8 @@ pub record Keeps (s : State (Option Desk) View) : Type 0 where
   pub queue : slice_index s.words 1 + total waiting s.views ≡ slice_index s.words 0
   pub sum : total drawn s.views ≡ slice_index s.words 0
   pub count : total passes_of s.views ≡ length docs
-  pub once : (d : ℕ) → times d docs ≤ 1
-  pub small : (d : ℕ) → 4294967296 ≤ d → times d docs ≡ 0
+  pub once : (d : ℕ) → often d docs ≤ 1
+  pub small : (d : ℕ) → 4294967296 ≤ d → often d docs ≡ 0
   pub fits : (i : ℕ) (v : View) → get_elem? s.views i ≡ some v
       → Fits (slice_index s.words 0) (slice_index s.words 1) opening history docs v
   pub apart : (i j : ℕ) (v w : View) → i ≢ j → get_elem? s.views i ≡ some v → get_elem? s.views j ≡ some w

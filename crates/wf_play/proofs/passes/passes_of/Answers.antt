@@ -2,6 +2,7 @@ use Rattle.std.proofs.Common.{◌≡◌, ℕ, ◌+◌, List, [], ◌∷◌, ◌+
 use Rattle.std.specs.List.{range_with_len}
 use Rattle.std.proofs.lemmas.List.{map_push}
 use Rattle.std.proofs.lemmas.List.Elements.{All-push, All-same}
+use Rattle.wf_turn.specs.Counts.{times}
 use Rattle.wf_turn.specs.Passes.{made_of, opening_of}
 use Rattle.wf_turn.specs.declared.pass.TurnPass.{TurnPass}
 use Rattle.wf_play.specs.Passes.{IsNew}
@@ -48,3 +49,17 @@ loop-number-preserved c =
   where
     zero_before : (n : ℕ) → 0 + n ≡ n
     zero_before n = omega arith
+
+pub returns : goal.returns
+returns c =
+    let i = c.loop-number.invariant in
+    let all : c.loop-number.number ≡ c.args.count =
+    omega (arith, c.loop-number-test.false, c.loop-number.auto.number-end) in
+    record {
+      passes = record {
+        first_is = i.first;
+        new = i.new;
+        documents = i.documents ∙ ap (range_with_len 0) all;
+        made = λ d. i.made d ∙ ap (λ (n : ℕ). times d (range_with_len 0 n)) all;
+      };
+    }
