@@ -116,7 +116,8 @@ impl Fetching {
         self.go_on(alloc, &lent, input)
     }
 
-    // Goes on from an input, whatever it is.
+    // Goes on from an input, whatever it is. It is called once, by `resume`, and a fetch is large to hand over.
+    #[inline(always)]
     fn go_on(self, alloc: Global, lent: &Lent<'_>, input: Input) -> Result<Step, OutOfMemory>
         requires { IsClient lent.now.client.now }
         ensures { Leads (lent_at lent.now self.level.now) result (rest (lent_at lent.now self.level.now) self input) }

@@ -28,7 +28,9 @@ impl Model for Bytes {
 // A text is moved often, so its size matters.
 const _: () = prove!(size_of::<Bytes>() == 48);
 
-// Two pieces, joined.
+// Two pieces, joined. A text moves out of the value itself once at most, so most calls of `append` come without it.
+#[cold]
+#[inline(never)]
 fn joined(alloc: Global, front: &[u8], back: &[u8]) -> Result<Vec<u8>, OutOfMemory>
     ensures { IfOk result (λ items. items.items ≡ front.now ++ back.now) }
 {
