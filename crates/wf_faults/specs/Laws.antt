@@ -1,4 +1,4 @@
--- Laws of documents' runs: where the failures of a link show, and that there are at most as many as the link counted
+-- Laws of documents' runs: where the failures of a link show, and that there are as many as the link counted
 -- (this project's own definition).
 use Rattle.std.specs.Prelude.{◌≡◌, ℕ, ◌+◌, ◌≤◌, List, Some, None}
 use Rattle.wf_act.specs.declared.act.Input.{Input}

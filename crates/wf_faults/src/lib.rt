@@ -1,4 +1,4 @@
-// Where the failures of a link show in a document's run, and that there are at most as many as the link counted.
+// Where the failures of a link show in a document's run, and that there are as many as the link counted.
 #![tactic(auto)]
 
 mod laws;

@@ -62,7 +62,7 @@ pub enum Place {
     Ending(Violations, usize, Ended),
     /// The body of the response is read.
     BodyReading(Response),
-    /// After an error the preflight cache was told to forget the request as it then was.
+    /// After an error the preflight cache was told to forget what it has of the request's origin and URL.
     Clearing(NetError),
 }
 

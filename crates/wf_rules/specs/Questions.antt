@@ -43,6 +43,7 @@ learn_of client request age methods names now = Learn (record {
   names = names;
 }) now
 
--- the preflight cache forgets what it has of the request's origin and current URL (main fetch, step 12)
+-- the preflight cache forgets what it has under the client's key of the request's origin and current URL (main fetch,
+-- step 12)
 abbrev pub clear_of : Client → Request → ℕ → Op
 clear_of client request now = Clear client.key (serialized_request_origin request) (url_text request) now

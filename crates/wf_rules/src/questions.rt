@@ -77,8 +77,8 @@ pub fn learn_of(
     Ok(Op::Learn(lesson, now))
 }
 
-/// That the preflight cache forgets what it has of a request's origin and current URL (Fetch, section 4.1, "main fetch",
-/// step 12, where HTTP fetch with a preflight returns a network error).
+/// That the preflight cache forgets what it has under a client's key of a request's origin and current URL (Fetch,
+/// section 4.1, "main fetch", step 12, where HTTP fetch with a preflight returns a network error).
 pub fn clear_of(
     alloc: Global,
     client: &Client,

@@ -97,7 +97,7 @@ generated_document i =
       script = put_script;
     }
 
--- n documents, numbered from 0; pieces and bodies are bounded as in a scenario that gives no bounds
+-- n documents, numbered from 0; pieces and bodies are bounded as in a scenario of the first format that gives no bounds
 abbrev pub generated : ℕ → Scenario
 generated n =
     record {

@@ -28,7 +28,7 @@ window-behind buffer from to count within =
     sym (ap (λ (n : ℕ). drop count (take n (drop from buffer))) parts ∙ drop-take count rest (drop from buffer)
     ∙ ap (λ (l : List ℕ). take rest l) (drop-drop count from buffer))
 
--- a link that has not failed since has a cause for each input that is no fault
+-- an input that is no fault, where the count is as it was
 pub uncaused : (input : Input) (before now : ℕ) → now ≡ before → is_fault input ≡ false → IsCaused input before now
 uncaused input before now same none = record { later = omega (arith, same); counted = rw none same }
 

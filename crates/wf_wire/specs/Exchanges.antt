@@ -116,8 +116,7 @@ pub record Gives {State : Type 0} (old : Exchange State) (input : Input) (new : 
 abbrev pub most_received : ℕ
 most_received = 4096
 
--- Before the last receive what had come was open, and the link had given these many bytes. That receive gave 4,096 at
--- most.
+-- At some moment what had come was open and the link had given `earlier` bytes. It gave 4,096 more at most.
 pub record WaitedFor (Open : List ℕ → Type 0) (coming left : Option (List ℕ)) (count : ℕ) : Type 0 where
   pub earlier : ℕ
   pub few : count ≤ earlier + most_received
@@ -127,7 +126,7 @@ pub record WaitedFor (Open : List ℕ → Type 0) (coming left : Option (List �
   pub came : Gave coming mid bytes
   pub waits : Open bytes
 
--- the link gave so many bytes: none, or no more than were needed, but for those of one receive
+-- the link gave so many bytes: none, or at most 4,096 since what had come was open
 abbrev pub Waited : (List ℕ → Type 0) → Option (List ℕ) → Option (List ℕ) → ℕ → Type 0
 Waited Open coming left count = (count ≡ 0) ⊎ WaitedFor Open coming left count
 
@@ -161,8 +160,8 @@ FindsHead old HeadLong new = HasNoHead old.coming long × IsIdle new
 FindsHead old Fault new = LeavesHead old.coming new.left × IsBrokenOff new
 FindsHead old _ new = ⊥
 
--- The head was read, or the link failed. In this read the link gave 65,537 bytes at most, and none but those of one
--- receive once the head was decided.
+-- The head was read, or the link failed. In this read the link gave 65,537 bytes at most, and at most 4,096 since the
+-- head was open.
 pub record IsHeadRead {State : Type 0} (old : Exchange State) (input : Input) (new : Exchange State) : Type 0 where
   pub head_is : FindsHead old input new
   pub count : ℕ
@@ -209,8 +208,8 @@ abbrev pub FindsBody : {State : Type 0} → ℕ → Exchange State → Input →
 FindsBody limit old (BodyIs end) new = EndsBody old.framing limit old.coming end new.left × IsBehind end new
 FindsBody limit old _ new = ⊥
 
--- The body was read, with so many bytes at most, or the link failed. The link gave no bytes but those of one receive
--- once the body was decided.
+-- The body was read, with so many bytes at most, or the link failed. In this read the link gave
+-- at most 4,096 bytes since the body was open.
 pub record IsBodyRead {State : Type 0} (limit : ℕ) (old : Exchange State) (input : Input) (new : Exchange State)
     : Type 0 where
   pub body_is : FindsBody limit old input new

@@ -175,9 +175,9 @@ impl Wire {
 
     /// Reads the body whose head was read last, of so many bytes at most (RFC 9112, section 6), and hangs up,
     /// unless the link fails. Of the bytes after the body's end it takes no more than come with it in one
-    /// receive, of 4,096 at most. The body ends in `Fault`, with the
-    /// number of bytes that had come of it, where the link failed while the body was open, and only there; then
-    /// what was received is dropped. Where memory was refused nothing is said of what is to come.
+    /// receive, of 4,096 at most. The body ends in `Fault`, with the number of bytes that had come of it, where
+    /// the link failed while the body was open, and only there; then what was received is dropped. Where memory
+    /// was refused nothing is said of what is to come.
     #[tactic(auto, using(crate::proofs::WireLemmas::onto_nothing))]
     pub fn read_body<L: Link>(
         &mut self,
