@@ -1,0 +1,34 @@
+-- Heads of requests (RFC 9112, section 3). The grammar of `httparse` says what a request head is.
+use Rattle.std.specs.Prelude.{◌≡◌, ℕ, ◌≤◌, List, [], ◌++◌, length, Option, Some, None}
+use Rattle.httparse.specs.Grammar.{RequestHead, IsRequestHead, print_request}
+use Rattle.wf_http1.specs.Heads.{most_lines, with_lines}
+use Rattle.wf_http1.specs.declared.request_head.Asked.{Asked}
+
+-- a request head with so many header lines at most
+pub record IsRequest (printed : RequestHead) : Type 0 where
+  pub head : IsRequestHead printed
+  pub few : length printed.fields ≤ most_lines
+
+-- the method and the header list of a head
+abbrev pub asked_of : RequestHead → Asked
+asked_of head = record { method = head.method; headers = with_lines [] head.fields }
+
+-- a prefix of the bytes is this head
+pub record BeginsRequest (bytes : List ℕ) (printed : RequestHead) : Type 0 where
+  pub valid : IsRequest printed
+  pub rest : List ℕ
+  pub whole : bytes ≡ print_request printed ++ rest
+
+-- what is read of the bytes: what the head asks that a prefix of them is, or nothing where none is one
+abbrev pub IsRead : List ℕ → Option Asked → Type 0
+IsRead bytes None = (printed : RequestHead) → ¬ (BeginsRequest bytes printed)
+IsRead bytes (Some asked) = (printed : RequestHead) × BeginsRequest bytes printed × (asked ≡ asked_of printed)
+
+-- one thing is read of the bytes
+abbrev pub HasOneReading : Type 0
+HasOneReading = (bytes : List ℕ) (a b : Option Asked) → IsRead bytes a → IsRead bytes b → a ≡ b
+
+-- what a head asks is read whatever follows the head
+abbrev pub ReadingStays : Type 0
+ReadingStays =
+    (bytes more : List ℕ) (asked : Asked) → IsRead bytes (Some asked) → IsRead (bytes ++ more) (Some asked)
