@@ -1,6 +1,7 @@
 -- Heads of requests (RFC 9112, section 3). The grammar of `httparse` says what a request head is.
-use Rattle.std.specs.Prelude.{◌≡◌, ℕ, ◌≤◌, List, [], ◌++◌, length, Option, Some, None}
+use Rattle.std.specs.Prelude.{◌≡◌, ℕ, ◌≤◌, false, List, [], ◌++◌, length, take, Option, Some, None}
 use Rattle.httparse.specs.Grammar.{RequestHead, IsRequestHead, print_request}
+use Rattle.wf_http1.specs.Blocks.{is_block, IsShortestBlock}
 use Rattle.wf_http1.specs.Heads.{most_lines, with_lines}
 use Rattle.wf_http1.specs.declared.request_head.Asked.{Asked}
 
@@ -23,6 +24,14 @@ pub record BeginsRequest (bytes : List ℕ) (printed : RequestHead) : Type 0 whe
 abbrev pub IsRead : List ℕ → Option Asked → Type 0
 IsRead bytes None = (printed : RequestHead) → ¬ (BeginsRequest bytes printed)
 IsRead bytes (Some asked) = (printed : RequestHead) × BeginsRequest bytes printed × (asked ≡ asked_of printed)
+
+-- a head is a block, and no beginning of it is one
+abbrev pub RequestsAreBlocks : Type 0
+RequestsAreBlocks = (head : RequestHead) → IsRequestHead head → IsShortestBlock (print_request head)
+
+-- where no block ends in the bytes, none of their prefixes is a head
+abbrev pub NoneBeforeBlock : Type 0
+NoneBeforeBlock = (bytes : List ℕ) → ((n : ℕ) → is_block (take n bytes) ≡ false) → IsRead bytes None
 
 -- one thing is read of the bytes
 abbrev pub HasOneReading : Type 0

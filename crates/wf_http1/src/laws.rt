@@ -1,6 +1,6 @@
 ghost use Rattle.wf_http1.specs.BodyLaws.{OpenBodiesAreShort};
 ghost use Rattle.wf_http1.specs.HeadLaws.{HasOneEnd, HasOneHead, HeadsAreBlocks};
-ghost use Rattle.wf_http1.specs.RequestHeads.{HasOneReading, ReadingStays};
+ghost use Rattle.wf_http1.specs.RequestHeads.{HasOneReading, NoneBeforeBlock, ReadingStays, RequestsAreBlocks};
 
 /// A head is a block, and no beginning of it is one.
 pub fn law_heads_are_blocks()
@@ -26,4 +26,11 @@ pub fn law_open_bodies_are_short()
 pub fn law_one_request()
     ensures one { HasOneReading }
     ensures stays { ReadingStays }
+{}
+
+/// The head of a request is a block, no beginning of it is one, and so bytes in which no block ends
+/// have none.
+pub fn law_requests_are_blocks()
+    ensures blocks { RequestsAreBlocks }
+    ensures before { NoneBeforeBlock }
 {}

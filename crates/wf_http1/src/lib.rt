@@ -19,6 +19,7 @@ pub use framing::{Framing, framing_of};
 pub use head::{HeadReader, HeadStep};
 pub use laws::{
     law_heads_are_blocks, law_one_end, law_one_head, law_one_request, law_open_bodies_are_short,
+    law_requests_are_blocks,
 };
 pub use request::write_request;
 pub use request_head::{Asked, read_request};
