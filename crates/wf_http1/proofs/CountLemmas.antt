@@ -8,7 +8,7 @@ use Rattle.httparse.specs.Grammar.{print_response}
 use Rattle.wf_http1.specs.Private.HeadReading.{line_ends}
 use Rattle.wf_http1.proofs.HeadLemmas.{field-parts, printed-parts, status_rest}
 
-ends-append : (a b : List ℕ) → line_ends (a ++ b) ≡ line_ends a + line_ends b
+pub ends-append : (a b : List ℕ) → line_ends (a ++ b) ≡ line_ends a + line_ends b
 ends-append a b = sum_by-append (λ (byte : ℕ). cond (byte == 10) 1 0) a b
 
 end-ends : (end : LineEnd) → line_ends (print_end end) ≡ 1
@@ -25,7 +25,7 @@ field-ends field = omega (
   end-ends field.end,
 )
 
-fields-ends : (fields : List Field) → length fields ≤ line_ends (flat_map print_field fields)
+pub fields-ends : (fields : List Field) → length fields ≤ line_ends (flat_map print_field fields)
 fields-ends [] = omega arith
 fields-ends (field ∷ fields) = omega (
   arith,

@@ -43,17 +43,17 @@ pub line_text-append : (text more : List ℕ) → IsLineText text → IsLineText
 line_text-append [] more each rest = rest
 line_text-append (byte ∷ text) more each rest = (each.0, line_text-append text more each.1 rest)
 
-token-cr : is_token_byte 13 ≡ false
+pub token-cr : is_token_byte 13 ≡ false
 unfolding is_token_byte
 token-cr = refl
 
-token-lf : is_token_byte 10 ≡ false
+pub token-lf : is_token_byte 10 ≡ false
 unfolding is_token_byte
 token-lf = refl
 
 -- ---- the lines of a head
 
-blank-none : (ends : List LineEnd) → list_any is_line_byte (print_blank ends) ≡ false
+pub blank-none : (ends : List LineEnd) → list_any is_line_byte (print_blank ends) ≡ false
 blank-none [] = refl
 blank-none (crlf ∷ ends) = blank-none ends
 blank-none (lf ∷ ends) = blank-none ends
@@ -70,7 +70,7 @@ take-none (suc n) (byte ∷ text) none =
     rw both.0 (take-none n text both.1)
 
 -- no block ends in the empty lines before a head
-blank-quiet : (ends : List LineEnd) → IsQuiet [] (print_blank ends)
+pub blank-quiet : (ends : List LineEnd) → IsQuiet [] (print_blank ends)
 blank-quiet ends n = no-line-byte (take n (print_blank ends)) (take-none n (print_blank ends) (blank-none ends))
 
 pub field-parts : (field : Field) → print_field field ≡ field.name ++ (58 ∷ (field.raw ++ print_end field.end))
@@ -94,14 +94,14 @@ field-quiet before field none is = by_name field.name is.name.0 refl
         ∷ field.raw) field.end none each.0 (line_text-append rest (58 ∷ field.raw) each.1 (refl, raw)))
 
 -- one text after another
-behind-both : (before text more : List ℕ) → IsBehindLine before text → IsBehindLine (before ++ text) more
+pub behind-both : (before text more : List ℕ) → IsBehindLine before text → IsBehindLine (before ++ text) more
     → IsBehindLine before (text ++ more)
 behind-both before text more first second = record {
   quiet = quiet-append before text more first.quiet second.quiet;
   line = subst EndsLine (append_assoc before text more) second.line;
 }
 
-fields-quiet : (before : List ℕ) (fields : List Field) → EndsLine before → AllByRecursion IsField fields
+pub fields-quiet : (before : List ℕ) (fields : List Field) → EndsLine before → AllByRecursion IsField fields
     → IsBehindLine before (flat_map print_field fields)
 fields-quiet before [] line each = record {
   quiet = quiet-nil before (ends_line-none before line);
@@ -118,7 +118,7 @@ fields-quiet before (field ∷ fields) line each =
 abbrev pub status_rest : ResponseHead → List ℕ
 status_rest head = codes "TTP/1." ++ ((48 + head.minor) ∷ 32 ∷ (head.digits ++ print_reason head.reason))
 
-minor-line : (minor : ℕ) → minor ≤ 1 → is_line_byte (48 + minor) ≡ true
+pub minor-line : (minor : ℕ) → minor ≤ 1 → is_line_byte (48 + minor) ≡ true
 minor-line zero most = refl
 minor-line (suc zero) most = refl
 minor-line (suc (suc n)) most = absurd (omega (arith, most))

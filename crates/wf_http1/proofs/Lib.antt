@@ -14,3 +14,4 @@ pub mod BodyLemmas
 pub mod OpenLemmas
 pub mod LengthLemmas
 pub mod FewestLemmas
+pub mod RequestLemmas

@@ -70,7 +70,7 @@ trim-is text each =
 
 -- ---- the header list
 
-lines-are : (headers : List Header) (fields : List Field) → AllByRecursion IsField fields
+pub lines-are : (headers : List Header) (fields : List Field) → AllByRecursion IsField fields
     → with_pairs headers (map name_and_value fields) ≡ with_lines headers fields
 lines-are headers [] each = refl
 lines-are headers (field ∷ fields) each =

@@ -10,4 +10,5 @@ pub mod BodyLaws
 pub mod BodyReading
 pub mod BodyFeeding
 pub mod Requests
+pub mod RequestHeads
 pub mod Private

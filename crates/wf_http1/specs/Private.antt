@@ -3,3 +3,4 @@ pub mod HeadPushing
 pub mod Places
 pub mod BodyPlaces
 pub mod Lengths
+pub mod RequestReading

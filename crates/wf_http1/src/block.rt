@@ -13,11 +13,11 @@ use wf_text::OutOfMemory;
 use wf_types::Head;
 
 // How many header lines a head has at most.
-const MOST_LINES: usize = 128;
+pub(crate) const MOST_LINES: usize = 128;
 
 // How many header lines most heads have at most: where a block has no more line ends, room for so many
 // is made.
-const FEW_LINES: usize = 16;
+pub(crate) const FEW_LINES: usize = 16;
 
 /// What a block is.
 #[derive(Drop)]
@@ -60,7 +60,11 @@ fn is_skipped(status: u16) -> bool
 }
 
 // The header list of the header lines of a block.
-fn headers_of(alloc: Global, block: &[u8], lines: &[HeaderSpan]) -> Result<HeaderList, OutOfMemory>
+pub(crate) fn headers_of(
+    alloc: Global,
+    block: &[u8],
+    lines: &[HeaderSpan],
+) -> Result<HeaderList, OutOfMemory>
     requires { All (IsHeaderWithin (length block.now)) lines.now }
     ensures { IfOk result (λ headers. headers ≡ with_pairs [] (map (header_bytes block.now) lines.now)) }
 {
@@ -72,7 +76,7 @@ fn headers_of(alloc: Global, block: &[u8], lines: &[HeaderSpan]) -> Result<Heade
 }
 
 // How many line ends there are.
-fn line_ends(block: &[u8]) -> usize
+pub(crate) fn line_ends(block: &[u8]) -> usize
     ensures { result ≡ spec_line_ends block.now }
 {
     block.iter().filter(|byte| **byte == b'\n').count()

@@ -1,5 +1,7 @@
+pub mod Accepts
 pub mod Counts
 pub mod Links
+pub mod MemoryAccepts
 pub mod MemoryLink
 pub mod MemoryLinks
 pub mod MemorySink

@@ -16,7 +16,7 @@ abbrev pub after_make : LinksState → LinksState
 after_make links = record links { waiting = drop 1 links.waiting; lent = one_out links.lent }
 
 -- a link is kept where one is out
-abbrev pub kept_back : Lent MemoryLinkState → MemoryLinkState → Lent MemoryLinkState
+abbrev pub kept_back : {Link : Type 0} → Lent Link → Link → Lent Link
 kept_back lent link = if lent.out == 0 then lent else one_back lent link
 
 -- what a take_back leaves: its faults are counted in any case

@@ -1,10 +1,13 @@
 // The outside: where bytes come from and where they go, with counts of its faults.
 #![tactic(auto)]
 
+mod accepts;
 mod clock;
 mod kept_asks;
 mod link;
 mod links;
+mod memory_accepts;
+mod memory_end;
 mod memory_link;
 mod memory_links;
 mod memory_sink;
@@ -15,9 +18,12 @@ mod source;
 mod standard;
 mod target;
 
+pub use accepts::Accepts;
 pub use clock::{Clock, FixedClock};
 pub use link::Link;
 pub use links::Links;
+pub use memory_accepts::MemoryAccepts;
+pub use memory_end::MemoryEnd;
 pub use memory_link::MemoryLink;
 pub use memory_links::MemoryLinks;
 pub use memory_sink::MemorySink;

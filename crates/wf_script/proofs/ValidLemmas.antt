@@ -32,7 +32,7 @@ use Rattle.wf_script.specs.declared.types.Scenario.{Scenario}
 use Rattle.wf_script.specs.Formats.{root_keys, body_limit_of, document_keys, top_of, most_documents}
 use Rattle.wf_script.specs.Hosts.{is_host_name}
 use Rattle.wf_script.specs.Texts.{is_cookie_value}
-use Rattle.wf_script.specs.OriginTexts.{is_origin_text}
+use Rattle.wf_types.specs.OriginTexts.{is_origin_text}
 use Rattle.wf_script.specs.Urls.{is_document_url, document_url_of}
 use Rattle.wf_script.specs.Headers.{listed, policies_of_headers, policy_or_default}
 use Rattle.wf_script.specs.Scenarios.{host_keys, host_of, cookie_of, route_of, plain_header_of, answer_of, rule_keys}

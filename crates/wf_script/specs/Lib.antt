@@ -3,7 +3,6 @@ pub mod Generated
 pub mod Headers
 pub mod Hosts
 pub mod Migration
-pub mod OriginTexts
 pub mod Scenarios
 pub mod Servers
 pub mod Texts

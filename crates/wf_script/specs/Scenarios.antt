@@ -27,7 +27,7 @@ use Rattle.wf_script.specs.Formats.{format_of, number_of_format, root_keys, body
 use Rattle.wf_script.specs.Formats.{document_keys, top_of}
 use Rattle.wf_script.specs.Headers.{policies_of_headers, policy_of_headers}
 use Rattle.wf_script.specs.Hosts.{is_host_name}
-use Rattle.wf_script.specs.OriginTexts.{is_origin_text}
+use Rattle.wf_types.specs.OriginTexts.{is_origin_text}
 use Rattle.wf_script.specs.Servers.{answer_bytes}
 use Rattle.wf_script.specs.Texts.{is_cookie_value}
 use Rattle.wf_script.specs.Urls.{document_url_of}

@@ -13,7 +13,7 @@ use Rattle.wf_script.specs.declared.types.Document.{Document}
 use Rattle.wf_script.specs.declared.types.Scenario.{Scenario}
 use Rattle.wf_script.specs.Hosts.{is_host_name}
 use Rattle.wf_script.specs.Texts.{is_cookie_value}
-use Rattle.wf_script.specs.OriginTexts.{is_origin_text}
+use Rattle.wf_types.specs.OriginTexts.{is_origin_text}
 use Rattle.wf_script.specs.Urls.{is_document_url}
 
 -- a domain as a URL has it, which is no localhost name, and the second in which its term ends

@@ -10,7 +10,6 @@ mod generated;
 mod headers;
 mod hosts;
 mod laws;
-mod origins;
 mod read;
 mod routes;
 mod servers;
@@ -20,7 +19,6 @@ mod urls;
 
 pub use generated::generate;
 pub use laws::{law_addresses, law_migrated};
-pub use origins::read_origin;
 pub use types::{
     Document, Documents, Hosts, KnownHost, Place, Rule, Rules, Scenario, Server, Servers,
 };

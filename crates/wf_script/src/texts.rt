@@ -1,11 +1,11 @@
 // What a text of a scenario has to be.
 ghost use Rattle.wf_script.specs.Texts as spec;
-ghost use Rattle.wf_script.specs.OriginTexts.{is_origin_text};
+ghost use Rattle.wf_types.specs.OriginTexts.{is_origin_text};
 
-use crate::origins::read_origin;
 use std::alloc::Global;
 use wf_form::TextTest;
 use wf_text::{OutOfMemory, is_value};
+use wf_types::read_origin;
 
 /// The value of a Cookie header: a header value of 1 to 4,096 bytes.
 #[derive(Drop)]

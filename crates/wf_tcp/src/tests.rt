@@ -1,11 +1,14 @@
 use super::*;
 use std::alloc::Global;
 use std::io::{Read, Write};
-use std::net::TcpListener;
+use std::net::{SocketAddr, TcpListener, TcpStream};
 use std::process::Abort;
 use std::test::Fail;
 use std::{io, thread};
-use wf_link::{Clock, Link, Links, Route, Routes, SystemClock, Target};
+use wf_link::{
+    Accepts, Clock, Failed, Link, Links, Route, Routes, Sink, Source, SystemClock, Target,
+    write_whole,
+};
 use wf_text::{Bytes, OutOfMemory};
 
 const REQUEST: &[u8] = b"GET / HTTP/1.1\r\nHost: a.test\r\nConnection: close\r\n\r\n";
@@ -121,4 +124,66 @@ fn time<C: Clock>(clock: &mut C) -> u64 {
 fn tells_the_time(rt: HostRuntime) {
     let now = time(&mut SystemClock::new(rt));
     assert!(rt; now > 1_700_000_000, "{now}");
+}
+
+// An address on the loopback at which nobody listens.
+fn free_address(rt: &HostRuntime) -> io::Result<SocketAddr> {
+    TcpListener::bind(rt, "127.0.0.1:0")?.local_addr()
+}
+
+// Connects, sends two bytes, and reads two.
+fn call(rt: &HostRuntime, address: SocketAddr) -> io::Result<[u8; 2]> {
+    let mut stream = TcpStream::connect(rt, address)?;
+    stream.write_all(b"hi")?;
+    let mut answer = [0; 2];
+    stream.read_exact(&mut answer)?;
+    Ok(answer)
+}
+
+// Listens at the address.
+fn listen_at<A: Accepts>(accepts: &mut A, address: &[u8]) -> Result<(), Failed> {
+    accepts.listen(address)
+}
+
+// The end of the next connection.
+fn next_end<A: Accepts>(accepts: &mut A) -> Result<A::End, Failed> {
+    accepts.next()
+}
+
+// Takes the end back.
+fn give_back<A: Accepts>(accepts: &mut A, end: A::End) {
+    accepts.take_back(end);
+}
+
+// Reads two bytes, in one piece or in two.
+fn two_bytes<S: Source>(source: &mut S) -> Result<[u8; 2], Failed> {
+    let mut bytes = [0; 2];
+    if source.read(&mut bytes)? == 1 {
+        source.read(&mut bytes[1..])?;
+    }
+    Ok(bytes)
+}
+
+// Whether the text is written whole.
+fn is_written<K: Sink>(sink: &mut K, text: &[u8]) -> bool {
+    write_whole(sink, text).is_ok()
+}
+
+#[test]
+fn accepts_a_connection(rt: HostRuntime) -> Result<(), Fail> {
+    let address = free_address(&rt)?;
+    let text = format!(in rt.alloc(); "{address}")?;
+    let mut accepts = TcpAccepts::new(&rt);
+    listen_at(&mut accepts, text.as_bytes())?;
+    let peer = thread::spawn(&rt, move || call(&rt, address).unwrap_or([0; 2]))?;
+    let mut end = next_end(&mut accepts)?;
+    assert_eq!(rt; two_bytes(&mut end)?, *b"hi");
+    assert!(rt; is_written(&mut end, b"ok"));
+    assert_eq!(rt; peer.join(&rt), *b"ok");
+    assert_eq!(rt; end.read_faults(), 0);
+    assert_eq!(rt; end.write_faults(), 0);
+    assert_eq!(rt; end.zeros(), 0);
+    give_back(&mut accepts, end);
+    assert_eq!(rt; accepts.faults(), 0);
+    Ok(())
 }

@@ -6,6 +6,7 @@ pub mod Methods
 pub mod Modes
 pub mod Names
 pub mod OriginHeader
+pub mod OriginTexts
 pub mod PermittedNames
 pub mod ReferrerPolicies
 pub mod Requests

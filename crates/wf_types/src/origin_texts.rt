@@ -1,11 +1,11 @@
 // Texts that are serialised origins.
 ghost use Rattle.std.specs.Prelude.{◌≡◌, IfOk};
-ghost use Rattle.wf_script.specs.OriginTexts as spec;
+ghost use Rattle.wf_types.specs.OriginTexts as spec;
 
+use crate::urls::{url_alone, utf8_text};
 use std::alloc::Global;
 use wf_origin::{Origin, origin_of, serialize};
 use wf_text::OutOfMemory;
-use wf_types::{url_alone, utf8_text};
 
 /// The origin that a table's text writes: that of an http or https URL whose serialisation (HTML,
 /// section 7.1.1) the text is, byte for byte. Any other text is refused by `None`: one that is not

@@ -1,0 +1,51 @@
+-- Ends of connections in memory: what the calls that accept them answer, and what they leave.
+use Rattle.std.specs.Prelude.{ℕ, nat_le, length, List, drop, slice_get, Option, Some, Result, Ok, Err, ok_or, ⊤}
+use Rattle.std.specs.Prelude.{if◌then◌else◌}
+use Rattle.wf_link.specs.Counts.{is_next_in, one_more}
+use Rattle.wf_link.specs.Links.{Lent, one_out}
+use Rattle.wf_link.specs.MemoryLinks.{kept_back}
+use Rattle.wf_link.specs.MemorySink.{SinkState}
+use Rattle.wf_link.specs.MemorySource.{SourceState}
+use Rattle.wf_link.specs.declared.source.Failed.{Failed}
+
+-- an end of a connection: what the peer sent, and what is sent to it
+pub record EndState : Type 0 where
+  pub source : SourceState
+  pub sink : SinkState
+
+-- the address that is open, if one is, for how many bytes of an address there is room, the ends still to come, those taken
+-- back with how many are out, how many calls of `next` it had, the numbers of those that fail, and how often it failed
+pub record AcceptsState : Type 0 where
+  pub opened : Option (List ℕ)
+  pub room : ℕ
+  pub coming : List EndState
+  pub lent : Lent EndState
+  pub calls : ℕ
+  pub failing_calls : List ℕ
+  pub faults : ℕ
+
+-- an address is listened at where it finds its room
+abbrev pub listen_answer : AcceptsState → List ℕ → Result ⊤ Failed
+listen_answer accepts address = if nat_le (length address) accepts.room then Ok tt else Err (record {})
+
+-- what a listen with this answer leaves
+abbrev pub after_listen : AcceptsState → List ℕ → Result ⊤ Failed → AcceptsState
+after_listen accepts address (Ok done) = record accepts { opened = Some address }
+after_listen accepts address (Err failed) = record accepts { faults = one_more accepts.faults }
+
+-- a next fails as its number says, or gives the first of the ends still to come, if one is left
+abbrev pub next_answer : AcceptsState → Result EndState Failed
+next_answer accepts =
+    if is_next_in accepts.failing_calls accepts.calls then Err (record {})
+    else ok_or (slice_get accepts.coming 0) (record {})
+
+-- what a next with this answer leaves
+abbrev pub after_next : AcceptsState → Result EndState Failed → AcceptsState
+after_next accepts (Ok given) =
+    record accepts { coming = drop 1 accepts.coming; lent = one_out accepts.lent; calls = one_more accepts.calls }
+after_next accepts (Err failed) =
+    record accepts { calls = one_more accepts.calls; faults = one_more accepts.faults }
+
+-- what a take_back leaves: the end is kept where one is out
+abbrev pub after_return : AcceptsState → EndState → AcceptsState
+after_return accepts returned = record accepts { lent = kept_back accepts.lent returned }

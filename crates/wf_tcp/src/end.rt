@@ -1,0 +1,117 @@
+ghost use Rattle.std.specs.Prelude.{◌≡◌, None};
+ghost use Rattle.std.specs.Io.{ReadsAtMost, WritesAtMost};
+ghost use Rattle.wf_link.specs.Counts.{HasCause};
+ghost use Rattle.wf_link.specs.Sinks.{CountsZero};
+ghost use Rattle.wf_tcp.specs.TcpAccepts.{after_read, after_write, fresh_end};
+
+use std::io::{Read, Write};
+use std::marker::Model;
+use std::net::Net;
+use wf_link::{Failed, Sink, Source};
+
+/// The end of a connection over TCP, which is closed where it is dropped. It tells nothing of what its peer
+/// sends and takes.
+#[derive(Drop)]
+pub struct TcpEnd<R: Net> {
+    stream: R::Stream,
+    read_faults: u64,
+    write_faults: u64,
+    zeros: u64,
+}
+
+impl<R: Net> Model for TcpEnd<R> {
+    ghost use Rattle.wf_tcp.specs.TcpAccepts.{TcpEndState};
+
+    ghost Value = { TcpEndState };
+
+    ghost view = { λ end. record {
+      read_faults = end.read_faults;
+      write_faults = end.write_faults;
+      zeros = end.zeros;
+    } };
+}
+
+impl<R: Net> TcpEnd<R> {
+    // The end of this connection, with its counts at 0.
+    pub(crate) fn new(stream: R::Stream) -> TcpEnd<R>
+        ensures { result ≡ fresh_end }
+    {
+        TcpEnd {
+            stream,
+            read_faults: 0,
+            write_faults: 0,
+            zeros: 0,
+        }
+    }
+
+    /// How often it failed to read.
+    pub fn read_faults(&self) -> u64
+        ensures { result ≡ self.now.read_faults }
+    {
+        self.read_faults
+    }
+
+    /// How often it failed to write.
+    pub fn write_faults(&self) -> u64
+        ensures { result ≡ self.now.write_faults }
+    {
+        self.write_faults
+    }
+
+    /// How often it took nothing of a piece that is not empty.
+    pub fn zeros(&self) -> u64
+        ensures { result ≡ self.now.zeros }
+    {
+        self.zeros
+    }
+}
+
+impl<R: Net> Source for TcpEnd<R> {
+    ghost left = { λ _. None };
+
+    ghost faults = { λ end. end.read_faults };
+
+    /// Reads what has come, once something has, or 0 bytes where the peer sends no more.
+    fn read(&mut self, buf: &mut [u8]) -> Result<usize, Failed>
+        ensures count { ReadsAtMost result buf.new }
+        ensures cause { HasCause self.old.read_faults self.new.read_faults result }
+        ensures after { self.new ≡ after_read self.old result }
+    {
+        match self.stream.read(buf) {
+            Ok(count) => Ok(count),
+            Err(_) => {
+                self.read_faults = self.read_faults.saturating_add(1);
+                Err(Failed)
+            }
+        }
+    }
+}
+
+impl<R: Net> Sink for TcpEnd<R> {
+    ghost taken = { λ _. None };
+
+    ghost faults = { λ end. end.write_faults };
+
+    ghost zeros = { λ end. end.zeros };
+
+    /// Writes as much of the piece as the system takes at once.
+    fn write(&mut self, piece: &[u8]) -> Result<usize, Failed>
+        ensures count { WritesAtMost result piece.now }
+        ensures cause { HasCause self.old.write_faults self.new.write_faults result }
+        ensures zero { CountsZero self.old.zeros self.new.zeros result piece.now }
+        ensures after { self.new ≡ after_write self.old piece.now result }
+    {
+        match self.stream.write(piece) {
+            Ok(count) => {
+                if count == 0 && !piece.is_empty() {
+                    self.zeros = self.zeros.saturating_add(1);
+                }
+                Ok(count)
+            }
+            Err(_) => {
+                self.write_faults = self.write_faults.saturating_add(1);
+                Err(Failed)
+            }
+        }
+    }
+}
