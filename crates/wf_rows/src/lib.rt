@@ -13,7 +13,7 @@ mod urls;
 mod words;
 
 pub use failed::Failed;
-pub use held::{Held, Leaked};
+pub use held::Held;
 pub use lines::{Lines, is_title, play, print_text};
 pub use lists::list_of;
 pub use requests::request_of;

@@ -18,7 +18,7 @@ use wf_book::{Book, History, Share, SoloBook, SoloPass};
 use wf_link::{MemoryLink, MemorySink};
 use wf_player::drive;
 use wf_print::{Transcripts, has_text, write_play};
-use wf_rows::{Failed, Leaked, Row, Shown, texts_between};
+use wf_rows::{Failed, Held, Row, Shown, texts_between};
 use wf_script::Scenario;
 use wf_text::{BytesList, after_byte, before_byte};
 
@@ -41,33 +41,31 @@ fn answers_of(alloc: Global, row: &Row) -> Result<Vec<BytesList>, Failed> {
 }
 
 // The link of a row, whose first text says what fails, and the others are the answers.
-fn link_of(alloc: Global, row: &Row) -> Result<Leaked<MemoryLink>, Failed> {
+fn link_of(alloc: Global, row: &Row) -> Result<MemoryLink, Failed> {
     let answers = answers_of(alloc, row)?;
     let asks = numbers_of(alloc, row.text(0), b"asks")?;
     let receives = numbers_of(alloc, row.text(0), b"receives")?;
-    Ok(Leaked {
-        value: MemoryLink::new(alloc, answers, LINK_ROOM, asks, receives)?,
-    })
+    Ok(MemoryLink::new(alloc, answers, LINK_ROOM, asks, receives)?)
 }
 
 // The link of a line, whose first text says what is played over it.
-pub(crate) fn link_in(alloc: Global, line: &str) -> Result<Leaked<MemoryLink>, Failed> {
+pub(crate) fn link_in(alloc: Global, line: &str) -> Result<MemoryLink, Failed> {
     let row = Row::of(alloc, after_byte(line.as_bytes(), b'\t'), b'\t')?;
     link_of(alloc, &row)
 }
 
 // The scenario that a text has.
-pub(crate) fn scenario_in(alloc: Global, text: &[u8]) -> Result<Leaked<Scenario>, Failed>
+pub(crate) fn scenario_in(alloc: Global, text: &[u8]) -> Result<Held<Scenario>, Failed>
     ensures { IfOk result (λ held. IsValid held.value) }
 {
     match Scenario::read(alloc, text)? {
-        Ok(scenario) => Ok(Leaked { value: scenario }),
+        Ok(scenario) => Ok(Held { value: scenario }),
         Err(_) => Err(Failed),
     }
 }
 
 // The scenario of a row, which has a document.
-fn scenario_of(alloc: Global, line: &str) -> Result<Leaked<Scenario>, Failed>
+fn scenario_of(alloc: Global, line: &str) -> Result<Held<Scenario>, Failed>
     ensures valid { IfOk result (λ held. IsValid held.value) }
     ensures some { IfOk result (λ held. 0 < length held.value.documents) }
 {
@@ -106,7 +104,9 @@ fn play_row<R: Threads + Wait + Sync, S: Share>(
     ensures belongs { S.belongs share.now pass.new }
     ensures few { S.left pass.old ≤ S.left pass.new + 129024 }
 {
-    let mut link = link_in(alloc, line)?;
+    let mut link = Held {
+        value: link_in(alloc, line)?,
+    };
     let held = scenario_of(alloc, line)?;
     let scenario = &held.value;
     let now = scenario.now;
@@ -135,11 +135,10 @@ fn play_each<R: Threads + Wait + Sync, S: Share>(
     Ok(())
 }
 
-// The book and the history of a pass that is over.
-pub(crate) fn closed(share: SoloBook, pass: SoloPass) -> Leaked<(Book, History)> {
-    Leaked {
-        value: share.close(pass),
-    }
+// The history of a pass that is over.
+pub(crate) fn history_of(share: SoloBook, pass: SoloPass) -> History {
+    let (_, history) = share.close(pass);
+    history
 }
 
 // The text of plays, with the history.
@@ -171,22 +170,10 @@ pub(crate) fn play<R: Threads + Wait + Sync + AllocGlobal>(
     }
     let alloc = rt.alloc();
     let (share, mut pass) = SoloBook::new(alloc, Book::new(alloc));
-    let mut transcripts = Leaked {
-        value: Transcripts::new(alloc),
-    };
-    if play_each(
-        rt,
-        alloc,
-        rows,
-        &share,
-        &mut pass,
-        &mut transcripts.value,
-        shown,
-    )
-    .is_err()
-    {
+    let mut transcripts = Transcripts::new(alloc);
+    if play_each(rt, alloc, rows, &share, &mut pass, &mut transcripts, shown).is_err() {
         shown.fail();
     }
-    let over = closed(share, pass);
-    show(alloc, &transcripts.value, &over.value.1, shown)
+    let history = history_of(share, pass);
+    show(alloc, &transcripts, &history, shown)
 }

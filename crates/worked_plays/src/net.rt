@@ -7,19 +7,17 @@ use std::alloc::Global;
 use std::sync::Wait;
 use std::thread::Threads;
 use wf_link::MemoryLinks;
-use wf_rows::{Failed, Leaked, Shown, number};
+use wf_rows::{Failed, Held, Shown, number};
 use wf_text::{after_byte, before_byte};
 
 // The links of rows, in order.
-fn links_of(alloc: Global, rows: &[&str]) -> Result<Leaked<MemoryLinks>, Failed> {
-    let mut links = Leaked {
-        value: Vec::new(alloc),
-    };
+fn links_of(alloc: Global, rows: &[&str]) -> Result<Held<MemoryLinks>, Failed> {
+    let mut links = Vec::new(alloc);
     for row in rows {
-        links.value.push(link_in(alloc, row)?.into_inner())?;
+        links.push(link_in(alloc, row)?)?;
     }
-    Ok(Leaked {
-        value: MemoryLinks::new(alloc, links.into_inner())?,
+    Ok(Held {
+        value: MemoryLinks::new(alloc, links)?,
     })
 }
 

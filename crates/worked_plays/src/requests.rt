@@ -5,7 +5,7 @@
 ghost use Rattle.std.specs.Prelude.{◌≤◌};
 ghost use Rattle.wf_types.specs.Requests.{IsClient};
 
-use crate::links::{closed, link_in, show, tell};
+use crate::links::{history_of, link_in, show, tell};
 use std::alloc::Global;
 use std::sync::Wait;
 use std::thread::Threads;
@@ -15,7 +15,7 @@ use wf_csp_text::Policies;
 use wf_link::MemoryLink;
 use wf_player::{FetchRun, drive_fetch};
 use wf_print::{Ending, Event, Transcript, Transcripts};
-use wf_rows::{Failed, Leaked, Shown, client_at, number, request_of, value_of};
+use wf_rows::{Failed, Held, Shown, client_at, number, request_of, value_of};
 use wf_text::{Bytes, after_byte, before_byte};
 use wf_types::{Client, Cookies};
 
@@ -29,13 +29,15 @@ fn limit_of(words: &[u8]) -> Result<u32, Failed> {
 
 // Adds what a fetch showed and came to, as a document of which it is all.
 fn add_run(key: Bytes, run: FetchRun, transcripts: &mut Transcripts) -> Result<(), Failed> {
-    let FetchRun { events, outcome } = run;
-    let mut events = Leaked { value: events };
-    events.value.push(Event::Result(outcome))?;
+    let FetchRun {
+        mut events,
+        outcome,
+    } = run;
+    events.push(Event::Result(outcome))?;
     transcripts.push(Transcript {
         document: 0,
         key,
-        events: events.into_inner(),
+        events,
         ending: Ending::Finished,
         clock: 0,
     })?;
@@ -57,23 +59,18 @@ fn fetched<R: Threads + Wait + Sync, S: Share>(
     requires belongs { S.belongs share.now pass.old }
     requires left { 126 ≤ S.left pass.old }
 {
-    let none = Leaked {
-        value: Policies::new(alloc),
-    };
-    let policies = Leaked {
-        value: Compiled::of(alloc, &none.value)?,
-    };
-    let cookies = Leaked {
-        value: Cookies::new(alloc),
+    let policies = Held {
+        value: Compiled::of(alloc, &Policies::new(alloc))?,
     };
     let request = request_of(alloc, text)?;
+    let cookies = Cookies::new(alloc);
     Ok(drive_fetch(
         rt,
         alloc,
         Box::into_inner(request),
         client,
         &policies.value,
-        &cookies.value,
+        &cookies,
         0,
         limit,
         share,
@@ -97,10 +94,10 @@ fn played<R: Threads + Wait + Sync, S: Share>(
 {
     let text = before_byte(line, b'\t');
     let limit = limit_of(before_byte(after_byte(line, b'\t'), b'\t'))?;
-    let from = Leaked {
+    let held = Held {
         value: client_at(alloc, value_of(text, b"from"))?,
     };
-    let client = &from.value;
+    let client = &held.value;
     let key = client.key.copy(alloc)?;
     let run = fetched(rt, alloc, text, limit, client, share, pass, link)?;
     add_run(key, run, transcripts)
@@ -115,25 +112,13 @@ fn play_over<R: Threads + Wait + Sync>(
     shown: &mut Shown,
 ) -> Result<(), Failed> {
     let (share, mut pass) = SoloBook::new(alloc, Book::new(alloc));
-    let mut transcripts = Leaked {
-        value: Transcripts::new(alloc),
-    };
-    if played(
-        rt,
-        alloc,
-        line,
-        &share,
-        &mut pass,
-        link,
-        &mut transcripts.value,
-    )
-    .is_err()
-    {
+    let mut transcripts = Transcripts::new(alloc);
+    if played(rt, alloc, line, &share, &mut pass, link, &mut transcripts).is_err() {
         shown.fail();
     }
     tell(link, shown);
-    let over = closed(share, pass);
-    show(alloc, &transcripts.value, &over.value.1, shown)
+    let history = history_of(share, pass);
+    show(alloc, &transcripts, &history, shown)
 }
 
 // Fetches the request of a row over its link.
@@ -143,6 +128,8 @@ pub(crate) fn play<R: Threads + Wait + Sync + AllocGlobal>(
     shown: &mut Shown,
 ) -> Result<(), Failed> {
     let alloc = rt.alloc();
-    let mut link = link_in(alloc, line)?;
+    let mut link = Held {
+        value: link_in(alloc, line)?,
+    };
     play_over(rt, alloc, line.as_bytes(), &mut link.value, shown)
 }

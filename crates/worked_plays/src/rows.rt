@@ -15,7 +15,7 @@ use std::alloc::Global;
 use std::sync::Wait;
 use std::thread::Threads;
 use wf_link::MemoryLinks;
-use wf_rows::{Failed, Leaked, Shown, has_word, named, number, texts_between, value_of};
+use wf_rows::{Failed, Held, Shown, has_word, named, number, texts_between, value_of};
 use wf_text::{Bytes, after_byte, before_byte};
 
 /// How many lines are printed of a row with `tail`.
@@ -108,7 +108,7 @@ fn play_text<R: Threads + Wait + Sync>(
     shown: &mut Shown,
 ) -> Result<(), Failed> {
     let program = words_of(words)?;
-    let mut links = Leaked {
+    let mut links = Held {
         value: MemoryLinks::new(alloc, Vec::new(alloc))?,
     };
     let mut streams = Streams::of(alloc, words, scenario)?;

@@ -15,7 +15,7 @@ use std::thread::Threads;
 use wf_book::Book;
 use wf_player::{Seating, play_all};
 use wf_print::{Ending, Transcript};
-use wf_rows::{Failed, Leaked, Shown};
+use wf_rows::{Failed, Shown};
 use wf_script::Scenario;
 use wf_text::OutOfMemory;
 use wf_turn::{TurnBook, TurnPass};
@@ -26,23 +26,21 @@ fn seats_of<'a>(
     book: &TurnBook,
     first: &mut TurnPass,
     links: &WaitingLinks<'a>,
-) -> Result<Leaked<Vec<Seating<WaitingLink<'a>, TurnPass>>>, OutOfMemory>
+) -> Result<Vec<Seating<WaitingLink<'a>, TurnPass>>, OutOfMemory>
     requires belongs { first.old.seat.table_id ≡ book.now.table.shared.table_id }
     requires first { first.old.document ≡ 4294967295 }
     requires none { made_of first.old ≡ [] }
-    ensures documents { IfOk result (λ seats. map (λ s. s.pass.document) seats.value.items ≡ 0 ∷ 1 ∷ []) }
-    ensures left { IfOk result (λ seats. All (λ s. left_of s.pass ≡ 4294967295) seats.value.items) }
+    ensures documents { IfOk result (λ seats. map (λ s. s.pass.document) seats.items ≡ 0 ∷ 1 ∷ []) }
+    ensures left { IfOk result (λ seats. All (λ s. left_of s.pass ≡ 4294967295) seats.items) }
     ensures belong { IfOk result (λ seats. All (λ s. s.pass.seat.table_id ≡ book.now.table.shared.table_id)
-        seats.value.items) }
+        seats.items) }
 {
-    let mut seats = Leaked {
-        value: Vec::with_capacity(alloc, 2)?,
-    };
-    seats.value.push_reserved(Seating {
+    let mut seats = Vec::with_capacity(alloc, 2)?;
+    seats.push_reserved(Seating {
         pass: book.pass(alloc, first, 0)?,
         link: links.link(0),
     });
-    seats.value.push_reserved(Seating {
+    seats.push_reserved(Seating {
         pass: book.pass(alloc, first, 1)?,
         link: links.link(1),
     });
@@ -74,10 +72,8 @@ fn play_on<'a, R: Threads + Wait + Sync>(
     requires left { All (λ s. left_of s.pass ≡ 4294967295) seats.old.items }
     requires belong { All (λ s. s.pass.seat.table_id ≡ book.now.table.shared.table_id) seats.old.items }
 {
-    let transcripts = Leaked {
-        value: play_all(rt, alloc, scenario, 0, book, seats)?,
-    };
-    for transcript in transcripts.value.as_slice() {
+    let transcripts = play_all(rt, alloc, scenario, 0, book, seats)?;
+    for transcript in transcripts.as_slice() {
         show(transcript, shown);
     }
     Ok(())
@@ -101,7 +97,7 @@ fn play_over<R: Threads + Wait + Sync>(
     let asked = Asked::none();
     let links = WaitingLinks::new(&asked, waiting_for(2));
     let mut seats = seats_of(alloc, book, first, &links)?;
-    play_on(rt, alloc, scenario, book, &mut seats.value, shown)
+    play_on(rt, alloc, scenario, book, &mut seats, shown)
 }
 
 // Plays the two documents.
@@ -114,15 +110,6 @@ pub(crate) fn play<R: Threads + Wait + Sync + AllocGlobal>(
     if scenario.value.documents.len() != 2 {
         return Err(Failed);
     }
-    let (book, first) = TurnBook::new(alloc, Book::new(alloc))?;
-    let book = Leaked { value: book };
-    let mut first = Leaked { value: first };
-    play_over(
-        rt,
-        alloc,
-        &scenario.value,
-        &book.value,
-        &mut first.value,
-        shown,
-    )
+    let (book, mut first) = TurnBook::new(alloc, Book::new(alloc))?;
+    play_over(rt, alloc, &scenario.value, &book, &mut first, shown)
 }

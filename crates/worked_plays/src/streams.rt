@@ -6,7 +6,7 @@ use std::alloc::Global;
 use std::sync::Wait;
 use std::thread::Threads;
 use wf_link::{FixedClock, Links, MemorySink, MemorySource};
-use wf_rows::{Failed, Held, Leaked, Shown, number, value_of};
+use wf_rows::{Failed, Held, Shown, number, value_of};
 use wf_text::{Bytes, after_byte, before_byte};
 use wf_top::fetchplay;
 
@@ -101,16 +101,14 @@ impl Streams {
         now: u64,
         shown: &mut Shown,
     ) {
-        let mut program = Leaked {
-            value: Vec::new(alloc),
-        };
-        if add_words(alloc, &mut program.value, words).is_err() {
+        let mut program = Vec::new(alloc);
+        if add_words(alloc, &mut program, words).is_err() {
             shown.fail();
         }
         let status = fetchplay(
             rt,
             alloc,
-            program.value.as_slice(),
+            program.as_slice(),
             &mut self.input.value,
             &mut self.output.value,
             &mut self.complaints.value,

@@ -1,5 +1,4 @@
-// Reads worked rows of the wire, one a line, and prints each with what it comes to. A line that begins with `#` is a
-// title, which is printed as it is, and so is an empty line. Rows are
+// Rows of the wire:
 //
 //     head TEXT            what the heads of this answer come to
 //     body LIMIT TEXT      how the body of this answer comes to its end, of so many bytes at most
@@ -7,21 +6,12 @@
 //     link ROOM ASK RECEIVE ANSWERS CALLS      what calls of a link in memory answer: `link.rt`
 //     device               what calls of a failing device answer: `device.rt`
 //
-// An answer is read whole, in pieces of one byte, and in pieces of 4,096 bytes. One of at most 1,024 bytes is also cut
-// in two at each place; a longer one is not. Where what an answer comes to differs, the row comes to `DIFFERS`.
-// `wf_rows`'s `row.rt` says how a text is written.
-#![tactic(auto)]
-
-mod answer;
-mod cut;
-mod device;
-mod link;
-mod reading;
-mod request;
-
+// Each is printed with what it comes to. An answer is read whole, in pieces of one byte, and in pieces of 4,096 bytes. One
+// of at most 1,024 bytes is also cut in two at each place; a longer one is not. Where what an answer comes to differs, the
+// row comes to `DIFFERS`. `wf_rows`'s `row.rt` says how a text is written.
+use crate::{answer, device, link, request};
 use std::alloc::Global;
-use std::process::ExitCode;
-use wf_rows::{Failed, Lines, Shown, named, play};
+use wf_rows::{Failed, Shown, named};
 use wf_text::{after_byte, before_byte};
 
 /// The kinds of rows.
@@ -43,17 +33,26 @@ const KINDS: [(&[u8], Kind); 5] = [
     (b"device", Kind::Device),
 ];
 
-/// The table of what rows come to.
-#[derive(Drop)]
-struct Answers;
+// The kind of a row.
+fn kind_of(line: &str) -> Result<Kind, Failed> {
+    named(&KINDS, before_byte(line.as_bytes(), b' '))
+}
 
-impl Lines for Answers {
-    fn answer(&mut self, alloc: Global, line: &str, shown: &mut Shown) -> Result<(), Failed> {
-        shown.add(line.as_bytes());
-        shown.add(b" => ");
-        let kind = named(&KINDS, before_byte(line.as_bytes(), b' '))?;
-        play_row(alloc, kind, after_byte(line.as_bytes(), b' '), shown)
-    }
+// Whether a line is a row of the wire.
+pub(crate) fn is_row(line: &str) -> bool {
+    kind_of(line).is_ok()
+}
+
+// The row, and what it comes to.
+pub(crate) fn answer(alloc: Global, line: &str, shown: &mut Shown) -> Result<(), Failed> {
+    shown.add(line.as_bytes());
+    shown.add(b" => ");
+    play_row(
+        alloc,
+        kind_of(line)?,
+        after_byte(line.as_bytes(), b' '),
+        shown,
+    )
 }
 
 // What a row of this kind comes to.
@@ -67,12 +66,5 @@ fn play_row(alloc: Global, kind: Kind, rest: &[u8], shown: &mut Shown) -> Result
             device::called(shown);
             Ok(())
         }
-    }
-}
-
-fn main(rt: HostRuntime) -> ExitCode {
-    match play(&rt, &mut Answers) {
-        Ok(()) => ExitCode::SUCCESS,
-        Err(_) => ExitCode::FAILURE,
     }
 }
