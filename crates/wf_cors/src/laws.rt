@@ -1,4 +1,5 @@
-ghost use Rattle.wf_cors.specs.Laws.{PassesAreLessons, ChecksAreOfViews, CredentialsNeverByWildcard, VerdictsAreOfViews};
+ghost use Rattle.wf_cors.specs.Laws.{ChecksAreOfViews, CredentialsNeverByWildcard};
+ghost use Rattle.wf_cors.specs.Laws.{PassesAreLessons, VerdictsAreOfViews};
 
 /// A law: with credentials the CORS check never passes where Access-Control-Allow-Origin is `*`, for
 /// an origin text other than `*`.

@@ -27,8 +27,8 @@ broader_names directive.StyleSrcElem = codes "style-src" ∷ []
 broader_names directive.ScriptSrcElem = codes "script-src" ∷ []
 broader_names _ = []
 
--- "get fetch directive fallback list": the first of these names that a policy has decides. A directive's own name is the
--- first, and default-src the last
+-- "get fetch directive fallback list": the first of these names that a policy has decides. A directive's own name is
+-- the first, and default-src the last
 abbrev pub fallback_list : Directive → List (List ℕ)
 fallback_list asked = directive_name asked ∷ broader_names asked ++ codes "default-src" ∷ []
 

@@ -21,8 +21,8 @@ use Rattle.wf_csp_match.specs.Paths.{path_part_matches}
 abbrev pub is_scheme : List ℕ → List ℕ → Bool
 is_scheme name scheme = str_eq_ignore_ascii_case scheme name
 
--- "scheme-part matches": b is a, or `http` matches `https` too; `ws` matches also `http` and `https`, `wss` also `https`.
--- `ws` doesn't match `wss` (this project's own choice: no URL that is fetched has either).
+-- "scheme-part matches": b is a, or `http` matches `https` too; `ws` matches also `http` and `https`, `wss` also
+-- `https`. `ws` doesn't match `wss` (this project's own choice: no URL that is fetched has either).
 abbrev pub scheme_part_matches : List ℕ → List ℕ → Bool
 scheme_part_matches a b =
     is_scheme a b

@@ -93,8 +93,8 @@ Settles (Result outcome) old new = IsHungUp old new
 Settles (LoadFailed error) old new = IsHungUp old new
 Settles _ old new = new ≡ old
 
--- Memory was refused: the document has made no call more, the link's state and its count of faults are as they were, and
--- some bytes more may have been received.
+-- Memory was refused: the document has made no call more, the link's state and its count of faults are as they were,
+-- and some bytes more may have been received.
 pub record Refuses {State : Type 0} (old new : Outside State) : Type 0 where
   pub state_is : new.state ≡ old.state
   pub count : ℕ

@@ -39,6 +39,7 @@ pub struct FetchRun {
 }
 
 // Shows what came of an act, and takes the fetch on from its input.
+#[inline(always)]
 fn take_on<R: Threads + Wait + Sync, S: Share>(
     lent: &Lent<'_, R, S>,
     shown: &mut Shown,

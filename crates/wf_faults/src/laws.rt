@@ -14,9 +14,9 @@ pub fn law_faults_shown()
 {}
 
 /// A law: over any link its count of faults rises by just as many as the tape of a run has, also where the run ended
-/// for memory, and so by at least as many as a document is told of. (A count stops at 2^64 - 1.) Of a document's run that
-/// came to its end the tape has at least as many faults as outcomes tell, and at most as many as outcomes tell or may
-/// hide. The call does nothing.
+/// for memory, and so by at least as many as a document is told of. (A count stops at 2^64 - 1.) Of a document's run
+/// that came to its end the tape has at least as many faults as outcomes tell, and at most as many as outcomes tell or
+/// may hide. The call does nothing.
 pub fn law_faults_counted<L: Link>()
     ensures ran { laws.FaultsCounted L.State }
     ensures began { laws.FaultsCountedShort L.State }

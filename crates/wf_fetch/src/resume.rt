@@ -92,6 +92,7 @@ impl Fetching {
 
     /// Goes on from the input that followed the last act, with the client, the policies and the cookies that
     /// this call is lent, at the time of the start. After `OutOfMemory` the fetch is gone.
+    #[inline(always)]
     pub fn resume(
         self,
         alloc: Global,

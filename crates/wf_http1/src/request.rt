@@ -11,28 +11,30 @@ use wf_types::Hop;
 const FEW_BYTES: usize = 512;
 
 // Adds the method, the request target and the version.
-fn add_request_line(text: &mut Bytes, hop: &Hop) -> Result<(), OutOfMemory>
-    ensures { OnOk result (text.new ≡ text.old ++ request_line hop.now) }
+fn add_request_line(text: &mut Vec<u8>, hop: &Hop) -> Result<(), OutOfMemory>
+    ensures { OnOk result (text.new.items ≡ text.old.items ++ request_line hop.now) }
 {
-    text.append(hop.method.as_slice())?;
-    text.append(b" ")?;
-    text.append(hop.url.as_slice())?;
-    text.append(b" HTTP/1.1\r\n")
+    text.extend_from_slice(hop.method.as_slice())?;
+    text.extend_from_slice(b" ")?;
+    text.extend_from_slice(hop.url.as_slice())?;
+    text.extend_from_slice(b" HTTP/1.1\r\n")?;
+    Ok(())
 }
 
 // Adds a header on its line.
-fn add_header_line(text: &mut Bytes, header: &Header) -> Result<(), OutOfMemory>
-    ensures { OnOk result (text.new ≡ text.old ++ header_line header.now) }
+fn add_header_line(text: &mut Vec<u8>, header: &Header) -> Result<(), OutOfMemory>
+    ensures { OnOk result (text.new.items ≡ text.old.items ++ header_line header.now) }
 {
-    text.append(header.name.as_slice())?;
-    text.append(b": ")?;
-    text.append(header.value.as_slice())?;
-    text.append(b"\r\n")
+    text.extend_from_slice(header.name.as_slice())?;
+    text.extend_from_slice(b": ")?;
+    text.extend_from_slice(header.value.as_slice())?;
+    text.extend_from_slice(b"\r\n")?;
+    Ok(())
 }
 
 // Adds each header on a line.
-fn add_header_lines(text: &mut Bytes, headers: &[Header]) -> Result<(), OutOfMemory>
-    ensures { OnOk result (text.new ≡ text.old ++ flat_map header_line headers.now) }
+fn add_header_lines(text: &mut Vec<u8>, headers: &[Header]) -> Result<(), OutOfMemory>
+    ensures { OnOk result (text.new.items ≡ text.old.items ++ flat_map header_line headers.now) }
 {
     for header in headers {
         add_header_line(text, header)?;
@@ -41,13 +43,13 @@ fn add_header_lines(text: &mut Bytes, headers: &[Header]) -> Result<(), OutOfMem
 }
 
 // Adds the body, where there is one.
-fn add_body(text: &mut Bytes, body: &Option<Bytes>) -> Result<(), OutOfMemory>
-    ensures { OnOk result (text.new ≡ text.old ++ unwrap_or body.now []) }
+fn add_body(text: &mut Vec<u8>, body: &Option<Bytes>) -> Result<(), OutOfMemory>
+    ensures { OnOk result (text.new.items ≡ text.old.items ++ unwrap_or body.now []) }
 {
-    match body {
-        Some(body) => text.append(body.as_slice()),
-        None => Ok(()),
+    if let Some(body) = body {
+        text.extend_from_slice(body.as_slice())?;
     }
+    Ok(())
 }
 
 /// The bytes of a request: its request line, its headers on a line each, an empty line and its body,
@@ -55,10 +57,10 @@ fn add_body(text: &mut Bytes, body: &Option<Bytes>) -> Result<(), OutOfMemory>
 pub fn write_request(alloc: Global, hop: &Hop) -> Result<Bytes, OutOfMemory>
     ensures { IfOk result (λ bytes. bytes ≡ request_bytes hop.now) }
 {
-    let mut text = Bytes::from_vec(Vec::with_capacity(alloc, FEW_BYTES)?);
+    let mut text = Vec::with_capacity(alloc, FEW_BYTES)?;
     add_request_line(&mut text, hop)?;
     add_header_lines(&mut text, hop.headers.as_slice())?;
-    text.append(b"\r\n")?;
+    text.extend_from_slice(b"\r\n")?;
     add_body(&mut text, &hop.body)?;
-    Ok(text)
+    Ok(Bytes::from_vec(text))
 }

@@ -18,7 +18,8 @@ counted_on count more = count + min more ((2 ^ 64 - 1) - count)
 abbrev pub Rose : ℕ → ℕ → Type 0
 Rose before now = one_more before ≤ now
 
--- The count rose by one where the call failed, or is at its greatest value; it is as it was where the call did not fail.
+-- The count rose by one where the call failed, or is at its greatest value; it is as it was where the call did not
+-- fail.
 pub record HasCause {T E : Type 0} (before now : ℕ) (result : Result T E) : Type 0 where
   pub later : before ≤ now
   pub failed : OnErr result (now ≡ one_more before)

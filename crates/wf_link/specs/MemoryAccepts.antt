@@ -6,6 +6,8 @@ use Rattle.wf_link.specs.Links.{Lent, one_out}
 use Rattle.wf_link.specs.MemoryLinks.{kept_back}
 use Rattle.wf_link.specs.MemorySink.{SinkState}
 use Rattle.wf_link.specs.MemorySource.{SourceState}
+use Rattle.wf_link.specs.Sinks.{SinkTold}
+use Rattle.wf_link.specs.Sources.{SourceTold}
 use Rattle.wf_link.specs.declared.source.Failed.{Failed}
 
 -- an end of a connection: what the peer sent, and what is sent to it
@@ -13,8 +15,17 @@ pub record EndState : Type 0 where
   pub source : SourceState
   pub sink : SinkState
 
--- the address that is open, if one is, for how many bytes of an address there is room, the ends still to come, those taken
--- back with how many are out, how many calls of `next` it had, the numbers of those that fail, and how often it failed
+-- what an end tells as a source
+abbrev pub as_source : EndState → SourceTold
+as_source end = record { left = Some end.source.left; faults = end.source.faults }
+
+-- what an end tells as a sink
+abbrev pub as_sink : EndState → SinkTold
+as_sink end = record { taken = Some end.sink.taken; faults = end.sink.faults; zeros = end.sink.zeros }
+
+-- the address that is open, if one is, for how many bytes of an address there is room, the ends still to come, those
+-- taken back with how many are out, how many calls of `next` it had, the numbers of those that fail, and how often it
+-- failed
 pub record AcceptsState : Type 0 where
   pub opened : Option (List ℕ)
   pub room : ℕ

@@ -16,6 +16,17 @@ pub record CountsZero {E : Type 0} (before now : ℕ) (result : Result ℕ E) (p
   pub later : before ≤ now
   pub zero : result ≡ Ok 0 → 0 < length piece → Rose before now
 
+-- what a sink tells: the bytes taken, where told, how often it failed, and how often it took nothing of a piece that is
+-- not empty
+pub record SinkTold : Type 0 where
+  pub taken : Option (List ℕ)
+  pub faults : ℕ
+  pub zeros : ℕ
+
+-- what is told of one that is no sink
+abbrev pub no_sink : SinkTold
+no_sink = record { taken = None; faults = 0; zeros = 0 }
+
 -- how often a sink failed, and how often it took nothing of a piece that is not empty
 pub record SinkCounts : Type 0 where
   pub faults : ℕ

@@ -6,6 +6,15 @@ abbrev pub Gave : Option (List ℕ) → Option (List ℕ) → List ℕ → Type 
 Gave None new text = Unit {0}
 Gave (Some old) new text = (later : List ℕ) × (new ≡ Some later) × (old ≡ text ++ later)
 
+-- what a source tells: the bytes left, where told, and how often it failed
+pub record SourceTold : Type 0 where
+  pub left : Option (List ℕ)
+  pub faults : ℕ
+
+-- what is told of one that is no source
+abbrev pub no_source : SourceTold
+no_source = record { left = None; faults = 0 }
+
 -- nothing is left
 abbrev pub IsAtEnd : Option (List ℕ) → Type 0
 IsAtEnd None = Unit {0}

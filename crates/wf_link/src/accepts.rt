@@ -3,14 +3,14 @@ ghost use Rattle.wf_link.specs.Accepts.{GaveFirst, Opened};
 ghost use Rattle.wf_link.specs.Counts.{HasCause};
 ghost use Rattle.wf_link.specs.Links.{Lent, TookBack, one_out};
 
-use crate::sink::Sink;
-use crate::source::{Failed, Source};
+use crate::peer::Peer;
+use crate::source::Failed;
 
 /// What listens at an address, gives the end of each connection that is made to it, and takes it back when
 /// it was served. It counts its faults, and may tell the address, the ends that it gives and those that
 /// it took back, and so what was read from each, what it was given and its counts.
 pub trait Accepts {
-    type End: Source + Sink;
+    type End: Peer;
 
     /// The address that is open, if one is, where told.
     ghost opened: { Self → Option (Option (List ℕ)) };

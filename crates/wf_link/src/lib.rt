@@ -3,6 +3,7 @@
 
 mod accepts;
 mod clock;
+mod faults;
 mod kept_asks;
 mod link;
 mod links;
@@ -12,6 +13,7 @@ mod memory_link;
 mod memory_links;
 mod memory_sink;
 mod memory_source;
+mod peer;
 mod pieces;
 mod sink;
 mod source;
@@ -20,6 +22,7 @@ mod target;
 
 pub use accepts::Accepts;
 pub use clock::{Clock, FixedClock};
+pub use faults::Faults;
 pub use link::Link;
 pub use links::Links;
 pub use memory_accepts::MemoryAccepts;
@@ -28,6 +31,7 @@ pub use memory_link::MemoryLink;
 pub use memory_links::MemoryLinks;
 pub use memory_sink::MemorySink;
 pub use memory_source::MemorySource;
+pub use peer::Peer;
 pub use sink::{Sink, WriteFault, write_whole};
 pub use source::{Failed, ReadStop, Source, read_whole};
 pub use standard::{

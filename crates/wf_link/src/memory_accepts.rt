@@ -1,10 +1,11 @@
 ghost use Rattle.std.specs.Prelude.{◌≡◌, ◌≤◌, [], None, Some, IfOk, OnOk, OnErr, option_copied, option_map};
 ghost use Rattle.wf_link.specs.Accepts.{GaveFirst, Opened};
-ghost use Rattle.wf_link.specs.Counts.{HasCause, one_more};
+ghost use Rattle.wf_link.specs.Counts.{HasCause};
 ghost use Rattle.wf_link.specs.Links.{TookBack, one_out};
 ghost use Rattle.wf_link.specs.MemoryAccepts.{after_listen, after_next, after_return, listen_answer, next_answer};
 
 use crate::accepts::Accepts;
+use crate::faults::Faults;
 use crate::memory_end::MemoryEnd;
 use crate::source::Failed;
 use std::alloc::Global;
@@ -25,7 +26,7 @@ pub struct MemoryAccepts {
     out: usize,
     calls: u64,
     failing_calls: Vec<u64>,
-    faults: u64,
+    faults: Faults,
 }
 
 impl Model for MemoryAccepts {
@@ -77,7 +78,7 @@ impl MemoryAccepts {
             out: 0,
             calls: 0,
             failing_calls: fails,
-            faults: 0,
+            faults: Faults::none(),
         })
     }
 
@@ -103,16 +104,7 @@ impl MemoryAccepts {
     pub fn faults(&self) -> u64
         ensures { result ≡ self.now.faults }
     {
-        self.faults
-    }
-
-    // A failure, which is counted.
-    fn fail(&mut self) -> Failed
-        ensures counted { self.new ≡ record self.old { faults = one_more self.old.faults } }
-        ensures later { self.old.faults ≤ self.new.faults }
-    {
-        self.faults = self.faults.saturating_add(1);
-        Failed
+        self.faults.count()
     }
 }
 
@@ -138,7 +130,7 @@ impl Accepts for MemoryAccepts {
         ensures after { self.new ≡ after_listen self.old address.now result }
     {
         if address.len() > self.room {
-            return Err(self.fail());
+            return Err(self.faults.fail());
         }
         self.address.clear();
         match self.address.extend_from_slice(address) {
@@ -163,14 +155,14 @@ impl Accepts for MemoryAccepts {
     {
         self.calls = self.calls.saturating_add(1);
         if self.failing_calls.contains(&self.calls) {
-            return Err(self.fail());
+            return Err(self.faults.fail());
         }
         match self.coming.pop_front() {
             Some(end) => {
                 self.out += 1;
                 Ok(end)
             }
-            None => Err(self.fail()),
+            None => Err(self.faults.fail()),
         }
     }
 

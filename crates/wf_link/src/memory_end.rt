@@ -1,6 +1,7 @@
-ghost use Rattle.std.specs.Prelude.{◌≡◌, ◌<◌, ◌++◌, [], take, drop, length, Some, Ok, IfOk, OnErr};
+ghost use Rattle.std.specs.Prelude.{◌≡◌, ◌<◌, ◌++◌, [], take, drop, length, refl, Some, Ok, IfOk, OnErr};
 ghost use Rattle.std.specs.Io.{ReadsAtMost, WritesAtMost};
 ghost use Rattle.wf_link.specs.Counts.{HasCause};
+ghost use Rattle.wf_link.specs.MemoryAccepts.{as_sink, as_source};
 ghost use Rattle.wf_link.specs.MemorySink.{after_write, write_answer};
 ghost use Rattle.wf_link.specs.MemorySource.{after_read, read_answer};
 ghost use Rattle.wf_link.specs.Sinks.{CountsZero, Took};
@@ -8,6 +9,7 @@ ghost use Rattle.wf_link.specs.Sources.{Gave, IsAtEnd};
 
 use crate::memory_sink::MemorySink;
 use crate::memory_source::MemorySource;
+use crate::peer::Peer;
 use crate::sink::Sink;
 use crate::source::{Failed, Source};
 use std::marker::Model;
@@ -48,6 +50,8 @@ impl Source for MemoryEnd {
 
     ghost faults = { λ end. end.source.faults };
 
+    ghost beside = { as_sink };
+
     /// Reads from its source.
     fn read(&mut self, buf: &mut [u8]) -> Result<usize, Failed>
         ensures count { ReadsAtMost result buf.new }
@@ -60,6 +64,7 @@ impl Source for MemoryEnd {
         ensures after { self.new ≡ record self.old { source = after_read self.old.source result } }
         ensures given { IfOk result (λ n. buf.new ≡ take n self.old.source.left ++ drop n buf.old) }
         ensures untouched { OnErr result (buf.new ≡ buf.old) }
+        ensures beside { as_sink self.new ≡ as_sink self.old }
     {
         self.source.read(buf)
     }
@@ -72,6 +77,8 @@ impl Sink for MemoryEnd {
 
     ghost zeros = { λ end. end.sink.zeros };
 
+    ghost beside = { as_source };
+
     /// Writes to its sink.
     fn write(&mut self, piece: &[u8]) -> Result<usize, Failed>
         ensures count { WritesAtMost result piece.now }
@@ -82,7 +89,14 @@ impl Sink for MemoryEnd {
         ensures zero { CountsZero self.old.sink.zeros self.new.sink.zeros result piece.now }
         ensures answer { result ≡ write_answer self.old.sink piece.now }
         ensures after { self.new ≡ record self.old { sink = after_write self.old.sink piece.now result } }
+        ensures beside { as_source self.new ≡ as_source self.old }
     {
         self.sink.write(piece)
     }
+}
+
+impl Peer for MemoryEnd {
+    ghost reads_beside = { λ _. refl };
+
+    ghost writes_beside = { λ _. refl };
 }

@@ -2,12 +2,13 @@ ghost use Rattle.std.specs.Prelude.{◌≡◌, ◌⊎◌, ◌<◌, ◌≤◌, �
 ghost use Rattle.std.specs.Prelude.{Some, Ok, IfOk, OnOk, OnErr, option_map};
 ghost use Rattle.std.specs.Io.{ReadsAtMost};
 ghost use Rattle.std.specs.List.{concat};
-ghost use Rattle.wf_link.specs.Counts.{HasCause, one_more};
+ghost use Rattle.wf_link.specs.Counts.{HasCause};
 ghost use Rattle.wf_link.specs.Links.{Asked, Awaits, MayHaveAsked, Received};
 ghost use Rattle.wf_link.specs.MemoryLink.{LinkState, after_ask, after_receive, answer_to, ask_answer, front};
 ghost use Rattle.wf_link.specs.MemoryLink.{receive_answer, skipped, state_after};
 ghost use Rattle.wf_link.specs.Sources.{Gave, IsAtEnd};
 
+use crate::faults::Faults;
 use crate::kept_asks::KeptAsks;
 use crate::link::Link;
 use crate::pieces::Pieces;
@@ -29,7 +30,7 @@ pub struct MemoryLink {
     failing_asks: Vec<u64>,
     receive_calls: u64,
     failing_receives: Vec<u64>,
-    faults: u64,
+    faults: Faults,
 }
 
 impl Model for MemoryLink {
@@ -80,7 +81,7 @@ impl MemoryLink {
             failing_asks: failed_asks,
             receive_calls: 0,
             failing_receives: failed_receives,
-            faults: 0,
+            faults: Faults::none(),
         })
     }
 
@@ -95,16 +96,7 @@ impl MemoryLink {
     pub fn faults(&self) -> u64
         ensures { result ≡ self.now.faults }
     {
-        self.faults
-    }
-
-    // A failure, which is counted.
-    fn fail(&mut self) -> Failed
-        ensures counted { self.new ≡ record self.old { faults = one_more self.old.faults } }
-        ensures later { self.old.faults ≤ self.new.faults }
-    {
-        self.faults = self.faults.saturating_add(1);
-        Failed
+        self.faults.count()
     }
 }
 
@@ -149,7 +141,7 @@ impl Link for MemoryLink {
         let answer = self.answers.pop_front();
         let kept = self.kept.keep(target.origin.as_slice(), request);
         if self.failing_asks.contains(&self.ask_calls) || !kept {
-            return Err(self.fail());
+            return Err(self.faults.fail());
         }
         if let Some(answer) = answer {
             self.pieces = Pieces::of(answer);
@@ -177,7 +169,7 @@ impl Link for MemoryLink {
     {
         self.receive_calls = self.receive_calls.saturating_add(1);
         if self.failing_receives.contains(&self.receive_calls) {
-            return Err(self.fail());
+            return Err(self.faults.fail());
         }
         let count = self.pieces.give(buf);
         self.kept.receive(count);

@@ -3,7 +3,9 @@ ghost use Rattle.std.specs.Io.{WritesAtMost};
 ghost use Rattle.wf_link.specs.Counts.{HasCause};
 ghost use Rattle.wf_link.specs.MemorySink.{after_write, write_answer};
 ghost use Rattle.wf_link.specs.Sinks.{CountsZero, Took};
+ghost use Rattle.wf_link.specs.Sources.{no_source};
 
+use crate::faults::Faults;
 use crate::sink::Sink;
 use crate::source::Failed;
 use std::alloc::Global;
@@ -19,7 +21,7 @@ pub struct MemorySink {
     calls: u64,
     failing_calls: Vec<u64>,
     zero_calls: Vec<u64>,
-    faults: u64,
+    faults: Faults,
     zeros: u64,
 }
 
@@ -68,7 +70,7 @@ impl MemorySink {
             calls: 0,
             failing_calls: fails,
             zero_calls: zeros,
-            faults: 0,
+            faults: Faults::none(),
             zeros: 0,
         })
     }
@@ -88,6 +90,8 @@ impl Sink for MemorySink {
 
     ghost zeros = { λ sink. sink.zeros };
 
+    ghost beside = { λ _. no_source };
+
     /// Takes as many bytes as there are and its room allows, or does as its number says.
     fn write(&mut self, piece: &[u8]) -> Result<usize, Failed>
         ensures count { WritesAtMost result piece.now }
@@ -100,8 +104,7 @@ impl Sink for MemorySink {
     {
         self.calls = self.calls.saturating_add(1);
         if self.failing_calls.contains(&self.calls) {
-            self.faults = self.faults.saturating_add(1);
-            return Err(Failed);
+            return Err(self.faults.fail());
         }
         if piece.is_empty() {
             return Ok(0);
@@ -111,8 +114,7 @@ impl Sink for MemorySink {
             return Ok(0);
         }
         if self.room == 0 {
-            self.faults = self.faults.saturating_add(1);
-            return Err(Failed);
+            return Err(self.faults.fail());
         }
         let count = piece.len().min(self.room);
         match self.taken.extend_from_slice(piece.split_at(count).0) {

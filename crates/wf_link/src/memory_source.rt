@@ -2,8 +2,10 @@ ghost use Rattle.std.specs.Prelude.{◌≡◌, ◌<◌, ◌++◌, [], take, drop
 ghost use Rattle.std.specs.Io.{ReadsAtMost};
 ghost use Rattle.wf_link.specs.Counts.{HasCause};
 ghost use Rattle.wf_link.specs.MemorySource.{after_read, read_answer};
+ghost use Rattle.wf_link.specs.Sinks.{no_sink};
 ghost use Rattle.wf_link.specs.Sources.{Gave, IsAtEnd};
 
+use crate::faults::Faults;
 use crate::source::{Failed, Source};
 use std::marker::Model;
 use wf_text::Bytes;
@@ -15,7 +17,7 @@ pub struct MemorySource {
     at: usize,
     calls: u64,
     failing_calls: Vec<u64>,
-    faults: u64,
+    faults: Faults,
 }
 
 impl Model for MemorySource {
@@ -44,7 +46,7 @@ impl MemorySource {
             at: 0,
             calls: 0,
             failing_calls: fails,
-            faults: 0,
+            faults: Faults::none(),
         }
     }
 }
@@ -53,6 +55,8 @@ impl Source for MemorySource {
     ghost left = { λ source. Some source.left };
 
     ghost faults = { λ source. source.faults };
+
+    ghost beside = { λ _. no_sink };
 
     /// Gives as many bytes as the buffer holds and are left, or fails as its number says.
     fn read(&mut self, buf: &mut [u8]) -> Result<usize, Failed>
@@ -68,8 +72,7 @@ impl Source for MemorySource {
     {
         self.calls = self.calls.saturating_add(1);
         if self.failing_calls.contains(&self.calls) {
-            self.faults = self.faults.saturating_add(1);
-            return Err(Failed);
+            return Err(self.faults.fail());
         }
         let rest = self.text.as_slice().split_at(self.at).1;
         let count = rest.len().min(buf.len());

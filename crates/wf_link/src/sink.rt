@@ -2,6 +2,7 @@ ghost use Rattle.std.specs.Prelude.{◌≡◌, ◌≤◌, ℕ, List, [], take, O
 ghost use Rattle.std.specs.Io.{WritesAtMost};
 ghost use Rattle.wf_link.specs.Counts.{HasCause, Rose};
 ghost use Rattle.wf_link.specs.Sinks.{CountsZero, Took, TookPart};
+ghost use Rattle.wf_link.specs.Sources.{SourceTold};
 
 use crate::source::Failed;
 
@@ -17,6 +18,9 @@ pub trait Sink {
     /// How often it took nothing of a piece that is not empty.
     ghost zeros: { Self → ℕ };
 
+    /// What it tells as a source, where it is one beside (`Peer`): writing leaves that as it is.
+    ghost beside: { Self → SourceTold };
+
     /// Takes a first part of the piece, and answers how many bytes. The count of faults
     /// rises by one where it fails, and only there.
     fn write(&mut self, piece: &[u8]) -> Result<usize, Failed>
@@ -24,7 +28,8 @@ pub trait Sink {
         ensures took { IfOk result (λ n. Took (taken self.old) (taken self.new) (take n piece.now)) }
         ensures failed { OnErr result (Took (taken self.old) (taken self.new) []) }
         ensures cause { HasCause (faults self.old) (faults self.new) result }
-        ensures zero { CountsZero (zeros self.old) (zeros self.new) result piece.now };
+        ensures zero { CountsZero (zeros self.old) (zeros self.new) result piece.now }
+        ensures beside { beside self.new ≡ beside self.old };
 }
 
 /// Why a text was not written whole.
@@ -44,6 +49,7 @@ pub fn write_whole<K: Sink>(sink: &mut K, text: &[u8]) -> Result<(), WriteFault>
     ensures zeros { K.zeros sink.old ≤ K.zeros sink.new }
     ensures fault { result ≡ Err WriteFault.Fault → Rose (K.faults sink.old) (K.faults sink.new) }
     ensures nothing { result ≡ Err WriteFault.TookNothing → Rose (K.zeros sink.old) (K.zeros sink.new) }
+    ensures beside { K.beside sink.new ≡ K.beside sink.old }
 {
     let mut rest = text;
     while !rest.is_empty() {

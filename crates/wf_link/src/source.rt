@@ -2,6 +2,7 @@ ghost use Rattle.std.specs.Prelude.{◌≡◌, ◌+◌, ◌<◌, ◌≤◌, ◌^
 ghost use Rattle.std.specs.Prelude.{Option, Ok, Err, IfOk, OnErr, vec_len};
 ghost use Rattle.std.specs.Io.{ReadsAtMost};
 ghost use Rattle.wf_link.specs.Counts.{HasCause, Rose};
+ghost use Rattle.wf_link.specs.Sinks.{SinkTold};
 ghost use Rattle.wf_link.specs.Sources.{Gave, GaveAtMost, GaveJust, GaveWhole, IsAtEnd};
 
 use std::alloc::Global;
@@ -19,6 +20,9 @@ pub trait Source {
     /// How often it failed.
     ghost faults: { Self → ℕ };
 
+    /// What it tells as a sink, where it is one beside (`Peer`): reading leaves that as it is.
+    ghost beside: { Self → SinkTold };
+
     /// Puts the next bytes at the front of the buffer, and answers how many. 0 for a buffer that
     /// is not empty is the end. The count of faults rises by one where it fails, and only there.
     fn read(&mut self, buf: &mut [u8]) -> Result<usize, Failed>
@@ -26,7 +30,8 @@ pub trait Source {
         ensures gave { IfOk result (λ n. Gave (left self.old) (left self.new) (take n buf.new)) }
         ensures end { result ≡ Ok 0 → 0 < length buf.new → IsAtEnd (left self.new) }
         ensures failed { OnErr result (left self.new ≡ left self.old) }
-        ensures cause { HasCause (faults self.old) (faults self.new) result };
+        ensures cause { HasCause (faults self.old) (faults self.new) result }
+        ensures beside { beside self.new ≡ beside self.old };
 }
 
 /// Why a source was not read to its end.

@@ -1,6 +1,9 @@
 ghost use Rattle.std.specs.Prelude.{◌≡◌, None};
+ghost use Rattle.wf_link.specs.Sinks.{no_sink};
+ghost use Rattle.wf_link.specs.Sources.{no_source};
 
 use crate::clock::Clock;
+use crate::faults::Faults;
 use crate::sink::Sink;
 use crate::source::{Failed, Source};
 use std::io::{Read, Stderr, Stdin, Stdout, Write};
@@ -11,7 +14,7 @@ use std::time;
 #[derive(Drop)]
 pub struct ReaderSource<R: Read> {
     reader: R,
-    faults: u64,
+    faults: Faults,
 }
 
 /// Standard input as a source. A read is one call of the system.
@@ -30,7 +33,10 @@ impl<R: Read> ReaderSource<R> {
     pub fn new(reader: R) -> ReaderSource<R>
         ensures { result ≡ 0 }
     {
-        ReaderSource { reader, faults: 0 }
+        ReaderSource {
+            reader,
+            faults: Faults::none(),
+        }
     }
 }
 
@@ -39,13 +45,12 @@ impl<R: Read> Source for ReaderSource<R> {
 
     ghost faults = { λ source. source };
 
+    ghost beside = { λ _. no_sink };
+
     fn read(&mut self, buf: &mut [u8]) -> Result<usize, Failed> {
         match self.reader.read(buf) {
             Ok(count) => Ok(count),
-            Err(_) => {
-                self.faults = self.faults.saturating_add(1);
-                Err(Failed)
-            }
+            Err(_) => Err(self.faults.fail()),
         }
     }
 }
@@ -54,7 +59,7 @@ impl<R: Read> Source for ReaderSource<R> {
 #[derive(Drop)]
 pub struct WriterSink<W: Write> {
     writer: W,
-    faults: u64,
+    faults: Faults,
     zeros: u64,
 }
 
@@ -79,7 +84,7 @@ impl<W: Write> WriterSink<W> {
     {
         WriterSink {
             writer,
-            faults: 0,
+            faults: Faults::none(),
             zeros: 0,
         }
     }
@@ -92,6 +97,8 @@ impl<W: Write> Sink for WriterSink<W> {
 
     ghost zeros = { λ sink. sink.zeros };
 
+    ghost beside = { λ _. no_source };
+
     fn write(&mut self, piece: &[u8]) -> Result<usize, Failed> {
         match self.writer.write(piece) {
             Ok(count) => {
@@ -100,10 +107,7 @@ impl<W: Write> Sink for WriterSink<W> {
                 }
                 Ok(count)
             }
-            Err(_) => {
-                self.faults = self.faults.saturating_add(1);
-                Err(Failed)
-            }
+            Err(_) => Err(self.faults.fail()),
         }
     }
 }

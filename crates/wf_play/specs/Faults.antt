@@ -16,8 +16,8 @@ use Rattle.wf_faults.specs.Places.{ShowsFailures}
 use Rattle.wf_iso.specs.Plays.{AreTranscripts, Way}
 
 -- Of a document's run over this tape, from one moment of its link to another: in each fetch and each load there is one
--- fault at most, and the outcome shows it; so the outcomes show the faults of the tape; and the link's count rose by just
--- as many.
+-- fault at most, and the outcome shows it; so the outcomes show the faults of the tape; and the link's count rose by
+-- just as many.
 pub record AreTold {State : Type 0} (whole : Play) (tape : List Input) (old new : Way State) (transcript : Transcript)
     : Type 0 where
   pub placed : ShowsFailures None whole

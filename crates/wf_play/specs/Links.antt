@@ -63,8 +63,8 @@ pub record HasTakenBack {L : Type 0} (faults : L → ℕ) (old new : Maker L) : 
 -- ---- the play
 
 -- A play over links as they were made for the documents, one for each, and as they were taken back. Each document's
--- outcomes show the faults of its tape, and its link's count rose by just as many. The count of what made the links rose
--- by as many as all tapes have, at least.
+-- outcomes show the faults of its tape, and its link's count rose by just as many. The count of what made the links
+-- rose by as many as all tapes have, at least.
 pub record IsPlayOverLinks {L State : Type 0} (by : Answering State) (state : L → Option State)
     (received : L → Option (List ℕ)) (faults : L → ℕ) (old new : Maker L) (scenario : Scenario) (base : ℕ)
     (transcripts : List Transcript) (history : List Entry) : Type 0 where

@@ -1,6 +1,10 @@
--- Accepting connections over TCP: what the calls leave. Which connections come and what their peers send, it does not tell.
+-- Accepting connections over TCP: what the calls leave. Which connections come and what their peers send, it does not
+-- tell.
 use Rattle.std.specs.Prelude.{ℕ, Bool, true, ◌==◌, ◌&&◌, not, length, List, Result, Ok, Err, ⊤, if◌then◌else◌}
+use Rattle.std.specs.Prelude.{None}
 use Rattle.wf_link.specs.Counts.{one_more}
+use Rattle.wf_link.specs.Sinks.{SinkTold}
+use Rattle.wf_link.specs.Sources.{SourceTold}
 use Rattle.wf_link.specs.declared.source.Failed.{Failed}
 
 -- whether an address is listened at, and how often it failed
@@ -23,6 +27,14 @@ pub record TcpEndState : Type 0 where
   pub read_faults : ℕ
   pub write_faults : ℕ
   pub zeros : ℕ
+
+-- what an end tells as a source: nothing of what is left
+abbrev pub as_source : TcpEndState → SourceTold
+as_source end = record { left = None; faults = end.read_faults }
+
+-- what an end tells as a sink: nothing of what it took
+abbrev pub as_sink : TcpEndState → SinkTold
+as_sink end = record { taken = None; faults = end.write_faults; zeros = end.zeros }
 
 -- as it is given
 abbrev pub fresh_end : TcpEndState

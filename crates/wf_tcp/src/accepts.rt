@@ -1,19 +1,19 @@
 ghost use Rattle.std.specs.Prelude.{◌≡◌, ◌≤◌, false, None, IfOk, IsErr};
-ghost use Rattle.wf_link.specs.Counts.{HasCause, one_more};
+ghost use Rattle.wf_link.specs.Counts.{HasCause};
 ghost use Rattle.wf_tcp.specs.TcpAccepts.{after_listen, after_next, fresh_end};
 
 use crate::end::TcpEnd;
 use std::marker::Model;
 use std::net::{Net, OpenListener, TcpListener};
 use std::str;
-use wf_link::{Accepts, Failed};
+use wf_link::{Accepts, Failed, Faults};
 
 /// Accepts connections over TCP, one after the other. It tells nothing of the connections that come.
 #[derive(Drop)]
 pub struct TcpAccepts<'a, R: Net> {
     network: &'a R,
     listener: Option<R::Listener>,
-    faults: u64,
+    faults: Faults,
 }
 
 impl<'a, R: Net> Model for TcpAccepts<'a, R> {
@@ -39,7 +39,7 @@ impl<'a, R: Net> TcpAccepts<'a, R> {
         TcpAccepts {
             network: rt,
             listener: None,
-            faults: 0,
+            faults: Faults::none(),
         }
     }
 
@@ -47,16 +47,7 @@ impl<'a, R: Net> TcpAccepts<'a, R> {
     pub fn faults(&self) -> u64
         ensures { result ≡ self.now.faults }
     {
-        self.faults
-    }
-
-    // A failure, which is counted.
-    fn fail(&mut self) -> Failed
-        ensures counted { self.new ≡ record self.old { faults = one_more self.old.faults } }
-        ensures later { self.old.faults ≤ self.new.faults }
-    {
-        self.faults = self.faults.saturating_add(1);
-        Failed
+        self.faults.count()
     }
 }
 
@@ -82,7 +73,7 @@ impl<'a, R: Net> Accepts for TcpAccepts<'a, R> {
                 self.listener = Some(listener);
                 Ok(())
             }
-            None => Err(self.fail()),
+            None => Err(self.faults.fail()),
         }
     }
 
@@ -95,11 +86,11 @@ impl<'a, R: Net> Accepts for TcpAccepts<'a, R> {
         ensures after { self.new ≡ after_next self.old result }
     {
         let Some(listener) = &self.listener else {
-            return Err(self.fail());
+            return Err(self.faults.fail());
         };
         match listener.accept() {
             Ok((stream, _)) => Ok(TcpEnd::new(stream)),
-            Err(_) => Err(self.fail()),
+            Err(_) => Err(self.faults.fail()),
         }
     }
 

@@ -1,21 +1,21 @@
-ghost use Rattle.std.specs.Prelude.{◌≡◌, None};
+ghost use Rattle.std.specs.Prelude.{◌≡◌, None, refl};
 ghost use Rattle.std.specs.Io.{ReadsAtMost, WritesAtMost};
 ghost use Rattle.wf_link.specs.Counts.{HasCause};
 ghost use Rattle.wf_link.specs.Sinks.{CountsZero};
-ghost use Rattle.wf_tcp.specs.TcpAccepts.{after_read, after_write, fresh_end};
+ghost use Rattle.wf_tcp.specs.TcpAccepts.{after_read, after_write, as_sink, as_source, fresh_end};
 
 use std::io::{Read, Write};
 use std::marker::Model;
 use std::net::Net;
-use wf_link::{Failed, Sink, Source};
+use wf_link::{Failed, Faults, Peer, Sink, Source};
 
 /// The end of a connection over TCP, which is closed where it is dropped. It tells nothing of what its peer
 /// sends and takes.
 #[derive(Drop)]
 pub struct TcpEnd<R: Net> {
     stream: R::Stream,
-    read_faults: u64,
-    write_faults: u64,
+    read_faults: Faults,
+    write_faults: Faults,
     zeros: u64,
 }
 
@@ -38,8 +38,8 @@ impl<R: Net> TcpEnd<R> {
     {
         TcpEnd {
             stream,
-            read_faults: 0,
-            write_faults: 0,
+            read_faults: Faults::none(),
+            write_faults: Faults::none(),
             zeros: 0,
         }
     }
@@ -48,14 +48,14 @@ impl<R: Net> TcpEnd<R> {
     pub fn read_faults(&self) -> u64
         ensures { result ≡ self.now.read_faults }
     {
-        self.read_faults
+        self.read_faults.count()
     }
 
     /// How often it failed to write.
     pub fn write_faults(&self) -> u64
         ensures { result ≡ self.now.write_faults }
     {
-        self.write_faults
+        self.write_faults.count()
     }
 
     /// How often it took nothing of a piece that is not empty.
@@ -66,23 +66,29 @@ impl<R: Net> TcpEnd<R> {
     }
 }
 
+impl<R: Net> Peer for TcpEnd<R> {
+    ghost reads_beside = { λ _. refl };
+
+    ghost writes_beside = { λ _. refl };
+}
+
 impl<R: Net> Source for TcpEnd<R> {
     ghost left = { λ _. None };
 
     ghost faults = { λ end. end.read_faults };
+
+    ghost beside = { as_sink };
 
     /// Reads what has come, once something has, or 0 bytes where the peer sends no more.
     fn read(&mut self, buf: &mut [u8]) -> Result<usize, Failed>
         ensures count { ReadsAtMost result buf.new }
         ensures cause { HasCause self.old.read_faults self.new.read_faults result }
         ensures after { self.new ≡ after_read self.old result }
+        ensures beside { as_sink self.new ≡ as_sink self.old }
     {
         match self.stream.read(buf) {
             Ok(count) => Ok(count),
-            Err(_) => {
-                self.read_faults = self.read_faults.saturating_add(1);
-                Err(Failed)
-            }
+            Err(_) => Err(self.read_faults.fail()),
         }
     }
 }
@@ -94,12 +100,15 @@ impl<R: Net> Sink for TcpEnd<R> {
 
     ghost zeros = { λ end. end.zeros };
 
+    ghost beside = { as_source };
+
     /// Writes as much of the piece as the system takes at once.
     fn write(&mut self, piece: &[u8]) -> Result<usize, Failed>
         ensures count { WritesAtMost result piece.now }
         ensures cause { HasCause self.old.write_faults self.new.write_faults result }
         ensures zero { CountsZero self.old.zeros self.new.zeros result piece.now }
         ensures after { self.new ≡ after_write self.old piece.now result }
+        ensures beside { as_source self.new ≡ as_source self.old }
     {
         match self.stream.write(piece) {
             Ok(count) => {
@@ -108,10 +117,7 @@ impl<R: Net> Sink for TcpEnd<R> {
                 }
                 Ok(count)
             }
-            Err(_) => {
-                self.write_faults = self.write_faults.saturating_add(1);
-                Err(Failed)
-            }
+            Err(_) => Err(self.write_faults.fail()),
         }
     }
 }

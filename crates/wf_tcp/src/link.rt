@@ -1,6 +1,6 @@
 ghost use Rattle.std.specs.Prelude.{◌≡◌, ◌≤◌, [], false, None, Ok, IsErr, IsNone};
 ghost use Rattle.std.specs.Io.{ReadsAtMost};
-ghost use Rattle.wf_link.specs.Counts.{HasCause, one_more};
+ghost use Rattle.wf_link.specs.Counts.{HasCause};
 ghost use Rattle.wf_tcp.specs.Routes.{address_of};
 ghost use Rattle.wf_tcp.specs.TcpLink.{after_ask, after_receive, opened};
 
@@ -9,7 +9,7 @@ use std::io::{Read, Write};
 use std::marker::Model;
 use std::net::{Net, TcpStream};
 use std::str;
-use wf_link::{Failed, Link, Routes, Target};
+use wf_link::{Failed, Faults, Link, Routes, Target};
 
 /// A link over TCP. Each request is sent on a connection of its own, to the address of the first route
 /// of its target's origin. It tells nothing of what a peer sends.
@@ -20,7 +20,7 @@ pub struct TcpLink<R: Net> {
     routes: Routes,
     stream: Option<R::Stream>,
     tried: u64,
-    faults: u64,
+    faults: Faults,
 }
 
 impl<R: Net> Model for TcpLink<R> {
@@ -59,7 +59,7 @@ impl<R: Net> TcpLink<R> {
             routes,
             stream: None,
             tried: 0,
-            faults: 0,
+            faults: Faults::none(),
         }
     }
 
@@ -74,16 +74,7 @@ impl<R: Net> TcpLink<R> {
     pub fn faults(&self) -> u64
         ensures { result ≡ self.now.faults }
     {
-        self.faults
-    }
-
-    // A failure, which is counted.
-    fn fail(&mut self) -> Failed
-        ensures counted { self.new ≡ record self.old { faults = one_more self.old.faults } }
-        ensures later { self.old.faults ≤ self.new.faults }
-    {
-        self.faults = self.faults.saturating_add(1);
-        Failed
+        self.faults.count()
     }
 }
 
@@ -116,7 +107,7 @@ impl<R: Net> Link for TcpLink<R> {
     {
         self.hang_up();
         let Some(address) = address_of(self.routes.as_slice(), target.origin.as_slice()) else {
-            return Err(self.fail());
+            return Err(self.faults.fail());
         };
         self.tried = self.tried.saturating_add(1);
         match send(&self.network, address, request) {
@@ -124,7 +115,7 @@ impl<R: Net> Link for TcpLink<R> {
                 self.stream = Some(stream);
                 Ok(())
             }
-            None => Err(self.fail()),
+            None => Err(self.faults.fail()),
         }
     }
 
@@ -141,7 +132,7 @@ impl<R: Net> Link for TcpLink<R> {
         };
         match stream.read(buf) {
             Ok(count) => Ok(count),
-            Err(_) => Err(self.fail()),
+            Err(_) => Err(self.faults.fail()),
         }
     }
 

@@ -6,9 +6,9 @@
 //     link ROOM ASK RECEIVE ANSWERS CALLS      what calls of a link in memory answer: `link.rt`
 //     device               what calls of a failing device answer: `device.rt`
 //
-// Each is printed with what it comes to. An answer is read whole, in pieces of one byte, and in pieces of 4,096 bytes. One
-// of at most 1,024 bytes is also cut in two at each place; a longer one is not. Where what an answer comes to differs, the
-// row comes to `DIFFERS`. `wf_rows`'s `row.rt` says how a text is written.
+// Each is printed with what it comes to. An answer is read whole, in pieces of one byte, and in pieces of 4,096 bytes.
+// One of at most 1,024 bytes is also cut in two at each place; a longer one is not. Where what an answer comes to
+// differs, the row comes to `DIFFERS`. `wf_rows`'s `row.rt` says how a text is written.
 use crate::{answer, device, link, request};
 use std::alloc::Global;
 use wf_rows::{Failed, Shown, named};

@@ -4,5 +4,5 @@ use Rattle.wf_http1.specs.Requests.{header_line}
 use Rattle.wf_http1.proofs.request.add_header_lines.Given as goal
 
 abbrev pub invariant-loop-header : goal.invariant-loop-header
-invariant-loop-header l = l.initial.text ++ flat_map header_line l.headers ≡ l.text
+invariant-loop-header l = l.initial.text.items ++ flat_map header_line l.headers ≡ l.text.items
     ++ flat_map header_line (drop l.header-index l.headers)

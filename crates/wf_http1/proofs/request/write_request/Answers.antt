@@ -14,9 +14,11 @@ in-four a b c d s t u w one two three four =
 pub returns : goal.returns
 returns c =
     let hop = c.args.hop.now in
-    in-four (request_line hop) (flat_map header_line hop.headers) (codes "\r\n") (unwrap_or hop.body [])
-    c.add_request_line.new.text c.add_header_lines.new.text c.append.new.self c.add_body.new.text
-    (c.in_ok-add_request_line.ensures ∙ ap (λ (l : List ℕ). l ++ request_line hop) (c.from_vec-text.ensures ∙ c.in_ok-with_capacity.ensures.items))
+    c.from_vec.ensures
+    ∙ in-four (request_line hop) (flat_map header_line hop.headers) (codes "\r\n") (unwrap_or hop.body [])
+    c.add_request_line.new.text.items c.add_header_lines.new.text.items c.extend_from_slice.new.self.items
+    c.add_body.new.text.items
+    (c.in_ok-add_request_line.ensures ∙ ap (λ (l : List ℕ). l ++ request_line hop) c.in_ok-text.ensures.items)
     (c.in_ok-add_header_lines.ensures
-    ∙ ap (λ (l : List Header). c.add_request_line.new.text ++ flat_map header_line l) c.as_slice.ensures)
-    c.in_ok-append.ensures.ok c.in_ok-add_body.ensures
+    ∙ ap (λ (l : List Header). c.add_request_line.new.text.items ++ flat_map header_line l) c.as_slice.ensures)
+    c.in_ok-extend_from_slice.ensures.items c.in_ok-add_body.ensures

@@ -1,4 +1,4 @@
-use Rattle.std.proofs.Common.{arith}
+use Rattle.std.proofs.Common.{◌∙◌, arith}
 use Rattle.wf_link.proofs.SinkLemmas.{wrote-more}
 use Rattle.wf_link.proofs.sink.write_whole.Goals as goal
 
@@ -10,4 +10,5 @@ loop-rest-preserved g c = record {
       c.in-Ok.ensures.took);
   faults = omega (arith, c.loop-rest.invariant.faults, c.in-Ok.ensures.cause.later);
   zeros = omega (arith, c.loop-rest.invariant.zeros, c.in-Ok.ensures.zero.later);
+  beside = c.in-Ok.ensures.beside ∙ c.loop-rest.invariant.beside;
 }

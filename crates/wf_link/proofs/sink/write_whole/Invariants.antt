@@ -1,4 +1,4 @@
-use Rattle.std.proofs.Common.{◌≤◌, length}
+use Rattle.std.proofs.Common.{◌≡◌, ◌≤◌, length}
 use Rattle.wf_link.proofs.SinkLemmas.{Wrote}
 use Rattle.wf_link.proofs.sink.write_whole.Given as goal
 
@@ -7,6 +7,7 @@ invariant-loop-rest g l = record {
   wrote : Wrote (g.K.Sink.taken l.fn.sink) (g.K.Sink.taken l.sink) l.text l.rest;
   faults : g.K.Sink.faults l.fn.sink ≤ g.K.Sink.faults l.sink;
   zeros : g.K.Sink.zeros l.fn.sink ≤ g.K.Sink.zeros l.sink;
+  beside : g.K.Sink.beside l.sink ≡ g.K.Sink.beside l.fn.sink;
 }
 
 abbrev pub decreases-loop-rest : goal.decreases-loop-rest
