@@ -1,0 +1,5 @@
+pub mod Private
+pub mod Reading
+pub mod Served
+pub mod Serving
+pub mod Tables

@@ -1,0 +1,76 @@
+-- What serving one peer comes to: what was read of it, and what was written to it.
+use Rattle.std.specs.Prelude.{◌≡◌, ℕ, ◌≤◌, ◌⊎◌, List, length, Option, Some}
+use Rattle.wf_link.specs.Counts.{Rose}
+use Rattle.wf_link.specs.Sinks.{SinkTold, Took, TookPart}
+use Rattle.wf_link.specs.Sources.{Gave, IsAtEnd, SourceTold}
+use Rattle.wf_http1.specs.RequestHeads.{IsRead}
+use Rattle.wf_http1.specs.declared.request_head.Asked.{Asked}
+use Rattle.wf_server.specs.Served.{IsReply, IsServed, Reply, reply_bytes}
+use Rattle.wf_server.specs.declared.serve.Served.{Served}
+use Rattle.wf_server.specs.declared.serve.Served.TheVariants as served
+use Rattle.wf_server.specs.declared.table.Row.{Row}
+
+-- how many bytes are read of a peer at most
+abbrev pub most_read : ℕ
+most_read = 65536
+
+-- what a peer tells
+pub record PeerTold : Type 0 where
+  pub source : SourceTold
+  pub sink : SinkTold
+
+abbrev pub peer_told : {P : Type 0} → (P → Option (List ℕ)) → (P → ℕ) → (P → Option (List ℕ)) → (P → ℕ) → (P → ℕ) → P
+    → PeerTold
+peer_told left read_faults taken write_faults zeros peer = record {
+  source = record { left = left peer; faults = read_faults peer };
+  sink = record { taken = taken peer; faults = write_faults peer; zeros = zeros peer };
+}
+
+-- the bytes read suffice: they have a request head, or are all that the source had, or as many as are read at most
+abbrev pub Suffice : Option (List ℕ) → List ℕ → Type 0
+Suffice left bytes = ((asked : Asked) × IsRead bytes (Some asked)) ⊎ IsAtEnd left ⊎ (length bytes ≡ most_read)
+
+-- these bytes were read, and they suffice
+pub record Heard (old new : SourceTold) (bytes : List ℕ) : Type 0 where
+  pub gave : Gave old.left new.left bytes
+  pub few : length bytes ≤ most_read
+  pub suffice : Suffice new.left bytes
+
+-- the reply to the bytes read was written whole
+pub record Answered (table : List Row) (old new : PeerTold) (status : ℕ) : Type 0 where
+  pub bytes : List ℕ
+  pub heard : Heard old.source new.source bytes
+  pub reply : Reply
+  pub is_reply : IsReply table bytes reply
+  pub status_is : status ≡ reply.status
+  pub took : Took old.sink.taken new.sink.taken (reply_bytes reply)
+
+-- the reply to the bytes read was not written whole: the sink failed, or took nothing of a piece
+pub record WasCut (table : List Row) (old new : PeerTold) : Type 0 where
+  pub bytes : List ℕ
+  pub heard : Heard old.source new.source bytes
+  pub answer : List ℕ
+  pub is_served : IsServed table bytes answer
+  pub took : TookPart old.sink.taken new.sink.taken answer
+  pub cause : Rose old.sink.faults new.sink.faults ⊎ Rose old.sink.zeros new.sink.zeros
+
+-- the source failed, and nothing was written
+pub record WasUnheard (old new : PeerTold) : Type 0 where
+  pub bytes : List ℕ
+  pub gave : Gave old.source.left new.source.left bytes
+  pub few : length bytes ≤ most_read
+  pub cause : Rose old.source.faults new.source.faults
+  pub sink : new.sink ≡ old.sink
+
+-- memory was refused, and nothing was written
+pub record RanShort (old new : PeerTold) : Type 0 where
+  pub bytes : List ℕ
+  pub gave : Gave old.source.left new.source.left bytes
+  pub few : length bytes ≤ most_read
+  pub sink : new.sink ≡ old.sink
+
+abbrev pub IsServing : List Row → PeerTold → PeerTold → Served → Type 0
+IsServing table old new (served.Answered status) = Answered table old new status
+IsServing table old new served.ReadFault = WasUnheard old new
+IsServing table old new served.WriteFault = WasCut table old new
+IsServing table old new served.OutOfMemory = RanShort old new

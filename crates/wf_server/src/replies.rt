@@ -1,0 +1,180 @@
+ghost use Rattle.std.specs.Prelude.{◌≡◌, ◌++◌, ◌∷◌, [], IfOk, OnOk, option_copied, option_map};
+ghost use Rattle.std.specs.List.{flat_map, join_with_byte};
+ghost use Rattle.wf_text.specs.Ascii.{comma};
+ghost use Rattle.wf_http1.specs.Requests.{header_line};
+ghost use Rattle.wf_server.specs.Served as spec;
+ghost use Rattle.wf_server.specs.Private.Written.{written};
+ghost use Rattle.wf_server.specs.Served.{IsServed};
+
+use crate::table::{AllowTable, Row};
+use std::alloc::Global;
+use wf_http1::{Asked, read_request};
+use wf_text::{Bytes, OutOfMemory, has_text};
+
+// How many bytes most answers have at most, for which room is made first.
+const FEW_BYTES: usize = 512;
+
+/// What a request is answered with.
+#[derive(Drop)]
+pub(crate) struct Reply {
+    pub(crate) status: u16,
+    pub(crate) bytes: Bytes,
+}
+
+// Adds texts with a comma between.
+fn add_joined(text: &mut Vec<u8>, texts: &[Bytes]) -> Result<(), OutOfMemory>
+    ensures { OnOk result (text.new.items ≡ text.old.items ++ join_with_byte comma texts.now) }
+{
+    let mut is_first = true;
+    for one in texts {
+        if !is_first {
+            text.extend_from_slice(b",")?;
+        }
+        text.extend_from_slice(one.as_slice())?;
+        is_first = false;
+    }
+    Ok(())
+}
+
+// Adds a header with texts, where there are some.
+fn add_list_header(text: &mut Vec<u8>, name: &[u8], texts: &[Bytes]) -> Result<(), OutOfMemory>
+    ensures { OnOk result (text.new.items
+        ≡ text.old.items ++ flat_map header_line (spec.list_header name.now texts.now)) }
+{
+    if texts.is_empty() {
+        return Ok(());
+    }
+    text.extend_from_slice(name)?;
+    text.extend_from_slice(b": ")?;
+    add_joined(text, texts)?;
+    text.extend_from_slice(b"\r\n")?;
+    Ok(())
+}
+
+// Adds the headers that let a page of the row's origin read the answer.
+fn add_granted(text: &mut Vec<u8>, row: &Row) -> Result<(), OutOfMemory>
+    ensures { OnOk result (text.new.items ≡ text.old.items ++ flat_map header_line (spec.granted row.now)) }
+{
+    text.extend_from_slice(b"Vary: Origin\r\nAccess-Control-Allow-Origin: ")?;
+    text.extend_from_slice(row.origin.as_slice())?;
+    text.extend_from_slice(b"\r\n")?;
+    if row.credentials {
+        text.extend_from_slice(b"Access-Control-Allow-Credentials: true\r\n")?;
+    }
+    Ok(())
+}
+
+// To bytes that begin with no request head.
+fn bad(alloc: Global) -> Result<Reply, OutOfMemory>
+    ensures { IfOk result (λ reply. reply ≡ written spec.bad) }
+{
+    let text = b"HTTP/1.1 400 Bad\r\nContent-Length: 0\r\n\r\n";
+    Ok(Reply {
+        status: 400,
+        bytes: Bytes::of(alloc, text)?,
+    })
+}
+
+// To an origin that has no row, and to a method that its row does not list.
+fn refused(alloc: Global) -> Result<Reply, OutOfMemory>
+    ensures { IfOk result (λ reply. reply ≡ written spec.refused) }
+{
+    let text = b"HTTP/1.1 403 Refused\r\nVary: Origin\r\nContent-Length: 0\r\n\r\n";
+    Ok(Reply {
+        status: 403,
+        bytes: Bytes::of(alloc, text)?,
+    })
+}
+
+// To a preflight.
+fn allowed(alloc: Global, row: &Row) -> Result<Reply, OutOfMemory>
+    ensures { IfOk result (λ reply. reply ≡ written (spec.allowed row.now)) }
+{
+    let mut text = Vec::with_capacity(alloc, FEW_BYTES)?;
+    text.extend_from_slice(b"HTTP/1.1 204 Allowed\r\n")?;
+    add_granted(&mut text, row)?;
+    add_list_line(
+        &mut text,
+        b"Access-Control-Allow-Methods: ",
+        row.methods.as_slice(),
+    )?;
+    add_list_line(
+        &mut text,
+        b"Access-Control-Allow-Headers: ",
+        row.names.as_slice(),
+    )?;
+    text.extend_from_slice(b"\r\n")?;
+    Ok(Reply {
+        status: 204,
+        bytes: Bytes::from_vec(text),
+    })
+}
+
+// To a request with a method that the row lists.
+fn served(alloc: Global, row: &Row, method: &[u8]) -> Result<Reply, OutOfMemory>
+    ensures { IfOk result (λ reply. reply ≡ written (spec.served row.now method.now)) }
+{
+    let mut text = Vec::with_capacity(alloc, FEW_BYTES)?;
+    text.extend_from_slice(b"HTTP/1.1 200 Served\r\n")?;
+    add_granted(&mut text, row)?;
+    text.extend_from_slice(b"Content-Length: 2\r\n\r\n")?;
+    if method != b"HEAD" {
+        text.extend_from_slice(b"ok")?;
+    }
+    Ok(Reply {
+        status: 200,
+        bytes: Bytes::from_vec(text),
+    })
+}
+
+// Whether the request is a preflight.
+fn is_preflight(asked: &Asked) -> bool
+    ensures { result ≡ spec.is_preflight asked.now }
+{
+    asked.method.as_slice() == b"OPTIONS"
+        && asked.headers.contains(b"Access-Control-Request-Method")
+}
+
+// By the first row with the request's origin.
+fn by_row(alloc: Global, row: Option<&Row>, asked: &Asked) -> Result<Reply, OutOfMemory>
+    ensures { IfOk result (λ reply. reply ≡ written (spec.by_row (option_copied row.entry) asked.now)) }
+{
+    let Some(row) = row else {
+        return refused(alloc);
+    };
+    if is_preflight(asked) {
+        allowed(alloc, row)
+    } else if has_text(row.methods.as_slice(), asked.method.as_slice()) {
+        served(alloc, row, asked.method.as_slice())
+    } else {
+        refused(alloc)
+    }
+}
+
+// By the request head that begins the bytes, if one does.
+pub(crate) fn reply_to(
+    alloc: Global,
+    table: &AllowTable,
+    asked: &Option<Asked>,
+) -> Result<Reply, OutOfMemory>
+    ensures { IfOk result (λ reply. reply ≡ written (spec.reply_to table.now asked.now)) }
+{
+    let Some(asked) = asked else {
+        return bad(alloc);
+    };
+    match asked.headers.get(alloc, b"Origin")? {
+        Some(origin) => by_row(alloc, table.row_of(origin.as_slice()), asked),
+        None => refused(alloc),
+    }
+}
+
+/// What the server answers to the bytes of a request, by the request head that begins them and by the first
+/// row of the table with its origin: 200 to a method that the row lists, 204 to a preflight (OPTIONS with
+/// Access-Control-Request-Method), 403 where no row has the origin or the row does not list the method, and
+/// 400 where the bytes begin with no request head.
+pub fn answer(alloc: Global, table: &AllowTable, request: &[u8]) -> Result<Bytes, OutOfMemory>
+    ensures { IfOk result (IsServed table.now request.now) }
+{
+    let asked = read_request(alloc, request)?;
+    Ok(reply_to(alloc, table, &asked)?.bytes)
+}
