@@ -1,1 +1,4 @@
-pub mod Words
+pub mod Connections
+pub mod Private
+pub mod Program
+pub mod Statuses
