@@ -5,13 +5,13 @@ use Rattle.std.specs.List.{list_all}
 use Rattle.httparse.specs.Grammar.{is_value_byte}
 use Rattle.wf_text.specs.Tokens.{is_token}
 use Rattle.wf_text.specs.Trims.{http_whitespace, trimmed}
-use Rattle.wf_text.specs.Values.{is_header_value}
 use Rattle.wf_headers.specs.declared.headers.Header.{Header}
 use Rattle.wf_headers.specs.Headers.{appended}
 use Rattle.wf_types.specs.declared.hop.Head.{Head}
 use Rattle.wf_types.specs.declared.hop.Hop.{Hop}
 use Rattle.wf_types.specs.Targets.{IsSendable}
 use Rattle.wf_http1.specs.Answers.{bad, long, most_bytes}
+use Rattle.wf_http1.specs.Blocks.{is_line_byte}
 use Rattle.wf_http1.specs.RequestHeads.{IsRead}
 use Rattle.wf_http1.specs.Requests.{request_bytes}
 use Rattle.wf_http1.specs.declared.request_head.Asked.{Asked}
@@ -23,10 +23,10 @@ abbrev pub as_read : List Header → List Header → List Header
 as_read before [] = before
 as_read before (one ∷ more) = as_read (appended one.name (trimmed http_whitespace one.value) before) more
 
--- a header whose line is one: its name is a token, and its value has neither NUL, CR nor LF
+-- a header whose line is one: its name is a token, and its value has neither CR nor LF
 pub record IsLine (one : Header) : Type 0 where
   pub name : is_token one.name ≡ true
-  pub value : is_header_value one.value ≡ true
+  pub value : list_all is_line_byte one.value ≡ true
 
 -- a request whose method and target have no space, and whose header lines are lines
 pub record IsWritten (hop : Hop) : Type 0 where

@@ -1,2 +1,4 @@
 pub mod LineLemmas
+pub mod ListenLemmas
 pub mod PlaceLemmas
+pub mod ReplyLemmas

@@ -1,7 +1,8 @@
 -- The place of the first row with an origin: in a list of rows, and in the map that keeps it.
-use Rattle.std.proofs.Common.{arith, ◌≡◌, ◌<◌, ◌+◌, ◌++◌, ◌∷◌, [], ℕ, suc, List, Bool, true, false, cond, length, refl}
-use Rattle.std.proofs.Common.{sym, ap, ◌∙◌, Option, Some, None, subst, true≢false}
-use Rattle.std.specs.Prelude.{bytes_eq, is_some, slice_get}
+use Rattle.std.proofs.Common.{arith, Bor, ◌≡◌, ◌<◌, ◌+◌, ◌++◌, ◌∷◌, [], ℕ, suc, List, Bool, true, false, cond, length, refl}
+use Rattle.std.proofs.Common.{sym, ap, ◌∙◌, Option, Some, None, subst, true≢false, get_or}
+use Rattle.std.proofs.lemmas.Option.{slice_get-get_or}
+use Rattle.std.specs.Prelude.{bytes_eq, is_some, option_copied, slice_get}
 use Rattle.std.specs.List.{find, position_from}
 use Rattle.std.specs.BTreeMap.{insert_entry}
 use Rattle.std.specs.Cmp.Lexicographic.{bytes_decides, texts_ties}
@@ -11,12 +12,13 @@ use Rattle.std.specs.declared.cmp.Ordering.{Ordering}
 use Rattle.std.specs.declared.cmp.Ordering.TheVariants.{Equal, Greater, Less}
 use Rattle.wf_text.specs.Orders.{text_cmp}
 use Rattle.wf_server.specs.Private.Places.{ArePlaced, is_key, key_cmp, place_of}
+use Rattle.wf_server.specs.Tables.{row_of}
 use Rattle.wf_server.specs.declared.table.Row.{Row}
 
 -- ---- a list of rows
 
 -- the place, or else another
-pub or_else : Option ℕ → Option ℕ → Option ℕ
+abbrev pub or_else : Option ℕ → Option ℕ → Option ℕ
 or_else None other = other
 or_else (Some place) other = Some place
 
@@ -86,6 +88,16 @@ module _ {X : Type 0} (test : X → Bool) where
   behind [] y start = ap (λ (n : ℕ). cond (test y) (Some n) None) (omega (arith))
   behind (x ∷ xs) y start = behind-by x y xs start (test x) (behind xs y (start + 1))
 
+-- the row there, where the list is indexed
+pub row-at : (origin : List ℕ) (rows : List Row) (place : ℕ) (row : Row)
+    → IsFirst (λ (r : Row). bytes_eq r.origin origin) rows 0 place → row ≡ get_or rows place row
+    → Some row ≡ row_of rows origin
+row-at origin rows place row is at =
+    let same : place ≡ is.index = omega (arith, is.at) in
+    ap (λ (r : Row). let found : Option Row = Some r in found)
+    (at ∙ ap (λ (n : ℕ). get_or rows n row) same)
+    ∙ sym (slice_get-get_or rows is.index row is.within) ∙ is.item
+
 -- ---- the map
 
 text-equal : (a b : List ℕ) → is_eq (text_cmp a b) ≡ true → a ≡ b
@@ -129,6 +141,18 @@ module _ {K : Type 0} (bytes : K → List ℕ) (text : List ℕ) (k : K) (v : �
   looked-up [] = refl
   looked-up (e ∷ es) = inserted-by e es (text_cmp (bytes k) (bytes e.0)) refl (looked-up es)
 
+-- ---- what a look-up finds
+
+pub none-got : (found : Option (Bor ℕ)) (place : Option ℕ) → option_copied found ≡ place → is_some found ≡ false
+    → place ≡ None
+none-got None place same none = sym same
+none-got (Some at) place same none = absurd (true≢false none)
+
+pub some-got : (found : Option (Bor ℕ)) (place : Option ℕ) → option_copied found ≡ place → is_some found ≡ true
+    → (at : ℕ) × (place ≡ Some at)
+some-got None place same some = absurd (true≢false (sym some))
+some-got (Some at) place same some = (at.now, sym same)
+
 -- ---- one row more
 
 bytes-flip : (a b : List ℕ) → is_eq (text_cmp a b) ≡ bytes_eq b a
@@ -146,6 +170,12 @@ or-none : (place : Option ℕ) → or_else place None ≡ place
 or-none None = refl
 or-none (Some n) = refl
 
+one-behind : (origin : List ℕ) (rows : List Row) (row : Row) → place_of origin (rows ++ row ∷ [])
+    ≡ or_else (place_of origin rows) (cond (bytes_eq row.origin origin) (Some (length rows)) None)
+one-behind origin rows row =
+    behind (λ (r : Row). bytes_eq r.origin origin) rows row 0
+    ∙ ap (λ (n : ℕ). or_else (place_of origin rows) (cond (bytes_eq row.origin origin) (Some n) None)) (omega (arith))
+
 module _ {K : Type 0} (bytes : K → List ℕ) (es : List (K × ℕ)) (rows : List Row) (row : Row)
     (placed : ArePlaced bytes es rows) where
   -- its origin has none yet
@@ -160,14 +190,21 @@ module _ {K : Type 0} (bytes : K → List ℕ) (es : List (K × ℕ)) (rows : Li
       rw gone refl
   new-at k key none origin false is = placed origin ∙ sym (or-none (place_of origin rows))
 
-  pub placed-new : (k : K) → bytes k ≡ row.origin → lookup (is_key bytes row.origin) es ≡ None
+  placed-last : (k : K) → bytes k ≡ row.origin → lookup (is_key bytes row.origin) es ≡ None
       → ArePlaced bytes (insert_entry (key_cmp bytes) es k (length rows)) (rows ++ row ∷ [])
-  placed-new k key none = λ origin.
+  placed-last k key none = λ origin.
       let is : is_key bytes origin k ≡ bytes_eq row.origin origin = rw key (bytes-flip origin row.origin) in
       looked-up bytes origin k (length rows) es
       ∙ ap (λ (b : Bool). cond b (Some (length rows)) (lookup (is_key bytes origin) es)) is
       ∙ new-at k key none origin (bytes_eq row.origin origin) refl
-      ∙ sym (behind (λ (r : Row). bytes_eq r.origin origin) rows row 0)
+      ∙ sym (one-behind origin rows row)
+
+  pub placed-new : (k : K) (v : ℕ) → bytes k ≡ row.origin → v ≡ length rows
+      → lookup (is_key bytes row.origin) es ≡ None
+      → ArePlaced bytes (insert_entry (key_cmp bytes) es k v) (rows ++ row ∷ [])
+  placed-new k v key last none = λ origin.
+      ap (λ (n : ℕ). lookup (is_key bytes origin) (insert_entry (key_cmp bytes) es k n)) last
+      ∙ placed-last k key none origin
 
   -- its origin has one
   known-at : (place : ℕ) → lookup (is_key bytes row.origin) es ≡ Some place → (origin : List ℕ) (b : Bool)
@@ -184,4 +221,4 @@ module _ {K : Type 0} (bytes : K → List ℕ) (es : List (K × ℕ)) (rows : Li
       → ArePlaced bytes es (rows ++ row ∷ [])
   placed-known place some = λ origin.
       known-at place some origin (bytes_eq row.origin origin) refl
-      ∙ sym (behind (λ (r : Row). bytes_eq r.origin origin) rows row 0)
+      ∙ sym (one-behind origin rows row)

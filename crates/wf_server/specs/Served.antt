@@ -98,17 +98,21 @@ is_preflight asked =
     bytes_eq asked.method (codes "OPTIONS") && contains (codes "Access-Control-Request-Method") asked.headers
 
 -- by the first row with the request's origin
-abbrev pub by_row : Option Row → Asked → Reply
-by_row None asked = refused
-by_row (Some row) asked =
+abbrev pub by_row : Row → Asked → Reply
+by_row row asked =
     if is_preflight asked then allowed row
     else if lists row.methods asked.method then served row asked.method
     else refused
 
+-- the same, where one has it
+abbrev pub by_found : Option Row → Asked → Reply
+by_found None asked = refused
+by_found (Some row) asked = by_row row asked
+
 -- by the origin that the request tells
 abbrev pub by_origin : List Row → Option (List ℕ) → Asked → Reply
 by_origin table None asked = refused
-by_origin table (Some origin) asked = by_row (row_of table origin) asked
+by_origin table (Some origin) asked = by_found (row_of table origin) asked
 
 -- by the request head that begins the bytes
 abbrev pub reply_to : List Row → Option Asked → Reply

@@ -6,8 +6,8 @@ use Rattle.wf_link.specs.Sources.{Gave, IsAtEnd, SourceTold}
 use Rattle.wf_http1.specs.RequestHeads.{IsRead}
 use Rattle.wf_http1.specs.declared.request_head.Asked.{Asked}
 use Rattle.wf_server.specs.Served.{IsReply, IsServed, Reply, reply_bytes}
-use Rattle.wf_server.specs.declared.serve.Served.{Served}
-use Rattle.wf_server.specs.declared.serve.Served.TheVariants as served
+use Rattle.wf_server.specs.declared.serving.Served.{Served}
+use Rattle.wf_server.specs.declared.serving.Served.TheVariants as served
 use Rattle.wf_server.specs.declared.table.Row.{Row}
 
 -- how many bytes are read of a peer at most

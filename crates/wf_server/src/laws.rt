@@ -1,6 +1,10 @@
 ghost use Rattle.wf_server.specs.Served.{HasOneReply};
 
+use wf_http1::law_one_request;
+
 /// A law: one reply is that to the bytes. The call does nothing.
 pub fn law_one_reply()
     ensures { HasOneReply }
-{}
+{
+    law_one_request();
+}

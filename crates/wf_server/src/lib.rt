@@ -5,11 +5,11 @@ mod laws;
 mod listen;
 mod read;
 mod replies;
-mod serve;
+mod serving;
 mod table;
 
 pub use laws::law_one_reply;
 pub use read::{BadLine, read_table};
 pub use replies::answer;
-pub use serve::{Served, serve};
+pub use serving::{Served, serve};
 pub use table::{AllowTable, Row};

@@ -1,10 +1,10 @@
-ghost use Rattle.std.specs.Prelude.{◌≡◌, ◌≤◌, ◌×◌, [], length, nat_eq, codes, true, false, ◌||◌, IfOk, IfErr};
-ghost use Rattle.std.specs.List.{ends_with};
+ghost use Rattle.std.specs.Prelude.{◌≡◌, ◌≤◌, [], length, true, false, ◌||◌, IfOk, IfErr, OnOk, OnErr};
+ghost use Rattle.std.specs.List.{list_any};
 ghost use Rattle.wf_http1.specs.Blocks as spec;
 ghost use Rattle.wf_server.specs.Private.Coming.{HasBlock, HasCome, HasEnded, HasFailed, HasHeard, IsSearched, Stopped};
 ghost use Rattle.wf_server.specs.Serving.{most_read, peer_told};
 
-use crate::serve::Served;
+use crate::serving::Served;
 use std::alloc::Global;
 use wf_http1::{Asked, read_request};
 use wf_link::{Failed, Peer};
@@ -18,21 +18,23 @@ const PIECE: usize = 4_096;
 // How many bytes most requests have at most, for which room is made first.
 const FEW_BYTES: usize = 1_024;
 
-// Whether the byte is of a line: neither CR nor LF.
-fn is_line_byte(byte: u8) -> bool
-    ensures { result ≡ spec.is_line_byte byte }
+// Whether there was a byte of a line, which is neither CR nor LF, or this is one.
+fn has_begun(begun: bool, byte: u8) -> bool
+    ensures { result ≡ (begun || spec.is_line_byte byte) }
 {
-    !(byte == b'\r' || byte == b'\n')
+    begun || !(byte == b'\r' || byte == b'\n')
 }
 
-// Whether the bytes end in an empty line.
-fn ends_in_empty_line(bytes: &[u8]) -> bool
-    ensures { result ≡ (ends_with nat_eq bytes.now (codes "\n\n") || ends_with nat_eq bytes.now (codes "\n\r\n")) }
+// Whether the bytes are a block.
+fn is_block(bytes: &[u8], begun: bool) -> bool
+    requires { begun ≡ list_any spec.is_line_byte bytes.now }
+    ensures { result ≡ spec.is_block bytes.now }
 {
-    bytes.ends_with(b"\n\n") || bytes.ends_with(b"\n\r\n")
+    begun && (bytes.ends_with(b"\n\n") || bytes.ends_with(b"\n\r\n"))
 }
 
 /// How far bytes were searched for the end of a block.
+#[derive(Drop)]
 struct Search {
     searched: usize,
     // Whether they have a byte of a line.
@@ -48,9 +50,9 @@ impl Search {
         ensures all { result ≡ false → self.new.searched ≡ length bytes.now }
     {
         while self.searched < bytes.len() {
-            self.begun = self.begun || is_line_byte(bytes[self.searched]);
+            self.begun = has_begun(self.begun, bytes[self.searched]);
             self.searched += 1;
-            if self.begun && ends_in_empty_line(&bytes[..self.searched]) {
+            if is_block(&bytes[..self.searched], self.begun) {
                 return true;
             }
         }
@@ -74,14 +76,15 @@ fn read_block<P: Peer>(peer: &mut P, bytes: &mut Vec<u8>) -> Result<bool, Served
     };
     while bytes.len() < MOST_READ {
         let room = (MOST_READ - bytes.len()).min(PIECE);
-        let count = match peer.read(&mut buffer[..room]) {
+        let piece = &mut buffer[..room];
+        let count = match peer.read(piece) {
             Ok(0) => return Ok(false),
             Ok(count) => count,
             Err(Failed) => return Err(Served::ReadFault),
         };
-        if bytes.extend_from_slice(&buffer[..count]).is_err() {
+        let Ok(()) = bytes.extend_from_slice(&piece[..count]) else {
             return Err(Served::OutOfMemory);
-        }
+        };
         if search.finds_block(bytes.as_slice()) {
             return Ok(true);
         }
@@ -100,11 +103,11 @@ fn read_rest<P: Peer>(peer: &mut P, before: usize) -> Result<(), Failed>
     let mut buffer = [0u8; PIECE];
     let mut room = MOST_READ - before;
     while room > 0 {
-        let count = peer.read(&mut buffer[..room.min(PIECE)])?;
-        if count == 0 {
-            return Ok(());
+        match peer.read(&mut buffer[..room.min(PIECE)]) {
+            Ok(0) => return Ok(()),
+            Ok(count) => room -= count,
+            Err(Failed) => return Err(Failed),
         }
-        room -= count;
     }
     Ok(())
 }
@@ -124,8 +127,11 @@ pub(crate) fn hear<P: Peer>(alloc: Global, peer: &mut P) -> Result<Option<Asked>
     let Ok(asked) = read_request(alloc, bytes.as_slice()) else {
         return Err(Served::OutOfMemory);
     };
-    if found && asked.is_none() && read_rest(peer, bytes.len()).is_err() {
-        return Err(Served::ReadFault);
+    if found && asked.is_none() {
+        return match read_rest(peer, bytes.as_slice().len()) {
+            Ok(()) => Ok(None),
+            Err(Failed) => Err(Served::ReadFault),
+        };
     }
     Ok(asked)
 }

@@ -31,7 +31,7 @@ fn may_be_listed(text: &[u8]) -> bool
 
 // Whether a row may list each of the texts.
 fn may_all_be_listed(texts: &[&[u8]]) -> bool
-    ensures { result ≡ list_all spec.may_be_listed (map (λ text. text.now) texts.now) }
+    ensures { result ≡ list_all (λ text. spec.may_be_listed text.now) texts.now }
 {
     texts.iter().all(|text| may_be_listed(text))
 }
@@ -47,19 +47,26 @@ fn copies(alloc: Global, texts: &[&[u8]]) -> Result<BytesList, OutOfMemory>
     Ok(list)
 }
 
+// The texts, where a row may list each of them.
+fn where_listed(alloc: Global, texts: &[&[u8]]) -> Result<Option<BytesList>, OutOfMemory>
+    ensures { IfOk result (λ list. list ≡ spec.where_listed (map (λ text. text.now) texts.now)) }
+{
+    if may_all_be_listed(texts) {
+        Ok(Some(copies(alloc, texts)?))
+    } else {
+        Ok(None)
+    }
+}
+
 // The texts of a list, where it is one.
 fn listed(alloc: Global, text: &[u8]) -> Result<Option<BytesList>, OutOfMemory>
     ensures { IfOk result (λ list. list ≡ spec.listed text.now) }
 {
-    if text == b"()" {
+    if text == b"()".as_slice() {
         return Ok(Some(BytesList::new(alloc)));
     }
     let parts = parts_between(alloc, text, b',')?;
-    if may_all_be_listed(parts.as_slice()) {
-        Ok(Some(copies(alloc, parts.as_slice())?))
-    } else {
-        Ok(None)
-    }
+    where_listed(alloc, parts.as_slice())
 }
 
 // The texts in lower case.
@@ -77,9 +84,9 @@ fn all_in_lower_case(alloc: Global, texts: &BytesList) -> Result<BytesList, OutO
 fn credentials_in(text: &[u8]) -> Option<bool>
     ensures { result ≡ spec.credentials_in text.now }
 {
-    if text == b"include" {
+    if text == b"include".as_slice() {
         Some(true)
-    } else if text == b"other" {
+    } else if text == b"other".as_slice() {
         Some(false)
     } else {
         None
@@ -125,12 +132,10 @@ fn row_in(alloc: Global, line: &[u8]) -> Result<Option<Row>, OutOfMemory>
         return Ok(None);
     }
     let parts = parts_between(alloc, line, b' ')?;
-    match parts.as_slice() {
-        [origin, methods, names, credentials] => {
-            row_of_parts(alloc, origin, methods, names, credentials)
-        }
-        _ => Ok(None),
+    if parts.as_slice().len() != 4 {
+        return Ok(None);
     }
+    row_of_parts(alloc, parts[0], parts[1], parts[2], parts[3])
 }
 
 /// The table that the text is, a row on each line, `ORIGIN METHODS NAMES CRED`, each line ended by LF; or the
@@ -142,15 +147,17 @@ pub fn read_table(alloc: Global, text: &[u8]) -> Result<Result<AllowTable, BadLi
     let mut rest = text;
     let mut line = 1;
     while !rest.is_empty() {
-        let end = match position_of(rest, b'\n') {
-            Some(end) if line <= MOST_ROWS => end,
-            _ => return Ok(Err(BadLine { line })),
+        let Some(end) = position_of(rest, b'\n') else {
+            return Ok(Err(BadLine { line }));
         };
-        let Some(row) = row_in(alloc, &rest[..end])? else {
+        if line > MOST_ROWS {
+            return Ok(Err(BadLine { line }));
+        }
+        let Some(row) = row_in(alloc, rest.split_at(end).0)? else {
             return Ok(Err(BadLine { line }));
         };
         table = table.with(alloc, row)?;
-        rest = &rest[end + 1..];
+        rest = rest.split_at(end + 1).1;
         line += 1;
     }
     Ok(Ok(table))

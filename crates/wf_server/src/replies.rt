@@ -21,17 +21,15 @@ pub(crate) struct Reply {
     pub(crate) bytes: Bytes,
 }
 
-// Adds texts with a comma between.
-fn add_joined(text: &mut Vec<u8>, texts: &[Bytes]) -> Result<(), OutOfMemory>
-    ensures { OnOk result (text.new.items ≡ text.old.items ++ join_with_byte comma texts.now) }
+// Adds texts with a comma between each two.
+#[tactic(auto, using(crate::proofs::ReplyLemmas::joined_first))]
+fn add_joined(text: &mut Vec<u8>, first: &Bytes, rest: &[Bytes]) -> Result<(), OutOfMemory>
+    ensures { OnOk result (text.new.items ≡ text.old.items ++ join_with_byte comma (first.now ∷ rest.now)) }
 {
-    let mut is_first = true;
-    for one in texts {
-        if !is_first {
-            text.extend_from_slice(b",")?;
-        }
+    text.extend_from_slice(first.as_slice())?;
+    for one in rest {
+        text.extend_from_slice(b",")?;
         text.extend_from_slice(one.as_slice())?;
-        is_first = false;
     }
     Ok(())
 }
@@ -41,12 +39,12 @@ fn add_list_header(text: &mut Vec<u8>, name: &[u8], texts: &[Bytes]) -> Result<(
     ensures { OnOk result (text.new.items
         ≡ text.old.items ++ flat_map header_line (spec.list_header name.now texts.now)) }
 {
-    if texts.is_empty() {
+    let Some((first, rest)) = texts.split_first() else {
         return Ok(());
-    }
+    };
     text.extend_from_slice(name)?;
     text.extend_from_slice(b": ")?;
-    add_joined(text, texts)?;
+    add_joined(text, first, rest)?;
     text.extend_from_slice(b"\r\n")?;
     Ok(())
 }
@@ -93,14 +91,14 @@ fn allowed(alloc: Global, row: &Row) -> Result<Reply, OutOfMemory>
     let mut text = Vec::with_capacity(alloc, FEW_BYTES)?;
     text.extend_from_slice(b"HTTP/1.1 204 Allowed\r\n")?;
     add_granted(&mut text, row)?;
-    add_list_line(
+    add_list_header(
         &mut text,
-        b"Access-Control-Allow-Methods: ",
+        b"Access-Control-Allow-Methods",
         row.methods.as_slice(),
     )?;
-    add_list_line(
+    add_list_header(
         &mut text,
-        b"Access-Control-Allow-Headers: ",
+        b"Access-Control-Allow-Headers",
         row.names.as_slice(),
     )?;
     text.extend_from_slice(b"\r\n")?;
@@ -108,6 +106,17 @@ fn allowed(alloc: Global, row: &Row) -> Result<Reply, OutOfMemory>
         status: 204,
         bytes: Bytes::from_vec(text),
     })
+}
+
+// The body: `ok`, and none for HEAD.
+fn body_for(method: &[u8]) -> &[u8]
+    ensures { result.now ≡ spec.body_for method.now }
+{
+    if method == b"HEAD".as_slice() {
+        b""
+    } else {
+        b"ok"
+    }
 }
 
 // To a request with a method that the row lists.
@@ -118,9 +127,7 @@ fn served(alloc: Global, row: &Row, method: &[u8]) -> Result<Reply, OutOfMemory>
     text.extend_from_slice(b"HTTP/1.1 200 Served\r\n")?;
     add_granted(&mut text, row)?;
     text.extend_from_slice(b"Content-Length: 2\r\n\r\n")?;
-    if method != b"HEAD" {
-        text.extend_from_slice(b"ok")?;
-    }
+    text.extend_from_slice(body_for(method))?;
     Ok(Reply {
         status: 200,
         bytes: Bytes::from_vec(text),
@@ -131,17 +138,14 @@ fn served(alloc: Global, row: &Row, method: &[u8]) -> Result<Reply, OutOfMemory>
 fn is_preflight(asked: &Asked) -> bool
     ensures { result ≡ spec.is_preflight asked.now }
 {
-    asked.method.as_slice() == b"OPTIONS"
+    asked.method.as_slice() == b"OPTIONS".as_slice()
         && asked.headers.contains(b"Access-Control-Request-Method")
 }
 
 // By the first row with the request's origin.
-fn by_row(alloc: Global, row: Option<&Row>, asked: &Asked) -> Result<Reply, OutOfMemory>
-    ensures { IfOk result (λ reply. reply ≡ written (spec.by_row (option_copied row.entry) asked.now)) }
+fn by_row(alloc: Global, row: &Row, asked: &Asked) -> Result<Reply, OutOfMemory>
+    ensures { IfOk result (λ reply. reply ≡ written (spec.by_row row.now asked.now)) }
 {
-    let Some(row) = row else {
-        return refused(alloc);
-    };
     if is_preflight(asked) {
         allowed(alloc, row)
     } else if has_text(row.methods.as_slice(), asked.method.as_slice()) {
@@ -162,8 +166,11 @@ pub(crate) fn reply_to(
     let Some(asked) = asked else {
         return bad(alloc);
     };
-    match asked.headers.get(alloc, b"Origin")? {
-        Some(origin) => by_row(alloc, table.row_of(origin.as_slice()), asked),
+    let Some(origin) = asked.headers.get(alloc, b"Origin")? else {
+        return refused(alloc);
+    };
+    match table.row_of(origin.as_slice()) {
+        Some(row) => by_row(alloc, row, asked),
         None => refused(alloc),
     }
 }

@@ -79,7 +79,7 @@ impl AllowTable {
         } = self;
         if places.get(row.origin.as_slice()).is_none() {
             let origin = Vec::from_slice(alloc, row.origin.as_slice())?;
-            places.insert(origin, rows.len())?;
+            places.insert(origin, rows.as_slice().len())?;
         }
         rows.push(row)?;
         Ok(AllowTable { rows, places })

@@ -6,8 +6,8 @@ use Rattle.wf_link.specs.Links.{Lent}
 use Rattle.wf_link.specs.Sinks.{SinkTold, Took, TookPart}
 use Rattle.wf_link.specs.Sources.{SourceTold}
 use Rattle.wf_server.specs.Serving.{Failed, IsServing, PeerTold}
-use Rattle.wf_server.specs.declared.serve.Served.{Served}
-use Rattle.wf_server.specs.declared.serve.Served.TheVariants as served
+use Rattle.wf_server.specs.declared.serving.Served.{Served}
+use Rattle.wf_server.specs.declared.serving.Served.TheVariants as served
 use Rattle.wf_server.specs.declared.table.Row.{Row}
 use Rattle.wf_serving.specs.declared.status.ServeStatus.{ServeStatus}
 use Rattle.wf_serving.specs.declared.status.ServeStatus.TheVariants as status

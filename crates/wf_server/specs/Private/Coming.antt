@@ -1,5 +1,5 @@
 -- How a request is listened to: until a block ends, which alone can be its head.
-use Rattle.std.specs.Prelude.{◌≡◌, ℕ, ◌≤◌, ◌+◌, ◌⊎◌, Bool, true, false, List, length, take, Option, Some}
+use Rattle.std.specs.Prelude.{◌≡◌, ℕ, ◌≤◌, ◌+◌, ◌⊎◌, Bool, true, false, List, length, take, Option}
 use Rattle.std.specs.List.{list_any}
 use Rattle.wf_link.specs.Counts.{Rose}
 use Rattle.wf_link.specs.Sources.{Gave, IsAtEnd}
@@ -8,7 +8,7 @@ use Rattle.wf_http1.specs.RequestHeads.{IsRead}
 use Rattle.wf_http1.specs.declared.request_head.Asked.{Asked}
 use Rattle.wf_server.specs.Serving.{Heard, IsServing, most_read, PeerTold}
 use Rattle.wf_server.specs.declared.listen.Search.{Search}
-use Rattle.wf_server.specs.declared.serve.Served.{Served}
+use Rattle.wf_server.specs.declared.serving.Served.{Served}
 use Rattle.wf_server.specs.declared.table.Row.{Row}
 
 -- no block ends in the bytes
@@ -38,8 +38,16 @@ IsOver new count = IsAtEnd new.source.left ⊎ (count ≡ most_read)
 pub record HasCome (old new : PeerTold) (bytes : List ℕ) (found : Bool) : Type 0 where
   pub gives : Gives old new bytes
   pub few : length bytes ≤ most_read
+  pub quiet : new.source.faults ≡ old.source.faults
   pub block : found ≡ true → HasBlock bytes
   pub over : found ≡ false → IsOver new (length bytes)
+
+-- after so many bytes more came, and there is room for so many
+pub record HasComeOn (old new : PeerTold) (before room : ℕ) : Type 0 where
+  pub rest : List ℕ
+  pub gives : Gives old new rest
+  pub all : before + length rest + room ≡ most_read
+  pub quiet : new.source.faults ≡ old.source.faults
 
 -- after so many bytes the rest came, up to the end
 pub record HasEnded (old new : PeerTold) (before : ℕ) : Type 0 where

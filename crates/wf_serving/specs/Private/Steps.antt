@@ -1,5 +1,5 @@
 -- The steps to a verdict: the table that the input is, or why there is none.
-use Rattle.std.specs.Prelude.{◌≡◌, ℕ, ◌+◌, ◌≤◌, ◌×◌, List, length, Ok, Err}
+use Rattle.std.specs.Prelude.{◌≡◌, ℕ, ◌+◌, ◌≤◌, List, length, Ok, Err}
 use Rattle.wf_link.specs.Counts.{Rose}
 use Rattle.wf_link.specs.Sources.{Gave, SourceTold}
 use Rattle.wf_server.specs.Reading.{table_of}

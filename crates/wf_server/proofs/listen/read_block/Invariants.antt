@@ -1,0 +1,20 @@
+use Rattle.std.proofs.Common.{◌≡◌, ◌≤◌, ◌-◌, length}
+use Rattle.wf_server.specs.Private.Coming.{Gives, IsSearched}
+use Rattle.wf_server.specs.Serving.{most_read, peer_told}
+use Rattle.wf_server.proofs.listen.read_block.Given as goal
+
+-- these bytes came, all of them were searched, and no block ends in them
+abbrev pub invariant-loop-buffer : goal.invariant-loop-buffer
+invariant-loop-buffer g l = record {
+  gives : Gives
+      (peer_told g.P.Source.left g.P.Source.faults g.P.Sink.taken g.P.Sink.faults g.P.Sink.zeros l.fn.peer)
+      (peer_told g.P.Source.left g.P.Source.faults g.P.Sink.taken g.P.Sink.faults g.P.Sink.zeros l.peer)
+      l.bytes.items;
+  few : length l.bytes.items ≤ most_read;
+  searched : IsSearched l.search l.bytes.items;
+  quiet : g.P.Source.faults l.peer ≡ g.P.Source.faults l.fn.peer;
+  all : l.search.searched ≡ length l.bytes.items;
+}
+
+abbrev pub decreases-loop-buffer : goal.decreases-loop-buffer
+decreases-loop-buffer g l = most_read - length l.bytes.items
