@@ -1,15 +1,20 @@
 -- Connections served one after the other: their ends, their lines, and what they come to together.
-use Rattle.std.proofs.Common.{◌≡◌, ℕ, ◌+◌, ◌≤◌, ◌<◌, List, [], ◌∷◌, ◌++◌, length, map, refl, ap, sym, ◌∙◌, subst, arith, ◌≢◌, inl, inr}
+use Rattle.std.proofs.Common.{◌≡◌, ℕ, ◌+◌, ◌≤◌, ◌<◌, List, [], ◌∷◌, ◌++◌, map, refl, ap, sym, ◌∙◌, subst, arith, ◌≢◌, inl, inr}
+use Rattle.std.specs.Prelude.{option_map}
 use Rattle.std.proofs.Common.{Option, Some, None, append_assoc, length-append}
 use Rattle.std.specs.List.{AllByRecursion, flat_map}
 use Rattle.wf_link.proofs.SinkLemmas.{part-after, took-again}
-use Rattle.wf_link.specs.Counts.{Rose}
-use Rattle.wf_link.specs.Links.{Lent}
+use Rattle.wf_link.specs.Counts.{one_more, Rose}
+use Rattle.wf_link.specs.Accepts.{GaveFirst}
+use Rattle.wf_link.specs.Links.{Lent, one_out, TookBack}
 use Rattle.wf_link.specs.Sinks.{SinkTold, Took, TookPart}
 use Rattle.wf_server.specs.Serving.{Failed, PeerTold}
+use Rattle.wf_server.specs.declared.serving.Served.{Served}
+use Rattle.wf_server.specs.declared.serving.Served.TheVariants as served
 use Rattle.wf_server.specs.declared.table.Row.{Row}
-use Rattle.wf_serving.specs.Connections.{AcceptsTold, Connection, GaveEnds, HadNoNext, HasLine, HasServed, HasServedAll}
-use Rattle.wf_serving.specs.Connections.{IsServedBy, line_of, lines_of, RanShort, Serves, TookEnds, WasCutShort}
+use Rattle.wf_serving.specs.Connections.{AcceptsTold, Connection, GaveEnds, HasLine, HasServed, HasServedAll}
+use Rattle.wf_serving.specs.Connections.{IsServedBy, line_of, lines_of, Serves, TookEnds}
+use Rattle.wf_serving.specs.Private.Notes.{IsNoted, IsWritten}
 use Rattle.wf_serving.specs.declared.status.ServeStatus.{ServeStatus}
 use Rattle.wf_serving.specs.declared.status.ServeStatus.TheVariants as status
 
@@ -39,12 +44,16 @@ append-three (x ∷ xs) ys zs = ap (λ l. x ∷ l) (append-three xs ys zs)
 
 -- ---- ends
 
+pub wrote-none : (taken : Option (List ℕ)) → Took taken taken []
+wrote-none None = tt
+wrote-none (Some bytes) = ap (λ (l : List ℕ). let told : Option (List ℕ) = Some l in told) (sym (append-none bytes))
+
 module _ {End : Type 0} where
   gave-both : (a b c : Option (List End)) (xs ys : List End) → GaveEnds a b xs → GaveEnds b c ys → GaveEnds a c (xs ++ ys)
   gave-both None b c xs ys one two = tt
   gave-both (Some old) b c xs ys one two =
       let next = subst (λ (o : Option (List End)). GaveEnds o c ys) one.1 two in
-      (next.0, (next.1, one.2 ∙ ap (λ (l : List End). xs ++ l) next.2 ∙ sym (append-three xs ys next.0)))
+      (next.0, next.1, one.2 ∙ ap (λ (l : List End). xs ++ l) next.2 ∙ sym (append-three xs ys next.0))
 
   took-both : (a b c : Option (Lent End)) (xs ys : List End) → TookEnds a b xs → TookEnds b c ys → TookEnds a c (xs ++ ys)
   took-both None b c xs ys one two = tt
@@ -55,7 +64,7 @@ module _ {End : Type 0} where
 
   gave-none : (a : Option (List End)) → GaveEnds a a []
   gave-none None = tt
-  gave-none (Some old) = (old, (refl, refl))
+  gave-none (Some old) = (old, refl, refl)
 
   took-none : (a : Option (Lent End)) → TookEnds a a []
   took-none None = tt
@@ -63,13 +72,26 @@ module _ {End : Type 0} where
       ap (λ (l : List End). let told : Option (Lent End) = Some (record { back = l; out = old.out }) in told)
       (sym (append-none old.back))
 
-  wrote-none : (taken : Option (List ℕ)) → Took taken taken []
-  wrote-none None = tt
-  wrote-none (Some bytes) = ap (λ (l : List ℕ). let told : Option (List ℕ) = Some l in told) (sym (append-none bytes))
+module _ {End : Type 0} where
+  -- one end was given, and taken back
+  gave-one : (a b c : Option (List End)) (given : End) → GaveFirst a b given → c ≡ b → GaveEnds a c (given ∷ [])
+  gave-one None b c given gave same = tt
+  gave-one (Some old) b c given gave same = (gave.0, same ∙ gave.1, gave.2)
+
+  took-one : (a b c : Option (Lent End)) (back : End) → b ≡ option_map one_out a → TookBack b c back
+      → TookEnds a c (back ∷ [])
+  took-one None b c back out took = tt
+  took-one (Some old) b c back out took =
+      let is = subst (λ (o : Option (Lent End)). TookBack o c back) out took in
+      is (omega (arith)) ∙ ap (λ (n : ℕ). let told : Option (Lent End) =
+      Some (record { back = old.back ++ back ∷ []; out = n }) in told) (omega (arith))
 
 -- a count that rose after it had not fallen
 rose-after : (before now later : ℕ) → before ≤ now → Rose now later → Rose before later
 rose-after before now later grown rose = omega (arith, grown, rose)
+
+pub rose-now : (before now : ℕ) → now ≡ one_more before → Rose before now
+rose-now before now same = omega (arith, same)
 
 -- ---- what was served
 
@@ -88,6 +110,80 @@ module _ {End : Type 0} (told : End → PeerTold) (table : List Row) where
     opened = two.opened ∙ one.opened;
   }
 
+  -- nothing was served
+  pub served-nothing : (a b : AcceptsTold End) → b.coming ≡ a.coming → b.lent ≡ a.lent → b.opened ≡ a.opened
+      → HasServed told table a b []
+  served-nothing a b coming lent opened = record {
+    each = tt;
+    gave = subst (λ (o : Option (List End)). GaveEnds a.coming o []) (sym coming) (gave-none a.coming);
+    took = subst (λ (o : Option (Lent End)). TookEnds a.lent o []) (sym lent) (took-none a.lent);
+    opened = opened;
+  }
+
+  -- one connection was served
+  pub served-one : (a b c : AcceptsTold End) (one : Connection End) → IsServedBy told table one
+      → GaveFirst a.coming b.coming one.given → b.lent ≡ option_map one_out a.lent → b.opened ≡ a.opened
+      → TookBack b.lent c.lent one.back → c.coming ≡ b.coming → c.opened ≡ b.opened
+      → HasServed told table a c (one ∷ [])
+  served-one a b c one is gave out opened took coming same = record {
+    each = (is, tt);
+    gave = gave-one a.coming b.coming c.coming one.given gave coming;
+    took = took-one a.lent b.lent c.lent one.back out took;
+    opened = same ∙ opened;
+  }
+
+  pub line-one : (one : Connection End) → lines_of (one ∷ []) ≡ line_of one.served
+  line-one one = append-none (line_of one.served)
+
+  -- and its line was written
+  pub noted-one : (a c : AcceptsTold End) (k l : SinkTold) (one : Connection End) (verdict : ServeStatus)
+      → HasServed told table a c (one ∷ []) → c.faults ≡ a.faults → IsNoted k l one.served verdict
+      → Serves told table 1 a c k l verdict
+  noted-one a c k l one verdict done quiet noted = by one.served verdict refl noted
+    where
+      wrote : (served : Served) (verdict : ServeStatus) → one.served ≡ served → HasLine served
+          → IsWritten k l served verdict → Serves told table 1 a c k l verdict
+      wrote served status.Ok is line w = record {
+        connections = one ∷ [];
+        all = refl;
+        served = done;
+        lines = (subst HasLine (sym is) line, tt);
+        took = subst (Took k.taken l.taken) (sym (line-one one ∙ ap line_of is)) w.took;
+        quiet = quiet;
+        faults = w.faults;
+        zeros = w.zeros;
+      }
+      wrote served status.WriteFault is line w = record {
+        connections = one ∷ [];
+        few = omega (arith);
+        served = done;
+        took = subst (TookPart k.taken l.taken) (sym (line-one one ∙ ap line_of is)) w.took;
+        failed = w.failed;
+      }
+      wrote served status.Usage is line w = w
+      wrote served (status.Table n) is line w = w
+      wrote served status.ReadFault is line w = w
+      wrote served status.OutOfMemory is line w = absurd w
+      wrote served status.InputTooLong is line w = w
+      wrote served status.AcceptFault is line w = absurd w
+
+      short : (verdict : ServeStatus) → one.served ≡ served.OutOfMemory → verdict ≡ status.OutOfMemory → l ≡ k
+          → Serves told table 1 a c k l verdict
+      short verdict is same kept = subst (Serves told table 1 a c k l) (sym same) (record {
+        connections = one ∷ [];
+        few = omega (arith);
+        served = done;
+        took = subst (Took k.taken l.taken) (sym (line-one one ∙ ap line_of is))
+            (subst (λ (o : SinkTold). Took k.taken o.taken []) (sym kept) (wrote-none k.taken));
+      })
+
+      by : (served : Served) (verdict : ServeStatus) → one.served ≡ served → IsNoted k l served verdict
+          → Serves told table 1 a c k l verdict
+      by (served.Answered n) verdict is noted = wrote (served.Answered n) verdict is tt noted
+      by served.ReadFault verdict is noted = wrote served.ReadFault verdict is tt noted
+      by served.WriteFault verdict is noted = wrote served.WriteFault verdict is tt noted
+      by served.OutOfMemory verdict is noted = short verdict is noted.0 noted.1
+
   lines-both : (xs ys : List (Connection End)) → lines_of (xs ++ ys) ≡ lines_of xs ++ lines_of ys
   lines-both xs ys = flat-both (λ (k : Connection End). line_of k.served) xs ys
 
@@ -97,7 +193,7 @@ module _ {End : Type 0} (told : End → PeerTold) (table : List Row) where
     all = refl;
     served = served-none a;
     lines = tt;
-    took = wrote-none {End} k.taken;
+    took = wrote-none k.taken;
     quiet = refl;
     faults = omega (arith);
     zeros = omega (arith);

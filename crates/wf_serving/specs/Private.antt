@@ -1,2 +1,3 @@
 -- What the crate's private contracts alone cite: the steps to a verdict.
+pub mod Notes
 pub mod Steps

@@ -187,8 +187,8 @@ pub record AnswersTask {End : Type 0} (told : End → PeerTold) (task : Task) (i
   -- Table only where the whole input is no table, with the first line that has not the form, and there always, but for
   -- the excuses
   pub refused : (line : ℕ) → answer ≡ status.Table line → GaveFor input input' (λ bytes.
-      IsWhole bytes input' × ((table_of bytes ≡ Err (record { line = line })) × IsUntouched told accepts accepts' output
-      output'))
+      IsWhole bytes input' × (table_of bytes ≡ Err (record { line = line }))
+      × IsUntouched told accepts accepts' output output')
   pub no_table : (bytes : List ℕ) (line : ℕ) → input.left ≡ Some bytes → length bytes ≤ most_input
       → table_of bytes ≡ Err (record { line = line })
       → (answer ≡ status.Table line) ⊎ IsExcusedRead input input' output output' complaints complaints' answer

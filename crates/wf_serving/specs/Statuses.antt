@@ -18,13 +18,13 @@ number status.AcceptFault = 7
 abbrev pub refusal : ℕ → List ℕ
 refusal line = codes "corsserve: table refused at line " ++ (decimal line ++ codes "\n")
 
--- the line of another fault
-abbrev pub fault : ℕ → List ℕ
-fault n = codes "corsserve: fault " ++ (decimal n ++ codes "\n")
-
 -- the line on the complaints; none for Ok
 abbrev pub complaint : ServeStatus → List ℕ
 complaint status.Ok = []
 complaint status.Usage = codes "corsserve: usage: corsserve ADDRESS N\n"
 complaint (status.Table line) = refusal line
-complaint other = fault (number other)
+complaint status.ReadFault = codes "corsserve: fault 3\n"
+complaint status.WriteFault = codes "corsserve: fault 4\n"
+complaint status.OutOfMemory = codes "corsserve: fault 5\n"
+complaint status.InputTooLong = codes "corsserve: fault 6\n"
+complaint status.AcceptFault = codes "corsserve: fault 7\n"

@@ -22,7 +22,11 @@ fn write_complaint<E: Sink>(complaints: &mut E, verdict: ServeStatus) -> Result<
         ServeStatus::Table(line) => {
             write_numbered(complaints, b"corsserve: table refused at line ", line)
         }
-        other => write_numbered(complaints, b"corsserve: fault ", u32::from(other.number())),
+        ServeStatus::ReadFault => write_text(complaints, b"corsserve: fault 3\n"),
+        ServeStatus::WriteFault => write_text(complaints, b"corsserve: fault 4\n"),
+        ServeStatus::OutOfMemory => write_text(complaints, b"corsserve: fault 5\n"),
+        ServeStatus::InputTooLong => write_text(complaints, b"corsserve: fault 6\n"),
+        ServeStatus::AcceptFault => write_text(complaints, b"corsserve: fault 7\n"),
     }
 }
 

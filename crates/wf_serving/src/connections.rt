@@ -1,7 +1,7 @@
-ghost use Rattle.std.specs.Prelude.{◌≡◌, ◌≤◌, OnErr, OnOk};
-ghost use Rattle.wf_link.specs.Sinks.{Took, TookPart};
-ghost use Rattle.wf_server.specs.Serving.{Failed, peer_told};
-ghost use Rattle.wf_serving.specs.Connections.{HasLine, Serves, accepts_told, line_of, sink_told};
+ghost use Rattle.std.specs.Prelude.{◌≡◌};
+ghost use Rattle.wf_server.specs.Serving.{peer_told};
+ghost use Rattle.wf_serving.specs.Connections.{Serves, accepts_told, sink_told};
+ghost use Rattle.wf_serving.specs.Private.Notes.{IsNoted, written_status};
 
 use crate::pieces::{write_numbered, write_text};
 use crate::status::ServeStatus;
@@ -9,21 +9,29 @@ use std::alloc::Global;
 use wf_link::{Accepts, Sink, WriteFault};
 use wf_server::{AllowTable, Served, serve};
 
-// Writes the line of a connection.
-fn write_line<K: Sink>(output: &mut K, served: Served) -> Result<(), WriteFault>
-    requires { HasLine served }
-    ensures ok { OnOk result (Took (K.taken output.old) (K.taken output.new) (line_of served)) }
-    ensures err { OnErr result (TookPart (K.taken output.old) (K.taken output.new) (line_of served)) }
-    ensures faults { K.faults output.old ≤ K.faults output.new }
-    ensures zeros { K.zeros output.old ≤ K.zeros output.new }
-    ensures failed { OnErr result (Failed (sink_told K.taken K.faults K.zeros output.old)
-        (sink_told K.taken K.faults K.zeros output.new)) }
+// What comes of writing a line.
+fn status_of(written: Result<(), WriteFault>) -> ServeStatus
+    ensures { result ≡ written_status written }
+{
+    match written {
+        Ok(()) => ServeStatus::Ok,
+        Err(WriteFault::Fault) => ServeStatus::WriteFault,
+        Err(WriteFault::TookNothing) => ServeStatus::WriteFault,
+    }
+}
+
+// Writes the line of a connection, which has none where memory was refused.
+fn note<K: Sink>(output: &mut K, served: Served) -> ServeStatus
+    ensures { IsNoted (sink_told K.taken K.faults K.zeros output.old)
+        (sink_told K.taken K.faults K.zeros output.new) served result }
 {
     match served {
-        Served::Answered(status) => write_numbered(output, b"answered ", u32::from(status)),
-        Served::ReadFault => write_text(output, b"fault read\n"),
-        Served::WriteFault => write_text(output, b"fault write\n"),
-        Served::OutOfMemory => Ok(()),
+        Served::Answered(status) => {
+            status_of(write_numbered(output, b"answered ", u32::from(status)))
+        }
+        Served::ReadFault => status_of(write_text(output, b"fault read\n")),
+        Served::WriteFault => status_of(write_text(output, b"fault write\n")),
+        Served::OutOfMemory => ServeStatus::OutOfMemory,
     }
 }
 
@@ -44,13 +52,7 @@ fn serve_next<K: Sink, A: Accepts>(
     };
     let served = serve(alloc, table, &mut end);
     accepts.take_back(end);
-    if matches!(served, Served::OutOfMemory) {
-        return ServeStatus::OutOfMemory;
-    }
-    match write_line(output, served) {
-        Ok(()) => ServeStatus::Ok,
-        Err(_) => ServeStatus::WriteFault,
-    }
+    note(output, served)
 }
 
 // Serves so many connections, one after the other.
@@ -69,11 +71,10 @@ pub(crate) fn serve_each<K: Sink, A: Accepts>(
 {
     let mut number = 0;
     while number < count {
-        let status = serve_next(alloc, table, output, accepts);
-        if !matches!(status, ServeStatus::Ok) {
-            return status;
+        match serve_next(alloc, table, output, accepts) {
+            ServeStatus::Ok => number += 1,
+            status => return status,
         }
-        number += 1;
     }
     ServeStatus::Ok
 }

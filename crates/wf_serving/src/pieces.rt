@@ -38,7 +38,11 @@ fn write_two<K: Sink>(sink: &mut K, first: &[u8], second: &[u8]) -> Result<(), W
 }
 
 // Writes a line that ends with a number.
-pub(crate) fn write_numbered<K: Sink>(sink: &mut K, text: &[u8], number: u32) -> Result<(), WriteFault>
+pub(crate) fn write_numbered<K: Sink>(
+    sink: &mut K,
+    text: &[u8],
+    number: u32,
+) -> Result<(), WriteFault>
     ensures ok { OnOk result (Took (K.taken sink.old) (K.taken sink.new)
         (text.now ++ (decimal number ++ codes "\n"))) }
     ensures err { OnErr result (TookPart (K.taken sink.old) (K.taken sink.new)
