@@ -98,10 +98,10 @@ timed() {
 over=0
 for table in one many; do
     cost=$(request_more "$work/$table")
-    printf 'a request more, with a table of %s: %d instructions\n' "$(wc -l <"$work/$table") rows of 4,096 bytes" "$cost"
+    printf 'a request more, rows of 4,096 bytes in the table: %d, instructions: %d\n' "$(wc -l <"$work/$table")" "$cost"
     [ "$cost" -le 25000 ] || over=$((over + 1))
 done
-printf 'with 256 rows of 2,000 methods, of which the last is asked with: %d instructions\n' "$(request_more "$work/methods")"
+printf 'the same with 256 rows of 2,000 methods, of which the last is asked with: %d\n' "$(request_more "$work/methods")"
 times=$(for _ in 1 2 3 4 5; do
     served "$work/many" 1000 timed "$program"
     cat "$work/said"
