@@ -26,6 +26,10 @@ peer_told left read_faults taken write_faults zeros peer = record {
   sink = record { taken = taken peer; faults = write_faults peer; zeros = zeros peer };
 }
 
+-- a sink failed, or took nothing of a piece that is not empty
+abbrev pub Failed : SinkTold → SinkTold → Type 0
+Failed old new = Rose old.faults new.faults ⊎ Rose old.zeros new.zeros
+
 -- the bytes read suffice: they have a request head, or are all that the source had, or as many as are read at most
 abbrev pub Suffice : Option (List ℕ) → List ℕ → Type 0
 Suffice left bytes = ((asked : Asked) × IsRead bytes (Some asked)) ⊎ IsAtEnd left ⊎ (length bytes ≡ most_read)
@@ -52,7 +56,7 @@ pub record WasCut (table : List Row) (old new : PeerTold) : Type 0 where
   pub answer : List ℕ
   pub is_served : IsServed table bytes answer
   pub took : TookPart old.sink.taken new.sink.taken answer
-  pub cause : Rose old.sink.faults new.sink.faults ⊎ Rose old.sink.zeros new.sink.zeros
+  pub cause : Failed old.sink new.sink
 
 -- the source failed, and nothing was written
 pub record WasUnheard (old new : PeerTold) : Type 0 where

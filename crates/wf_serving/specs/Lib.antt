@@ -1,0 +1,4 @@
+pub mod Connections
+pub mod Private
+pub mod Program
+pub mod Statuses

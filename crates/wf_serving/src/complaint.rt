@@ -1,0 +1,42 @@
+ghost use Rattle.std.specs.Prelude.{◌≡◌, OnErr, OnOk};
+ghost use Rattle.wf_link.specs.Sinks.{Took, TookPart};
+ghost use Rattle.wf_server.specs.Serving.{Failed};
+ghost use Rattle.wf_serving.specs.Connections.{sink_told};
+ghost use Rattle.wf_serving.specs.Program.{IsTold};
+ghost use Rattle.wf_serving.specs.Statuses.{complaint};
+
+use crate::pieces::{write_numbered, write_text};
+use crate::status::ServeStatus;
+use wf_link::{Sink, WriteFault};
+
+// Writes the line of a verdict.
+fn write_complaint<E: Sink>(complaints: &mut E, verdict: ServeStatus) -> Result<(), WriteFault>
+    ensures ok { OnOk result (Took (E.taken complaints.old) (E.taken complaints.new) (complaint verdict)) }
+    ensures err { OnErr result (TookPart (E.taken complaints.old) (E.taken complaints.new) (complaint verdict)) }
+    ensures failed { OnErr result (Failed (sink_told E.taken E.faults E.zeros complaints.old)
+        (sink_told E.taken E.faults E.zeros complaints.new)) }
+{
+    match verdict {
+        ServeStatus::Ok => write_text(complaints, b""),
+        ServeStatus::Usage => write_text(complaints, b"corsserve: usage: corsserve ADDRESS N\n"),
+        ServeStatus::Table(line) => {
+            write_numbered(complaints, b"corsserve: table refused at line ", line)
+        }
+        other => write_numbered(complaints, b"corsserve: fault ", u32::from(other.number())),
+    }
+}
+
+// Tells a verdict other than Ok to the complaints, by its line. It answers the verdict, or
+// `WriteFault` where the line could not be written.
+pub(crate) fn tell<E: Sink>(verdict: ServeStatus, complaints: &mut E) -> ServeStatus
+    ensures { IsTold (sink_told E.taken E.faults E.zeros complaints.old)
+        (sink_told E.taken E.faults E.zeros complaints.new) verdict result }
+{
+    if matches!(verdict, ServeStatus::Ok) {
+        return verdict;
+    }
+    match write_complaint(complaints, verdict) {
+        Ok(()) => verdict,
+        Err(_) => ServeStatus::WriteFault,
+    }
+}
