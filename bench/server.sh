@@ -4,7 +4,7 @@
 # the last row and the method that it lists last. Then the processor time of 1,000 connections one after the other, with the
 # second table, the median of five runs. Ends with 1 where one of the first two is above 25,000 instructions, or a connection
 # above 0.15 ms. CORSSERVE is the path of the program, where it is not to be built.
-set -eu
+set -eu -o pipefail
 source "$(dirname "${BASH_SOURCE[0]}")/common.bash"
 build_corsserve
 
@@ -36,7 +36,7 @@ def port():
                 pass
 
 def connected(number):
-    for _ in range(3000):
+    for _ in range(2000):
         try:
             return socket.create_connection(("127.0.0.1", number))
         except ConnectionRefusedError:
@@ -76,16 +76,15 @@ served() {
     port=$(python3 "$work/client.py" port)
     "$@" "127.0.0.1:$port" "$count" <"$table" >"$work/said" &
     server=$!
-    python3 "$work/client.py" "$port" "$count" "$last"
-    wait "$server"
+    python3 "$work/client.py" "$port" "$count" "$last" && wait "$server"
 }
 
 # The instructions of a connection more.
 request_more() {
     local few many
-    served "$1" 100 counted "$program"
+    served "$1" 100 counted "$program" || exit 1
     few=$(cat "$work/said")
-    served "$1" 200 counted "$program"
+    served "$1" 200 counted "$program" || exit 1
     many=$(cat "$work/said")
     echo $(((many - few) / 100))
 }
@@ -103,7 +102,7 @@ for table in one many; do
 done
 printf 'the same with 256 rows of 2,000 methods, of which the last is asked with: %d\n' "$(request_more "$work/methods")"
 times=$(for _ in 1 2 3 4 5; do
-    served "$work/many" 1000 timed "$program"
+    served "$work/many" 1000 timed "$program" || exit 1
     cat "$work/said"
 done | sort -n | sed -n 3p)
 printf '1,000 connections one after the other: %d ms of processor time\n' "$times"
