@@ -20,6 +20,16 @@ build_fetchplay() {
     "$root/bin/fetchplay" play <"$root/examples/same-origin.json" >/dev/null
 }
 
+# The same of `corsserve` and CORSSERVE. Without words it only complains.
+build_corsserve() {
+    if [ -n "${CORSSERVE:-}" ]; then
+        program=$CORSSERVE
+        return
+    fi
+    program=$root/crates/corsserve/out/corsserve
+    "$root/bin/corsserve" >/dev/null 2>&1 || [ $? = 1 ]
+}
+
 # Makes `program` the path of the benches' own program, built by a run that does a little of each work.
 build_bench() {
     program=$root/crates/bench/out/bench
