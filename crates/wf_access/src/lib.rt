@@ -1,10 +1,22 @@
 // The theorem of both ends: a page reads the answer of a server with an allow table exactly where the table allows it.
 #![tactic(auto)]
 
-ghost use Rattle.wf_access.specs.Access.{IsAccess};
+ghost use Rattle.wf_access.specs.Access.{IsAccess, PlainHopsAreReadable, RowsAreRead};
 
 use wf_heard::{law_replies_heard, law_requests_heard};
+use wf_http1::law_one_request;
 use wf_link::Link;
+
+/// A law: the rows of each table that is read are rows of which `law_access` speaks. The call does nothing.
+pub fn law_rows()
+    ensures { RowsAreRead }
+{}
+
+/// A law: a server can read the head of a request whose header values have no control byte but the tab, with a
+/// target that it takes. The call does nothing.
+pub fn law_readable()
+    ensures { PlainHopsAreReadable }
+{}
 
 /// A law: over a server that answers by an allow table, the first cors fetch of a document without policies to
 /// another origin comes to a cors response with status 200 exactly where the table allows its method, its
@@ -13,6 +25,7 @@ use wf_link::Link;
 pub fn law_access<L: Link>()
     ensures { IsAccess L.State }
 {
+    law_one_request();
     law_requests_heard();
     law_replies_heard();
 }
