@@ -1,13 +1,16 @@
 -- The lines of a table's text, read one after the other.
-use Rattle.std.proofs.Common.{arith, ◌≡◌, ◌==◌, ◌<◌, ◌≤◌, ◌+◌, ◌++◌, ◌∷◌, [], ℕ, suc, Bool, List, length, take, drop, refl}
-use Rattle.std.proofs.Common.{ap, sym, ◌∙◌, append_assoc, Option, Some, None, Result, Ok, Err, if◌then◌else◌, true, false}
+use Rattle.std.proofs.Common.{arith, ◌≡◌, ◌==◌, ◌<◌, ◌≤◌, ◌+◌, ◌++◌, ◌∷◌, [], ℕ, suc, Bool, List, length, take, drop}
+use Rattle.std.proofs.Common.{refl}
+use Rattle.std.proofs.Common.{ap, sym, ◌∙◌, append_assoc, Option, Some, None, Result, Ok, Err, if◌then◌else◌, true}
+use Rattle.std.proofs.Common.{false}
 use Rattle.std.proofs.Common.{get_or, map}
 use Rattle.std.proofs.lemmas.Bool.{le-leb, lt-leb}
 use Rattle.std.proofs.lemmas.Grind.{common_steps}
 use Rattle.std.proofs.lemmas.List.Splits.{length-slice_split, slice_split_first}
 use Rattle.std.specs.List.{list_all, position, position_or_len, slice_split}
 use Rattle.wf_text.specs.Ascii.{line_feed, space}
-use Rattle.wf_server.specs.Reading.{may_be_listed, numbered_row, row_before, row_in, row_of_parts, rows_from, where_listed}
+use Rattle.wf_server.specs.Reading.{may_be_listed, numbered_row, row_before, row_in, row_of_parts, rows_from}
+use Rattle.wf_server.specs.Reading.{where_listed}
 use Rattle.wf_server.specs.Reading.{with_row}
 use Rattle.wf_server.specs.declared.table.Row.{Row}
 use Rattle.wf_server.specs.declared.read.BadLine.{BadLine}

@@ -4,7 +4,7 @@ use Rattle.std.proofs.Common.{List, [], ◌++◌, append_assoc, length, length-a
 use Rattle.std.proofs.Common.{true≢false, get_or, nat_le, is_some, inl, inr}
 use Rattle.std.proofs.Math.Seq.{take-append_seam}
 use Rattle.std.proofs.lemmas.Bool.{leb-false, leb-true}
-use Rattle.std.proofs.lemmas.List.{take-append-drop, take-append-le, take_min}
+use Rattle.std.proofs.lemmas.List.{length-take, take-append-drop, take-append-le, take_min}
 use Rattle.std.proofs.lemmas.List.Folds.{list_any_more}
 use Rattle.std.specs.List.{list_any}
 use Rattle.httparse.specs.Grammar.{print_request, RequestHead}
@@ -17,7 +17,7 @@ use Rattle.wf_http1.specs.RequestHeads.{BeginsRequest, IsRead}
 use Rattle.wf_http1.specs.declared.request_head.Asked.{Asked}
 use Rattle.wf_server.specs.Private.Coming.{Gives, HasBlock, HasCome, HasEnded, HasFailed, HasHeard, HasNoBlock, IsOver}
 use Rattle.wf_server.specs.Private.Coming.{IsSearched}
-use Rattle.wf_server.specs.Serving.{peer_told, PeerTold, WasUnheard}
+use Rattle.wf_server.specs.Serving.{most_read, peer_told, PeerTold, WasUnheard}
 use Rattle.wf_server.specs.declared.listen.Search.{Search}
 
 -- ---- what a peer gave
@@ -66,6 +66,17 @@ module _ {P : Type 0} (left : P → Option (List ℕ)) (read_faults : P → ℕ)
   read-more first old new bytes piece before gave same =
       gives-both (told first) (told old) (told new) bytes piece before
       (record { gave = gave; sink = sink-kept old new same })
+
+  -- where it found room, the bytes are no more than are read at most
+  pub grown : (first old new : P) (bytes buffer : List ℕ) (count : ℕ) → Gives (told first) (told old) bytes
+      → Gave (left old) (left new) (take count buffer) → beside new ≡ beside old
+      → length bytes + length buffer ≤ most_read
+      → Gives (told first) (told new) (bytes ++ take count buffer)
+      × (length (bytes ++ take count buffer) ≤ most_read)
+  grown first old new bytes buffer count before gave same room = (
+    read-more first old new bytes (take count buffer) before gave same,
+    omega (arith, room, length-append bytes (take count buffer), length-take count buffer),
+  )
 
   -- one that failed
   pub read-none : (first old new : P) (bytes : List ℕ) → Gives (told first) (told old) bytes → left new ≡ left old

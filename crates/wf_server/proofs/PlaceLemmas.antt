@@ -1,5 +1,6 @@
 -- The place of the first row with an origin: in a list of rows, and in the map that keeps it.
-use Rattle.std.proofs.Common.{arith, Bor, ◌≡◌, ◌<◌, ◌+◌, ◌++◌, ◌∷◌, [], ℕ, suc, List, Bool, true, false, cond, length, refl}
+use Rattle.std.proofs.Common.{arith, Bor, ◌≡◌, ◌<◌, ◌+◌, ◌++◌, ◌∷◌, [], ℕ, suc, List, Bool, true, false, cond, length}
+use Rattle.std.proofs.Common.{refl}
 use Rattle.std.proofs.Common.{sym, ap, ◌∙◌, Option, Some, None, subst, true≢false, get_or}
 use Rattle.std.proofs.lemmas.Option.{slice_get-get_or}
 use Rattle.std.specs.Prelude.{bytes_eq, is_some, option_copied, slice_get}

@@ -1,5 +1,6 @@
 -- The bytes of answers, part by part as they are written.
-use Rattle.std.proofs.Common.{◌≡◌, ◌∙◌, ap, sym, refl, ℕ, Bool, true, false, List, [], ◌∷◌, ◌++◌, append_assoc, arith, codes}
+use Rattle.std.proofs.Common.{◌≡◌, ◌∙◌, ap, sym, refl, ℕ, Bool, true, false, List, [], ◌∷◌, ◌++◌, append_assoc, arith}
+use Rattle.std.proofs.Common.{codes}
 use Rattle.std.proofs.Common.{if◌then◌else◌}
 use Rattle.std.proofs.lemmas.Grind.{common_steps}
 use Rattle.std.proofs.lemmas.List.{append-nil}
@@ -95,7 +96,8 @@ served-bytes row method =
     ap (λ (l : List ℕ). codes "HTTP/1.1 200 Served\r\n" ++ (l ++ (codes "\r\n" ++ body_for method)))
     (flat-both header_line (granted row) (content_length (codes "2") ∷ []))
     ∙ ap (λ (l : List ℕ). codes "HTTP/1.1 200 Served\r\n" ++ l)
-    (append_assoc (flat_map header_line (granted row)) (codes "Content-Length: 2\r\n") (codes "\r\n" ++ body_for method))
+    (append_assoc (flat_map header_line (granted row)) (codes "Content-Length: 2\r\n")
+    (codes "\r\n" ++ body_for method))
 
 abbrev pub methods_header : Row → List Header
 methods_header row = list_header (codes "Access-Control-Allow-Methods") row.methods

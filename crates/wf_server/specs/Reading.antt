@@ -29,7 +29,8 @@ where_listed texts = if list_all may_be_listed texts then Some texts else None
 
 -- a list: `()` for none, or texts with a comma between
 abbrev pub listed : List ℕ → Option (List (List ℕ))
-listed text = if bytes_eq text (codes "()") then Some [] else where_listed (slice_split (λ byte. byte == comma) text)
+listed text =
+    if bytes_eq text (codes "()") then Some [] else where_listed (slice_split (λ byte. byte == comma) text)
 
 -- whether a row has credentials
 abbrev pub credentials_in : List ℕ → Option Bool
@@ -39,7 +40,12 @@ credentials_in text =
 -- a row of what its four parts give. Names are kept in lower case.
 abbrev pub row_with : List ℕ → Option (List (List ℕ)) → Option (List (List ℕ)) → Option Bool → Option Row
 row_with origin (Some methods) (Some names) (Some credentials) =
-    Some (record { origin = origin; methods = methods; names = map str_to_ascii_lowercase names; credentials = credentials })
+    Some (record {
+      origin = origin;
+      methods = methods;
+      names = map str_to_ascii_lowercase names;
+      credentials = credentials;
+    })
 row_with _ _ _ _ = None
 
 -- a row of the parts of a line: an origin, methods, names and credentials
@@ -73,7 +79,8 @@ abbrev pub rows_from : ℕ → List (List ℕ) → Result (List Row) BadLine
 rows_from number [] = Ok []
 rows_from number ([] ∷ []) = Ok []
 rows_from number ((byte ∷ line) ∷ []) = Err (record { line = number })
-rows_from number (line ∷ part ∷ parts) = with_row number (numbered_row number line) (rows_from (suc number) (part ∷ parts))
+rows_from number (line ∷ part ∷ parts) =
+    with_row number (numbered_row number line) (rows_from (suc number) (part ∷ parts))
 
 -- the table that the text is, or its first line that has not the form, counted from 1
 abbrev pub table_of : List ℕ → Result (List Row) BadLine

@@ -1,5 +1,6 @@
 -- Connections served one after the other: their ends, their lines, and what they come to together.
-use Rattle.std.proofs.Common.{◌≡◌, ℕ, ◌+◌, ◌≤◌, ◌<◌, List, [], ◌∷◌, ◌++◌, map, refl, ap, sym, ◌∙◌, subst, arith, ◌≢◌, inl, inr}
+use Rattle.std.proofs.Common.{◌≡◌, ℕ, ◌+◌, ◌≤◌, ◌<◌, List, [], ◌∷◌, ◌++◌, map, refl, ap, sym, ◌∙◌, subst, arith, ◌≢◌}
+use Rattle.std.proofs.Common.{inl, inr}
 use Rattle.std.specs.Prelude.{option_map}
 use Rattle.std.proofs.Common.{Option, Some, None, append_assoc, length-append}
 use Rattle.std.specs.List.{AllByRecursion, flat_map}
@@ -49,13 +50,15 @@ wrote-none None = tt
 wrote-none (Some bytes) = ap (λ (l : List ℕ). let told : Option (List ℕ) = Some l in told) (sym (append-none bytes))
 
 module _ {End : Type 0} where
-  gave-both : (a b c : Option (List End)) (xs ys : List End) → GaveEnds a b xs → GaveEnds b c ys → GaveEnds a c (xs ++ ys)
+  gave-both : (a b c : Option (List End)) (xs ys : List End) → GaveEnds a b xs → GaveEnds b c ys
+      → GaveEnds a c (xs ++ ys)
   gave-both None b c xs ys one two = tt
   gave-both (Some old) b c xs ys one two =
       let next = subst (λ (o : Option (List End)). GaveEnds o c ys) one.1 two in
       (next.0, next.1, one.2 ∙ ap (λ (l : List End). xs ++ l) next.2 ∙ sym (append-three xs ys next.0))
 
-  took-both : (a b c : Option (Lent End)) (xs ys : List End) → TookEnds a b xs → TookEnds b c ys → TookEnds a c (xs ++ ys)
+  took-both : (a b c : Option (Lent End)) (xs ys : List End) → TookEnds a b xs → TookEnds b c ys
+      → TookEnds a c (xs ++ ys)
   took-both None b c xs ys one two = tt
   took-both (Some old) b c xs ys one two =
       let next = subst (λ (o : Option (Lent End)). TookEnds o c ys) one two in

@@ -13,7 +13,8 @@ use Rattle.wf_words.specs.Words.{task_of}
 use Rattle.wf_words.specs.declared.words.Task.{Task}
 use Rattle.wf_serving.specs.Connections.{AcceptsTold}
 use Rattle.wf_serving.specs.Program.{Answers, AnswersTask, HasTable}
-use Rattle.wf_serving.specs.Program.{IsCause, IsComplained, IsDone, IsExcused, IsExcusedRead, IsExcusedServed, IsOk, IsTold}
+use Rattle.wf_serving.specs.Program.{IsCause, IsComplained, IsDone, IsExcused, IsExcusedRead, IsExcusedServed, IsOk}
+use Rattle.wf_serving.specs.Program.{IsTold}
 use Rattle.wf_serving.specs.Program.{IsVerdict, IsWhole, most_input}
 use Rattle.wf_serving.specs.Statuses.{complaint}
 use Rattle.wf_serving.specs.declared.status.ServeStatus.{ServeStatus}

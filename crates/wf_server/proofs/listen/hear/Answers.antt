@@ -10,13 +10,17 @@ use Rattle.wf_server.proofs.listen.hear.Goals.{else-found-via-then-found+else-is
 
 pub returns-then-is_none-clause-heard : goal.returns-then-is_none-clause-heard
 returns-then-is_none-clause-heard g c =
-    let first = peer_told g.P.Source.left g.P.Source.faults g.P.Sink.taken g.P.Sink.faults g.P.Sink.zeros c.args.peer.now in
-    let mid = peer_told g.P.Source.left g.P.Source.faults g.P.Sink.taken g.P.Sink.faults g.P.Sink.zeros c.read_block.new.peer in
-    let last = peer_told g.P.Source.left g.P.Source.faults g.P.Sink.taken g.P.Sink.faults g.P.Sink.zeros c.read_rest.new.peer in
+    let first = peer_told g.P.Source.left g.P.Source.faults g.P.Sink.taken g.P.Sink.faults g.P.Sink.zeros
+    c.args.peer.now in
+    let mid = peer_told g.P.Source.left g.P.Source.faults g.P.Sink.taken g.P.Sink.faults g.P.Sink.zeros
+    c.read_block.new.peer in
+    let last = peer_told g.P.Source.left g.P.Source.faults g.P.Sink.taken g.P.Sink.faults g.P.Sink.zeros
+    c.read_rest.new.peer in
     elim c.match-read_rest.branch [
       | in-Ok-read_rest w ↦
           subst (λ r. IfOk r (HasHeard first last)) (sym w.result-is)
-          (heard-later first mid last c.read_block.new.bytes.items c.in_ok-found.found (length c.as_slice-then-is_none.result.now)
+          (heard-later first mid last c.read_block.new.bytes.items c.in_ok-found.found
+          (length c.as_slice-then-is_none.result.now)
           c.in_ok-found.ensures.came c.if-found.true
           (none-read c.read_block.new.bytes.items c.in-Ok-read_request.asked
           (subst (λ (l : List ℕ). IsRead l c.in-Ok-read_request.asked) c.as_slice.ensures.value
@@ -27,14 +31,18 @@ returns-then-is_none-clause-heard g c =
 
 pub returns-then-is_none-clause-stopped : goal.returns-then-is_none-clause-stopped
 returns-then-is_none-clause-stopped g c =
-    let first = peer_told g.P.Source.left g.P.Source.faults g.P.Sink.taken g.P.Sink.faults g.P.Sink.zeros c.args.peer.now in
-    let mid = peer_told g.P.Source.left g.P.Source.faults g.P.Sink.taken g.P.Sink.faults g.P.Sink.zeros c.read_block.new.peer in
-    let last = peer_told g.P.Source.left g.P.Source.faults g.P.Sink.taken g.P.Sink.faults g.P.Sink.zeros c.read_rest.new.peer in
+    let first = peer_told g.P.Source.left g.P.Source.faults g.P.Sink.taken g.P.Sink.faults g.P.Sink.zeros
+    c.args.peer.now in
+    let mid = peer_told g.P.Source.left g.P.Source.faults g.P.Sink.taken g.P.Sink.faults g.P.Sink.zeros
+    c.read_block.new.peer in
+    let last = peer_told g.P.Source.left g.P.Source.faults g.P.Sink.taken g.P.Sink.faults g.P.Sink.zeros
+    c.read_rest.new.peer in
     elim c.match-read_rest.branch [
       | in-Ok-read_rest w ↦ subst (λ r. IfErr r (Stopped first last)) (sym w.result-is) tt
       | in-Err w ↦
           subst (λ r. IfErr r (Stopped first last)) (sym w.result-is)
-          (λ _. unheard-after first mid last c.read_block.new.bytes.items c.in_ok-found.found (length c.as_slice-then-is_none.result.now)
+          (λ _. unheard-after first mid last c.read_block.new.bytes.items c.in_ok-found.found
+          (length c.as_slice-then-is_none.result.now)
           c.in_ok-found.ensures.came (ap length c.as_slice-then-is_none.ensures.value)
           w.in-Err.ensures.failed)
     ]

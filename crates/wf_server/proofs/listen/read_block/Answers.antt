@@ -1,58 +1,51 @@
-use Rattle.std.proofs.Common.{◌∙◌, ◌++◌, ◌≤◌, ap, sym, refl, subst, arith, take, length, length-append, true≢false, List, ℕ}
+use Rattle.std.proofs.Common.{◌∙◌, ◌++◌, ◌≤◌, ap, sym, refl, subst, arith, take, length, true≢false, List, ℕ}
 use Rattle.std.proofs.lemmas.List.{length-take}
 use Rattle.wf_server.specs.Private.Coming.{Gives, HasBlock, IsSearched}
 use Rattle.wf_server.specs.Serving.{most_read, peer_told}
-use Rattle.wf_server.proofs.ListenLemmas.{read-more}
+use Rattle.wf_server.proofs.ListenLemmas.{grown}
 use Rattle.wf_server.proofs.listen.read_block.Goals as goal
 
 pub returns-in_default-clause-stopped : goal.returns-in_default-clause-stopped
 returns-in_default-clause-stopped g c =
     let is = c.loop-buffer.invariant in
     let bytes : List ℕ = c.loop-buffer.bytes.items in
-    let piece : List ℕ = take c.in-Ok.count c.read.new.buf in
-    let gives = read-more g.P.Source.left g.P.Source.faults g.P.Sink.taken g.P.Sink.faults g.P.Sink.zeros
-    g.P.Source.beside g.met.P.Peer.reads_beside c.args.peer.now c.loop-buffer.peer c.read.new.self bytes piece is.gives
-    c.in-Ok.ensures.gave c.in-Ok.ensures.beside in
-    let few : length (bytes ++ piece) ≤ most_read = omega (
+    let grew = grown g.P.Source.left g.P.Source.faults g.P.Sink.taken g.P.Sink.faults g.P.Sink.zeros g.P.Source.beside
+    g.met.P.Peer.reads_beside c.args.peer.now c.loop-buffer.peer c.read.new.self bytes c.read.new.buf c.in-Ok.count
+    is.gives c.in-Ok.ensures.gave c.in-Ok.ensures.beside (omega (
       arith,
-      length-append bytes piece,
-      length-take c.in-Ok.count c.read.new.buf,
-      c.in-Ok.ensures.count.0,
-      c.in-Ok.ensures.count.1,
       c.read.auto.buf,
       length-take c.min-room.result c.loop-buffer.buffer,
       c.min-room.ensures,
       c.len-in-loop-buffer.ensures,
       is.few,
-    ) in
-    λ _. record { bytes = bytes ++ piece; gave = gives.gave; few = few; sink = gives.sink }
+    )) in
+    λ _. record {
+      bytes = bytes ++ take c.in-Ok.count c.read.new.buf;
+      gave = grew.0.gave;
+      few = grew.1;
+      sink = grew.0.sink;
+    }
 
 pub returns-then-finds_block-clause-came : goal.returns-then-finds_block-clause-came
 returns-then-finds_block-clause-came g c =
     let is = c.loop-buffer.invariant in
     let bytes : List ℕ = c.loop-buffer.bytes.items in
-    let piece : List ℕ = take c.in-Ok.count c.read.new.buf in
-    let gives = read-more g.P.Source.left g.P.Source.faults g.P.Sink.taken g.P.Sink.faults g.P.Sink.zeros
-    g.P.Source.beside g.met.P.Peer.reads_beside c.args.peer.now c.loop-buffer.peer c.read.new.self bytes piece is.gives
-    c.in-Ok.ensures.gave c.in-Ok.ensures.beside in
-    let few : length (bytes ++ piece) ≤ most_read = omega (
+    let grew = grown g.P.Source.left g.P.Source.faults g.P.Sink.taken g.P.Sink.faults g.P.Sink.zeros g.P.Source.beside
+    g.met.P.Peer.reads_beside c.args.peer.now c.loop-buffer.peer c.read.new.self bytes c.read.new.buf c.in-Ok.count
+    is.gives c.in-Ok.ensures.gave c.in-Ok.ensures.beside (omega (
       arith,
-      length-append bytes piece,
-      length-take c.in-Ok.count c.read.new.buf,
-      c.in-Ok.ensures.count.0,
-      c.in-Ok.ensures.count.1,
       c.read.auto.buf,
       length-take c.min-room.result c.loop-buffer.buffer,
       c.min-room.ensures,
       c.len-in-loop-buffer.ensures,
       is.few,
-    ) in
+    )) in
     record {
       gives = subst (λ (l : List ℕ). Gives
           (peer_told g.P.Source.left g.P.Source.faults g.P.Sink.taken g.P.Sink.faults g.P.Sink.zeros c.args.peer.now)
           (peer_told g.P.Source.left g.P.Source.faults g.P.Sink.taken g.P.Sink.faults g.P.Sink.zeros c.read.new.self) l)
-          (sym c.in-Ok-extend_from_slice.ensures.items) gives;
-      few = subst (λ (l : List ℕ). length l ≤ most_read) (sym c.in-Ok-extend_from_slice.ensures.items) few;
+          (sym c.in-Ok-extend_from_slice.ensures.items) grew.0;
+      few = subst (λ (l : List ℕ). length l ≤ most_read) (sym c.in-Ok-extend_from_slice.ensures.items) grew.1;
       quiet = c.in-Ok.ensures.cause.quiet ∙ is.quiet;
       block = λ _. subst HasBlock c.as_slice.ensures.value (c.if-finds_block.ensures.found refl);
       over = λ no. absurd (true≢false no);
@@ -62,28 +55,22 @@ pub loop-buffer-preserved : goal.loop-buffer-preserved
 loop-buffer-preserved g c =
     let is = c.loop-buffer.invariant in
     let bytes : List ℕ = c.loop-buffer.bytes.items in
-    let piece : List ℕ = take c.in-Ok.count c.read.new.buf in
-    let gives = read-more g.P.Source.left g.P.Source.faults g.P.Sink.taken g.P.Sink.faults g.P.Sink.zeros
-    g.P.Source.beside g.met.P.Peer.reads_beside c.args.peer.now c.loop-buffer.peer c.read.new.self bytes piece is.gives
-    c.in-Ok.ensures.gave c.in-Ok.ensures.beside in
-    let few : length (bytes ++ piece) ≤ most_read = omega (
+    let grew = grown g.P.Source.left g.P.Source.faults g.P.Sink.taken g.P.Sink.faults g.P.Sink.zeros g.P.Source.beside
+    g.met.P.Peer.reads_beside c.args.peer.now c.loop-buffer.peer c.read.new.self bytes c.read.new.buf c.in-Ok.count
+    is.gives c.in-Ok.ensures.gave c.in-Ok.ensures.beside (omega (
       arith,
-      length-append bytes piece,
-      length-take c.in-Ok.count c.read.new.buf,
-      c.in-Ok.ensures.count.0,
-      c.in-Ok.ensures.count.1,
       c.read.auto.buf,
       length-take c.min-room.result c.loop-buffer.buffer,
       c.min-room.ensures,
       c.len-in-loop-buffer.ensures,
       is.few,
-    ) in
+    )) in
     record {
       gives = subst (λ (l : List ℕ). Gives
           (peer_told g.P.Source.left g.P.Source.faults g.P.Sink.taken g.P.Sink.faults g.P.Sink.zeros c.args.peer.now)
           (peer_told g.P.Source.left g.P.Source.faults g.P.Sink.taken g.P.Sink.faults g.P.Sink.zeros c.read.new.self) l)
-          (sym c.in-Ok-extend_from_slice.ensures.items) gives;
-      few = subst (λ (l : List ℕ). length l ≤ most_read) (sym c.in-Ok-extend_from_slice.ensures.items) few;
+          (sym c.in-Ok-extend_from_slice.ensures.items) grew.0;
+      few = subst (λ (l : List ℕ). length l ≤ most_read) (sym c.in-Ok-extend_from_slice.ensures.items) grew.1;
       searched = subst (λ (l : List ℕ). IsSearched c.finds_block.new.self l) c.as_slice.ensures.value
           (c.if-finds_block.ensures.searched refl);
       quiet = c.in-Ok.ensures.cause.quiet ∙ is.quiet;

@@ -20,7 +20,8 @@ returns-in_default g c = record {
 
 pub returns : goal.returns
 returns g c =
-    let one : Connection g.row.A-End.Denot = record { given = c.in-Ok.end; back = c.serve-served.new.peer; served = c.serve-served.result } in
+    let one : Connection g.row.A-End.Denot =
+    record { given = c.in-Ok.end; back = c.serve-served.new.peer; served = c.serve-served.result } in
     noted-one
     (peer_told g.A.End.Source.left g.A.End.Source.faults g.A.End.Sink.taken g.A.End.Sink.faults g.A.End.Sink.zeros)
     c.args.table.now

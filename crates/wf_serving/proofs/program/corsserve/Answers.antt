@@ -11,7 +11,8 @@ returns g c =
     (source_told g.S.Source.left g.S.Source.faults c.args.input.now)
     (source_told g.S.Source.left g.S.Source.faults c.verdict-verdict.new.input)
     (accepts_told g.A.Accepts.opened g.A.Accepts.coming g.A.Accepts.lent g.A.Accepts.faults c.args.accepts.now)
-    (accepts_told g.A.Accepts.opened g.A.Accepts.coming g.A.Accepts.lent g.A.Accepts.faults c.verdict-verdict.new.accepts)
+    (accepts_told g.A.Accepts.opened g.A.Accepts.coming g.A.Accepts.lent g.A.Accepts.faults
+    c.verdict-verdict.new.accepts)
     (sink_told g.K.Sink.taken g.K.Sink.faults g.K.Sink.zeros c.args.output.now)
     (sink_told g.K.Sink.taken g.K.Sink.faults g.K.Sink.zeros c.verdict-verdict.new.output)
     (sink_told g.E.Sink.taken g.E.Sink.faults g.E.Sink.zeros c.args.complaints.now)

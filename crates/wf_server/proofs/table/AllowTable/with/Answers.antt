@@ -13,7 +13,8 @@ invariant_of-result c = elim c.if-is_none.branch [
         ∙ ap (λ entries. lookup (is_key (λ key. key.items) origin) entries) w.in_ok-insert.ensures.entries
         ∙ placed-new (λ key. key.items) c.self.inside.places.entries c.self.inside.rows.items c.args.row
         c.self.invariant.1 w.in_ok-origin.origin (length w.as_slice-then-is_none-2.result.now)
-        (w.in_ok-origin.ensures.items ∙ w.as_slice-then-is_none.ensures) (ap length w.as_slice-then-is_none-2.ensures.value)
+        (w.in_ok-origin.ensures.items ∙ w.as_slice-then-is_none.ensures)
+        (ap length w.as_slice-then-is_none-2.ensures.value)
         (none-got c.get.result _ (rw c.as_slice.ensures at c.get.ensures.value)
         (c.is_none.ensures ∙ ap not w.if-is_none.true)) origin
         ∙ ap (place_of origin) (sym c.in_ok-push.ensures.items),
