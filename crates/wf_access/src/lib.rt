@@ -12,8 +12,9 @@ pub fn law_rows()
     ensures { RowsAreRead }
 {}
 
-/// A law: a server can read the head of a request whose header values have no control byte but the tab, with a
-/// target that it takes. The call does nothing.
+/// A law: a server can read the head of a request whose method and header names are tokens, with at most 128 header
+/// lines, with no control byte but the tab in its values, and with a target that is UTF-8, not empty and has no space
+/// and no control byte. The call does nothing.
 pub fn law_readable()
     ensures { PlainHopsAreReadable }
 {}

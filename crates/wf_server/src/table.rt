@@ -10,11 +10,11 @@ use wf_text::{Bytes, BytesList, OutOfMemory};
 /// credentials where it says so.
 #[derive(Drop)]
 pub struct Row {
-    /// A serialised origin (HTML, section 7.1.1).
+    /// In a table that was read: a serialised origin (HTML, section 7.1.1).
     pub origin: Bytes,
-    /// Tokens other than `*`.
+    /// In a table that was read: tokens other than `*`.
     pub methods: BytesList,
-    /// Tokens other than `*`, in lower case.
+    /// In a table that was read: tokens other than `*`, in lower case.
     pub names: BytesList,
     pub credentials: bool,
 }

@@ -27,7 +27,7 @@ const MOST_INPUT: usize = 1_048_832;
 /// the input is no table, with its first line that has not the form. `ReadFault` only where the input failed,
 /// `WriteFault` only where the output or the complaints failed or took nothing, `AcceptFault` only where
 /// `accepts` failed. `InputTooLong` exactly where byte 1,048,833 was read. `OutOfMemory` where memory was refused.
-/// What a peer does never changes the status.
+/// What a peer does changes the status only by the memory that it costs.
 pub fn corsserve<S: Source, K: Sink, E: Sink, A: Accepts>(
     alloc: Global,
     words: &[String],
