@@ -5,6 +5,7 @@
 //     answer TABLE REQUEST          the bytes that these bytes are answered with
 //     serve TABLE WORDS REQUEST     what serving a peer comes to that sends these bytes: `serving.rt`
 //     fetch TABLE DOCUMENT INIT     what a document at this URL sees of a server that answers by the table: `fetches.rt`
+//     program WORDS CALLS INPUT CONNECTION...     what a run of the program comes to: `programs.rt`
 //
 // Each is printed with what it comes to. `wf_rows`'s `row.rt` says how a text is written. Lines that begin with `#` are
 // printed as they are.
@@ -12,6 +13,7 @@
 
 mod fetches;
 mod inits;
+mod programs;
 mod serving;
 mod slow;
 mod tables;
@@ -30,14 +32,16 @@ enum Kind {
     Answer,
     Serve,
     Fetch,
+    Program,
 }
 
 /// Their names.
-const KINDS: [(&[u8], Kind); 4] = [
+const KINDS: [(&[u8], Kind); 5] = [
     (b"table", Kind::Table),
     (b"answer", Kind::Answer),
     (b"serve", Kind::Serve),
     (b"fetch", Kind::Fetch),
+    (b"program", Kind::Program),
 ];
 
 // What a row comes to.
@@ -52,6 +56,7 @@ fn play_row<R: Threads + Wait + Sync>(
         Kind::Answer => tables::answered(alloc, row, shown),
         Kind::Serve => serving::served(alloc, row, shown),
         Kind::Fetch => fetches::fetched(rt, alloc, row, shown),
+        Kind::Program => programs::run(alloc, row, shown),
     }
 }
 

@@ -25,7 +25,7 @@ const PIECE: usize = 4_096;
 const MOST_READS: usize = 64;
 
 // The number of the call that fails, alone in a list, or none.
-fn failing(alloc: Global, words: &[u8], name: &[u8]) -> Result<Vec<u64>, Failed> {
+pub(crate) fn failing(alloc: Global, words: &[u8], name: &[u8]) -> Result<Vec<u64>, Failed> {
     let mut numbers = Vec::new(alloc);
     let digits = value_of(words, name);
     if !digits.is_empty() {
@@ -35,7 +35,7 @@ fn failing(alloc: Global, words: &[u8], name: &[u8]) -> Result<Vec<u64>, Failed>
 }
 
 // How many bytes a word says, as many as a peer takes at most where it does not.
-fn bytes_of(words: &[u8], name: &[u8]) -> Result<usize, Failed> {
+pub(crate) fn bytes_of(words: &[u8], name: &[u8]) -> Result<usize, Failed> {
     match value_of(words, name) {
         [] => Ok(ROOM),
         digits => Ok((number(digits, ROOM as u64)? as usize).min(ROOM)),
