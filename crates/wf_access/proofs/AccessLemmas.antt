@@ -1,5 +1,5 @@
 -- The whole fetch of a page over a server with an allow table.
-use Rattle.std.proofs.Common.{◌≡◌, ℕ, ◌≤◌, Bool, true, false, List, [], ◌∷◌, Option, Some, None, refl, ap}
+use Rattle.std.proofs.Common.{◌≡◌, ℕ, Bool, true, false, List, [], ◌∷◌, Option, Some, None, refl, ap}
 use Rattle.std.proofs.Common.{subst, ◌∙◌, if◌then◌else◌, option_map}
 use Rattle.std.proofs.Common.{sym}
 use Rattle.std.specs.List.{list_all}
@@ -38,9 +38,9 @@ use Rattle.wf_drive.specs.Worlds.{World}
 use Rattle.wf_server.specs.declared.table.Row.{Row}
 use Rattle.wf_server.specs.Tables.{row_of}
 use Rattle.wf_heard.specs.Heard.{RepliesAreHeard, RepliesHaveHeads, RequestsAreHeard}
-use Rattle.wf_access.specs.Access.{IsAccess, IsByTable, IsCorsFetch, IsReadableRequest}
+use Rattle.wf_access.specs.Access.{IsAccess, IsByTable, IsCorsFetch}
 use Rattle.wf_access.specs.Access.{IsReadOr, IsRow, error_by, is_allowed, row_error}
-use Rattle.wf_access.proofs.AnswerLemmas.{AreEnds}
+use Rattle.wf_access.proofs.AnswerLemmas.{AreEnds, IsServedSo, all-served}
 use Rattle.wf_access.proofs.BehindLemmas.{behind, done}
 use Rattle.wf_access.proofs.LineLemmas.{IsCookie, IsLineWhere}
 use Rattle.wf_access.proofs.ListLemmas.{all-each}
@@ -51,13 +51,13 @@ use Rattle.wf_access.proofs.MadeLemmas.{IsAway, IsMade, made-away, made-is}
 use Rattle.wf_access.proofs.MainLemmas.{main-is, switched-is}
 use Rattle.wf_access.proofs.RealLemmas.{IsOnWay, Lasts, otherwise, real}
 use Rattle.wf_access.proofs.TableLemmas.{IsByRow, by-behind, by-real}
-use Rattle.wf_access.proofs.TraceLemmas.{called, replied}
+use Rattle.wf_access.proofs.TraceLemmas.{AllSent, called, replied, same-state}
 
-module _ {State : Type 0} (table : List Row) (by : Answering State) (ends : AreEnds table by) (limit document : ℕ)
-    (enough : 2 ≤ limit) (outcome : Outcome) (last : World State) (legal : Legal empty last.own) where
+module _ {State : Type 0} (table : List Row) (by : Answering State) (ends : AreEnds table) (limit document : ℕ)
+    (outcome : Outcome) (last : World State) (legal : Legal empty last.own) where
   -- what is left of the fetch
   abbrev Is_left : Process → World State → Type 0
-  Is_left = Lasts table by ends limit document enough outcome last
+  Is_left = Lasts table by ends limit document outcome last
 
   -- The fetch is at its switch, and the book is as it was.
   record IsAtSwitch (process : Process) (state : State) : Type 0 where
@@ -76,9 +76,9 @@ module _ {State : Type 0} (table : List Row) (by : Answering State) (ends : AreE
   at-switch onward context next request (Some name) world state told fresh goes =
       let op = Match name context.now in
       let after = after_match onward context next request in
-      let was = called by limit document IsReadableRequest outcome last request op after world goes in
+      let was = called by limit document (IsServedSo table by) outcome last request op after world goes in
       let says : was.entry.reply ≡ No =
-      replied by limit document IsReadableRequest outcome last op after world was legal
+      replied by limit document (IsServedSo table by) outcome last op after world was legal
       ∙ ap (λ book. reply book op) fresh in
       record {
         mid = was.mid;
@@ -145,8 +145,8 @@ module _ {State : Type 0} (table : List Row) (by : Answering State) (ends : AreE
     }
 
     -- neither changes what the table tells
-    same-answer : (allowed : Bool) (reason : NetError) (came : Outcome) → IsReadOr allowed reason tainted came
-        → IsReadOr allowed reason request came
+    same-answer : (allowed : Bool) (reason : NetError) (came : Outcome) → IsReadOr limit allowed reason tainted came
+        → IsReadOr limit allowed reason request came
     same-answer true reason (Answer response) so = so
     same-answer true reason Loaded so = so
     same-answer true reason (Error other) so = so
@@ -156,37 +156,37 @@ module _ {State : Type 0} (table : List Row) (by : Answering State) (ends : AreE
     same-error None = refl
     same-error (Some row) = refl
 
-    as-told : IsByRow (row_of table (serialized_request_origin request)) tainted outcome
-        → IsByTable table request outcome
+    as-told : IsByRow limit (row_of table (serialized_request_origin request)) tainted outcome
+        → IsByTable limit table request outcome
     as-told so =
         let found = row_of table (serialized_request_origin request) in
         same-answer (is_allowed table request) (error_by table request) outcome
-        (subst (λ (e : NetError). IsReadOr (is_allowed table request)
+        (subst (λ (e : NetError). IsReadOr limit (is_allowed table request)
         (if needs_preflight request then e else error.CorsCheck) tainted outcome) (same-error found) so)
 
     -- with a preflight or without
     by-switch : (asks : Bool) (state : State) → needs_preflight request ≡ asks
         → IsAtSwitch (if asks then with_preflight (onward_of context request) context (finished context) tainted
         else http_fetch (onward_of context request) context (finished context) tainted) state
-        → IsByTable table request outcome
+        → IsByTable limit table request outcome
     by-switch true state needs at =
-        as-told (by-behind (row_of table (serialized_request_origin request)) tainted outcome needs
-        (behind table by ends limit document enough outcome last (onward_of context request) context tainted on-way
+        as-told (by-behind limit (row_of table (serialized_request_origin request)) tainted outcome needs
+        (behind table by ends limit document outcome last (onward_of context request) context tainted on-way
         at.mid state at.told at.fresh legal needs at.goes))
     by-switch false state needs at =
-        as-told (by-real (row_of table (serialized_request_origin request)) tainted outcome away.unsafe needs
-        (real table by ends limit document enough outcome last (onward_of context request) context (finished context)
-        (done table by ends limit document enough outcome last context) tainted on-way at.mid state at.told at.goes))
+        as-told (by-real limit (row_of table (serialized_request_origin request)) tainted outcome away.unsafe needs
+        (real table by ends limit document outcome last (onward_of context request) context (finished context)
+        (done table by ends limit document outcome last context) tainted on-way at.mid state at.told at.goes))
 
     by-main : (first : World State) (state : State) → first.exchange.state ≡ Some state → first.own ≡ []
-        → Is_left (fetch context request) first → IsByTable table request outcome
+        → Is_left (fetch context request) first → IsByTable limit table request outcome
     by-main first state told unasked goes =
         let onward = onward_of context request in
         let next = finished context in
         let referred = with_referrer context.client request in
         let at = at-switch onward context next referred (host_to_match referred) first state told
         (ap (book_after empty) unasked)
-        (otherwise table by ends limit document enough outcome last _ _ first
+        (otherwise table by ends limit document outcome last _ _ first
         (main-is onward context next request is.at_http is.document.policies_are away.destined is.unblocked) goes) in
         let elsewhere : is_origin_of referred.origin (current_url referred) ≡ false =
         ap (λ o. is_origin_of o (current_url request)) away.origin_is ∙ is.away in
@@ -195,28 +195,30 @@ module _ {State : Type 0} (table : List Row) (by : Answering State) (ends : AreE
           mid = at.mid;
           told = at.told;
           fresh = at.fresh;
-          goes = otherwise table by ends limit document enough outcome last _ _ at.mid
+          goes = otherwise table by ends limit document outcome last _ _ at.mid
               (switched-is onward context next referred (needs_preflight request) refl away.mode_is elsewhere) at.goes;
         })
 
 -- the theorem, by what each end hears of the other
 pub access : (State : Type 0) → HasOneReading → RequestsAreHeard → RepliesAreHeard → RepliesHaveHeads → IsAccess State
-access State once requests replies heads table by limit document context init request events outcome rows answers enough
-    is came readable =
-    let ends : AreEnds table by = record {
+access State once requests replies heads table by limit document context init request state events outcome rows is came
+    answers readable =
+    let ends : AreEnds table = record {
       rows = all-each IsRow table rows;
-      answers = answers;
       once = once;
       requests = requests;
       replies = replies;
       heads = heads;
     } in
-    by-main table by ends limit document enough outcome came.last came.legal context init request is came.first
-    came.state came.told came.unasked
+    by-main table by ends limit document outcome came.last came.legal context init request is came.first
+    state came.told came.unasked
     (record {
       tape = came.tape;
       events = events;
       trace = came.trace;
       faultless = came.faultless;
-      sends = readable;
+      sends = λ first told.
+          subst (λ (s : State). AllSent by (IsServedSo table by) s events)
+          (same-state state first (sym came.told ∙ told))
+          (all-served table by state events answers readable);
     })

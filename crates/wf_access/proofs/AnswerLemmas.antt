@@ -1,5 +1,6 @@
 -- A request and the answer to it by an allow table: what the server hears, what it replies, and what the engine reads.
 use Rattle.std.proofs.Common.{◌≡◌, ℕ, ◌≤◌, Bool, true, false, List, [], ◌∷◌, length, map, Option, Some}
+use Rattle.std.proofs.Common.{arith, suc}
 use Rattle.std.proofs.Common.{None, codes, bytes_eq, refl, ap, sym, subst, ◌∙◌, if◌then◌else◌}
 use Rattle.std.proofs.lemmas.List.{append-nil}
 use Rattle.std.proofs.lemmas.Slice.Eq.{bytes_eq-Decides}
@@ -21,6 +22,8 @@ use Rattle.wf_http1.specs.RequestHeads.{HasOneReading, IsRead}
 use Rattle.wf_http1.specs.Requests.{request_bytes}
 use Rattle.wf_http1.specs.declared.request_head.Asked.{Asked}
 use Rattle.wf_wire.specs.Exchanges.{Answering, HasNoHead}
+use Rattle.wf_print.specs.declared.events.Event.{Event}
+use Rattle.wf_print.specs.declared.events.Event.TheVariants as event
 use Rattle.wf_drive.specs.Worlds.{World}
 use Rattle.wf_server.specs.declared.table.Row.{Row}
 use Rattle.wf_server.specs.Tables.{lists, row_of}
@@ -28,22 +31,39 @@ use Rattle.wf_server.specs.Served.{IsServed, Reply, allowed, by_origin, by_found
 use Rattle.wf_server.specs.Served.{reply_to, served}
 use Rattle.wf_heard.specs.Heard.{IsLine, IsPlainReply, IsWritten, RepliesAreHeard, RepliesHaveHeads}
 use Rattle.wf_heard.specs.Heard.{RequestsAreHeard, as_read}
-use Rattle.wf_access.specs.Access.{AnswersBy, IsReadableRequest, IsRow}
+use Rattle.wf_access.specs.Access.{AnswersBy, AreReadable, IsReadableRequest, IsRow}
 use Rattle.wf_access.proofs.ListLemmas.{each-contained, found-is}
 use Rattle.wf_access.proofs.ReadLemmas.{header-read, read-plain, read_value, values-read}
 use Rattle.wf_access.proofs.ReplyLemmas.{allowed-plain, allowed-short, head_by, refused-plain, refused-short}
 use Rattle.wf_access.proofs.ReplyLemmas.{served-plain, served-short}
-use Rattle.wf_access.proofs.TraceLemmas.{Goes, WasHeaded, WasSent, goes-as, headed, sent}
+use Rattle.wf_access.proofs.TraceLemmas.{AllSent, Goes, WasHeaded, WasSent, goes-as, headed, sent}
 use Rattle.wf_access.proofs.ValueLemmas.{AreLines}
 
 -- what a server hears of a hop
 abbrev pub asked_by : Hop → Asked
 asked_by hop = record { method = hop.method; headers = as_read [] hop.headers }
 
+-- what is asked of a request in its state: the server can read its head, and answers it by the table
+abbrev pub IsServedSo : {State : Type 0} → List Row → Answering State → State → Hop → Type 0
+IsServedSo table by state hop = IsReadableRequest hop × IsServed table (request_bytes hop) (by.answer state hop)
+
+later : (one : Event) (events : List Event) → AreReadable (one ∷ events) → AreReadable events
+later one events readable hop at = readable hop (suc at.0, omega (arith, at.1), at.2)
+
+-- so it is of each request that was sent
+pub all-served : {State : Type 0} (table : List Row) (by : Answering State) (state : State) (events : List Event)
+    → AnswersBy table by state events → AreReadable events → AllSent by (IsServedSo table by) state events
+all-served table by state [] answers readable = tt
+all-served table by state (event.Sent hop ∷ events) answers readable = (
+  (readable hop (0, omega arith, refl), answers.0),
+  all-served table by (by.next state hop) events answers.1 (later (event.Sent hop) events readable),
+)
+all-served table by state (one ∷ events) answers readable =
+    all-served table by state events answers (later one events readable)
+
 -- Both ends: a server that answers by a table of such rows, and what each end hears of the other.
-pub record AreEnds {State : Type 0} (table : List Row) (by : Answering State) : Type 0 where
+pub record AreEnds (table : List Row) : Type 0 where
   pub rows : AllByRecursion IsRow table
-  pub answers : AnswersBy table by
   pub once : HasOneReading
   pub requests : RequestsAreHeard
   pub replies : RepliesAreHeard
@@ -100,11 +120,11 @@ reply-by table origin asked found reply is same heard =
 
 -- ---- an answer
 
-module _ {State : Type 0} (table : List Row) (by : Answering State) (ends : AreEnds table by) (limit document : ℕ)
+module _ {State : Type 0} (table : List Row) (by : Answering State) (ends : AreEnds table) (limit document : ℕ)
     (outcome : Outcome) (last : World State) where
   -- what is left of the fetch
   abbrev pub Left : Process → World State → Type 0
-  Left = Goes by limit document IsReadableRequest outcome last
+  Left = Goes by limit document (IsServedSo table by) outcome last
 
   -- The answer to a hop with this origin: the reply by the origin's row, and its head is read.
   pub record WasAnswered (hop : Hop) (origin : List ℕ) (after : Input → Process) : Type 0 where
@@ -121,7 +141,7 @@ module _ {State : Type 0} (table : List Row) (by : Answering State) (ends : AreE
   reply-read : (hop : Hop) (origin : List ℕ) (after : Input → Process) (reply : Reply)
       → reply ≡ by_found (row_of table origin) (asked_by hop) → IsGood reply → (world : World State) (state : State)
       → world.exchange.state ≡ Some state
-      → WasHeaded by limit document IsReadableRequest outcome last (reply_bytes reply) after world
+      → WasHeaded by limit document (IsServedSo table by) outcome last (reply_bytes reply) after world
       → WasAnswered hop origin after
   reply-read hop origin after reply reply_is good world state told was =
       let read = ends.replies reply was.head was.mid.exchange.coming good.0 was.has in
@@ -145,7 +165,7 @@ module _ {State : Type 0} (table : List Row) (by : Answering State) (ends : AreE
       let none : (¬ (HasNoHead (Some (reply_bytes reply)) bad)) × (¬ (HasNoHead (Some (reply_bytes reply)) long)) =
       ends.heads reply good.0 good.1 in
       reply-read hop origin after reply reply_is good world state told
-      (headed by limit document IsReadableRequest outcome last request (reply_bytes reply) after world
+      (headed by limit document (IsServedSo table by) outcome last request (reply_bytes reply) after world
       (subst (λ (b : List ℕ). world.exchange.coming ≡ Some b) answer_is coming) none.0 none.1 goes)
 
   -- the server answers the hop that was sent
@@ -153,9 +173,11 @@ module _ {State : Type 0} (table : List Row) (by : Answering State) (ends : AreE
       (world : World State) (state : State) → before Sent ≡ act request ReadHead after
       → is_token hop.method ≡ true → AreLines hop.headers → values_of (codes "Origin") hop.headers ≡ origin ∷ []
       → is_header_value origin ≡ true
-      → WasSent by limit document IsReadableRequest outcome last hop state before world
-      → IsServed table (request_bytes hop) (by.answer state hop) → WasAnswered hop origin after
-  hop-answered request hop origin before after world state reads method lines origin_is valued was is =
+      → WasSent by limit document (IsServedSo table by) outcome last hop state before world
+      → WasAnswered hop origin after
+  hop-answered request hop origin before after world state reads method lines origin_is valued was =
+      let is : IsServed table (request_bytes hop) (by.answer state hop) = was.fine.1 in
+      let heard_is : IsReadableRequest hop = was.fine.0 in
       let written : IsWritten hop = record {
         sendable = was.sendable;
         method = method;
@@ -163,7 +185,7 @@ module _ {State : Type 0} (table : List Row) (by : Answering State) (ends : AreE
       } in
       let read : IsRead (request_bytes hop) (Some (asked_by hop)) =
       subst (λ (a : Asked). IsRead (request_bytes hop) (Some a))
-      (ends.requests hop was.fine.0 written was.fine.1) was.fine.1 in
+      (ends.requests hop heard_is.0 written heard_is.1) heard_is.1 in
       let heard : values_of (codes "Origin") (asked_by hop).headers ≡ origin ∷ [] =
       heard-origin hop origin origin_is valued in
       let plain : list_all is_value_byte origin ≡ true =
@@ -175,7 +197,8 @@ module _ {State : Type 0} (table : List Row) (by : Answering State) (ends : AreE
       subst IsGood (sym reply_is) (good-reply table origin (asked_by hop) (row_of table origin) ends.rows refl plain) in
       reply-headed request hop origin after (by.answer state hop) is.0 is.2 reply_is good was.mid (by.next state hop)
       was.told was.coming_is
-      (goes-as by limit document IsReadableRequest outcome last (before Sent) (act request ReadHead after) was.mid reads
+      (goes-as by limit document (IsServedSo table by) outcome last (before Sent) (act request ReadHead after) was.mid
+      reads
       was.goes)
 
   pub answered : (request : Request) (hop : Hop) (origin : List ℕ) (before after : Input → Process)
@@ -185,5 +208,4 @@ module _ {State : Type 0} (table : List Row) (by : Answering State) (ends : AreE
       → Left (act request (Send hop) before) world → WasAnswered hop origin after
   answered request hop origin before after world state told reads method lines origin_is valued goes =
       hop-answered request hop origin before after world state reads method lines origin_is valued
-      (sent by limit document IsReadableRequest outcome last request hop state before world told goes)
-      (ends.answers state hop)
+      (sent by limit document (IsServedSo table by) outcome last request hop state before world told goes)

@@ -1,5 +1,5 @@
 -- The request behind its preflight: what the two come to, by the row of the request's origin in the table.
-use Rattle.std.proofs.Common.{◌≡◌, ℕ, ◌≤◌, Bool, true, false, not, ◌||◌, List, [], map, Option, Some}
+use Rattle.std.proofs.Common.{◌≡◌, ℕ, Bool, true, false, not, ◌||◌, List, [], map, Option, Some}
 use Rattle.std.proofs.Common.{None, codes, refl, ap, sym, subst, ◌∙◌, if◌then◌else◌}
 use Rattle.wf_headers.specs.declared.extract.Rule.TheVariants.{Digits}
 use Rattle.wf_headers.specs.Extract.{extracted}
@@ -34,8 +34,8 @@ use Rattle.wf_drive.specs.Worlds.{World}
 use Rattle.wf_server.specs.declared.table.Row.{Row}
 use Rattle.wf_server.specs.Tables.{lists, row_of}
 use Rattle.wf_server.specs.Served.{Reply, allowed, by_found, is_preflight, refused, served}
-use Rattle.wf_access.specs.Access.{IsReadableRequest, passes_method, refused_name}
-use Rattle.wf_access.proofs.AnswerLemmas.{AreEnds, answered, asked_by, row-found}
+use Rattle.wf_access.specs.Access.{passes_method, refused_name}
+use Rattle.wf_access.proofs.AnswerLemmas.{AreEnds, IsServedSo, answered, asked_by, row-found}
 use Rattle.wf_access.proofs.CorsLemmas.{Allows, methods_for, verdict_on, verdict-fails, verdict-is}
 use Rattle.wf_access.proofs.HopLemmas.{preflight-method, preflight-origin, request_method}
 use Rattle.wf_access.proofs.LineLemmas.{names-tokens, preflight-hop_lines}
@@ -49,47 +49,47 @@ use Rattle.wf_access.proofs.TraceLemmas.{Called, called, replied}
 use Rattle.wf_access.proofs.ValueLemmas.{there}
 
 -- what the verdict on the answer to the preflight comes to: an error, or the request itself is sent
-abbrev pub IsJudged : Bool → Bool → Option (List ℕ) → Row → Request → Outcome → Type 0
-IsJudged false allows name row request outcome = outcome ≡ Error error.PreflightCors
-IsJudged true false name row request outcome = outcome ≡ Error error.PreflightMethod
-IsJudged true true (Some name) row request outcome = outcome ≡ Error (error.PreflightHeader name)
-IsJudged true true None row request outcome = IsReal (Some row) request outcome
+abbrev pub IsJudged : ℕ → Bool → Bool → Option (List ℕ) → Row → Request → Outcome → Type 0
+IsJudged limit false allows name row request outcome = outcome ≡ Error error.PreflightCors
+IsJudged limit true false name row request outcome = outcome ≡ Error error.PreflightMethod
+IsJudged limit true true (Some name) row request outcome = outcome ≡ Error (error.PreflightHeader name)
+IsJudged limit true true None row request outcome = IsReal limit (Some row) request outcome
 
 -- what a request behind its preflight comes to, by the row of its origin
-abbrev pub IsBehind : Option Row → Request → Outcome → Type 0
-IsBehind None request outcome = outcome ≡ Error error.PreflightCors
-IsBehind (Some row) request outcome =
-    IsJudged (not (is_include request.credentials) || row.credentials) (passes_method row request)
+abbrev pub IsBehind : ℕ → Option Row → Request → Outcome → Type 0
+IsBehind limit None request outcome = outcome ≡ Error error.PreflightCors
+IsBehind limit (Some row) request outcome =
+    IsJudged limit (not (is_include request.credentials) || row.credentials) (passes_method row request)
     (refused_name row request) row request outcome
 
-module _ {State : Type 0} (table : List Row) (by : Answering State) (ends : AreEnds table by) (limit document : ℕ)
-    (enough : 2 ≤ limit) (outcome : Outcome) (last : World State) where
+module _ {State : Type 0} (table : List Row) (by : Answering State) (ends : AreEnds table) (limit document : ℕ)
+    (outcome : Outcome) (last : World State) where
   -- what is left of the fetch
   abbrev Goes_on : Process → World State → Type 0
-  Goes_on = Lasts table by ends limit document enough outcome last
+  Goes_on = Lasts table by ends limit document outcome last
 
   -- a call of the book whose reply says nothing
   told-book : (request : Request) (op : Op) (rest : Process) (world : World State)
-      → Goes_on (then_ask request op rest) world → Called by limit document IsReadableRequest outcome last op
+      → Goes_on (then_ask request op rest) world → Called by limit document (IsServedSo table by) outcome last op
       (λ input. rest) world
   told-book request op rest world goes =
-      called by limit document IsReadableRequest outcome last request op (λ input. rest) world goes
+      called by limit document (IsServedSo table by) outcome last request op (λ input. rest) world goes
 
   -- the end of the fetch
-  pub done : (context : Context) → IsEnd table by ends limit document enough outcome last context (finished context)
+  pub done : (context : Context) → IsEnd table by ends limit document outcome last context (finished context)
   done context = record {
     ok = λ request head. refl;
-    err = λ request reason world goes. over table by ends limit document enough outcome last (Error reason) world goes;
+    err = λ request reason world goes. over table by ends limit document outcome last (Error reason) world goes;
   }
 
   -- the end of a fetch with a preflight: an error is followed by a clear
   pub cleared : (context : Context)
-      → IsEnd table by ends limit document enough outcome last context (clearing context (finished context))
+      → IsEnd table by ends limit document outcome last context (clearing context (finished context))
   cleared context = record {
     ok = λ request head. refl;
     err = λ request reason world goes.
         let was = told-book request (clear_of context.client request context.now) (ended (Error reason)) world goes in
-        over table by ends limit document enough outcome last (Error reason) was.mid was.goes;
+        over table by ends limit document outcome last (Error reason) was.mid was.goes;
   }
 
   module _ (onward : Onward) (context : Context) (request : Request) (way : IsOnWay context request) where
@@ -106,7 +106,7 @@ module _ {State : Type 0} (table : List Row) (by : Answering State) (ends : AreE
         → Goes_on (after_preflight_head onward context next request (HeadIs head)) mid → outcome ≡ Error reason
     behind-refused reason head mid same goes =
         (cleared context).err request reason mid
-        (otherwise table by ends limit document enough outcome last _ _ mid same goes)
+        (otherwise table by ends limit document outcome last _ _ mid same goes)
 
     -- by the verdict
     behind-judged : (row : Row) (granted allows : Bool) (name : Option (List ℕ)) (age : ℕ)
@@ -114,7 +114,7 @@ module _ {State : Type 0} (table : List Row) (by : Answering State) (ends : AreE
         → mid.exchange.state ≡ Some state
         → Goes_on (preflight_judged onward context next request
         (verdict_on granted allows name (Pass age methods names))) mid
-        → IsJudged granted allows name row request outcome
+        → IsJudged limit granted allows name row request outcome
     behind-judged row false allows name age methods names mid state same told goes =
         (cleared context).err request error.PreflightCors mid goes
     behind-judged row true false name age methods names mid state same told goes =
@@ -124,8 +124,8 @@ module _ {State : Type 0} (table : List Row) (by : Answering State) (ends : AreE
     behind-judged row true true None age methods names mid state same told goes =
         let was = told-book request (learn_of context.client request age methods names context.now)
         (http_fetch onward context next request) mid goes in
-        subst (λ (found : Option Row). IsReal found request outcome) same
-        (real table by ends limit document enough outcome last onward context next (cleared context) request way was.mid
+        subst (λ (found : Option Row). IsReal limit found request outcome) same
+        (real table by ends limit document outcome last onward context next (cleared context) request way was.mid
         state (ap (λ (e : Exchange State). e.state) was.exchange_is ∙ told) was.goes)
 
     -- what the server hears
@@ -142,7 +142,7 @@ module _ {State : Type 0} (table : List Row) (by : Answering State) (ends : AreE
     behind-found : (found : Option Row) (reply : Reply) (mid : World State) (state : State)
         → row_of table origin ≡ found → reply ≡ by_found found heard → mid.exchange.state ≡ Some state
         → Goes_on (after_preflight_head onward context next request (HeadIs (head_by reply))) mid
-        → IsBehind found request outcome
+        → IsBehind limit found request outcome
     behind-found None reply mid state same is told goes =
         behind-refused error.PreflightCors (head_by refused) mid
         (preflight-judged onward context next request (head_by refused) (Refused error.PreflightCors) refused-silent
@@ -165,7 +165,7 @@ module _ {State : Type 0} (table : List Row) (by : Answering State) (ends : AreE
         (row-methods row of.is) (row-names row of.is) of.is.lowered (unsafe-lowered request.headers) in
         behind-judged row (not (is_include request.credentials) || row.credentials) (passes_method row request)
         (refused_name row request) age (methods_for request row.methods) row.names mid state same told
-        (otherwise table by ends limit document enough outcome last _ _ mid
+        (otherwise table by ends limit document outcome last _ _ mid
         (preflight-judged onward context next request head _ (allowed-silent row of.is origin_read) judged)
         (subst (λ (r : Reply). Goes_on (after_preflight_head onward context next request (HeadIs (head_by r))) mid) so
         goes))
@@ -174,13 +174,14 @@ module _ {State : Type 0} (table : List Row) (by : Answering State) (ends : AreE
     pub behind : (world : World State) (state : State) → world.exchange.state ≡ Some state
         → book_after empty world.own ≡ empty → Legal empty last.own → needs_preflight request ≡ true
         → Goes_on (with_preflight onward context (finished context) request) world
-        → IsBehind (row_of table origin) request outcome
+        → IsBehind limit (row_of table origin) request outcome
     behind world state told fresh legal needs goes =
         let op = covers_of context.client request context.now in
-        let was = called by limit document IsReadableRequest outcome last request op
+        let was = called by limit document (IsServedSo table by) outcome last request op
         (after_covers onward context next request) world goes in
         let says : was.entry.reply ≡ No =
-        replied by limit document IsReadableRequest outcome last op (after_covers onward context next request) world was
+        replied by limit document (IsServedSo table by) outcome last op (after_covers onward context next request) world
+        was
         legal ∙ ap (λ book. reply book op) fresh ∙ covers-not context.client request context.now needs in
         let asks =
         subst (λ (r : BookReply). Goes_on (after_covers onward context next request (Replied r)) was.mid) says was.goes

@@ -1,5 +1,5 @@
 -- The request itself: what it comes to, by the row of its origin in the table.
-use Rattle.std.proofs.Common.{◌≡◌, ℕ, ◌≤◌, Bool, true, false, not, ◌&&◌, ◌||◌, List, [], map}
+use Rattle.std.proofs.Common.{◌≡◌, ℕ, Bool, true, false, not, ◌&&◌, ◌||◌, List, [], map}
 use Rattle.std.proofs.Common.{Option, Some, None, Ok, Err, codes, bytes_eq, refl, ap, sym, subst, ◌∙◌, if◌then◌else◌}
 use Rattle.std.specs.List.{AllByRecursion}
 use Rattle.wf_text.specs.Tokens.{is_token}
@@ -12,7 +12,7 @@ use Rattle.wf_types.specs.declared.mode.Tainting.TheVariants as tainting
 use Rattle.wf_types.specs.declared.policy.Destination.TheVariants as destination
 use Rattle.wf_types.specs.declared.request.Request.{Request}
 use Rattle.wf_types.specs.declared.response.BodyEnd.{BodyEnd}
-use Rattle.wf_types.specs.declared.response.BodyEnd.TheVariants.{Null, Whole}
+use Rattle.wf_types.specs.declared.response.BodyEnd.TheVariants.{Null}
 use Rattle.wf_types.specs.declared.response.Outcome.{Outcome}
 use Rattle.wf_types.specs.declared.response.Outcome.TheVariants.{Answer, Error}
 use Rattle.wf_types.specs.CorsCheck.{is_include, passes_check, passes_cors_check}
@@ -33,15 +33,15 @@ use Rattle.wf_drive.specs.Worlds.{World}
 use Rattle.wf_server.specs.declared.table.Row.{Row}
 use Rattle.wf_server.specs.Tables.{lists, row_of}
 use Rattle.wf_server.specs.Served.{Reply, allowed, body_for, by_found, is_preflight, refused, served}
-use Rattle.wf_access.specs.Access.{IsReadOr, IsReadable, IsReadableRequest}
-use Rattle.wf_access.proofs.AnswerLemmas.{AreEnds, IsRowOf, Left, answered, asked_by, row-found}
+use Rattle.wf_access.specs.Access.{IsReadOr, IsReadable}
+use Rattle.wf_access.proofs.AnswerLemmas.{AreEnds, IsRowOf, IsServedSo, Left, answered, asked_by, row-found}
 use Rattle.wf_access.proofs.CorsLemmas.{check-fails, check-grants}
 use Rattle.wf_access.proofs.HopLemmas.{hop-method, hop-origin, request_method}
 use Rattle.wf_access.proofs.HttpLemmas.{IsAtEnd, body-is, finished-is, http-fails, http-passes, response}
 use Rattle.wf_access.proofs.LineLemmas.{HasLines, IsCookie, hop-lines}
 use Rattle.wf_access.proofs.ListLemmas.{and-false}
 use Rattle.wf_access.proofs.ReadLemmas.{header-read, read_value, values-read}
-use Rattle.wf_access.proofs.ReplyLemmas.{head_by, ok-whole, refused-origin, refused-silent, served-framing}
+use Rattle.wf_access.proofs.ReplyLemmas.{head_by, ok_end, refused-origin, refused-silent, served-framing}
 use Rattle.wf_access.proofs.ReplyLemmas.{served-grants, served-silent, served-uncoded}
 use Rattle.wf_access.proofs.TraceLemmas.{bodied, goes-as, goes-ended}
 use Rattle.wf_access.proofs.ValueLemmas.{AreLines, not-there}
@@ -61,23 +61,23 @@ pub record IsOnWay (context : Context) (request : Request) : Type 0 where
   pub valued : is_header_value (serialized_request_origin request) ≡ true
 
 -- what the request itself comes to, by the row of its origin
-abbrev pub IsReal : Option Row → Request → Outcome → Type 0
-IsReal None request outcome = outcome ≡ Error error.CorsCheck
-IsReal (Some row) request outcome =
-    IsReadOr (lists row.methods request.method && (not (is_include request.credentials) || row.credentials))
+abbrev pub IsReal : ℕ → Option Row → Request → Outcome → Type 0
+IsReal limit None request outcome = outcome ≡ Error error.CorsCheck
+IsReal limit (Some row) request outcome =
+    IsReadOr limit (lists row.methods request.method && (not (is_include request.credentials) || row.credentials))
     error.CorsCheck request outcome
 
-module _ {State : Type 0} (table : List Row) (by : Answering State) (ends : AreEnds table by) (limit document : ℕ)
-    (enough : 2 ≤ limit) (outcome : Outcome) (last : World State) where
+module _ {State : Type 0} (table : List Row) (by : Answering State) (ends : AreEnds table) (limit document : ℕ)
+    (outcome : Outcome) (last : World State) where
   -- what is left of the fetch
   abbrev pub Lasts : Process → World State → Type 0
   Lasts = Left table by ends limit document outcome last
 
   pub over : (came : Outcome) (world : World State) → Lasts (ended came) world → outcome ≡ came
-  over came world goes = sym (goes-ended by limit document IsReadableRequest outcome last came world goes)
+  over came world goes = sym (goes-ended by limit document (IsServedSo table by) outcome last came world goes)
 
   pub otherwise : (p q : Process) (world : World State) → p ≡ q → Lasts p world → Lasts q world
-  otherwise p q world same goes = goes-as by limit document IsReadableRequest outcome last p q world same goes
+  otherwise p q world same goes = goes-as by limit document (IsServedSo table by) outcome last p q world same goes
 
   -- What follows a level of the fetch: a head ends it, and an error is its outcome.
   pub record IsEnd (context : Context) (next : Then) : Type 0 where
@@ -126,35 +126,35 @@ module _ {State : Type 0} (table : List Row) (by : Answering State) (ends : AreE
       -- the response is handed over without a body, or its body is read
       real-read : (bodiless : Bool) (mid : World State) → bytes_eq request.method (codes "HEAD") ≡ bodiless
           → mid.exchange.coming ≡ Some (body_for request.method) → mid.exchange.framing ≡ framing_of head
-          → Lasts (finished context request (Ok head)) mid → IsReadable request outcome
+          → Lasts (finished context request (Ok head)) mid → IsReadable limit request outcome
       real-read true mid so coming framed goes =
           let is : outcome ≡ Answer (response context request head at-end) =
           over _ mid (otherwise _ _ mid (finished-is context request head at-end true so) goes) in
-          subst (IsReadable request) (sym is)
-          (refl, refl, sym (ap (λ (b : Bool). if b then Null else Whole (codes "ok")) so))
+          subst (IsReadable limit request) (sym is)
+          (refl, refl, sym (ap (λ (b : Bool). if b then Null else ok_end limit) so))
       real-read false mid so coming framed goes =
           let body : body_for request.method ≡ codes "ok" = ap (λ (b : Bool). if b then [] else codes "ok") so in
-          let read = bodied by limit document IsReadableRequest outcome last request (body_for request.method)
+          let read = bodied by limit document (IsServedSo table by) outcome last request (body_for request.method)
           (after_body request (response context request head at-end)) mid coming
           (otherwise _ _ mid (finished-is context request head at-end false so) goes) in
-          let came : body_end mid.exchange.framing limit (body_for request.method) ≡ Whole (codes "ok") =
+          let came : body_end mid.exchange.framing limit (body_for request.method) ≡ ok_end limit =
           ap (λ (f : Framing). body_end f limit (body_for request.method))
           (framed ∙ served-framing row of.is origin_read request.method)
-          ∙ ap (body_end (framing.Length 2) limit) body ∙ ok-whole limit enough in
-          let is : outcome ≡ Answer (record (response context request head at-end) { body = Whole (codes "ok") }) =
+          ∙ ap (body_end (framing.Length 2) limit) body in
+          let is : outcome ≡ Answer (record (response context request head at-end) { body = ok_end limit }) =
           over _ read.0
           (otherwise _ _ read.0
           (ap (λ (e : BodyEnd). after_body request (response context request head at-end) (BodyIs e)) came
-          ∙ body-is context request head at-end (Whole (codes "ok"))) read.1) in
-          subst (IsReadable request) (sym is)
-          (refl, refl, sym (ap (λ (b : Bool). if b then Null else Whole (codes "ok")) so))
+          ∙ body-is context request head at-end (ok_end limit)) read.1) in
+          subst (IsReadable limit request) (sym is)
+          (refl, refl, sym (ap (λ (b : Bool). if b then Null else ok_end limit) so))
 
       -- the server serves, and the page may read it where the credentials are granted
       real-served : (granted : Bool) (mid : World State)
           → (not (is_include request.credentials) || row.credentials) ≡ granted
           → mid.exchange.coming ≡ Some (body_for request.method) → mid.exchange.framing ≡ framing_of head
           → Lasts (after_head onward context next request (HeadIs head)) mid
-          → IsReadOr granted error.CorsCheck request outcome
+          → IsReadOr limit granted error.CorsCheck request outcome
       real-served false mid grants coming framed goes =
           follows.err request error.CorsCheck mid
           (otherwise _ _ mid (http-fails onward context next request head way.tainted
@@ -170,7 +170,7 @@ module _ {State : Type 0} (table : List Row) (by : Answering State) (ends : AreE
           → mid.exchange.framing ≡ framing_of (head_by (if listed then served row request.method else refused))
           → Lasts (after_head onward context next request
           (HeadIs (head_by (if listed then served row request.method else refused)))) mid
-          → IsReadOr (listed && (not (is_include request.credentials) || row.credentials)) error.CorsCheck request
+          → IsReadOr limit (listed && (not (is_include request.credentials) || row.credentials)) error.CorsCheck request
           outcome
       real-by false mid coming framed goes = real-refused mid goes
       real-by true mid coming framed goes =
@@ -193,7 +193,7 @@ module _ {State : Type 0} (table : List Row) (by : Answering State) (ends : AreE
         → reply ≡ by_found found heard → mid.exchange.coming ≡ Some reply.body
         → mid.exchange.framing ≡ framing_of (head_by reply)
         → Lasts (after_head onward context next request (HeadIs (head_by reply))) mid
-        → IsReal found request outcome
+        → IsReal limit found request outcome
     real-found None reply mid same is coming framed goes =
         real-refused mid
         (subst (λ (r : Reply). Lasts (after_head onward context next request (HeadIs (head_by r))) mid) is goes)
@@ -208,7 +208,7 @@ module _ {State : Type 0} (table : List Row) (by : Answering State) (ends : AreE
 
     -- the request itself is sent
     pub real : (world : World State) (state : State) → world.exchange.state ≡ Some state
-        → Lasts (http_fetch onward context next request) world → IsReal (row_of table origin) request outcome
+        → Lasts (http_fetch onward context next request) world → IsReal limit (row_of table origin) request outcome
     real world state told goes =
         let was = answered table by ends limit document outcome last request (hop_of context.cookies request) origin
         (after_sent onward context next request) (after_head onward context next request) world state told refl

@@ -2,7 +2,7 @@
 -- headers.
 use Rattle.std.proofs.Common.{◌≡◌, ℕ, ◌+◌, ◌≤◌, Bool, true, false, not, ◌&&◌, ◌||◌, List, [], ◌∷◌, ◌++◌}
 use Rattle.std.proofs.Common.{length, map, codes, refl, ap, ◌∙◌, arith}
-use Rattle.std.proofs.Common.{if◌then◌else◌, option_map, length-append, flat_map, le-ltb, decimal, bytes_eq}
+use Rattle.std.proofs.Common.{if◌then◌else◌, option_map, length-append, flat_map, nat_lt, decimal, bytes_eq}
 use Rattle.std.proofs.lemmas.Fmt.{length-decimal-le_succ}
 use Rattle.std.proofs.lemmas.Grind.{common_steps}
 use Rattle.std.specs.List.{AllByRecursion, join_with_byte, list_all}
@@ -14,10 +14,10 @@ use Rattle.wf_headers.specs.declared.headers.Header.{Header}
 use Rattle.wf_headers.specs.Headers.{joined, values_of}
 use Rattle.wf_headers.specs.Split.{split}
 use Rattle.wf_types.specs.declared.hop.Head.{Head}
+use Rattle.wf_types.specs.declared.response.BodyEnd.{BodyEnd}
 use Rattle.wf_types.specs.declared.response.BodyEnd.TheVariants.{TooBig, Whole}
 use Rattle.wf_types.specs.Lines.{header}
 use Rattle.wf_http1.specs.Answers.{most_bytes}
-use Rattle.wf_http1.specs.Bodies.{body_end}
 use Rattle.wf_http1.specs.Framings.{by_coding, by_length, framing_of}
 use Rattle.wf_http1.specs.Requests.{header_line}
 use Rattle.wf_http1.specs.declared.framing.Framing.TheVariants as framing
@@ -177,10 +177,9 @@ module _ (row : Row) (is : IsRow row) (origin_read : read_value row.origin ≡ r
       ∙ ap (λ (values : List (List ℕ)). by_length (option_map split (joined values)))
       (served-values (codes "Content-Length") (codes "2" ∷ []) method refl refl refl)
 
--- where it is `ok`, that is read
-pub ok-whole : (limit : ℕ) → 2 ≤ limit → body_end (framing.Length 2) limit (codes "ok") ≡ Whole (codes "ok")
-ok-whole limit enough =
-    ap (λ (b : Bool). if b then TooBig else Whole (codes "ok")) (le-ltb limit 2 enough)
+-- how it ends where it is `ok`
+abbrev pub ok_end : ℕ → BodyEnd
+ok_end limit = if nat_lt limit 2 then TooBig else Whole (codes "ok")
 
 -- the head of a refusal
 pub refused-origin : values_of allow_origin (head_by refused).headers ≡ []

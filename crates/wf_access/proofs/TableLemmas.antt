@@ -23,16 +23,16 @@ use Rattle.wf_access.proofs.NameLemmas.{all-but, authorization-among}
 use Rattle.wf_access.proofs.RealLemmas.{IsReal}
 
 -- the page is answered by the row of its origin
-abbrev pub IsByRow : Option Row → Request → Outcome → Type 0
-IsByRow found request outcome =
-    IsReadOr (row_allows found request.method (unsafe_names request.headers) (is_include request.credentials))
+abbrev pub IsByRow : ℕ → Option Row → Request → Outcome → Type 0
+IsByRow limit found request outcome =
+    IsReadOr limit (row_allows found request.method (unsafe_names request.headers) (is_include request.credentials))
     (if needs_preflight request then row_error found request else error.CorsCheck) request outcome
 
 -- it is refused, with this error
-by-refusal : (allowed : Bool) (reason told : NetError) (request : Request) (outcome : Outcome) → allowed ≡ false
-    → told ≡ reason → outcome ≡ Error reason → IsReadOr allowed told request outcome
-by-refusal allowed reason told request outcome denied same is =
-    subst (λ (b : Bool). IsReadOr b told request outcome) (sym denied)
+by-refusal : (limit : ℕ) (allowed : Bool) (reason told : NetError) (request : Request) (outcome : Outcome)
+    → allowed ≡ false → told ≡ reason → outcome ≡ Error reason → IsReadOr limit allowed told request outcome
+by-refusal limit allowed reason told request outcome denied same is =
+    subst (λ (b : Bool). IsReadOr limit b told request outcome) (sym denied)
     (is ∙ ap (λ (e : NetError). Error e) (sym same))
 
 -- ---- without a preflight
@@ -58,20 +58,20 @@ no-names request unsafe needs =
             let zero_is : length (name ∷ names) ≡ 0 = eqb-true (length (name ∷ names)) 0 is in absurd (omega arith)
         by-test false is same = absurd (true≢false same)
 
-pub by-real : (found : Option Row) (request : Request) (outcome : Outcome) → request.unsafe_request ≡ true
-    → needs_preflight request ≡ false → IsReal found request outcome → IsByRow found request outcome
-by-real None request outcome unsafe needs is =
-    by-refusal false error.CorsCheck _ request outcome refl
+pub by-real : (limit : ℕ) (found : Option Row) (request : Request) (outcome : Outcome) → request.unsafe_request ≡ true
+    → needs_preflight request ≡ false → IsReal limit found request outcome → IsByRow limit found request outcome
+by-real limit None request outcome unsafe needs is =
+    by-refusal limit false error.CorsCheck _ request outcome refl
     (ap (λ (b : Bool). if b then row_error None request else error.CorsCheck) needs) is
-by-real (Some row) request outcome unsafe needs is =
+by-real limit (Some row) request outcome unsafe needs is =
     let granted = not (is_include request.credentials) || row.credentials in
     let listed = lists row.methods request.method in
-    subst (λ (b : Bool). IsReadOr (b && granted)
+    subst (λ (b : Bool). IsReadOr limit (b && granted)
     (if needs_preflight request then row_error (Some row) request else error.CorsCheck) request outcome)
     (sym (ap (λ (names : List (List ℕ)). listed && list_all (lists row.names) names)
     (no-names request unsafe needs) ∙ and-true listed))
-    (subst (λ (b : Bool). IsReadOr (listed && granted) (if b then row_error (Some row) request else error.CorsCheck)
-    request outcome) (sym needs) is)
+    (subst (λ (b : Bool). IsReadOr limit (listed && granted)
+    (if b then row_error (Some row) request else error.CorsCheck) request outcome) (sym needs) is)
 
 -- ---- behind a preflight
 
@@ -81,7 +81,7 @@ same-test true true = refl
 same-test true false = refl
 same-test false credentials = refl
 
-module _ (row : Row) (request : Request) where
+module _ (limit : ℕ) (row : Row) (request : Request) where
   -- the row lists each of the names
   abbrev names_listed : Bool
   names_listed = list_all (lists row.names) (unsafe_names request.headers)
@@ -143,37 +143,39 @@ module _ (row : Row) (request : Request) where
 
   by-judgement : (grants allows : Bool) (refused : Option (List ℕ)) (outcome : Outcome) → granted ≡ grants
       → passes_method row request ≡ allows → refused_name row request ≡ refused
-      → IsJudged grants allows refused row request outcome
-      → IsReadOr (listed && names_listed && granted) (row_error (Some row) request) request outcome
+      → IsJudged limit grants allows refused row request outcome
+      → IsReadOr limit (listed && names_listed && granted) (row_error (Some row) request) request outcome
   by-judgement false allows refused outcome p q r is =
-      by-refusal _ error.PreflightCors _ request outcome
+      by-refusal limit _ error.PreflightCors _ request outcome
       (ap (λ (b : Bool). listed && names_listed && b) p ∙ and-false (listed && names_listed))
       (error-is false allows refused p q r) is
   by-judgement true false refused outcome p q r is =
-      by-refusal _ error.PreflightMethod _ request outcome
+      by-refusal limit _ error.PreflightMethod _ request outcome
       (ap (λ (b : Bool). b && names_listed && granted)
       (or_parts listed (is_safelisted_method request.method)
       (or_parts (listed || is_safelisted_method request.method) _ q).0).0)
       (error-is true false refused p q r) is
   by-judgement true true (Some name) outcome p q r is =
-      by-refusal _ (error.PreflightHeader name) _ request outcome
+      by-refusal limit _ (error.PreflightHeader name) _ request outcome
       (ap (λ (b : Bool). listed && b && granted) (refused-not name r)
       ∙ ap (λ (b : Bool). b && granted) (and-false listed))
       (error-is true true (Some name) p q r) is
   by-judgement true true None outcome p q r is =
-      subst (λ (b : Bool). IsReadOr (b && granted) (row_error (Some row) request) request outcome)
+      subst (λ (b : Bool). IsReadOr limit (b && granted) (row_error (Some row) request) request outcome)
       (sym (ap (λ (b : Bool). listed && b) (unrefused-all r) ∙ and-true listed))
-      (subst (λ (e : NetError). IsReadOr (listed && granted) e request outcome) (sym (error-is true true None p q r))
+      (subst (λ (e : NetError). IsReadOr limit (listed && granted) e request outcome)
+      (sym (error-is true true None p q r))
       is)
 
-pub by-behind : (found : Option Row) (request : Request) (outcome : Outcome) → needs_preflight request ≡ true
-    → IsBehind found request outcome → IsByRow found request outcome
-by-behind None request outcome needs is =
-    by-refusal false error.PreflightCors _ request outcome refl
+pub by-behind : (limit : ℕ) (found : Option Row) (request : Request) (outcome : Outcome)
+    → needs_preflight request ≡ true → IsBehind limit found request outcome → IsByRow limit found request outcome
+by-behind limit None request outcome needs is =
+    by-refusal limit false error.PreflightCors _ request outcome refl
     (ap (λ (b : Bool). if b then row_error None request else error.CorsCheck) needs) is
-by-behind (Some row) request outcome needs is =
-    subst (λ (b : Bool). IsReadOr
+by-behind limit (Some row) request outcome needs is =
+    subst (λ (b : Bool). IsReadOr limit
     (row_allows (Some row) request.method (unsafe_names request.headers) (is_include request.credentials))
     (if b then row_error (Some row) request else error.CorsCheck) request outcome) (sym needs)
-    (by-judgement row request (not (is_include request.credentials) || row.credentials) (passes_method row request)
+    (by-judgement limit row request (not (is_include request.credentials) || row.credentials)
+    (passes_method row request)
     (refused_name row request) outcome refl refl refl is)

@@ -1,8 +1,9 @@
 -- What is left of a fetch in a world that answers it: its next act, and what comes of that.
-use Rattle.std.proofs.Common.{◌≡◌, ℕ, suc, ◌+◌, false, List, [], ◌∷◌, ◌++◌, Option, Some, refl}
-use Rattle.std.proofs.Common.{ap, sym, subst, ◌∙◌, arith, append_assoc, Contains, IsTrue, true≢false, option_map}
+use Rattle.std.proofs.Common.{◌≡◌, ℕ, ◌+◌, false, List, [], ◌∷◌, ◌++◌, Option, Some, None, is_some, refl}
+use Rattle.std.proofs.Common.{ap, sym, subst, ◌∙◌, append_assoc, IsTrue, true≢false, option_map}
 use Rattle.std.proofs.lemmas.Bool.{or_parts}
 use Rattle.std.proofs.lemmas.List.{append-nil}
+use Rattle.std.specs.Bool.{⊤}
 use Rattle.std.specs.List.{list_any}
 use Rattle.wf_types.specs.declared.hop.Head.{Head}
 use Rattle.wf_types.specs.declared.hop.Hop.{Hop}
@@ -151,25 +152,60 @@ module _ {State : Type 0} (by : Answering State) (limit document : ℕ) where
 
 -- ---- what is left of a fetch
 
--- each request that was sent is so
-abbrev pub AllSent : (Hop → Type 0) → List Event → Type 0
-AllSent Fine events = (hop : Hop) → Contains events (event.Sent hop) → Fine hop
+-- from this state on, each request that was sent is so in its state
+abbrev pub AllSent : {State : Type 0} → Answering State → (State → Hop → Type 0) → State → List Event → Type 0
+AllSent by Fine state [] = ⊤
+AllSent by Fine state (event.Sent hop ∷ events) = Fine state hop × AllSent by Fine (by.next state hop) events
+AllSent by Fine state (one ∷ events) = AllSent by Fine state events
 
-sent-later : (Fine : Hop → Type 0) (made more : List Event) → AllSent Fine (made ++ more) → AllSent Fine more
-sent-later Fine [] more all = all
-sent-later Fine (one ∷ made) more all =
-    sent-later Fine made more (λ hop at. all hop (suc at.0, omega (arith, at.1), at.2))
+pub same-state : {State : Type 0} (a b : State) → Some a ≡ Some b → a ≡ b
+same-state {State} a b same = ap state_in same
+  where
+    state_in : Option State → State
+    state_in None = a
+    state_in (Some state) = state
 
-module _ {State : Type 0} (by : Answering State) (limit document : ℕ) (Fine : Hop → Type 0) (outcome : Outcome)
-    (last : World State) where
+-- and so it is from the state that is told
+abbrev pub AllToldSent : {State : Type 0} → Answering State → (State → Hop → Type 0) → Option State → List Event
+    → Type 0
+AllToldSent {State} by Fine told events = (state : State) → told ≡ Some state → AllSent by Fine state events
+
+module _ {State : Type 0} (by : Answering State) (Fine : State → Hop → Type 0) where
+  -- behind a request it is so of the others
+  behind-sent : (hop : Hop) (more : List Event) (before after : Option State)
+      → after ≡ option_map (λ s. by.next s hop) before → AllToldSent by Fine before (event.Sent hop ∷ more)
+      → AllToldSent by Fine after more
+  behind-sent hop more None after is all state told = absurd (true≢false (ap is_some (sym told ∙ is)))
+  behind-sent hop more (Some first) after is all state told =
+      subst (λ (s : State). AllSent by Fine s more) (same-state (by.next first hop) state (sym is ∙ told))
+      (all first refl).1
+
+  -- behind an act it is so of what is left
+  behind-act : (limit document : ℕ) (world mid : World State) (first : Act) (input : Input) (more : List Event)
+      → Answers by limit document world first input mid
+      → AllToldSent by Fine world.exchange.state (events_of first input ++ more)
+      → AllToldSent by Fine mid.exchange.state more
+  behind-act limit document world mid (Ask op) input more is all =
+      subst (λ (e : Exchange State). AllToldSent by Fine e.state more) (sym is.exchange_is) all
+  behind-act limit document world mid (Send hop) input more is all =
+      behind-sent hop more world.exchange.state mid.exchange.state is.1.exchanged.state_is all
+  behind-act limit document world mid ReadHead input more is all =
+      subst (λ (s : Option State). AllToldSent by Fine s more) (sym is.exchanged.state_is) all
+  behind-act limit document world mid ReadBody input more is all =
+      subst (λ (s : Option State). AllToldSent by Fine s more) (sym is.exchanged.state_is) all
+  behind-act limit document world mid (Tell violation) input more is all =
+      subst (λ (w : World State). AllToldSent by Fine w.exchange.state more) (sym is.1) all
+
+module _ {State : Type 0} (by : Answering State) (limit document : ℕ) (Fine : State → Hop → Type 0)
+    (outcome : Outcome) (last : World State) where
   -- What is left of a fetch comes to the outcome in the last world without a fault, and each request that it sends is
-  -- so.
+  -- so in its state.
   pub record Goes (process : Process) (world : World State) : Type 0 where
     pub tape : List Input
     pub events : List Event
     pub trace : LeadsOn by limit document process world tape events (ended outcome) last
     pub faultless : list_any is_fault tape ≡ false
-    pub sends : AllSent Fine events
+    pub sends : AllToldSent by Fine world.exchange.state events
 
   -- the process, as it is written otherwise
   pub goes-as : (p q : Process) (world : World State) → p ≡ q → Goes p world → Goes q world
@@ -186,7 +222,7 @@ module _ {State : Type 0} (by : Answering State) (limit document : ℕ) (Fine : 
     came : Answers by limit document world first input mid
     quiet : is_fault input ≡ false
     more : List Event
-    sends : AllSent Fine (events_of first input ++ more)
+    sends : AllToldSent by Fine world.exchange.state (events_of first input ++ more)
     goes : Goes (after input) mid
 
   next : (request : Request) (first : Act) (after : Input → Process) (world : World State)
@@ -198,8 +234,9 @@ module _ {State : Type 0} (by : Answering State) (limit document : ℕ) (Fine : 
       let quiet : (is_fault step.input ≡ false) × (list_any is_fault step.rest ≡ false) =
       or_parts (is_fault step.input) (list_any is_fault step.rest)
       (subst (λ (t : List Input). list_any is_fault t ≡ false) step.tape_is goes.faultless) in
-      let sends : AllSent Fine (events_of first step.input ++ step.more) =
-      subst (AllSent Fine) (step.events_are ∙ ap (λ (e : List Event). e ++ step.more) step.came.1) goes.sends in
+      let sends : AllToldSent by Fine world.exchange.state (events_of first step.input ++ step.more) =
+      subst (AllToldSent by Fine world.exchange.state) (step.events_are
+      ∙ ap (λ (e : List Event). e ++ step.more) step.came.1) goes.sends in
       record {
         input = step.input;
         mid = step.mid;
@@ -212,7 +249,7 @@ module _ {State : Type 0} (by : Answering State) (limit document : ℕ) (Fine : 
           events = step.more;
           trace = step.trace;
           faultless = quiet.1;
-          sends = sent-later Fine (events_of first step.input) step.more sends;
+          sends = behind-act by Fine limit document world step.mid first step.input step.more step.came.0 sends;
         };
       }
 
@@ -259,7 +296,7 @@ module _ {State : Type 0} (by : Answering State) (limit document : ℕ) (Fine : 
     pub coming_is : mid.exchange.coming ≡ Some (by.answer state hop)
     pub told : mid.exchange.state ≡ Some (by.next state hop)
     pub sendable : IsSendable hop
-    pub fine : Fine hop
+    pub fine : Fine state hop
     pub goes : Goes (after Sent) mid
 
   pub sent : (request : Request) (hop : Hop) (state : State) (after : Input → Process) (world : World State)
@@ -275,7 +312,7 @@ module _ {State : Type 0} (by : Answering State) (limit document : ℕ) (Fine : 
         coming_is = came.1;
         told = is.state_is ∙ ap (option_map (λ s. by.next s hop)) told;
         sendable = step.came.0;
-        fine = step.sends hop (0, omega arith, refl);
+        fine = (step.sends state told).0;
         goes = subst (λ (i : Input). Goes (after i) step.mid) came.0 step.goes;
       }
 

@@ -1,6 +1,7 @@
 -- The theorem of both ends: a page reads the answer of a server that answers by an allow table exactly where the table
 -- allows it (this project's own statement; a fetch is the whole one, Fetch, section 4.1).
-use Rattle.std.specs.Prelude.{◌≡◌, ℕ, ◌+◌, ◌<◌, ◌≤◌, Bool, true, false, ◌&&◌, ◌||◌, not, List, [], length, map}
+use Rattle.std.specs.Prelude.{◌≡◌, ⊤, ℕ, ◌+◌, ◌<◌, ◌≤◌, nat_lt, Bool, true, false, ◌&&◌, ◌||◌, not}
+use Rattle.std.specs.Prelude.{List, [], ◌∷◌, length, map}
 use Rattle.std.specs.Prelude.{bytes_eq, codes, find, All, Contains, IsUtf8, Option, Some, None, Ok, if◌then◌else◌}
 use Rattle.std.specs.List.{join_with_byte, list_all, list_any}
 use Rattle.std.specs.Str.{str_to_ascii_lowercase}
@@ -20,7 +21,7 @@ use Rattle.wf_types.specs.declared.init.Init.{Init}
 use Rattle.wf_types.specs.declared.mode.Mode.TheVariants.{Cors}
 use Rattle.wf_types.specs.declared.request.Request.{Request}
 use Rattle.wf_types.specs.declared.response.BodyEnd.{BodyEnd}
-use Rattle.wf_types.specs.declared.response.BodyEnd.TheVariants.{Null, Whole}
+use Rattle.wf_types.specs.declared.response.BodyEnd.TheVariants.{Null, TooBig, Whole}
 use Rattle.wf_types.specs.declared.response.Outcome.{Outcome}
 use Rattle.wf_types.specs.declared.response.Outcome.TheVariants.{Answer, Error}
 use Rattle.wf_types.specs.declared.response.ResponseKind.TheVariants as kind
@@ -71,9 +72,12 @@ pub record IsRow (row : Row) : Type 0 where
 abbrev pub RowsAreRead : Type 0
 RowsAreRead = (text : List ℕ) (rows : List Row) → table_of text ≡ Ok rows → All IsRow rows
 
--- each request is answered by the table
-abbrev pub AnswersBy : {State : Type 0} → List Row → Answering State → Type 0
-AnswersBy {State} table by = (state : State) (hop : Hop) → IsServed table (request_bytes hop) (by.answer state hop)
+-- from this state on, each request that was sent is answered by the table
+abbrev pub AnswersBy : {State : Type 0} → List Row → Answering State → State → List Event → Type 0
+AnswersBy table by state [] = ⊤
+AnswersBy table by state (Sent hop ∷ events) =
+    IsServed table (request_bytes hop) (by.answer state hop) × AnswersBy table by (by.next state hop) events
+AnswersBy table by state (event ∷ events) = AnswersBy table by state events
 
 -- the server can read the head of a request
 abbrev pub IsReadableRequest : Hop → Type 0
@@ -120,11 +124,11 @@ pub record IsCorsFetch (context : Context) (init : Init) (request : Request) : T
   pub away : is_origin_of context.client.origin (current_url request) ≡ false
   pub unblocked : refusal_before context.client request ≡ None
 
--- From an empty book, with no call of another document between, and without a fault, the fetch came to this outcome.
+-- From this state of the link and an empty book, with no call of another document between, and without a fault, the
+-- fetch came to this outcome.
 pub record CameTo {State : Type 0} (by : Answering State) (limit document : ℕ) (context : Context) (request : Request)
-    (events : List Event) (outcome : Outcome) : Type 0 where
+    (state : State) (events : List Event) (outcome : Outcome) : Type 0 where
   pub first : World State
-  pub state : State
   pub told : first.exchange.state ≡ Some state
   pub unasked : first.own ≡ []
   pub tape : List Input
@@ -141,15 +145,16 @@ is_allowed table request =
     allows table (serialized_request_origin request) request.method (unsafe_names request.headers)
     (is_include request.credentials)
 
--- the body that a page reads: `ok`, and none for HEAD
-abbrev pub body_read : List ℕ → BodyEnd
-body_read method = if bytes_eq method (codes "HEAD") then Null else Whole (codes "ok")
+-- the body that a page reads, where bodies have so many bytes at most: `ok`, and none for HEAD
+abbrev pub body_read : ℕ → List ℕ → BodyEnd
+body_read limit method =
+    if bytes_eq method (codes "HEAD") then Null else if nat_lt limit 2 then TooBig else Whole (codes "ok")
 
 -- the page reads the answer
-abbrev pub IsReadable : Request → Outcome → Type 0
-IsReadable request (Answer response) =
-    (response.kind ≡ kind.Cors) × (response.status ≡ 200) × (response.body ≡ body_read request.method)
-IsReadable request _ = ⊥
+abbrev pub IsReadable : ℕ → Request → Outcome → Type 0
+IsReadable limit request (Answer response) =
+    (response.kind ≡ kind.Cors) × (response.status ≡ 200) × (response.body ≡ body_read limit request.method)
+IsReadable limit request _ = ⊥
 
 -- the preflight of a row allows the method: the row lists it, the method is CORS-safelisted, or the row lists none and
 -- the request has the use-CORS-preflight flag
@@ -185,19 +190,20 @@ error_by table request =
     else error.CorsCheck
 
 -- the page reads the answer where it is allowed, or has the error
-abbrev pub IsReadOr : Bool → NetError → Request → Outcome → Type 0
-IsReadOr true reason request outcome = IsReadable request outcome
-IsReadOr false reason request outcome = outcome ≡ Error reason
+abbrev pub IsReadOr : ℕ → Bool → NetError → Request → Outcome → Type 0
+IsReadOr limit true reason request outcome = IsReadable limit request outcome
+IsReadOr limit false reason request outcome = outcome ≡ Error reason
 
 -- the page reads the answer exactly where the table allows it, and else has the error that the table tells
-abbrev pub IsByTable : List Row → Request → Outcome → Type 0
-IsByTable table request outcome = IsReadOr (is_allowed table request) (error_by table request) request outcome
+abbrev pub IsByTable : ℕ → List Row → Request → Outcome → Type 0
+IsByTable limit table request outcome =
+    IsReadOr limit (is_allowed table request) (error_by table request) request outcome
 
--- so it is of the first cors fetch of a document over a server that answers by a table, where the server can read what
--- is sent
+-- so it is of the first cors fetch of a document, where the server answers each of its requests by the table, and can
+-- read it
 abbrev pub IsAccess : Type 0 → Type 0
 IsAccess State =
     (table : List Row) (by : Answering State) (limit document : ℕ) (context : Context) (init : Init) (request : Request)
-    (events : List Event) (outcome : Outcome) → All IsRow table → AnswersBy table by → 2 ≤ limit
-    → IsCorsFetch context init request → CameTo by limit document context request events outcome
-    → AreReadable events → IsByTable table request outcome
+    (state : State) (events : List Event) (outcome : Outcome) → All IsRow table → IsCorsFetch context init request
+    → CameTo by limit document context request state events outcome → AnswersBy table by state events
+    → AreReadable events → IsByTable limit table request outcome

@@ -5,7 +5,7 @@ use Rattle.std.specs.Prelude.{option_map}
 use Rattle.std.proofs.Common.{Option, Some, None, append_assoc, length-append}
 use Rattle.std.specs.List.{AllByRecursion, flat_map}
 use Rattle.wf_link.proofs.SinkLemmas.{part-after, took-again}
-use Rattle.wf_link.specs.Counts.{one_more, Rose}
+use Rattle.wf_link.specs.Counts.{Rose}
 use Rattle.wf_link.specs.Accepts.{GaveFirst}
 use Rattle.wf_link.specs.Links.{Lent, one_out, TookBack}
 use Rattle.wf_link.specs.Sinks.{SinkTold, Took, TookPart}
@@ -15,6 +15,7 @@ use Rattle.wf_server.specs.declared.serving.Served.TheVariants as served
 use Rattle.wf_server.specs.declared.table.Row.{Row}
 use Rattle.wf_serving.specs.Connections.{AcceptsTold, Connection, GaveEnds, HasLine, HasServed, HasServedAll}
 use Rattle.wf_serving.specs.Connections.{IsServedBy, line_of, lines_of, Serves, TookEnds}
+use Rattle.wf_serving.specs.Private.Nexts.{HasServedNext}
 use Rattle.wf_serving.specs.Private.Notes.{IsNoted, IsWritten}
 use Rattle.wf_serving.specs.declared.status.ServeStatus.{ServeStatus}
 use Rattle.wf_serving.specs.declared.status.ServeStatus.TheVariants as status
@@ -93,9 +94,6 @@ module _ {End : Type 0} where
 rose-after : (before now later : ℕ) → before ≤ now → Rose now later → Rose before later
 rose-after before now later grown rose = omega (arith, grown, rose)
 
-pub rose-now : (before now : ℕ) → now ≡ one_more before → Rose before now
-rose-now before now same = omega (arith, same)
-
 -- ---- what was served
 
 module _ {End : Type 0} (told : End → PeerTold) (table : List Row) where
@@ -124,7 +122,7 @@ module _ {End : Type 0} (told : End → PeerTold) (table : List Row) where
   }
 
   -- one connection was served
-  pub served-one : (a b c : AcceptsTold End) (one : Connection End) → IsServedBy told table one
+  served-one : (a b c : AcceptsTold End) (one : Connection End) → IsServedBy told table one
       → GaveFirst a.coming b.coming one.given → b.lent ≡ option_map one_out a.lent → b.opened ≡ a.opened
       → TookBack b.lent c.lent one.back → c.coming ≡ b.coming → c.opened ≡ b.opened
       → HasServed told table a c (one ∷ [])
@@ -133,6 +131,17 @@ module _ {End : Type 0} (told : End → PeerTold) (table : List Row) where
     gave = gave-one a.coming b.coming c.coming one.given gave coming;
     took = took-one a.lent b.lent c.lent one.back out took;
     opened = same ∙ opened;
+  }
+
+  pub served-next : (a b c : AcceptsTold End) (one : Connection End) → IsServedBy told table one
+      → GaveFirst a.coming b.coming one.given → b.lent ≡ option_map one_out a.lent → b.opened ≡ a.opened
+      → TookBack b.lent c.lent one.back → c.coming ≡ b.coming → c.opened ≡ b.opened → b.faults ≡ a.faults
+      → c.faults ≡ b.faults → HasServedNext told table a c one.served
+  served-next a b c one is gave out opened took coming same quiet still = record {
+    connection = one;
+    served_is = refl;
+    has_served = served-one a b c one is gave out opened took coming same;
+    quiet = still ∙ quiet;
   }
 
   pub line-one : (one : Connection End) → lines_of (one ∷ []) ≡ line_of one.served

@@ -1,5 +1,6 @@
 -- What the program's account of its answer says of each status.
-use Rattle.std.proofs.Common.{◌≡◌, ◌≢◌, ℕ, ◌≤◌, ◌<◌, ◌⊎◌, inl, inr, List, [], ◌++◌, length, refl, ap, sym, subst, ◌∙◌}
+use Rattle.std.proofs.Common.{◌≡◌, ◌≢◌, false, ℕ, ◌≤◌, ◌<◌, ◌⊎◌, inl, inr, List, [], ◌++◌, length}
+use Rattle.std.proofs.Common.{refl, ap, sym, subst, ◌∙◌}
 use Rattle.std.proofs.Common.{Option, Some, None, Result, Ok, Err, arith, length-append}
 use Rattle.std.proofs.lemmas.List.{append-nil}
 use Rattle.wf_link.specs.Counts.{Rose}
@@ -9,7 +10,7 @@ use Rattle.wf_server.specs.Reading.{table_of}
 use Rattle.wf_server.specs.Serving.{Failed, PeerTold}
 use Rattle.wf_server.specs.declared.read.BadLine.{BadLine}
 use Rattle.wf_server.specs.declared.table.Row.{Row}
-use Rattle.wf_words.specs.Words.{task_of}
+use Rattle.wf_words.specs.Words.{are_texts, task_of}
 use Rattle.wf_words.specs.declared.words.Task.{Task}
 use Rattle.wf_serving.specs.Connections.{AcceptsTold}
 use Rattle.wf_serving.specs.Program.{Answers, AnswersTask, HasTable}
@@ -293,14 +294,19 @@ module _ {End : Type 0} (told : End → PeerTold) (input input' : SourceTold) (a
             (complete task bytes table tells short good verdict v);
       }
 
-      pub answers : (words : List (List ℕ)) → Verdict (task_of words) verdict
-          → Answers told words input input' accepts accepts' output output' complaints complaints' answer
-      answers words v = record {
+      pub answers : (words : List (List ℕ)) → (are_texts words ≡ false → verdict ≡ status.Usage)
+          → Verdict (task_of words) verdict → Answers told words input input' accepts accepts' output output' complaints
+          complaints' answer
+      answers words first v = record {
         is_answer = record { verdict = verdict; is_verdict = v; is_told = is_told };
         usage = λ is. usage-none (task_of words) (subst (Verdict (task_of words)) (same is (λ e. cc (is, e))) v);
         not_accepted = λ none.
             or-excused Excused Excused (λ x. inr (x.0, inr x.1)) status.Usage
             (refused (subst (λ (task : Option Task). Verdict task verdict) none v));
+        first = λ none. elim (told-answer complaints complaints' verdict answer is_told) [
+          | inl e ↦ inl (e ∙ first none)
+          | inr x ↦ inr x
+        ];
         accepted = λ task some. answers-task task (subst (λ (task : Option Task). Verdict task verdict) some v);
         read_fault = λ is. read-rose (task_of words) (subst (Verdict (task_of words)) (same is (λ e. cc (is, e))) v);
         accept_fault = λ is.

@@ -109,7 +109,8 @@ module _ {End : Type 0} (told : End → PeerTold) where
     pub took : TookPart output.taken output'.taken (lines_of connections)
     pub failed : Failed output output'
 
-  -- Memory was refused to serve the last of them, which has no line.
+  -- Memory was refused. No more connections than that were served, and the lines of them were written; one that was
+  -- refused memory has none.
   pub record RanShort (table : List Row) (count : ℕ) (old new : AcceptsTold End) (output output' : SinkTold)
       : Type 0 where
     pub connections : List (Connection End)

@@ -1,6 +1,6 @@
 -- What the program answers to its words: its verdict by the words, the bytes of the input and the connections, what it
 -- has written then, and what it tells the complaints.
-use Rattle.std.specs.Prelude.{◌≡◌, ◌≢◌, ℕ, ◌+◌, ◌≤◌, ◌<◌, ◌⊎◌, List, length, Option, Some, None, Ok, Err}
+use Rattle.std.specs.Prelude.{◌≡◌, ◌≢◌, false, ℕ, ◌+◌, ◌≤◌, ◌<◌, ◌⊎◌, List, length, Option, Some, None, Ok, Err}
 use Rattle.wf_link.specs.Accepts.{Opened}
 use Rattle.wf_link.specs.Counts.{Rose}
 use Rattle.wf_link.specs.Sinks.{SinkTold, Took, TookPart}
@@ -8,7 +8,7 @@ use Rattle.wf_link.specs.Sources.{Gave, IsAtEnd, SourceTold}
 use Rattle.wf_server.specs.Reading.{table_of}
 use Rattle.wf_server.specs.Serving.{Failed, PeerTold}
 use Rattle.wf_server.specs.declared.table.Row.{Row}
-use Rattle.wf_words.specs.Words.{task_of}
+use Rattle.wf_words.specs.Words.{are_texts, task_of}
 use Rattle.wf_words.specs.declared.words.Task.{Task}
 use Rattle.wf_serving.specs.Connections.{AcceptsTold, HasServedAll, Serves}
 use Rattle.wf_serving.specs.Statuses.{complaint}
@@ -212,6 +212,9 @@ pub record Answers {End : Type 0} (told : End → PeerTold) (words : List (List 
   pub usage : answer ≡ status.Usage → task_of words ≡ None
   pub not_accepted : task_of words ≡ None
       → (answer ≡ status.Usage) ⊎ IsExcused output output' complaints complaints' answer
+  -- a word that is empty or begins with `-` is refused first, also where memory would be refused
+  pub first : are_texts words ≡ false
+      → (answer ≡ status.Usage) ⊎ ((answer ≡ status.WriteFault) × Failed complaints complaints')
   -- what the accepted words ask for
   pub accepted : (task : Task) → task_of words ≡ Some task
       → AnswersTask told task input input' accepts accepts' output output' complaints complaints' answer

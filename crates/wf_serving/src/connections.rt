@@ -1,12 +1,13 @@
-ghost use Rattle.std.specs.Prelude.{◌≡◌};
+ghost use Rattle.std.specs.Prelude.{◌≡◌, IfOk, OnErr};
 ghost use Rattle.wf_server.specs.Serving.{peer_told};
 ghost use Rattle.wf_serving.specs.Connections.{Serves, accepts_told, sink_told};
+ghost use Rattle.wf_serving.specs.Private.Nexts.{HasNoNext, HasServedNext};
 ghost use Rattle.wf_serving.specs.Private.Notes.{IsNoted, written_status};
 
 use crate::pieces::{write_numbered, write_text};
 use crate::status::ServeStatus;
 use std::alloc::Global;
-use wf_link::{Accepts, Sink, WriteFault};
+use wf_link::{Accepts, Failed, Sink, WriteFault};
 use wf_server::{AllowTable, Served, serve};
 
 // What comes of writing a line.
@@ -35,8 +36,26 @@ fn note<K: Sink>(output: &mut K, served: Served) -> ServeStatus
     }
 }
 
-// Serves the next connection, takes its end back and writes its line.
-fn serve_next<K: Sink, A: Accepts>(
+// Serves the next connection, and takes its end back.
+fn serve_next<A: Accepts>(
+    alloc: Global,
+    table: &AllowTable,
+    accepts: &mut A,
+) -> Result<Served, Failed>
+    ensures ok { IfOk result (HasServedNext (peer_told A.End.left A.End.Source.faults A.End.taken A.End.Sink.faults
+        A.End.zeros) table.now (accepts_told A.opened A.coming A.lent A.faults accepts.old)
+        (accepts_told A.opened A.coming A.lent A.faults accepts.new)) }
+    ensures err { OnErr result (HasNoNext (accepts_told A.opened A.coming A.lent A.faults accepts.old)
+        (accepts_told A.opened A.coming A.lent A.faults accepts.new)) }
+{
+    let mut end = accepts.next()?;
+    let served = serve(alloc, table, &mut end);
+    accepts.take_back(end);
+    Ok(served)
+}
+
+// Serves the next connection, and writes its line once its end was taken back.
+fn serve_and_note<K: Sink, A: Accepts>(
     alloc: Global,
     table: &AllowTable,
     output: &mut K,
@@ -47,12 +66,10 @@ fn serve_next<K: Sink, A: Accepts>(
         (accepts_told A.opened A.coming A.lent A.faults accepts.new)
         (sink_told K.taken K.faults K.zeros output.old) (sink_told K.taken K.faults K.zeros output.new) result }
 {
-    let Ok(mut end) = accepts.next() else {
-        return ServeStatus::AcceptFault;
-    };
-    let served = serve(alloc, table, &mut end);
-    accepts.take_back(end);
-    note(output, served)
+    match serve_next(alloc, table, accepts) {
+        Ok(served) => note(output, served),
+        Err(Failed) => ServeStatus::AcceptFault,
+    }
 }
 
 // Serves so many connections, one after the other.
@@ -71,7 +88,7 @@ pub(crate) fn serve_each<K: Sink, A: Accepts>(
 {
     let mut number = 0;
     while number < count {
-        match serve_next(alloc, table, output, accepts) {
+        match serve_and_note(alloc, table, output, accepts) {
             ServeStatus::Ok => number += 1,
             status => return status,
         }

@@ -1,9 +1,10 @@
-ghost use Rattle.std.specs.Prelude.{◌≡◌, IfErr, IfOk};
+ghost use Rattle.std.specs.Prelude.{◌≡◌, false, IfErr, IfOk};
 ghost use Rattle.wf_server.specs.Serving.{peer_told};
-ghost use Rattle.wf_words.specs.Words.{task_of, texts};
+ghost use Rattle.wf_words.specs.Words.{are_texts, task_of, texts};
 ghost use Rattle.wf_serving.specs.Connections.{accepts_told, sink_told, source_told};
 ghost use Rattle.wf_serving.specs.Private.Steps.{IsRead, IsUnread};
 ghost use Rattle.wf_serving.specs.Program.{Answers, IsDone, IsServed, IsVerdict};
+ghost use Rattle.wf_serving.specs.declared.status.ServeStatus.TheVariants as status;
 
 use crate::complaint::tell;
 use crate::connections::serve_each;
@@ -57,7 +58,8 @@ fn verdict<S: Source, K: Sink, A: Accepts>(
     output: &mut K,
     accepts: &mut A,
 ) -> ServeStatus
-    ensures { IsVerdict (peer_told A.End.left A.End.Source.faults A.End.taken A.End.Sink.faults A.End.zeros)
+    ensures first { are_texts (texts words.now) ≡ false → result ≡ status.Usage }
+    ensures verdict { IsVerdict (peer_told A.End.left A.End.Source.faults A.End.taken A.End.Sink.faults A.End.zeros)
         (task_of (texts words.now))
         (source_told S.left S.faults input.old) (source_told S.left S.faults input.new)
         (accepts_told A.opened A.coming A.lent A.faults accepts.old)

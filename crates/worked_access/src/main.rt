@@ -4,7 +4,7 @@
 //     table TEXT                    the rows of the table that this text is, or its first line that is none
 //     answer TABLE REQUEST          the bytes that these bytes are answered with
 //     serve TABLE WORDS REQUEST     what serving a peer comes to that sends these bytes: `serving.rt`
-//     fetch TABLE DOCUMENT INIT     what a document at this URL sees of a server that answers by the table: `fetches.rt`
+//     fetch TABLE DOCUMENT INIT     what a document at this URL sees of a server with the table: `fetches.rt`
 //     program WORDS CALLS INPUT CONNECTION...     what a run of the program comes to: `programs.rt`
 //
 // Each is printed with what it comes to. `wf_rows`'s `row.rt` says how a text is written. Lines that begin with `#` are

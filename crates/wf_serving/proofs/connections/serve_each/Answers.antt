@@ -21,10 +21,11 @@ loop-number-preserved g c = record {
       c.args.table.now c.loop-number.number c.args.count
       (accepts_told g.A.Accepts.opened g.A.Accepts.coming g.A.Accepts.lent g.A.Accepts.faults c.args.accepts.now)
       (accepts_told g.A.Accepts.opened g.A.Accepts.coming g.A.Accepts.lent g.A.Accepts.faults c.loop-number.accepts)
-      (accepts_told g.A.Accepts.opened g.A.Accepts.coming g.A.Accepts.lent g.A.Accepts.faults c.serve_next.new.accepts)
+      (accepts_told g.A.Accepts.opened g.A.Accepts.coming g.A.Accepts.lent g.A.Accepts.faults
+      c.serve_and_note.new.accepts)
       (sink_told g.K.Sink.taken g.K.Sink.faults g.K.Sink.zeros c.args.output.now)
       (sink_told g.K.Sink.taken g.K.Sink.faults g.K.Sink.zeros c.loop-number.output)
-      (sink_told g.K.Sink.taken g.K.Sink.faults g.K.Sink.zeros c.serve_next.new.output)
+      (sink_told g.K.Sink.taken g.K.Sink.faults g.K.Sink.zeros c.serve_and_note.new.output)
       c.loop-number.invariant.served c.in-Ok.ensures;
   few = omega (arith, c.loop-number-test.true);
 }
@@ -36,8 +37,10 @@ returns-in_default g c =
     c.args.table.now c.loop-number.number c.args.count
     (accepts_told g.A.Accepts.opened g.A.Accepts.coming g.A.Accepts.lent g.A.Accepts.faults c.args.accepts.now)
     (accepts_told g.A.Accepts.opened g.A.Accepts.coming g.A.Accepts.lent g.A.Accepts.faults c.loop-number.accepts)
-    (accepts_told g.A.Accepts.opened g.A.Accepts.coming g.A.Accepts.lent g.A.Accepts.faults c.serve_next.new.accepts)
+    (accepts_told g.A.Accepts.opened g.A.Accepts.coming g.A.Accepts.lent g.A.Accepts.faults
+    c.serve_and_note.new.accepts)
     (sink_told g.K.Sink.taken g.K.Sink.faults g.K.Sink.zeros c.args.output.now)
     (sink_told g.K.Sink.taken g.K.Sink.faults g.K.Sink.zeros c.loop-number.output)
-    (sink_told g.K.Sink.taken g.K.Sink.faults g.K.Sink.zeros c.serve_next.new.output)
-    c.loop-number.invariant.served c.serve_next.result c.loop-number-test.true c.serve_next.ensures c.in_default.not-Ok
+    (sink_told g.K.Sink.taken g.K.Sink.faults g.K.Sink.zeros c.serve_and_note.new.output)
+    c.loop-number.invariant.served c.serve_and_note.result c.loop-number-test.true c.serve_and_note.ensures
+    c.in_default.not-Ok

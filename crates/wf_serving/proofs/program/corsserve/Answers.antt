@@ -17,4 +17,5 @@ returns g c =
     (sink_told g.K.Sink.taken g.K.Sink.faults g.K.Sink.zeros c.verdict-verdict.new.output)
     (sink_told g.E.Sink.taken g.E.Sink.faults g.E.Sink.zeros c.args.complaints.now)
     (sink_told g.E.Sink.taken g.E.Sink.faults g.E.Sink.zeros c.tell.new.complaints)
-    c.verdict-verdict.result c.tell.result c.tell.ensures (texts c.args.words.now) c.verdict-verdict.ensures
+    c.verdict-verdict.result c.tell.result c.tell.ensures (texts c.args.words.now)
+    c.verdict-verdict.ensures.first c.verdict-verdict.ensures.verdict
