@@ -107,7 +107,10 @@ function sendStep(event, lane, server) {
 }
 
 function callStep(event, lane, book) {
-  return { kind: "call", from: lane, to: book, label: event.text, turn: event.turn, entryLine: event.entryLine };
+  // The reply first: the words of a call may be long.
+  const words = event.text.slice(event.op.length + 1, event.text.lastIndexOf(":"));
+  return { kind: "call", from: lane, to: book, label: event.op + ": " + event.reply + " (" + words + ")", turn: event.turn,
+    entryLine: event.entryLine };
 }
 
 function violationStep(event, lane) {
@@ -165,7 +168,7 @@ function addEvent(steps, event, server) {
 function addRedirect(steps, events, told, request) {
   const target = targetOf(events.slice(told));
   steps.add({ kind: "redirect", from: steps.laneOfServer.get(request.origin), to: steps.lane,
-    label: "redirect to " + (target === null ? "a URL that is refused" : target) }, request.line, events[told].last);
+    label: "to " + (target === null ? "a URL that is refused" : target) }, request.line, events[told].last);
 }
 
 function addFetch(steps, { start, events }) {
@@ -191,9 +194,9 @@ function addFetch(steps, { start, events }) {
 
 function stepsOfDocument(document, laneOfServer, book) {
   const steps = new Steps(document, laneOfServer, book);
-  steps.mark("begin", "begins, under the key " + document.key, document.line);
+  steps.mark("begin", "under the key " + document.key, document.line);
   fetchesOf(document).forEach((fetch) => addFetch(steps, fetch));
-  steps.mark("end", document.ending === "finished" ? "ends" : "ends: " + document.ending, document.last);
+  steps.mark("end", document.ending, document.last);
   return steps.all;
 }
 
@@ -243,6 +246,26 @@ function stepsOf(play) {
   return { lanes, steps, byLine: stepsByLine(steps) };
 }
 
+// A step in words, for who hears the drawing.
+function spokenStep(step, lanes) {
+  const own = lanes[step.document].name;
+  const [from, to] = [lanes[step.from].name, lanes[step.to].name];
+  const words = {
+    begin: own + " begins ",
+    end: own + " ends: ",
+    wait: "time of " + own + ": ",
+    call: own + " calls the shared book: ",
+    preflight: own + " sends a preflight to " + to + ": ",
+    request: own + " sends a request to " + to + ": ",
+    redirect: from + " redirects " + own + " ",
+    violation: own + " violates ",
+    result: own + " gets a result from " + from + ": ",
+    refusal: own + " is refused: ",
+  }[step.kind];
+  const meaning = step.refusal === undefined ? "" : ". " + step.refusal.sentence;
+  return (words === undefined ? own + " starts " : words) + step.label + meaning;
+}
+
 if (typeof module !== "undefined") {
-  module.exports = { stepsOf };
+  module.exports = { spokenStep, stepsOf };
 }
