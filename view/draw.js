@@ -64,19 +64,21 @@ function markPart(step) {
   return shape("circle", { class: "head", cx: at, cy: MARK_AT, r: step.kind === "wait" ? 4 : 6 });
 }
 
-function drawing(step, lanes) {
-  const svg = shape("svg", { width: lanes.length * LANE, height: step.from === step.to ? MARK_ROW : ROW, "aria-hidden": "true", focusable: "false" });
-  svg.append(...(step.from === step.to ? [markPart(step)] : arrowParts(step)));
-  return svg;
-}
-
-// ---- the rows of the diagram
-
 // A mark needs less room than an arrow, and a refusal has its meaning below.
 function heightOf(step) {
   const own = step.from === step.to ? MARK_ROW : ROW;
   return step.refusal === undefined ? own : own + MEANING;
 }
+
+function drawing(step, lanes) {
+  const height = heightOf(step);
+  const svg = shape("svg", { width: lanes.length * LANE, height, "aria-hidden": "true", focusable: "false" });
+  const lines = lanes.map((lane, index) => "M " + middleOf(index) + " 0 V " + height).join(" ");
+  svg.append(shape("path", { class: "lane", d: lines }), ...(step.from === step.to ? [markPart(step)] : arrowParts(step)));
+  return svg;
+}
+
+// ---- the rows of the diagram
 
 function ruleLink(refusal) {
   const link = make("a", "rule", "the rule");
