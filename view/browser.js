@@ -21,8 +21,9 @@ class Browser {
   constructor(name) {
     this.folder = fs.mkdtempSync(path.join(os.tmpdir(), "view-"));
     const sandbox = process.getuid && process.getuid() === 0 ? ["--no-sandbox"] : [];
-    const words = ["--headless=new", "--remote-debugging-pipe", "--disable-gpu", "--no-first-run", "--disable-extensions",
-      "--disable-background-networking", "--window-size=1400,900", "--user-data-dir=" + this.folder, ...sandbox];
+    const words = ["--headless=new", "--remote-debugging-pipe", "--disable-gpu", "--no-first-run",
+      "--disable-extensions", "--disable-background-networking", "--window-size=1400,900",
+      "--user-data-dir=" + this.folder, ...sandbox];
     this.process = spawn(name, words, { stdio: ["ignore", "ignore", "ignore", "pipe", "pipe"] });
     this.gone = new Promise((resolve) => this.process.on("exit", resolve));
     this.asked = new Map();

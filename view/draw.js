@@ -15,8 +15,9 @@ const LINE = 20;
 const LONGEST = 2000;
 const MOST_LINES = 400;
 
-const KINDS = { begin: "begin", end: "end", fetch: "script", load: "element", wait: "clock", call: "book", request: "request",
-  preflight: "preflight", redirect: "redirect", violation: "violation", result: "result", refusal: "refused" };
+const KINDS = { begin: "begin", end: "end", fetch: "script", load: "element", wait: "clock", call: "book",
+  request: "request", preflight: "preflight", redirect: "redirect", violation: "violation", result: "result",
+  refusal: "refused" };
 
 function middleOf(lane) {
   return lane * LANE + LANE / 2;
@@ -39,15 +40,13 @@ function arrowParts(step) {
   const [from, to] = [middleOf(step.from), middleOf(step.to)];
   const back = from < to ? -1 : 1;
   const line = shape("path", { class: "shaft", d: "M " + from + " " + ARROW_AT + " H " + (to + 2 * back) });
-  const head = "M " + (to + 9 * back) + " " + (ARROW_AT - 5) + " L " + to + " " + ARROW_AT + " L " + (to + 9 * back) + " "
-    + (ARROW_AT + 5) + " Z";
+  const head = "M " + to + " " + ARROW_AT + " l " + 9 * back + " -5 v 10 Z";
   return [line, step.kind === "refusal" ? cross(to + 12 * back, ARROW_AT) : shape("path", { class: "head", d: head })];
 }
 
 function cross(at, height) {
-  const [left, right, top, bottom] = [at - 6, at + 6, height - 6, height + 6];
-  return shape("path", { class: "cross", d: "M " + left + " " + top + " L " + right + " " + bottom + " M " + right + " " + top
-    + " L " + left + " " + bottom });
+  const corners = [at - 6, at + 6].map((side) => "M " + side + " " + (height - 6));
+  return shape("path", { class: "cross", d: corners[0] + " l 12 12 " + corners[1] + " l -12 12" });
 }
 
 function markPart(step) {
@@ -74,7 +73,8 @@ function drawing(step, lanes) {
   const height = heightOf(step);
   const svg = shape("svg", { width: lanes.length * LANE, height, "aria-hidden": "true", focusable: "false" });
   const lines = lanes.map((lane, index) => "M " + middleOf(index) + " 0 V " + height).join(" ");
-  svg.append(shape("path", { class: "lane", d: lines }), ...(step.from === step.to ? [markPart(step)] : arrowParts(step)));
+  const parts = step.from === step.to ? [markPart(step)] : arrowParts(step);
+  svg.append(shape("path", { class: "lane", d: lines }), ...parts);
   return svg;
 }
 
@@ -250,9 +250,9 @@ function drawPlay(text) {
   window.onbeforeprint = () => page.print(true);
   window.onafterprint = () => page.print(false);
   document.onkeydown = (event) => {
-    const ways = { n: 1, p: -1 };
-    if (ways[event.key] !== undefined && page.diagram !== undefined && !event.ctrlKey && !event.metaKey && !event.altKey) {
-      page.seekRefusal(ways[event.key]);
+    const way = { n: 1, p: -1 }[event.key];
+    if (way !== undefined && page.diagram !== undefined && !event.ctrlKey && !event.metaKey && !event.altKey) {
+      page.seekRefusal(way);
     }
   };
 }
@@ -260,7 +260,8 @@ function drawPlay(text) {
 // Each byte of a file is one character, as where bin/view has put the text into the page.
 function openFile(file) {
   const reader = new FileReader();
-  reader.onload = () => drawPlay(Array.from(new Uint8Array(reader.result), (byte) => String.fromCharCode(byte)).join(""));
+  const textOf = (bytes) => Array.from(bytes, (byte) => String.fromCharCode(byte)).join("");
+  reader.onload = () => drawPlay(textOf(new Uint8Array(reader.result)));
   reader.readAsArrayBuffer(file);
 }
 

@@ -1,7 +1,7 @@
 "use strict";
 
-// What view/check asks a browser: that each play is drawn as it was counted, that keys and clicks do what they should, that
-// of a long play only what is in sight is drawn, and that hostile texts stay text.
+// What view/check asks a browser: that each play is drawn as it was counted, that keys and clicks do what they should,
+// that of a long play only what is in sight is drawn, and that hostile texts stay text.
 
 const made = require("./made.js");
 
@@ -124,7 +124,8 @@ async function checkHostile(browser, check, page, text) {
   check.compare("hostile texts: the elements", await browser.value(
     "[document.scripts.length, document.images.length, document.querySelectorAll('style, iframe').length]"), [6, 0, 1]);
   check.compare("hostile texts: complaints", browser.complaints, []);
-  await browser.value("document.body.append(Object.assign(document.createElement('script'), { text: 'window.ran = 1' }))");
+  await browser.value("document.body.append("
+    + "Object.assign(document.createElement('script'), { text: 'window.ran = 1' }))");
   check.compare("a script of another text does not run", await browser.value("window.ran === undefined"), true);
   await browser.value("document.body.innerHTML += '<img src=x onerror=\"window.ran = 1\">'");
   check.compare("nor does a handler", await browser.value("window.ran === undefined"), true);

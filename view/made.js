@@ -3,7 +3,8 @@
 // Texts that view/check makes: a long play, a play of hostile texts, and texts that are no play.
 
 function headOf(method, target, more) {
-  return ["  " + method + " " + target + " HTTP/1.1", "  Host: api.test", "  Accept: */*", ...more, "  Connection: close"];
+  const first = "  " + method + " " + target + " HTTP/1.1";
+  return [first, "  Host: api.test", "  Accept: */*", ...more, "  Connection: close"];
 }
 
 // One PUT with its preflight, at a second of its own.
@@ -12,10 +13,11 @@ function putLines(number) {
   const url = "http://api.test/" + number;
   const asked = "covers " + asker + " PUT () " + url + " at " + number + ": no";
   const learnt = "learn " + asker + " 5 PUT () " + url + " at " + number + ": done";
+  const result = number % 7 === 0 ? ["result error 12 CorsCheck"] : ["result cors 200 " + url, "  body whole 2: ok"];
   const lines = ["fetch " + number, "call " + asked, "send http://api.test",
-    ...headOf("OPTIONS", "/" + number, ["  Access-Control-Request-Method: PUT"]), "call " + learnt, "send http://api.test",
-    ...headOf("PUT", "/" + number, []), number % 7 === 0 ? "result error 12 CorsCheck" : "result cors 200 " + url];
-  return { lines: number % 7 === 0 ? lines : [...lines, "  body whole 2: ok"], calls: [asked, learnt] };
+    ...headOf("OPTIONS", "/" + number, ["  Access-Control-Request-Method: PUT"]), "call " + learnt,
+    "send http://api.test", ...headOf("PUT", "/" + number, []), ...result];
+  return { lines, calls: [asked, learnt] };
 }
 
 // A play of one document with at least so many lines.
@@ -42,7 +44,8 @@ function hostilePlay() {
   const url = "http://api.test/?'</script><script>window.ran=1</script>\\u003c";
   const lines = ["fetchplay 1", "document 0 http://page.test", "fetch 0", "violation 0 report connect-src " + url,
     "send http://api.test", ...headOf("POST", "/?'</script><!--", headers), "  body " + length + ": " + body,
-    "result cors 200 " + url, ...headers, "  body whole " + length + ": " + body, "end finished", "history", "done", ""];
+    "result cors 200 " + url, ...headers, "  body whole " + length + ": " + body, "end finished", "history", "done",
+    ""];
   return lines.join("\n");
 }
 

@@ -1,7 +1,7 @@
 "use strict";
 
-// Reads the printed text of a play by the grammar of docs/rules/printed-text.md. Each value has `line`, the number of its
-// first line, counted from 1, and `last`, that of its last. What is no play is refused with its first bad line.
+// Reads the printed text of a play by the grammar of docs/rules/printed-text.md. Each value has `line`, the number of
+// its first line, counted from 1. What is no play is refused with a sentence and the line where it goes wrong.
 
 const refusals = typeof module === "undefined" ? { networkErrors, requestFaults } : require("./errors.js");
 
@@ -123,7 +123,7 @@ function isEscaped(text) {
 
 function checkEscaped(text, line) {
   if (!isEscaped(text)) {
-    throw new PlayError(line, "the text is not escaped: a byte other than printable ASCII, or \\, is \\x and two digits");
+    throw new PlayError(line, "the text is not escaped: any byte but printable ASCII without \\ is \\x and two digits");
   }
   return text;
 }
@@ -232,7 +232,8 @@ function readFault(lines, line, words) {
   if (of === "load" && refusal.number !== 1) {
     throw new PlayError(line, "a load has no other fault than 1 BadUrl");
   }
-  return { kind: "result", result: "fault", of, ...refusal, index: words[4] === undefined ? null : Number(words[4]), line };
+  const index = words[4] === undefined ? null : Number(words[4]);
+  return { kind: "result", result: "fault", of, ...refusal, index, line };
 }
 
 function readViolation(lines, line, words) {
@@ -286,7 +287,7 @@ function readEvents(lines, start, events) {
     events.push(event);
     if (event.kind === "result") {
       if (event.of !== start.kind) {
-        throw new PlayError(event.line, "this is the result of a " + event.of + ", and a " + start.kind + " was started");
+        throw new PlayError(event.line, "this is a result of a " + event.of + ", and a " + start.kind + " was started");
       }
       return;
     }
@@ -324,8 +325,8 @@ function readEntry(lines, turn, documents) {
   return { turn, document: Number(words[2]), ...readCall(words[3], line), last: line };
 }
 
-// The calls of a document and its entries are the same, in the same order: each gets the other's place. `calls` are those
-// without an entry yet, the last first.
+// The calls of a document and its entries are the same, in the same order: each gets the other's place. `calls` are
+// those without an entry yet, the last first.
 function link(entry, calls) {
   const call = calls.pop();
   if (call === undefined || call.text !== entry.text) {

@@ -17,8 +17,8 @@ function make(name, className, text) {
   return element;
 }
 
-// `section` has the list; `heights` has a number for each row; `fill(row, index)` gives a row its content, a button among
-// it; `choose(index)` is called for a row that is clicked.
+// `section` has the list, and `heights` a number for each row; `fill(row, index)` gives a row its content, with a
+// button; `choose(index)` is called for a row that is clicked.
 class Rows {
   constructor({ section, heights, fill, choose }) {
     this.scroll = section.querySelector(".scroll");

@@ -8,7 +8,9 @@ const tables = typeof module === "undefined" ? { networkErrors, requestFaults } 
 // ---- lanes: the documents, the book, and each server in the order in which it is first asked
 
 function lanesOf(play) {
-  const documents = play.documents.map(({ number, key }) => ({ kind: "document", name: "document " + number, detail: key }));
+  const documents = play.documents.map(({ number, key }) => {
+    return { kind: "document", name: "document " + number, detail: key };
+  });
   const origins = new Set();
   play.documents.forEach((document) => {
     document.events.filter((event) => event.kind === "send").forEach((event) => origins.add(event.origin));
@@ -47,8 +49,8 @@ function targetOf(events) {
   return next.kind === "send" ? next.origin + next.target : next.url;
 }
 
-// The redirect that was followed after the request at this index of a fetch: the index of the event that it comes before,
-// and that of the first event which tells it. Null where none was followed.
+// The redirect that was followed after the request at this index of a fetch: the index of the event that it comes
+// before, and that of the first event which tells it. Null where none was followed.
 function redirectAfter(events, index) {
   const told = events.findIndex((event, other) => other > index && (tellsRedirect(event) || event.kind === "result"));
   if (told < 0 || !tellsRedirect(events[told])) {
@@ -109,8 +111,8 @@ function sendStep(event, lane, server) {
 function callStep(event, lane, book) {
   // The reply first: the words of a call may be long.
   const words = event.text.slice(event.op.length + 1, event.text.lastIndexOf(":"));
-  return { kind: "call", from: lane, to: book, label: event.op + ": " + event.reply + " (" + words + ")", turn: event.turn,
-    entryLine: event.entryLine };
+  const label = event.op + ": " + event.reply + " (" + words + ")";
+  return { kind: "call", from: lane, to: book, label, turn: event.turn, entryLine: event.entryLine };
 }
 
 function violationStep(event, lane) {
@@ -173,8 +175,8 @@ function addRedirect(steps, events, told, request) {
 
 function addFetch(steps, { start, events }) {
   addTime(steps, events);
-  steps.mark(start.kind, start.kind === "fetch" ? "fetch " + start.number : "load " + start.number + ", " + start.destination,
-    start.line);
+  const kindOfLoad = start.kind === "load" ? ", " + start.destination : "";
+  steps.mark(start.kind, start.kind + " " + start.number + kindOfLoad, start.line);
   let server = steps.lane;
   let pending = null;
   events.forEach((event, index) => {
@@ -222,7 +224,7 @@ function weave(all, history) {
   return woven;
 }
 
-// For each line of the text the index of its step, or undefined. A redirect and a wait are told by lines of other steps.
+// For each line of the text the index of its step, or undefined. Lines of other steps tell a redirect and a wait.
 function stepsByLine(steps) {
   const byLine = [];
   steps.forEach((step, index) => {
