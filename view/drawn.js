@@ -116,6 +116,19 @@ async function checkLong(browser, check, page, steps) {
   check.compare("the long play: few rows after", await browser.value(rows) < 300, true);
 }
 
+// The mark that has the focus is in sight, also in the last of 128 lanes.
+async function checkWide(browser, check, page) {
+  await browser.open(page);
+  await browser.value("document.querySelector('#diagram button').focus()");
+  await browser.press("End", 35);
+  const inSight = await browser.value(`(() => {
+    const [mark, view] = [document.activeElement, document.querySelector("#diagram .scroll")]
+      .map((part) => part.getBoundingClientRect());
+    return mark.left >= view.left && mark.left < view.right && mark.top >= view.top && mark.bottom <= view.bottom;
+  })()`);
+  check.compare("the wide play: the last mark is in sight", inSight, true);
+}
+
 async function checkHostile(browser, check, page, text) {
   await browser.open(page);
   check.compare("hostile texts: nothing ran", await browser.value("window.ran === undefined"), true);
@@ -138,4 +151,6 @@ async function checkNoPlay(browser, check, page) {
   check.compare("no play: its line", await browser.value(MARKED), [5]);
 }
 
-module.exports = { checkClicks, checkDrawn, checkHostile, checkKeys, checkLong, checkNoPlay, checkTree, countedOf };
+module.exports = {
+  checkClicks, checkDrawn, checkHostile, checkKeys, checkLong, checkNoPlay, checkTree, checkWide, countedOf,
+};

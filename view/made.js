@@ -33,6 +33,14 @@ function longPlay(least) {
   return [...lines, "end finished", "history", ...history, "done", ""].join("\n");
 }
 
+// A play of many documents that do nothing.
+function widePlay(documents) {
+  const parts = Array.from({ length: documents }, (nothing, number) => {
+    return "document " + number + " http://d" + number + ".test\nend finished\n";
+  });
+  return "fetchplay 1\n" + parts.join("") + "history\ndone\n";
+}
+
 // What would end a script, begin a comment, or be run, if a page took it for more than text.
 const HOSTILE = ["</script><script>window.ran=1</script>", "<!--<script>", "-->", "\"'`${window.ran=1}",
   "<img src=x onerror=window.ran=1>", "]]></style><svg onload=window.ran=1>", "&lt;/script&gt; &#60; \\x5cu003c"];
@@ -91,4 +99,4 @@ function refusedTexts(good) {
   ];
 }
 
-module.exports = { HOSTILE, hostilePlay, longPlay, refusedTexts };
+module.exports = { hostilePlay, longPlay, refusedTexts, widePlay };

@@ -148,6 +148,16 @@ class Rows {
       this.scroll.scrollTop = Math.max(0, top - covered - this.scroll.clientHeight / 3);
     }
     this.draw();
+    this.revealSideways(index);
+  }
+
+  // A diagram of many lanes is wide.
+  revealSideways(index) {
+    const left = this.shown.get(index).querySelector("button").getBoundingClientRect().left;
+    const view = this.scroll.getBoundingClientRect().left;
+    if (left < view || left > view + this.scroll.clientWidth * 0.7) {
+      this.scroll.scrollLeft += left - view - this.scroll.clientWidth / 3;
+    }
   }
 
   // All rows, for paper; and those in sight again.
