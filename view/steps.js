@@ -150,7 +150,8 @@ function addTime(steps, events) {
   if (call === undefined || call.at === steps.time) {
     return;
   }
-  const passed = steps.time === null ? "" : ", " + (call.at - steps.time) + " seconds later";
+  const seconds = call.at - steps.time;
+  const passed = steps.time === null ? "" : ", " + seconds + (seconds === 1 ? " second later" : " seconds later");
   if (steps.time !== null || call.at !== 0) {
     steps.mark("wait", "at " + call.at + passed, call.line);
   }
