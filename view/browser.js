@@ -76,8 +76,12 @@ class Browser {
 
   async open(page) {
     this.complaints = [];
-    const loaded = new Promise((resolve) => {
-      this.loaded = resolve;
+    const loaded = new Promise((resolve, reject) => {
+      const late = setTimeout(() => reject(new Error(page + " was not loaded")), PATIENCE);
+      this.loaded = () => {
+        clearTimeout(late);
+        resolve();
+      };
     });
     await this.ask("Page.navigate", { url: "file://" + page });
     await loaded;

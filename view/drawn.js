@@ -151,6 +151,22 @@ async function checkNoPlay(browser, check, page) {
   check.compare("no play: its line", await browser.value(MARKED), [5]);
 }
 
+// The page without a play opens a file.
+async function checkOpening(browser, check, page, play) {
+  await browser.open(page);
+  check.compare("the page without a play: complaints", browser.complaints, []);
+  const { root } = await browser.ask("DOM.getDocument");
+  const { nodeId } = await browser.ask("DOM.querySelector", { nodeId: root.nodeId, selector: "#file" });
+  await browser.ask("DOM.setFileInputFiles", { nodeId, files: [play] });
+  const drawn = await browser.value(`new Promise((done) => {
+    const look = (left) => (document.querySelectorAll("#diagram .row").length > 0 || left === 0
+      ? done(document.querySelectorAll("#diagram .row").length) : setTimeout(look, 20, left - 1));
+    look(100);
+  })`);
+  check.compare("the page without a play: the marks of the file", drawn, SAID.length);
+}
+
 module.exports = {
-  checkClicks, checkDrawn, checkHostile, checkKeys, checkLong, checkNoPlay, checkTree, checkWide, countedOf,
+  checkClicks, checkDrawn, checkHostile, checkKeys, checkLong, checkNoPlay, checkOpening, checkTree, checkWide,
+  countedOf,
 };
