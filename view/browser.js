@@ -1,0 +1,111 @@
+"use strict";
+
+// A headless Chromium, driven by its DevTools protocol over a pipe: messages are JSON, and end in a zero byte.
+
+const fs = require("fs");
+const os = require("os");
+const path = require("path");
+const { spawn, spawnSync } = require("child_process");
+
+const NAMES = ["chromium", "chromium-browser", "google-chrome"];
+const PATIENCE = 20000; // milliseconds
+
+// The name of a Chromium that is there, or null.
+function findBrowser() {
+  const named = process.env.CHROMIUM ? [process.env.CHROMIUM] : NAMES;
+  const found = named.find((name) => spawnSync(name, ["--version"], { stdio: "ignore" }).status === 0);
+  return found === undefined ? null : found;
+}
+
+class Browser {
+  constructor(name) {
+    this.folder = fs.mkdtempSync(path.join(os.tmpdir(), "view-"));
+    const sandbox = process.getuid && process.getuid() === 0 ? ["--no-sandbox"] : [];
+    const words = ["--headless=new", "--remote-debugging-pipe", "--disable-gpu", "--no-first-run",
+      "--disable-extensions", "--disable-background-networking", "--window-size=1400,900",
+      "--user-data-dir=" + this.folder, ...sandbox];
+    this.process = spawn(name, words, { stdio: ["ignore", "ignore", "ignore", "pipe", "pipe"] });
+    this.gone = new Promise((resolve) => this.process.on("exit", resolve));
+    this.asked = new Map();
+    this.count = 0;
+    this.complaints = [];
+    this.loaded = () => {};
+    this.rest = Buffer.alloc(0);
+    this.process.stdio[3].on("error", () => {});
+    this.process.stdio[4].on("data", (bytes) => this.take(bytes));
+  }
+
+  take(bytes) {
+    this.rest = Buffer.concat([this.rest, bytes]);
+    for (let end = this.rest.indexOf(0); end >= 0; end = this.rest.indexOf(0)) {
+      this.hear(JSON.parse(this.rest.subarray(0, end).toString("utf8")));
+      this.rest = this.rest.subarray(end + 1);
+    }
+  }
+
+  hear(message) {
+    if (message.id !== undefined) {
+      this.asked.get(message.id)(message);
+      this.asked.delete(message.id);
+    } else if (message.method === "Page.loadEventFired") {
+      this.loaded();
+    } else if (["Runtime.exceptionThrown", "Runtime.consoleAPICalled", "Log.entryAdded"].includes(message.method)) {
+      this.complaints.push(JSON.stringify(message.params).slice(0, 400));
+    }
+  }
+
+  ask(method, params = {}) {
+    this.count += 1;
+    const id = this.count;
+    return new Promise((resolve, reject) => {
+      const late = setTimeout(() => reject(new Error(method + " was not answered")), PATIENCE);
+      this.asked.set(id, (message) => {
+        clearTimeout(late);
+        return message.error ? reject(new Error(method + ": " + message.error.message)) : resolve(message.result);
+      });
+      this.process.stdio[3].write(JSON.stringify({ id, method, params, sessionId: this.session }) + "\0");
+    });
+  }
+
+  async start() {
+    const { targetId } = await this.ask("Target.createTarget", { url: "about:blank" });
+    const { sessionId } = await this.ask("Target.attachToTarget", { targetId, flatten: true });
+    this.session = sessionId;
+    await Promise.all(["Page.enable", "Runtime.enable", "Log.enable"].map((method) => this.ask(method)));
+  }
+
+  async open(page) {
+    this.complaints = [];
+    const loaded = new Promise((resolve, reject) => {
+      const late = setTimeout(() => reject(new Error(page + " was not loaded")), PATIENCE);
+      this.loaded = () => {
+        clearTimeout(late);
+        resolve();
+      };
+    });
+    await this.ask("Page.navigate", { url: "file://" + page });
+    await loaded;
+  }
+
+  // The value of an expression in the page.
+  async value(expression) {
+    const { result, exceptionDetails } = await this.ask("Runtime.evaluate", { expression, returnByValue: true,
+      awaitPromise: true });
+    return exceptionDetails === undefined ? result.value : "thrown: " + JSON.stringify(exceptionDetails).slice(0, 300);
+  }
+
+  async press(key, code, text) {
+    const known = { key, windowsVirtualKeyCode: code, ...(text === undefined ? {} : { text }) };
+    await this.ask("Input.dispatchKeyEvent", { type: "keyDown", ...known });
+    await this.ask("Input.dispatchKeyEvent", { type: "keyUp", key, windowsVirtualKeyCode: code });
+  }
+
+  async close() {
+    this.session = undefined;
+    await this.ask("Browser.close").catch(() => this.process.kill());
+    await this.gone;
+    fs.rmSync(this.folder, { recursive: true, force: true, maxRetries: 5 });
+  }
+}
+
+module.exports = { Browser, findBrowser };

@@ -1,0 +1,274 @@
+"use strict";
+
+// From a play that was read to the lanes and the steps that are drawn. A step is one arrow or mark: its kind, the lanes
+// from and to, its label, the lines of the text that it stands for, and its refusal where it is one. No DOM here.
+
+const tables = typeof module === "undefined" ? { networkErrors, requestFaults } : require("./errors.js");
+
+// ---- lanes: the documents, the book, and each server in the order in which it is first asked
+
+function lanesOf(play) {
+  const documents = play.documents.map(({ number, key }) => {
+    return { kind: "document", name: "document " + number, detail: key };
+  });
+  const origins = new Set();
+  play.documents.forEach((document) => {
+    document.events.filter((event) => event.kind === "send").forEach((event) => origins.add(event.origin));
+  });
+  const servers = [...origins].map((origin) => ({ kind: "server", name: origin, detail: "server" }));
+  return [...documents, { kind: "book", name: "shared book", detail: "preflight cache, known hosts" }, ...servers];
+}
+
+// ---- what the events of one fetch or load tell together
+
+function isPreflight(event) {
+  return event.kind === "send" && event.method === "OPTIONS"
+    && event.headers.some((header) => header.name === "Access-Control-Request-Method");
+}
+
+function isRequest(event) {
+  return event.kind === "send" && !isPreflight(event);
+}
+
+// No line tells that a redirect was followed. After a request these tell it: the fetch asks the book about a URL, sends
+// again, or is refused before anything was sent to the URL.
+function tellsRedirect(event) {
+  if (event.kind === "result") {
+    return event.result === "error" && event.number <= 6;
+  }
+  return event.kind === "send" || (event.kind === "call" && (event.op === "match" || event.op === "covers"));
+}
+
+// Where a redirect leads, by what comes after it; null where no line says it.
+function targetOf(events) {
+  const next = events.find((event) => event.kind === "send" || event.op === "covers" || event.kind === "result");
+  if (next === undefined || next.kind === "result") {
+    const asked = events.find((event) => event.op === "match");
+    return asked === undefined ? null : asked.host;
+  }
+  return next.kind === "send" ? next.origin + next.target : next.url;
+}
+
+// The redirect that was followed after the request at this index of a fetch: the index of the event that it comes
+// before, and that of the first event which tells it. Null where none was followed.
+function redirectAfter(events, index) {
+  const told = events.findIndex((event, other) => other > index && (tellsRedirect(event) || event.kind === "result"));
+  if (told < 0 || !tellsRedirect(events[told])) {
+    return null;
+  }
+  const notes = events[index + 1].op === "note" ? 1 : 0;
+  return { before: index + 1 + notes, told };
+}
+
+// The fetches and loads of a document: each with its start, and the events up to its result.
+function fetchesOf(document) {
+  const fetches = [];
+  document.events.forEach((event) => {
+    if (event.kind === "fetch" || event.kind === "load") {
+      fetches.push({ start: event, events: [] });
+    } else {
+      fetches[fetches.length - 1].events.push(event);
+    }
+  });
+  return fetches;
+}
+
+// ---- the step of one event
+
+function bodyText(body) {
+  return { none: "no body", whole: body.length + " bytes", cut: "body cut after " + body.length + " bytes",
+    fault: "link failed after " + body.length + " bytes", toobig: "body too big" }[body.end];
+}
+
+function refusalOf(event) {
+  const table = event.result === "error" ? tables.networkErrors : tables.requestFaults;
+  const { number, name, sentence, rule } = table.get(event.number);
+  const detail = event.header || (event.index === null || event.index === undefined ? "" : String(event.index));
+  return { number, name, detail, sentence, rule, fault: event.result === "fault" };
+}
+
+function resultStep(event, lane, server) {
+  if (event.result === "loaded") {
+    return { kind: "result", from: server, to: lane, label: "loaded" };
+  }
+  if (event.result === "response") {
+    const text = event.type + " " + event.status + (event.url === null ? "" : " " + event.url);
+    return { kind: "result", from: server, to: lane, label: text + ", " + bodyText(event.body) };
+  }
+  const refusal = refusalOf(event);
+  const label = [refusal.number, refusal.name, refusal.detail].join(" ").trim();
+  // With 1 to 6 nothing was sent to the URL that is refused, so no server answered.
+  const answered = event.result === "error" && event.number > 6;
+  return { kind: "refusal", from: answered ? server : lane, to: lane, label, refusal };
+}
+
+function sendStep(event, lane, server) {
+  const kind = isPreflight(event) ? "preflight" : "request";
+  const body = event.body === null ? "" : ", " + event.body.length + " bytes";
+  return { kind, from: lane, to: server, label: event.method + " " + event.target + body };
+}
+
+function callStep(event, lane, book) {
+  // The reply first: the words of a call may be long.
+  const words = event.text.slice(event.op.length + 1, event.text.lastIndexOf(":"));
+  const label = event.op + ": " + event.reply + " (" + words + ")";
+  return { kind: "call", from: lane, to: book, label, turn: event.turn, entryLine: event.entryLine };
+}
+
+function violationStep(event, lane) {
+  const manner = event.enforced ? "enforced" : "report only";
+  return { kind: "violation", from: lane, to: lane, enforced: event.enforced,
+    label: "policy " + event.policy + ", " + manner + ": " + event.directive + " " + event.url };
+}
+
+// ---- the steps of one document, in the order of its text
+
+// Gathers steps, and counts the calls of the book before each: the documents are woven by that.
+class Steps {
+  constructor(document, laneOfServer, book) {
+    this.lane = document.number;
+    this.laneOfServer = laneOfServer;
+    this.book = book;
+    this.calls = 0;
+    this.time = null;
+    this.all = [];
+  }
+
+  add(step, line, last) {
+    this.calls += step.kind === "call" ? 1 : 0;
+    this.all.push({ ...step, document: this.lane, line, last, calls: this.calls });
+  }
+
+  mark(kind, label, line) {
+    this.add({ kind, from: this.lane, to: this.lane, label }, line, line);
+  }
+}
+
+// The clock is told by calls alone, and stands still during a fetch.
+function addTime(steps, events) {
+  const call = events.find((event) => event.kind === "call");
+  if (call === undefined || call.at === steps.time) {
+    return;
+  }
+  const seconds = call.at - steps.time;
+  const passed = steps.time === null ? "" : ", " + seconds + (seconds === 1 ? " second later" : " seconds later");
+  if (steps.time !== null || call.at !== 0) {
+    steps.mark("wait", "at " + call.at + passed, call.line);
+  }
+  steps.time = call.at;
+}
+
+function addEvent(steps, event, server) {
+  const step = {
+    call: () => callStep(event, steps.lane, steps.book),
+    send: () => sendStep(event, steps.lane, steps.laneOfServer.get(event.origin)),
+    violation: () => violationStep(event, steps.lane),
+    result: () => resultStep(event, steps.lane, server),
+  }[event.kind]();
+  steps.add(step, event.line, event.last);
+}
+
+function addRedirect(steps, events, told, request) {
+  const target = targetOf(events.slice(told));
+  steps.add({ kind: "redirect", from: steps.laneOfServer.get(request.origin), to: steps.lane,
+    label: "to " + (target === null ? "a URL that is refused" : target) }, request.line, events[told].last);
+}
+
+function addFetch(steps, { start, events }) {
+  addTime(steps, events);
+  const kindOfLoad = start.kind === "load" ? ", " + start.destination : "";
+  steps.mark(start.kind, start.kind + " " + start.number + kindOfLoad, start.line);
+  let server = steps.lane;
+  let pending = null;
+  events.forEach((event, index) => {
+    if (pending !== null && pending.before === index) {
+      addRedirect(steps, events, pending.told, pending.request);
+    }
+    addEvent(steps, event, server);
+    if (event.kind === "send") {
+      server = steps.laneOfServer.get(event.origin);
+    }
+    if (isRequest(event)) {
+      const redirect = redirectAfter(events, index);
+      pending = redirect === null ? null : { ...redirect, request: event };
+    }
+  });
+}
+
+function stepsOfDocument(document, laneOfServer, book) {
+  const steps = new Steps(document, laneOfServer, book);
+  steps.mark("begin", "under the key " + document.key, document.line);
+  fetchesOf(document).forEach((fetch) => addFetch(steps, fetch));
+  steps.mark("end", document.ending, document.last);
+  return steps.all;
+}
+
+// ---- all documents: by the turns of the history
+
+// Takes from the end of `rest`, which has a document's steps from the last to the first, those up to its next call.
+function takeUntilCall(rest, calls, woven) {
+  while (rest.length > 0 && rest[rest.length - 1].calls <= calls) {
+    woven.push(rest.pop());
+  }
+}
+
+// What a document does before its first call comes first, and then each call with what its document does after it.
+function weave(all, history) {
+  const rests = all.map((steps) => [...steps].reverse());
+  const calls = all.map(() => 0);
+  const woven = [];
+  rests.forEach((rest) => takeUntilCall(rest, 0, woven));
+  history.forEach(({ document }) => {
+    calls[document] += 1;
+    takeUntilCall(rests[document], calls[document], woven);
+  });
+  return woven;
+}
+
+// For each line of the text the index of its step, or undefined. Lines of other steps tell a redirect and a wait.
+function stepsByLine(steps) {
+  const byLine = [];
+  steps.forEach((step, index) => {
+    const own = step.kind === "redirect" || step.kind === "wait" ? 0 : step.last - step.line + 1;
+    byLine.length = Math.max(byLine.length, step.line + own);
+    byLine.fill(index, step.line, step.line + own);
+    if (step.entryLine !== undefined) {
+      byLine[step.entryLine] = index;
+    }
+  });
+  return byLine;
+}
+
+function stepsOf(play) {
+  const lanes = lanesOf(play);
+  const laneOfServer = new Map();
+  lanes.forEach((lane, index) => lane.kind === "server" && laneOfServer.set(lane.name, index));
+  const book = play.documents.length;
+  const all = play.documents.map((document) => stepsOfDocument(document, laneOfServer, book));
+  const steps = weave(all, play.history);
+  return { lanes, steps, byLine: stepsByLine(steps) };
+}
+
+// A step in words, for who hears the drawing.
+function spokenStep(step, lanes) {
+  const own = lanes[step.document].name;
+  const [from, to] = [lanes[step.from].name, lanes[step.to].name];
+  const words = {
+    begin: own + " begins ",
+    end: own + " ends: ",
+    wait: "time of " + own + ": ",
+    call: own + " calls the shared book: ",
+    preflight: own + " sends a preflight to " + to + ": ",
+    request: own + " sends a request to " + to + ": ",
+    redirect: from + " redirects " + own + " ",
+    violation: own + " violates ",
+    result: own + " gets a result from " + from + ": ",
+    refusal: own + " is refused: ",
+  }[step.kind];
+  const meaning = step.refusal === undefined ? "" : ". " + step.refusal.sentence;
+  return (words === undefined ? own + " starts " : words) + step.label + meaning;
+}
+
+if (typeof module !== "undefined") {
+  module.exports = { spokenStep, stepsOf };
+}
