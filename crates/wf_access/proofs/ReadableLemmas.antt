@@ -6,13 +6,14 @@ use Rattle.std.proofs.lemmas.List.Elements.{All-from_recursion}
 use Rattle.std.specs.List.{AllByRecursion, list_all}
 use Rattle.httparse.proofs.GrammarLemmas.{print_request-append}
 use Rattle.httparse.proofs.PieceLemmas.{print_field-append}
-use Rattle.httparse.specs.Grammar.{crlf, Field, IsField, is_uri_byte, is_value_byte, LineEnd, print_end, print_field}
+use Rattle.httparse.specs.Grammar.{crlf, Field, IsField, is_uri_byte, is_value_byte}
 use Rattle.httparse.specs.Grammar.{print_request, print_section, print_version, RequestHead}
 use Rattle.wf_text.specs.Tokens.{is_token}
 use Rattle.wf_headers.specs.declared.headers.Header.{Header}
 use Rattle.wf_types.specs.declared.hop.Hop.{Hop}
 use Rattle.wf_http1.specs.RequestHeads.{BeginsRequest, asked_of}
 use Rattle.wf_http1.specs.Requests.{header_line, request_bytes}
+use Rattle.wf_heard.proofs.HopLemmas.{field-first, line-first}
 use Rattle.wf_heard.proofs.TextLemmas.{passes, token}
 use Rattle.wf_access.specs.Access.{PlainHopsAreReadable}
 
@@ -33,22 +34,6 @@ head_of hop = record {
 }
 
 -- ---- its bytes
-
--- the first header line, and what follows it
-line-first : (one : Header) (more : List Header) (text : List ℕ) → flat_map header_line (one ∷ more) ++ text
-    ≡ one.name ++ 58 ∷ 32 ∷ (one.value ++ 13 ∷ 10 ∷ (flat_map header_line more ++ text))
-line-first one more text =
-    let rest : List ℕ = flat_map header_line more ++ text in
-    append_assoc (header_line one) (flat_map header_line more) text
-    ∙ append_assoc one.name (58 ∷ 32 ∷ (one.value ++ 13 ∷ 10 ∷ [])) rest
-    ∙ ap (λ (l : List ℕ). one.name ++ 58 ∷ 32 ∷ l) (append_assoc one.value (13 ∷ 10 ∷ []) rest)
-
--- the first field of a section, and what follows it
-field-first : (field : Field) (fields : List Field) (last : LineEnd) (rest : List ℕ)
-    → print_section (field ∷ fields) last ++ rest ≡ print_field field ++ (print_section fields last ++ rest)
-field-first field fields last rest =
-    ap (λ (l : List ℕ). l ++ rest) (append_assoc (print_field field) (flat_map print_field fields) (print_end last))
-    ∙ append_assoc (print_field field) (print_section fields last) rest
 
 section-same : (headers : List Header) (body : List ℕ)
     → flat_map header_line headers ++ 13 ∷ 10 ∷ body ≡ print_section (map field_of headers) crlf ++ body

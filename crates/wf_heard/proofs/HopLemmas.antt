@@ -26,7 +26,7 @@ use Rattle.wf_heard.proofs.TextLemmas.{passes, raw-line, token, uri-lacks_space}
 -- ---- the header lines
 
 -- the first header line, and what follows it
-line-first : (one : Header) (more : List Header) (text : List ℕ) → flat_map header_line (one ∷ more) ++ text
+pub line-first : (one : Header) (more : List Header) (text : List ℕ) → flat_map header_line (one ∷ more) ++ text
     ≡ one.name ++ 58 ∷ 32 ∷ (one.value ++ 13 ∷ 10 ∷ (flat_map header_line more ++ text))
 line-first one more text =
     let rest : List ℕ = flat_map header_line more ++ text in
@@ -35,7 +35,7 @@ line-first one more text =
     ∙ ap (λ (l : List ℕ). one.name ++ 58 ∷ 32 ∷ l) (append_assoc one.value (13 ∷ 10 ∷ []) rest)
 
 -- the first field of a section, and what follows it
-field-first : (field : Field) (fields : List Field) (last : LineEnd) (rest : List ℕ)
+pub field-first : (field : Field) (fields : List Field) (last : LineEnd) (rest : List ℕ)
     → print_section (field ∷ fields) last ++ rest ≡ print_field field ++ (print_section fields last ++ rest)
 field-first field fields last rest =
     ap (λ (l : List ℕ). l ++ rest) (append_assoc (print_field field) (flat_map print_field fields) (print_end last))
