@@ -1,7 +1,7 @@
 "use strict";
 
 // Draws a play: the diagram, the text and the history, each a list of rows, and the mark that is chosen. What comes of
-// the play becomes text alone: nothing here reads markup.
+// the play becomes text alone: nothing here reads markup. `docs` is the address of docs/, for links to rules.
 
 const SVG = "http://www.w3.org/2000/svg";
 const LANE = 170;
@@ -80,14 +80,14 @@ function drawing(step, lanes) {
 
 // ---- the rows of the diagram
 
-function ruleLink(refusal) {
+function ruleLink(refusal, docs) {
   const link = make("a", "rule", "the rule");
-  link.href = viewedPlay.docs + refusal.rule;
+  link.href = docs + refusal.rule;
   link.setAttribute("aria-label", "the rule of " + refusal.number + " " + refusal.name);
   return link;
 }
 
-function fillStep(row, step, lanes) {
+function fillStep(row, step, lanes, docs) {
   const left = Math.min(middleOf(step.from), middleOf(step.to)) + (step.from === step.to ? 18 : 8) + "px";
   row.dataset.kind = step.kind;
   row.classList.toggle("enforced", step.enforced === true);
@@ -102,7 +102,7 @@ function fillStep(row, step, lanes) {
   if (step.refusal !== undefined) {
     const meaning = make("p", "meaning", step.refusal.sentence + " ");
     meaning.style.marginLeft = left;
-    meaning.append(ruleLink(step.refusal));
+    meaning.append(ruleLink(step.refusal, docs));
     row.append(meaning);
   }
 }
@@ -137,11 +137,11 @@ function widen(section, texts) {
 
 // ---- the chosen mark
 
-function detailsOf(step, lanes, lines) {
+function detailsOf(step, lanes, lines, docs) {
   const parts = [make("p", "spoken", shortened(spokenStep(step, lanes)))];
   if (step.refusal !== undefined) {
     const link = make("p", "");
-    link.append(ruleLink(step.refusal));
+    link.append(ruleLink(step.refusal, docs));
     parts.push(link);
   }
   const last = Math.min(step.last, step.line + MOST_LINES - 1);
@@ -154,7 +154,8 @@ function detailsOf(step, lanes, lines) {
 // ---- the page
 
 class Page {
-  constructor(text) {
+  constructor(text, docs) {
+    this.docs = docs;
     this.lines = text.split("\n");
     if (this.lines[this.lines.length - 1] === "") {
       this.lines.pop();
@@ -174,7 +175,7 @@ class Page {
     fillLanes(this.lanes);
     this.diagram = new Rows({ section: document.getElementById("diagram"),
       heights: this.steps.map(heightOf),
-      fill: (row, index) => fillStep(row, this.steps[index], this.lanes), choose: (index) => this.choose(index) });
+      fill: (row, index) => fillStep(row, this.steps[index], this.lanes, this.docs), choose: (index) => this.choose(index) });
     this.firstEntry = play.history.length === 0 ? 0 : play.history[0].line;
     const entries = play.history.map((entry) => this.lines[entry.line - 1]);
     this.history = this.rowsOf("history", entries, (index) => this.chooseLine(this.firstEntry + index),
@@ -198,7 +199,7 @@ class Page {
     this.history.mark(entry);
     this.text.reveal(step.line - 1);
     entry.forEach((row) => this.history.reveal(row));
-    document.getElementById("details").replaceChildren(...detailsOf(step, this.lanes, this.lines));
+    document.getElementById("details").replaceChildren(...detailsOf(step, this.lanes, this.lines, this.docs));
   }
 
   // A line of the text or of the history marks its arrow.
@@ -225,7 +226,11 @@ class Page {
   print(all) {
     const width = this.lanes === undefined ? 0 : this.lanes.length * LANE + ROOM_FOR_LABELS;
     document.getElementById("diagram").style.zoom = all && width > 1000 ? String(1000 / width) : "";
-    [this.diagram, this.text, this.history].filter((rows) => rows !== undefined).forEach((rows) => rows.print(all));
+    this.parts().forEach((rows) => rows.print(all));
+  }
+
+  parts() {
+    return [this.diagram, this.text, this.history].filter((rows) => rows !== undefined);
   }
 
   refuse(error) {
@@ -237,8 +242,26 @@ class Page {
   }
 }
 
-function drawPlay(text) {
-  const page = new Page(text);
+// What was drawn before goes.
+let shownPage = null;
+
+function clearPage() {
+  if (shownPage !== null) {
+    shownPage.parts().forEach((rows) => rows.stop());
+  }
+  document.querySelectorAll(".lanes, .rows, #summary").forEach((list) => list.replaceChildren());
+  document.getElementById("details").replaceChildren(make("p", "", "None yet."));
+}
+
+// Whether a key is for what is written, and not for the page.
+function isTyped(event) {
+  return event.target.closest("textarea, input, select") !== null || event.ctrlKey || event.metaKey || event.altKey;
+}
+
+function drawPlay(text, docs) {
+  clearPage();
+  const page = new Page(text, docs);
+  shownPage = page;
   try {
     page.draw(readPlay(text));
   } catch (error) {
@@ -251,24 +274,8 @@ function drawPlay(text) {
   window.onafterprint = () => page.print(false);
   document.onkeydown = (event) => {
     const way = { n: 1, p: -1 }[event.key];
-    if (way !== undefined && page.diagram !== undefined && !event.ctrlKey && !event.metaKey && !event.altKey) {
+    if (way !== undefined && page.diagram !== undefined && !isTyped(event)) {
       page.seekRefusal(way);
     }
   };
-}
-
-// Each byte of a file is one character, as where bin/view has put the text into the page.
-function openFile(file) {
-  const reader = new FileReader();
-  const textOf = (bytes) => Array.from(bytes, (byte) => String.fromCharCode(byte)).join("");
-  reader.onload = () => drawPlay(textOf(new Uint8Array(reader.result)));
-  reader.readAsArrayBuffer(file);
-}
-
-const viewedPlay = { docs: "../docs/", ...JSON.parse(document.getElementById("play").textContent) };
-if (viewedPlay.text === undefined) {
-  document.getElementById("file").onchange = (event) => openFile(event.target.files[0]);
-} else {
-  document.getElementById("open").hidden = true;
-  drawPlay(viewedPlay.text);
 }

@@ -135,7 +135,7 @@ async function checkHostile(browser, check, page, text) {
   const lines = await browser.value("[...document.querySelectorAll('#text code')].map((code) => code.textContent)");
   check.compare("hostile texts: the lines", lines, text.split("\n").slice(0, -1));
   check.compare("hostile texts: the elements", await browser.value(
-    "[document.scripts.length, document.images.length, document.querySelectorAll('style, iframe').length]"), [6, 0, 1]);
+    "[document.scripts.length, document.images.length, document.querySelectorAll('style, iframe').length]"), [7, 0, 1]);
   check.compare("hostile texts: complaints", browser.complaints, []);
   await browser.value("document.body.append("
     + "Object.assign(document.createElement('script'), { text: 'window.ran = 1' }))");

@@ -47,7 +47,15 @@ class Rows {
     };
     this.list.onkeydown = (event) => this.key(event);
     this.scroll.onscroll = () => window.requestAnimationFrame(() => this.draw());
-    new ResizeObserver(() => this.draw()).observe(this.scroll);
+    this.observer = new ResizeObserver(() => this.draw());
+    this.observer.observe(this.scroll);
+  }
+
+  // Nothing is drawn any more: other rows take the place.
+  stop() {
+    this.observer.disconnect();
+    this.scroll.onscroll = null;
+    this.draw = () => {};
   }
 
   key(event) {
