@@ -74,6 +74,7 @@ class Browser {
     await Promise.all(["Page.enable", "Runtime.enable", "Log.enable"].map((method) => this.ask(method)));
   }
 
+  // Opens a file, or an address.
   async open(page) {
     this.complaints = [];
     const loaded = new Promise((resolve, reject) => {
@@ -83,7 +84,7 @@ class Browser {
         resolve();
       };
     });
-    await this.ask("Page.navigate", { url: "file://" + page });
+    await this.ask("Page.navigate", { url: page.startsWith("/") ? "file://" + page : page });
     await loaded;
   }
 
@@ -98,6 +99,11 @@ class Browser {
     const known = { key, windowsVirtualKeyCode: code, ...(text === undefined ? {} : { text }) };
     await this.ask("Input.dispatchKeyEvent", { type: "keyDown", ...known });
     await this.ask("Input.dispatchKeyEvent", { type: "keyUp", key, windowsVirtualKeyCode: code });
+  }
+
+  // What is seen, as the bytes of a PNG.
+  async picture() {
+    return Buffer.from((await this.ask("Page.captureScreenshot", { format: "png" })).data, "base64");
   }
 
   async close() {

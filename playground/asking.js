@@ -1,0 +1,43 @@
+"use strict";
+
+// Asks the server for plays, one at a time: while it plays, only the last text that was wanted is kept.
+
+class Asking {
+  constructor({ token, answered }) {
+    this.token = token;
+    this.answered = answered;
+    this.wanted = null;
+    this.isAsking = false;
+  }
+
+  async want(text) {
+    this.wanted = text;
+    if (this.isAsking) {
+      return;
+    }
+    this.isAsking = true;
+    while (this.wanted !== null) {
+      const asked = this.wanted;
+      this.wanted = null;
+      const answer = await this.ask(asked);
+      if (this.wanted === null) {
+        this.answered(asked, answer);
+      }
+    }
+    this.isAsking = false;
+  }
+
+  // What the server says: the `text` of a play, the `place` where the scenario is refused, or a `failure`.
+  async ask(text) {
+    const body = new Blob([text]);
+    if (body.size > LONGEST_SCENARIO) {
+      return { failure: "a scenario has no more than " + LONGEST_SCENARIO + " bytes" };
+    }
+    try {
+      const response = await fetch("/play", { method: "POST", body, headers: { "X-Playground-Token": this.token } });
+      return response.ok ? await response.json() : { failure: (await response.text()).trim() };
+    } catch (error) {
+      return { failure: "the playground does not answer; is bin/playground still running?" };
+    }
+  }
+}
