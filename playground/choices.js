@@ -33,7 +33,8 @@ class Choices {
       return item;
     }));
     this.list.hidden = choices.length === 0;
-    this.list.style.left = place.left + "px";
+    const most = this.area.clientWidth - this.list.offsetWidth;
+    this.list.style.left = Math.max(0, Math.min(place.left, most)) + "px";
     this.list.style.top = place.top + "px";
     this.activate(0);
   }
@@ -49,8 +50,14 @@ class Choices {
     const item = this.list.children[this.active];
     if (item !== undefined) {
       this.area.setAttribute("aria-activedescendant", item.id);
-      item.scrollIntoView({ block: "nearest" });
+      this.reveal(item);
     }
+  }
+
+  // Scrolls in the list alone.
+  reveal(item) {
+    const [top, bottom] = [item.offsetTop, item.offsetTop + item.offsetHeight];
+    this.list.scrollTop = Math.min(top, Math.max(this.list.scrollTop, bottom - this.list.clientHeight));
   }
 
   takeAt(index) {

@@ -100,7 +100,7 @@ class Editor {
     const left = parseFloat(style.paddingLeft) + probe.getBoundingClientRect().width - this.area.scrollLeft;
     probe.remove();
     const top = parseFloat(style.paddingTop) + before.length * this.lineHeight() - this.area.scrollTop;
-    return { left: Math.max(0, Math.min(left, this.area.clientWidth - 220)), top };
+    return { left, top };
   }
 
   // ---- what is wrong
@@ -130,13 +130,12 @@ class Editor {
   goTo(at) {
     this.area.focus();
     this.area.setSelectionRange(at, at);
-    this.reveal(this.lineOf(at));
-  }
-
-  reveal(line) {
-    const top = (line - 1) * this.lineHeight();
-    if (top < this.area.scrollTop || top + 2 * this.lineHeight() > this.area.scrollTop + this.area.clientHeight) {
-      this.area.scrollTop = Math.max(0, top - this.area.clientHeight / 3);
+    const { left, top } = this.placeOf(at);
+    if (top < this.lineHeight() || top > this.area.clientHeight) {
+      this.area.scrollTop += top - this.area.clientHeight / 3;
+    }
+    if (left < 0 || left > this.area.clientWidth) {
+      this.area.scrollLeft += left - this.area.clientWidth / 2;
     }
   }
 

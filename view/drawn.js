@@ -34,7 +34,7 @@ async function checkDrawn(browser, check, name, page, counted) {
   await browser.open(page);
   await browser.value("window.onbeforeprint()");
   check.compare(name + ": drawn", sorted(await browser.value(COUNTS)), sorted(counted));
-  check.compare(name + ": what the browser complains of", browser.complaints, []);
+  check.compare(name + ": what the browser complains of", await browser.complaints(), []);
 }
 
 const ACTIVE = "Number(document.activeElement.closest('li').dataset.index)";
@@ -47,19 +47,19 @@ const SHOWN = `document.querySelector("#details pre").textContent`;
 async function checkKeys(browser, check, page) {
   await browser.open(page);
   await browser.value("document.querySelector('#diagram button').focus()");
-  await browser.press("ArrowDown", 40);
-  await browser.press("ArrowDown", 40);
+  await browser.press("ArrowDown");
+  await browser.press("ArrowDown");
   check.compare("ArrowDown twice", await browser.value(ACTIVE), 2);
-  await browser.press("Enter", 13, "\r");
+  await browser.press("Enter");
   check.compare("Enter: the mark", await browser.value(CURRENT), [2]);
   check.compare("Enter: its lines", await browser.value(MARKED), [4, 19]);
   check.compare("Enter: its entry", await browser.value(TURNS), [0]);
   check.compare("Enter: what is shown", await browser.value(SHOWN), "call match a.test at 0: yes");
-  await browser.press("n", 78, "n");
+  await browser.press("n");
   check.compare("n", await browser.value(ACTIVE), 3);
-  await browser.press("End", 35);
+  await browser.press("End");
   check.compare("End", await browser.value(ACTIVE), 9);
-  await browser.press("p", 80, "p");
+  await browser.press("p");
   check.compare("p", await browser.value(ACTIVE), 3);
 }
 
@@ -92,9 +92,8 @@ const SAID = [
 
 // The names and roles that a screen reader is told, in their order.
 async function checkTree(browser, check) {
-  const { nodes } = await browser.ask("Accessibility.getFullAXTree");
-  const told = (role) => nodes.filter((node) => !node.ignored && node.role && node.role.value === role)
-    .map((node) => (node.name ? node.name.value : ""));
+  const all = await browser.tree();
+  const told = (role) => all.filter((one) => one.role === role).map(({ name }) => name);
   check.compare("the tree: the marks", told("button").slice(0, SAID.length), SAID);
   check.compare("the tree: the parts", told("region"),
     ["Sequence", "Chosen mark", "Text of the play", "History of the shared book"]);
@@ -107,9 +106,9 @@ async function checkLong(browser, check, page, steps) {
   const soon = "new Promise((done) => requestAnimationFrame(() => requestAnimationFrame(() => done(";
   check.compare("the long play: few rows at first", await browser.value(rows) < 300, true);
   await browser.value("document.querySelector('#diagram button').focus()");
-  await browser.press("End", 35);
+  await browser.press("End");
   check.compare("the long play: End", await browser.value(ACTIVE), steps - 1);
-  const seen = await browser.value("document.querySelector('#diagram .scroll').scrollTop = 40000; " + soon
+  const seen = await browser.value("document.querySelector('#diagram .scroll').scrollTop = 40000, " + soon
     + "[...document.querySelectorAll('#diagram .row')].filter((row) => { const box = row.getBoundingClientRect();"
     + " return box.bottom > 200 && box.top < 800; }).length))))");
   check.compare("the long play: rows where it is scrolled to", seen > 8, true);
@@ -120,7 +119,7 @@ async function checkLong(browser, check, page, steps) {
 async function checkWide(browser, check, page) {
   await browser.open(page);
   await browser.value("document.querySelector('#diagram button').focus()");
-  await browser.press("End", 35);
+  await browser.press("End");
   const inSight = await browser.value(`(() => {
     const [mark, view] = [document.activeElement, document.querySelector("#diagram .scroll")]
       .map((part) => part.getBoundingClientRect());
@@ -136,7 +135,7 @@ async function checkHostile(browser, check, page, text) {
   check.compare("hostile texts: the lines", lines, text.split("\n").slice(0, -1));
   check.compare("hostile texts: the elements", await browser.value(
     "[document.scripts.length, document.images.length, document.querySelectorAll('style, iframe').length]"), [7, 0, 1]);
-  check.compare("hostile texts: complaints", browser.complaints, []);
+  check.compare("hostile texts: complaints", await browser.complaints(), []);
   await browser.value("document.body.append("
     + "Object.assign(document.createElement('script'), { text: 'window.ran = 1' }))");
   check.compare("a script of another text does not run", await browser.value("window.ran === undefined"), true);
@@ -154,10 +153,8 @@ async function checkNoPlay(browser, check, page) {
 // The page without a play opens a file.
 async function checkOpening(browser, check, page, play) {
   await browser.open(page);
-  check.compare("the page without a play: complaints", browser.complaints, []);
-  const { root } = await browser.ask("DOM.getDocument");
-  const { nodeId } = await browser.ask("DOM.querySelector", { nodeId: root.nodeId, selector: "#file" });
-  await browser.ask("DOM.setFileInputFiles", { nodeId, files: [play] });
+  check.compare("the page without a play: complaints", await browser.complaints(), []);
+  await browser.giveFile("#file", play);
   const drawn = await browser.value(`new Promise((done) => {
     const look = (left) => (document.querySelectorAll("#diagram .row").length > 0 || left === 0
       ? done(document.querySelectorAll("#diagram .row").length) : setTimeout(look, 20, left - 1));

@@ -5,19 +5,12 @@
 const fs = require("fs");
 const os = require("os");
 const path = require("path");
-const { spawn, spawnSync } = require("child_process");
+const { spawn } = require("child_process");
 
-const NAMES = ["chromium", "chromium-browser", "google-chrome"];
 const PATIENCE = 20000; // milliseconds
+const CODES = { ArrowDown: 40, ArrowUp: 38, End: 35, Enter: 13, Escape: 27, Home: 36, Tab: 9 };
 
-// The name of a Chromium that is there, or null.
-function findBrowser() {
-  const named = process.env.CHROMIUM ? [process.env.CHROMIUM] : NAMES;
-  const found = named.find((name) => spawnSync(name, ["--version"], { stdio: "ignore" }).status === 0);
-  return found === undefined ? null : found;
-}
-
-class Browser {
+class Chromium {
   constructor(name) {
     this.folder = fs.mkdtempSync(path.join(os.tmpdir(), "view-"));
     const sandbox = process.getuid && process.getuid() === 0 ? ["--no-sandbox"] : [];
@@ -28,7 +21,7 @@ class Browser {
     this.gone = new Promise((resolve) => this.process.on("exit", resolve));
     this.asked = new Map();
     this.count = 0;
-    this.complaints = [];
+    this.heard = [];
     this.loaded = () => {};
     this.rest = Buffer.alloc(0);
     this.process.stdio[3].on("error", () => {});
@@ -50,7 +43,7 @@ class Browser {
     } else if (message.method === "Page.loadEventFired") {
       this.loaded();
     } else if (["Runtime.exceptionThrown", "Runtime.consoleAPICalled", "Log.entryAdded"].includes(message.method)) {
-      this.complaints.push(JSON.stringify(message.params).slice(0, 400));
+      this.heard.push(JSON.stringify(message.params).slice(0, 400));
     }
   }
 
@@ -76,7 +69,7 @@ class Browser {
 
   // Opens a file, or an address.
   async open(page) {
-    this.complaints = [];
+    this.heard = [];
     const loaded = new Promise((resolve, reject) => {
       const late = setTimeout(() => reject(new Error(page + " was not loaded")), PATIENCE);
       this.loaded = () => {
@@ -88,6 +81,11 @@ class Browser {
     await loaded;
   }
 
+  // What the page has complained of since it was opened.
+  async complaints() {
+    return this.heard;
+  }
+
   // The value of an expression in the page.
   async value(expression) {
     const { result, exceptionDetails } = await this.ask("Runtime.evaluate", { expression, returnByValue: true,
@@ -95,10 +93,27 @@ class Browser {
     return exceptionDetails === undefined ? result.value : "thrown: " + JSON.stringify(exceptionDetails).slice(0, 300);
   }
 
-  async press(key, code, text) {
-    const known = { key, windowsVirtualKeyCode: code, ...(text === undefined ? {} : { text }) };
-    await this.ask("Input.dispatchKeyEvent", { type: "keyDown", ...known });
-    await this.ask("Input.dispatchKeyEvent", { type: "keyUp", key, windowsVirtualKeyCode: code });
+  // A key by its name, or a letter; with the control key held where it is said.
+  async press(key, control = false) {
+    const code = CODES[key] || key.toUpperCase().charCodeAt(0);
+    const text = key === "Enter" ? "\r" : key.length === 1 && !control ? key : undefined;
+    const known = { key, windowsVirtualKeyCode: code, modifiers: control ? 2 : 0 };
+    await this.ask("Input.dispatchKeyEvent", { type: "keyDown", ...known, ...(text === undefined ? {} : { text }) });
+    await this.ask("Input.dispatchKeyEvent", { type: "keyUp", ...known });
+  }
+
+  // Gives a file to an input of the page.
+  async giveFile(selector, file) {
+    const { root } = await this.ask("DOM.getDocument");
+    const { nodeId } = await this.ask("DOM.querySelector", { nodeId: root.nodeId, selector });
+    await this.ask("DOM.setFileInputFiles", { nodeId, files: [file] });
+  }
+
+  // The roles and the names that a screen reader is told, in their order.
+  async tree() {
+    const { nodes } = await this.ask("Accessibility.getFullAXTree");
+    return nodes.filter((node) => !node.ignored && node.role)
+      .map((node) => ({ role: node.role.value, name: node.name ? node.name.value : "" }));
   }
 
   // What is seen, as the bytes of a PNG.
@@ -114,4 +129,4 @@ class Browser {
   }
 }
 
-module.exports = { Browser, findBrowser };
+module.exports = { Chromium };
