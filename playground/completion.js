@@ -124,6 +124,12 @@ function wholeItem(text, range, choice) {
   return before + choice.text + after;
 }
 
+// What a choice replaces. A text that is not closed has taken the rest of its line, which stays.
+function replacedRange(part, at) {
+  return part === null ? { start: at, end: at }
+    : { start: part.start, end: part.kind === "string" && !part.closed ? at : part.end };
+}
+
 // The choices at a place, and the range of the text that they replace. `named` tells that there are words to choose
 // from, and not only a value to begin with.
 function completionsAt(schemas, text, at) {
@@ -132,7 +138,7 @@ function completionsAt(schemas, text, at) {
   if (context.role === "none" || !isOpen(context.part, at)) {
     return { choices: [], range: { start: at, end: at }, named: false };
   }
-  const range = context.part === null ? { start: at, end: at } : { start: context.part.start, end: context.part.end };
+  const range = replacedRange(context.part, at);
   const held = schemasAt(schemas, root, context.path);
   const all = context.role === "key" ? keyChoices(schemas, held, context) : valueChoices(schemas, held);
   const start = begun(text, context.part, at).toLowerCase();

@@ -67,17 +67,22 @@ class Chromium {
     await Promise.all(["Page.enable", "Runtime.enable", "Log.enable"].map((method) => this.ask(method)));
   }
 
-  // Opens a file, or an address.
+  // Opens a file, or an address, anew.
   async open(page) {
+    await this.go("about:blank");
     this.heard = [];
+    await this.go(page.startsWith("/") ? "file://" + page : page);
+  }
+
+  async go(url) {
     const loaded = new Promise((resolve, reject) => {
-      const late = setTimeout(() => reject(new Error(page + " was not loaded")), PATIENCE);
+      const late = setTimeout(() => reject(new Error(url + " was not loaded")), PATIENCE);
       this.loaded = () => {
         clearTimeout(late);
         resolve();
       };
     });
-    await this.ask("Page.navigate", { url: page.startsWith("/") ? "file://" + page : page });
+    await this.ask("Page.navigate", { url });
     await loaded;
   }
 
@@ -95,7 +100,7 @@ class Chromium {
 
   // A key by its name, or a letter; with the control key held where it is said.
   async press(key, control = false) {
-    const code = CODES[key] || key.toUpperCase().charCodeAt(0);
+    const code = CODES[key] || (/^[a-z0-9 ]$/i.test(key) ? key.toUpperCase().charCodeAt(0) : 0);
     const text = key === "Enter" ? "\r" : key.length === 1 && !control ? key : undefined;
     const known = { key, windowsVirtualKeyCode: code, modifiers: control ? 2 : 0 };
     await this.ask("Input.dispatchKeyEvent", { type: "keyDown", ...known, ...(text === undefined ? {} : { text }) });

@@ -122,7 +122,7 @@ class Firefox {
     return value;
   }
 
-  // Opens a file, or an address.
+  // Opens a file, or an address, anew.
   async open(page) {
     await this.ask("WebDriver:Navigate", { url: "about:blank" });
     await this.beside(FORGET);
