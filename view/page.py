@@ -27,8 +27,10 @@ def hash_of(text):
 
 def policy(styles, scripts, more=""):
     """What a page may do: be dressed by these styles, and run these scripts; `more` are directives beside it."""
-    return "default-src 'none'; style-src %s; script-src %s; base-uri 'none'; form-action 'none'%s" % (
-        " ".join(map(hash_of, styles)), " ".join(map(hash_of, scripts)), more)
+    allowed = "default-src 'none'; style-src %s" % " ".join(map(hash_of, styles))
+    if scripts:
+        allowed += "; script-src %s" % " ".join(map(hash_of, scripts))
+    return allowed + "; base-uri 'none'; form-action 'none'" + more
 
 
 def data_of(value):

@@ -1,0 +1,43 @@
+"""What the package has: one list for each kind of part. A program that is new is one more line of PROGRAMS."""
+from collections import namedtuple
+
+# A proved program: its crate's name, what it is in a few words, the forms of its words, the documents that its man page
+# is made of, and the words that a shell completes after it.
+Program = namedtuple("Program", "name what synopsis documents words")
+# A script of bin/: its name there, and the same.
+Script = namedtuple("Script", "name what synopsis documents words")
+# A page about a format.
+Format = namedtuple("Format", "name what documents")
+
+PROGRAMS = [
+    Program("fetchplay", "plays documents' fetches against scripted or real HTTP/1.1 servers",
+            ["fetchplay play < SCENARIO", "fetchplay net < SCENARIO", "fetchplay gen N"],
+            ["docs/rules/command-line.md", "docs/rules/printed-text.md", "docs/check-your-server.md"],
+            ["play", "net", "gen"]),
+    Program("corsserve", "a CORS server that answers by a table", ["corsserve ADDRESS N < TABLE"],
+            ["docs/cors-server.md"], ["127.0.0.1:8000"]),
+]
+
+SCRIPTS = [
+    Script("view", "draws a play as a sequence diagram",
+           ["fiorrudda-view [SCENARIO] [-o FILE] [--open]", "fiorrudda-view --text PLAY [-o FILE] [--open]"],
+           ["docs/view.md"], ["--text", "-o", "--open", "--help"]),
+    Script("playground", "a page in which a scenario is edited, played and drawn",
+           ["fiorrudda-playground [PORT] [--open] [--seconds N]"], ["docs/playground.md"],
+           ["--open", "--seconds", "--help"]),
+]
+
+FORMATS = [Format("fiorrudda-scenario", "the scenarios that fetchplay plays", ["docs/scenario.md"])]
+
+# Folders that go in whole, by the endings of their files.
+FOLDERS = {
+    "docs": (".md", ".png"),
+    "examples": (".json", ".md", ".out", ".err", ".table"),
+    "gallery": (".json", ".md", ".txt"),
+    "schema": (".json", ".md"),
+}
+
+# What scripts need of the folders that have checks beside it.
+VIEW = ["page.html", "page.py", "view.css"]
+PLAYGROUND = ["page.html", "playground.css", "documents.py", "gate.py", "markdown.py", "page.py", "player.py",
+              "questions.py", "serve.py"]

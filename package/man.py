@@ -1,0 +1,94 @@
+"""Writes man pages of the repository's documents, in the macros of man(7) with tables by tbl."""
+import re
+
+from playground import markdown
+
+NAMES = [(re.compile(r"\bbin/(fetchplay|corsserve)\b"), r"\1"), (re.compile(r"\bbin/(view|playground)\b"), r"fiorrudda-\1"),
+         (re.compile(r"(?<![\w/.-])(examples|gallery|schema)/"), r"/usr/share/fiorrudda/\1/")]
+WIDEST_PLAIN = 24  # characters: a longer cell is filled as a paragraph
+
+
+def installed(text):
+    """Programs and files by the names that they have where the package is installed."""
+    for old, new in NAMES:
+        text = old.sub(new, text)
+    return text
+
+
+def quoted(text):
+    """Text as roff prints it as it is."""
+    text = text.replace("\\", "\\(rs").replace("-", "\\-").replace("'", "\\(aq").replace("`", "\\(ga")
+    text = text.replace("^", "\\(ha").replace("~", "\\(ti").replace('"', "\\(dq")
+    return re.sub(r"^\.", r"\\&.", text, flags=re.M)
+
+
+def page(name, section, what, version, day, parts, see_also):
+    """A man page: `parts` are a title and blocks each; the first title is for what stands above any title."""
+    lines = ["'\\\" t", '.TH %s %d %s "Fiorrudda %s"' % (name.upper(), section, day, version),
+             ".SH NAME", "%s \\- %s" % (quoted(name), quoted(what))]
+    for title, synopsis, blocks in parts:
+        lines += synopsis_of(synopsis) + [".SH %s" % quoted(title.upper())]
+        lines += [line for block in blocks for line in block_of(block)]
+    lines += [".SH FILES", ".I /usr/share/fiorrudda/docs", "has the documents that this page is made of.",
+              ".SH SEE ALSO", ",\n".join(".BR %s (%s)" % (quoted(other), place) for other, place in see_also)]
+    return "\n".join(line for line in lines if line is not None) + "\n"
+
+
+def synopsis_of(forms):
+    if not forms:
+        return []
+    return [".SH SYNOPSIS"] + ["\n.br\n".join(".B %s" % quoted(form) for form in forms)]
+
+
+def block_of(block):
+    kind = block[0]
+    if kind == "title":
+        return [] if block[1] == 1 else [".SS %s" % spans_of(block[2])]
+    if kind == "paragraph":
+        return [".PP", spans_of(block[1])]
+    if kind == "code":
+        return [".PP", ".in +4n", ".EX"] + [quoted(installed(line)) for line in block[1]] + [".EE", ".in"]
+    if kind == "table":
+        return table_of(block[1], block[2])
+    if kind == "quote":
+        return [".RS"] + [line for inner in block[1] for line in block_of(inner)] + [".RE"]
+    return [line for number, item in enumerate(block[2], 1) for line in item_of(block[1], number, item)]
+
+
+def item_of(ordered, number, item):
+    sign = "%d." % number if ordered else "\\(bu"
+    lines = [line for block in item for line in block_of(block)]
+    return [".IP %s 3" % sign] + (lines[1:] if lines[:1] == [".PP"] else lines)
+
+
+def table_of(head, rows):
+    """The last column takes the room that is left."""
+    columns = max(len(row) for row in [head, *rows])
+    form = " ".join("lx" if column == columns - 1 else "l" for column in range(columns))
+    lines = [".PP", ".TS", "tab(\x07);", " ".join(["lb"] * columns), form + "."]
+    lines += ["\x07".join(cell_of(cell, column == columns - 1) for column, cell in enumerate(row + [[]] * (columns - len(row))))
+              for row in [head, *rows]]
+    return lines + [".TE"]
+
+
+def cell_of(spans, last):
+    text = spans_of(spans)
+    long = len(markdown.plain(spans)) > WIDEST_PLAIN
+    return "T{\n%s\nT}" % text if long or last or text.startswith((".", "'")) else text
+
+
+def spans_of(spans):
+    return "".join(map(span_of, spans))
+
+
+def span_of(span):
+    kind, content = span[:2]
+    if kind == "text":
+        return quoted(installed(content))
+    if kind == "code":
+        return "\\fB%s\\fR" % quoted(installed(content))
+    if kind == "image":
+        return ""
+    if kind == "emphasis":
+        return "\\fI%s\\fR" % spans_of(content)
+    return spans_of(content)
