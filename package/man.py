@@ -5,7 +5,8 @@ from playground import markdown
 
 NAMES = [(re.compile(r"\bbin/(fetchplay|corsserve)\b"), r"\1"), (re.compile(r"\bbin/(view|playground)\b"), r"fiorrudda-\1"),
          (re.compile(r"(?<![\w/.-])(examples|gallery|schema)/"), r"/usr/share/fiorrudda/\1/")]
-WIDEST_PLAIN = 24  # characters: a longer cell is filled as a paragraph
+WIDTH = 66  # characters of a table
+GAP = 3  # characters between columns
 
 
 def installed(text):
@@ -22,10 +23,15 @@ def quoted(text):
     return re.sub(r"^\.", r"\\&.", text, flags=re.M)
 
 
+def unbroken(text):
+    """Words that get no hyphen at the end of a line."""
+    return " ".join("\\%" + word if word else "" for word in text.split(" "))
+
+
 def page(name, section, what, version, day, parts, see_also):
     """A man page: `parts` are a title and blocks each; the first title is for what stands above any title."""
     lines = ["'\\\" t", '.TH %s %d %s "Fiorrudda %s"' % (name.upper(), section, day, version),
-             ".SH NAME", "%s \\- %s" % (quoted(name), quoted(what))]
+             ".ad l", ".SH NAME", "%s \\- %s" % (quoted(name), quoted(what))]
     for title, synopsis, blocks in parts:
         lines += synopsis_of(synopsis) + [".SH %s" % quoted(title.upper())]
         lines += [line for block in blocks for line in block_of(block)]
@@ -62,19 +68,36 @@ def item_of(ordered, number, item):
 
 
 def table_of(head, rows):
-    """The last column takes the room that is left."""
-    columns = max(len(row) for row in [head, *rows])
-    form = " ".join("lx" if column == columns - 1 else "l" for column in range(columns))
-    lines = [".PP", ".TS", "tab(\x07);", " ".join(["lb"] * columns), form + "."]
-    lines += ["\x07".join(cell_of(cell, column == columns - 1) for column, cell in enumerate(row + [[]] * (columns - len(row))))
-              for row in [head, *rows]]
+    """A table, where each column has room for its longest word; else a list, whose items are the rows."""
+    rows = [row + [[]] * (len(head) - len(row)) for row in rows]
+    widths = widths_of([head, *rows])
+    if widths is None:
+        return [line for row in rows for line in row_of_list(head, row)]
+    lines = [".PP", ".TS", "tab(\x07);", " ".join(["lb"] * len(head)), " ".join("lw(%dn)" % width for width in widths) + "."]
+    lines += ["\x07".join(map(cell_of, row)) for row in [head, *rows]]
     return lines + [".TE"]
 
 
-def cell_of(spans, last):
-    text = spans_of(spans)
-    long = len(markdown.plain(spans)) > WIDEST_PLAIN
-    return "T{\n%s\nT}" % text if long or last or text.startswith((".", "'")) else text
+def widths_of(rows):
+    """How wide each column is: its longest word at least, and of the room that is left a part by what it would take."""
+    columns = [[installed(markdown.plain(cell)) for cell in column] for column in zip(*rows)]
+    least = [max(len(word) for text in column for word in text.split(" ")) for column in columns]
+    wanted = [max(map(len, column)) for column in columns]
+    room = WIDTH - GAP * (len(columns) - 1) - sum(least)
+    more = [most - width for width, most in zip(least, wanted)]
+    if room < 0:
+        return None
+    return [width + min(own, own * room // max(1, sum(more))) for width, own in zip(least, more)]
+
+
+def cell_of(spans):
+    return "T{\n%s\nT}" % spans_of(spans) if spans else ""
+
+
+def row_of_list(head, row):
+    """The first cell, and below it each other one with the title of its column."""
+    others = ["%s: %s" % (spans_of(title), spans_of(cell)) for title, cell in zip(head[1:], row[1:]) if cell]
+    return [".TP", spans_of(row[0]) or "\\(bu", "\n.br\n".join(others)]
 
 
 def spans_of(spans):
@@ -86,7 +109,7 @@ def span_of(span):
     if kind == "text":
         return quoted(installed(content))
     if kind == "code":
-        return "\\fB%s\\fR" % quoted(installed(content))
+        return "\\fB%s\\fR" % unbroken(quoted(installed(content)))
     if kind == "image":
         return ""
     if kind == "emphasis":
