@@ -234,4 +234,4 @@ async function checkElsewhere(browser, check, address) {
 }
 
 module.exports = { checkCompletion, checkEditing, checkElsewhere, checkFirst, checkLink, checkQuestions,
-  checkRefusedPlace, checkTree };
+  checkRefusedPlace, checkTree, until };

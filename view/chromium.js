@@ -7,7 +7,7 @@ const os = require("os");
 const path = require("path");
 const { spawn } = require("child_process");
 
-const PATIENCE = 60000; // milliseconds
+const PATIENCE = 120000; // milliseconds
 const CODES = { ArrowDown: 40, ArrowUp: 38, End: 35, Enter: 13, Escape: 27, Home: 36, Tab: 9 };
 
 class Chromium {

@@ -80,11 +80,11 @@ async function checkClicks(browser, check) {
 const SAID = [
   "document 0 begins under the key http://a.test",
   "document 0 starts fetch 0",
-  "document 0 calls the shared book: match: yes (a.test at 0)",
+  "document 0 calls the shared book: is a.test a known host? yes",
   "document 0 is refused: 5 SameOriginMode. The mode is same-origin, and the URL has another origin.",
   "time of document 0: at 10, 10 seconds later",
   "document 0 starts fetch 1",
-  "document 0 calls the shared book: match: no (a.test at 10)",
+  "document 0 calls the shared book: is a.test a known host? no",
   "document 0 sends a request to http://a.test: GET /",
   "document 0 gets a result from http://a.test: basic 200 http://a.test/, 2 bytes",
   "document 0 ends: finished",

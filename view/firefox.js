@@ -8,7 +8,7 @@ const os = require("os");
 const path = require("path");
 const { spawn } = require("child_process");
 
-const PATIENCE = 60000; // milliseconds
+const PATIENCE = 120000; // milliseconds
 const KEYS = { ArrowDown: "\uE015", ArrowUp: "\uE013", End: "\uE010", Enter: "\uE007", Escape: "\uE00C",
   Home: "\uE011", Tab: "\uE004" };
 const CONTROL = "\uE009";

@@ -23,7 +23,7 @@ function lanesOf(play) {
 
 function isPreflight(event) {
   return event.kind === "send" && event.method === "OPTIONS"
-    && event.headers.some((header) => header.name === "Access-Control-Request-Method");
+    && headerOf(event, "Access-Control-Request-Method") !== null;
 }
 
 function isRequest(event) {
@@ -102,16 +102,58 @@ function resultStep(event, lane, server) {
   return { kind: "refusal", from: answered ? server : lane, to: lane, label, refusal };
 }
 
+function headerOf(event, name) {
+  const found = event.headers.find((header) => header.name === name);
+  return found === undefined ? null : found.value;
+}
+
+// What a preflight asks for.
+function wishOf(event) {
+  const names = headerOf(event, "Access-Control-Request-Headers");
+  return ", may it " + headerOf(event, "Access-Control-Request-Method") + (names === null ? "?" : " with " + names + "?");
+}
+
+// What an answer goes by, beside the method and the target.
+function tellingHeaders(event) {
+  const origin = headerOf(event, "Origin");
+  const held = ["Cookie", "Authorization"].filter((name) => headerOf(event, name) !== null);
+  return (origin === null ? "" : ", Origin " + origin) + held.map((name) => ", with " + name).join("");
+}
+
 function sendStep(event, lane, server) {
   const kind = isPreflight(event) ? "preflight" : "request";
   const body = event.body === null ? "" : ", " + event.body.length + " bytes";
-  return { kind, from: lane, to: server, label: event.method + " " + event.target + body };
+  const more = kind === "preflight" ? wishOf(event) : body + tellingHeaders(event);
+  return { kind, from: lane, to: server, label: event.method + " " + event.target + more };
+}
+
+function secondsText(count) {
+  return count + (count === 1 ? " second" : " seconds");
+}
+
+// The request that the preflight cache is asked about, or has learnt.
+function coveredText(event) {
+  const methods = [].concat(event.method || event.methods || []);
+  const credentials = event.credentials === "include" ? "with credentials" : "without credentials";
+  return [...methods, ...event.names].join(" ") + " " + event.url + ", " + credentials;
+}
+
+// A call in words, the reply first where they may be long; the words of the text are those of its line.
+const CALLS_TOLD = {
+  match: (event) => "is " + event.host + " a known host? " + event.reply,
+  note: (event) => (event.age === 0 ? "forget the known host " + event.host
+    : event.host + " is a known host for " + secondsText(event.age) + (event.reach === "sub" ? ", with its subdomains" : "")),
+  covers: (event) => "covered? " + event.reply + ": " + coveredText(event) + ", " + askerText(event),
+  learn: (event) => "learnt for " + secondsText(event.age) + ": " + coveredText(event) + ", " + askerText(event),
+  clear: (event) => "forget " + event.url + ", " + askerText(event),
+};
+
+function askerText(event) {
+  return "for " + event.origin + " under " + event.key;
 }
 
 function callStep(event, lane, book) {
-  // The reply first: the words of a call may be long.
-  const words = event.text.slice(event.op.length + 1, event.text.lastIndexOf(":"));
-  const label = event.op + ": " + event.reply + " (" + words + ")";
+  const label = CALLS_TOLD[event.op](event);
   return { kind: "call", from: lane, to: book, label, turn: event.turn, entryLine: event.entryLine };
 }
 
@@ -150,8 +192,7 @@ function addTime(steps, events) {
   if (call === undefined || call.at === steps.time) {
     return;
   }
-  const seconds = call.at - steps.time;
-  const passed = steps.time === null ? "" : ", " + seconds + (seconds === 1 ? " second later" : " seconds later");
+  const passed = steps.time === null ? "" : ", " + secondsText(call.at - steps.time) + " later";
   if (steps.time !== null || call.at !== 0) {
     steps.mark("wait", "at " + call.at + passed, call.line);
   }
