@@ -149,7 +149,7 @@ const CALLS_TOLD = {
 };
 
 function askerText(event) {
-  return "for " + event.origin + " under " + event.key;
+  return "for " + event.origin + (event.origin === event.key ? "" : " under " + event.key);
 }
 
 function callStep(event, lane, book) {
