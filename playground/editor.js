@@ -6,12 +6,14 @@
 const MARKED_LONGEST = 200000; // characters: of a longer text only the numbers are shown
 const PAUSE = 250; // milliseconds
 
+// `problemsOf(text)` says what is wrong in a text, as it is typed; `changed()` is called as soon as one pauses.
 class Editor {
-  constructor({ schemas, changed }) {
+  constructor({ schemas, problemsOf, changed }) {
     this.area = document.getElementById("editor");
     this.marks = document.getElementById("marks");
     this.numbers = document.getElementById("numbers");
     this.schemas = schemas;
+    this.problemsOf = problemsOf;
     this.changed = changed;
     this.problems = [];
     this.choices = new Choices(document.getElementById("choices"), this.area, (choice) => this.put(choice));
@@ -31,12 +33,12 @@ class Editor {
     this.area.value = text;
     this.area.setSelectionRange(0, 0);
     this.area.scrollTo(0, 0);
-    this.look();
+    this.mark();
     this.changed();
   }
 
   typed(event) {
-    this.look();
+    this.mark();
     clearTimeout(this.later);
     this.later = setTimeout(() => this.changed(), PAUSE);
     if (event.inputType === "insertText" && /^["\w-]$/.test(event.data || "")) {
@@ -83,7 +85,6 @@ class Editor {
     const empty = choice.text.search(/""|\[\]|\{\}/);
     const at = this.range.start + (empty < 0 ? choice.text.length : empty + 1);
     this.area.setSelectionRange(at, at);
-    this.look();
     this.complete((found) => found.named && choice.text[empty] === '"');
   }
 
@@ -105,10 +106,19 @@ class Editor {
 
   // ---- what is wrong
 
-  // Each problem has `start`, `end` and a `sentence`; those of the same place are shown together.
-  setProblems(problems) {
+  // Marks what is wrong in the text as it is now. It is told below when one pauses.
+  mark() {
+    this.setMarks(this.text().length > MARKED_LONGEST ? [] : this.problemsOf(this.text()));
+  }
+
+  setMarks(problems) {
     this.problems = problems.map((problem) => ({ ...problem, line: this.lineOf(problem.start) }));
     this.look();
+  }
+
+  // Each problem has `start`, `end` and a `sentence`, and may be `refused` by the program.
+  setProblems(problems) {
+    this.setMarks(problems);
     this.area.setAttribute("aria-invalid", String(problems.length > 0));
     document.getElementById("problems").replaceChildren(...this.problems.map((problem) => this.told(problem)));
     return this.problems;
@@ -142,13 +152,19 @@ class Editor {
   // ---- what is drawn behind the text and beside it
 
   look() {
-    const lines = this.text().split("\n").length;
-    const refused = new Set(this.problems.filter(({ start }) => start <= this.text().length).map(({ line }) => line));
-    this.numbers.replaceChildren(...Array.from({ length: lines }, (nothing, index) => {
-      return make("div", refused.has(index + 1) ? "wrong" : "", String(index + 1));
-    }));
+    this.numbers.replaceChildren(...this.numbered());
     this.marks.replaceChildren(...(this.text().length > MARKED_LONGEST ? [] : this.marked()));
     this.follow();
+  }
+
+  // The numbers of the lines, in pieces: those of lines that are wrong stand alone.
+  numbered() {
+    const lines = this.text().split("\n").length;
+    const wrong = [...new Set(this.problems.map(({ line }) => line))].sort((one, other) => one - other);
+    const upTo = (first, last) => Array.from({ length: last - first }, (nothing, index) => first + index + "\n").join("");
+    const pieces = wrong.flatMap((line, index) => [upTo(index === 0 ? 1 : wrong[index - 1] + 1, line),
+      make("b", "wrong", String(line)), "\n"]);
+    return [...pieces, upTo(wrong.length === 0 ? 1 : wrong[wrong.length - 1] + 1, lines + 1)];
   }
 
   // The text, in pieces: those that are wrong are marked.
@@ -157,7 +173,7 @@ class Editor {
     const pieces = [];
     let at = 0;
     [...this.problems].sort((one, other) => one.start - other.start).forEach(({ start, end, refused }) => {
-      if (start >= at && start <= text.length) {
+      if (start >= at) {
         pieces.push(text.slice(at, start), make("mark", refused ? "refused" : "", text.slice(start, end) || " "));
         at = Math.max(start, end);
       }

@@ -74,13 +74,9 @@ function showQuestion(question) {
   byId("answer").href = question === undefined ? "" : "/gallery/" + question.name + "/README.md";
 }
 
-const editor = new Editor({ schemas, changed: () => {
+const editor = new Editor({ schemas, problemsOf: localProblems, changed: () => {
   const text = editor.text();
   byId("copied").textContent = "";
-  const problems = localProblems(text);
-  if (problems.length > 0) {
-    editor.setProblems(problems);
-  }
   keepLink(text);
   asking.want(text);
 } });

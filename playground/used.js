@@ -5,7 +5,7 @@
 const http = require("http");
 
 // Waits until an expression of the page holds, and gives how long that took, or null.
-async function until(browser, expression, patience = 10000) {
+async function until(browser, expression, patience = 60000) {
   const start = Date.now();
   while (Date.now() - start < patience) {
     if (await browser.value(expression) === true) {
