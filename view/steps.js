@@ -141,7 +141,7 @@ function coveredText(event) {
 // A call in words, the reply first where they may be long; the words of the text are those of its line.
 const CALLS_TOLD = {
   match: (event) => "is " + event.host + " a known host? " + event.reply,
-  note: (event) => (event.age === 0 ? "forget the known host " + event.host
+  note: (event) => (event.age === 0 ? "max-age 0: forget the known host " + event.host
     : event.host + " is a known host for " + secondsText(event.age) + (event.reach === "sub" ? ", with its subdomains" : "")),
   covers: (event) => "covered? " + event.reply + ": " + coveredText(event) + ", " + askerText(event),
   learn: (event) => "learnt for " + secondsText(event.age) + ": " + coveredText(event) + ", " + askerText(event),
