@@ -34,7 +34,8 @@ PAGE = """<!doctype html>
 
 def documents(root):
     """For each path as a browser asks for it, what gives the kind and the bytes."""
-    found = {"/README.md": reader(os.path.join(root, "README.md"))}
+    # Browsers ask for an icon by themselves.
+    found = {"/README.md": reader(os.path.join(root, "README.md")), "/favicon.ico": lambda: ("image/x-icon", b"")}
     for top in FOLDERS:
         for folder, _, names in os.walk(os.path.join(root, top)):
             for name in names:

@@ -33,6 +33,7 @@ function problemsWith(text, place) {
 
 function tellState(text, isStale) {
   byId("state").textContent = text;
+  byId("state").classList.toggle("no-play", isStale);
   ["diagram", "chosen", "text", "history"].forEach((name) => byId(name).classList.toggle("stale", isStale));
 }
 
@@ -104,7 +105,7 @@ async function openLink() {
   try {
     text = await textOfFragment(location.hash, allQuestions);
   } catch (error) {
-    tellState("The link holds no scenario that can be read.", false);
+    tellState("The link holds no scenario that can be read.", true);
     return;
   }
   if (text === null ? editor.text() === "" : text !== editor.text()) {
