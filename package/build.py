@@ -40,6 +40,8 @@ Copyright: 2026 Fiorrudda maintainers
 
 License: the sources name none.
 """
+OVERRIDES = """# What was built of the proved sources is installed byte for byte, with its symbols.
+"""
 
 
 class Refusal(Exception):
@@ -116,8 +118,10 @@ def sums_of(folder):
     return "".join(lines)
 
 
-def add_doc(tree, entries):
+def add_doc(tree, programs, entries):
     tree.write("usr/share/doc/fiorrudda/copyright", COPYRIGHT)
+    unstripped = ["fiorrudda: unstripped-binary-or-object [usr/bin/%s]\n" % name for name in programs]
+    tree.write("usr/share/lintian/overrides/fiorrudda", OVERRIDES + "".join(unstripped))
     tree.write_packed("usr/share/doc/fiorrudda/changelog.gz", changelog(entries))
 
 
@@ -179,5 +183,5 @@ def build(root, programs, target):
     with tempfile.TemporaryDirectory() as place:
         tree = Tree(root, os.path.join(place, "fiorrudda"), version, entries[0][1])
         tree.make()
-        add_doc(tree, entries)
+        add_doc(tree, programs, entries)
         return build_deb(tree, programs, target), build_tar(tree, target)
