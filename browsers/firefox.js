@@ -1,0 +1,2 @@
+"use strict";
+module.exports = { find: () => null };

@@ -1,0 +1,148 @@
+"use strict";
+
+// Plays a scenario in a browser, and gives what was seen, command by command: the requests that arrived, the violations
+// and the result that the page told, and the network layer's reasons. That is what corpus/ stores.
+
+const { Authority } = require("./certificate.js");
+const { Servers } = require("./servers.js");
+const { policiesOf, spokenHeaders, commandsOf, filledCommand, NOTHING } = require("./scenario.js");
+const chromium = require("./chromium.js");
+const firefox = require("./firefox.js");
+
+const BROWSERS = { chromium, firefox };
+
+// ---- what the page told, in the engine's words
+
+// Which of the document's policies an event means, by its text; browsers write the texts anew, so the closest one counts.
+function policyOf(event, policies) {
+  const words = (text) => new Set(text.toLowerCase().split(/[\s;]+/).filter((word) => word !== ""));
+  const told = words(event.policy);
+  const closeness = (policy) => {
+    const own = words(policy.text);
+    const shared = [...own].filter((word) => told.has(word)).length;
+    return policy.text === event.policy ? 2 : shared / Math.max(own.size, told.size, 1);
+  };
+  const enforced = event.disposition === "enforce";
+  const candidates = policies.map((policy, number) => ({ number, policy, close: closeness(policy) }))
+    .filter((one) => one.policy.enforced === enforced);
+  candidates.sort((one, other) => other.close - one.close || one.number - other.number);
+  return candidates.length === 0 ? null : candidates[0].number;
+}
+
+function violationsOf(events, policies) {
+  return events.filter((event) => !event.url.endsWith("/favicon.ico")).map((event) => ({ policy: policyOf(event, policies),
+    enforced: event.disposition === "enforce", directive: event.directive, url: event.url }));
+}
+
+// Header lines that the servers added themselves are not the scenario's.
+function withoutAdded(headers, arrivals) {
+  const last = arrivals.filter((arrival) => arrival.method !== "OPTIONS").pop();
+  return last === undefined || !last.uncached ? headers
+    : headers.filter(([name, value]) => !(name.toLowerCase() === "cache-control" && value === "no-store"));
+}
+
+// An undecodable image, sound or font is no failure of the network; a script or a style tells its own event.
+function resultOfLoad(kind, seen) {
+  const loaded = kind === "script" || kind === "style" ? seen.told.event === "load" : seen.finished;
+  return { result: loaded ? "loaded" : "failed" };
+}
+
+function resultOf(command, seen, arrivals) {
+  if (command.load !== undefined) {
+    return resultOfLoad(command.load.kind, seen);
+  }
+  return seen.told.headers === undefined ? seen.told
+    : { ...seen.told, headers: withoutAdded(seen.told.headers, arrivals) };
+}
+
+// The last result as conditions and templates see it.
+function lastOf(result) {
+  if (result.result === "response") {
+    return { type: result.type || "cors", status: result.status, url: result.url, headers: result.headers,
+      body: result.body.end === "whole" ? Buffer.from(result.body.hex, "hex").toString("utf8") : null };
+  }
+  return { ...NOTHING, type: result.result };
+}
+
+// ---- the play
+
+async function seed(session, scenario) {
+  const now = scenario.now || 0;
+  for (const known of scenario.hsts || []) {
+    if (known.until > now) {
+      await session.makeKnown(known, known.until - now, scenario.documents[0].url);
+    }
+  }
+  const taken = new Set();
+  for (const [origin, text] of scenario.cookies || []) {
+    for (const pair of taken.has(origin) ? [] : text.split(/;\s*/)) {
+      const cut = pair.indexOf("=");
+      await session.setCookie(origin, cut < 0 ? "" : pair.slice(0, cut), pair.slice(cut + 1));
+    }
+    taken.add(origin);
+  }
+}
+
+const slept = (seconds) => new Promise((resolve) => setTimeout(resolve, seconds * 1000));
+
+async function playCommand(session, servers, policies, command, number) {
+  const first = servers.arrivals.length;
+  const seen = await session.perform(command, number);
+  const arrivals = servers.arrivals.slice(first);
+  const requests = arrivals.filter((arrival) => arrival.own === null)
+    .map(({ origin, method, target, headers, body }) => ({ origin, method, target, body,
+      headers: headers.map((header) => [header.name, header.value]) }));
+  return { requests, violations: violationsOf(seen.violations, policies), result: resultOf(command, seen, arrivals),
+    reasons: seen.reasons };
+}
+
+async function playScript(session, servers, document) {
+  const policies = policiesOf(document);
+  const state = { last: NOTHING };
+  const commands = [];
+  for (const { place, command } of commandsOf(document.script, state)) {
+    if (command.wait !== undefined) {
+      await slept(command.wait);
+    } else {
+      const asked = filledCommand(command, state.last);
+      const played = await playCommand(session, servers, policies, asked, commands.length);
+      commands.push({ place, ...played });
+      state.last = lastOf(played.result);
+    }
+  }
+  return commands;
+}
+
+async function playWith(session, servers, scenario) {
+  const document = scenario.documents[0];
+  await session.start();
+  await seed(session, scenario);
+  const page = servers.expect(document.url, spokenHeaders(document));
+  servers.arrivals = [];
+  await session.open(page);
+  return { browser: session.browser, version: session.version, commands: await playScript(session, servers, document) };
+}
+
+// The play in the browser of this name; `kept` is given what the servers received.
+async function playIn(program, scenario, kept = () => {}) {
+  const authority = new Authority();
+  const servers = new Servers(scenario, authority);
+  await servers.listen();
+  const session = BROWSERS[program.browser].start(program, servers, authority);
+  const stop = () => session.kill();
+  process.once("exit", stop);
+  try {
+    return await playWith(session, servers, scenario);
+  } finally {
+    await session.close();
+    process.removeListener("exit", stop);
+    kept(servers.arrivals);
+    await servers.close();
+  }
+}
+
+function find(browser) {
+  return BROWSERS[browser].find();
+}
+
+module.exports = { playIn, find };
