@@ -34,9 +34,14 @@ function violationsOf(events, policies) {
     enforced: event.disposition === "enforce", directive: event.directive, url: event.url }));
 }
 
+function isPreflight(arrival) {
+  return arrival.method === "OPTIONS"
+    && arrival.headers.some((header) => header.name.toLowerCase() === "access-control-request-method");
+}
+
 // Header lines that the servers added themselves are not the scenario's.
 function withoutAdded(headers, arrivals) {
-  const last = arrivals.filter((arrival) => arrival.method !== "OPTIONS").pop();
+  const last = arrivals.filter((arrival) => !isPreflight(arrival)).pop();
   return last === undefined || !last.uncached ? headers
     : headers.filter(([name, value]) => !(name.toLowerCase() === "cache-control" && value === "no-store"));
 }
@@ -88,9 +93,8 @@ const slept = (seconds) => new Promise((resolve) => setTimeout(resolve, seconds 
 async function playCommand(session, servers, policies, command, number) {
   const first = servers.arrivals.length;
   const seen = await session.perform(command, number);
-  const arrivals = servers.arrivals.slice(first);
-  const requests = arrivals.filter((arrival) => arrival.own === null)
-    .map(({ origin, method, target, headers, body }) => ({ origin, method, target, body,
+  const arrivals = servers.arrivals.slice(first).filter((arrival) => arrival.own === null);
+  const requests = arrivals.map(({ origin, method, target, headers, body }) => ({ origin, method, target, body,
       headers: headers.map((header) => [header.name, header.value]) }));
   return { requests, violations: violationsOf(seen.violations, policies), result: resultOf(command, seen, arrivals),
     reasons: seen.reasons };

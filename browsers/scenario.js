@@ -68,11 +68,22 @@ function checkDocument(document) {
   }
 }
 
+// A document of http at a known host would itself be opened over https.
+function checkKnown(scenario) {
+  const { protocol, hostname } = new URL(scenario.documents[0].url);
+  const known = (scenario.hsts || []).findIndex((one) => one.until > (scenario.now || 0)
+    && (one.host === hostname || (one.subdomains && hostname.endsWith("." + one.host))));
+  if (protocol === "http:" && known >= 0) {
+    refuse("/hsts/" + known + "/host", "the host of the document is known, so that a browser opens it over https");
+  }
+}
+
 function readScenario(text) {
   const scenario = JSON.parse(text);
   if (scenario.documents.length !== 1) {
     refuse("/documents", "there must be one document, and there are " + scenario.documents.length);
   }
+  checkKnown(scenario);
   checkDocument(scenario.documents[0]);
   checkServers(scenario.servers || []);
   return scenario;

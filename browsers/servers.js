@@ -127,6 +127,7 @@ class Page {
 class Servers {
   constructor(scenario, authority) {
     this.rules = scenario.servers || [];
+    this.text = JSON.stringify(scenario);
     this.authority = authority;
     this.pages = [];
     this.arrivals = [];
@@ -209,12 +210,21 @@ class Servers {
     socket.end(rule === null ? Buffer.alloc(0) : bytesOf(rule));
   }
 
-  // What browsers send by themselves is no request of the script: the icon of a page, and reports of its policies.
-  keep(origin, request, rule) {
+  // What browsers send by themselves is no request of the script: the icon of a page, reports of its policies, and
+  // questions to their makers' hosts, which no scenario names.
+  ownOf(origin, request) {
     const type = (valueOf(request.headers, "content-type") || "").split(";")[0];
-    const own = request.target === "/favicon.ico" ? "icon" : REPORTS.includes(type) ? "report" : null;
+    if (request.target === "/favicon.ico") {
+      return "icon";
+    }
+    const host = origin.replace(/^https?:\/\//, "").replace(/:[0-9]*$/, "");
+    const foreign = /\.(com|net|org)$/.test(host) && !this.text.includes(host);
+    return REPORTS.includes(type) ? "report" : foreign ? "maker" : null;
+  }
+
+  keep(origin, request, rule) {
     this.arrivals.push({ origin, method: request.method, target: request.target, headers: request.headers,
-      body: request.body.toString("hex"), own, uncached: rule !== null && isUncached(rule) });
+      body: request.body.toString("hex"), own: this.ownOf(origin, request), uncached: rule !== null && isUncached(rule) });
   }
 
   expect(url, headers) {
