@@ -5,25 +5,23 @@
 
 const { errorsOf } = require("./reasons.js");
 
-// Headers that browsers add by themselves. One of them that the script gave is compared all the same.
+// Headers that browsers add by themselves, beside the Accept of a load.
 const ADDED = /^(user-agent|accept-language|accept-encoding|connection|cache-control|pragma|priority|te|dnt|range|upgrade-insecure-requests|sec-.*)$/;
 
-function givenNames(command) {
-  const asked = command.fetch || {};
-  return new Set((asked.headers || []).map(([name]) => name.toLowerCase()));
+// Whether a browser adds a header of this name by itself to the requests of a fetch or load, whatever it asks for.
+function isAdded(name, command) {
+  const key = name.toLowerCase();
+  const given = ((command.fetch || {}).headers || []).some(([one]) => one.toLowerCase() === key);
+  return !given && (ADDED.test(key) || (key === "accept" && command.load !== undefined));
 }
 
 // The headers of a request that are compared, by their lower-case names: the spelling and the joined values.
 function comparedHeaders(request, command) {
-  const given = givenNames(command);
   const headers = new Map();
-  request.headers.forEach(([name, value]) => {
+  request.headers.filter(([name]) => !isAdded(name, command)).forEach(([name, value]) => {
     const key = name.toLowerCase();
-    const added = ADDED.test(key) || (key === "accept" && command.load !== undefined);
-    if (!added || given.has(key)) {
-      const before = headers.get(key);
-      headers.set(key, { name, value: before === undefined ? value : before.value + ", " + value });
-    }
+    const before = headers.get(key);
+    headers.set(key, { name, value: before === undefined ? value : before.value + ", " + value });
   });
   return headers;
 }
@@ -183,4 +181,4 @@ function comparePlays(scenario, engine, played) {
   });
 }
 
-module.exports = { comparePlays, ADDED };
+module.exports = { comparePlays, isAdded };

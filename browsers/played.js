@@ -110,7 +110,7 @@ async function playScript(session, servers, document) {
     } else {
       const asked = filledCommand(command, state.last);
       const played = await playCommand(session, servers, policies, asked, commands.length);
-      commands.push({ place, ...played });
+      commands.push({ place, command: asked, ...played });
       state.last = lastOf(played.result);
     }
   }

@@ -1,0 +1,45 @@
+"use strict";
+
+const { isHeader, urlOf, hostOf, originOf, answerTo, valuesOf, lastAnswer, keyOf, documentOrigin } = require("./looked.js");
+
+const section = "what-the-engine-leaves-out";
+const both = ["chromium", "firefox"];
+
+// The cookies that answers to earlier requests to this host have set.
+function setBefore(context, host) {
+  const requests = [...context.before.flatMap((compared) => (compared.engine ? compared.engine.requests : [])),
+    ...context.ours.requests];
+  return requests.filter((request) => hostOf(request.origin) === host)
+    .flatMap((request) => valuesOf(answerTo(context, keyOf(request)), "set-cookie"));
+}
+
+const siteOf = (url) => hostOf(url).split(".").slice(-2).join(".");
+
+module.exports = [
+  {
+    name: "set-cookie", browsers: both, section, scenario: "request-heads/cookies-that-answers-set",
+    says: "an answer's Set-Cookie is kept",
+    explains: (difference, context) => isHeader(difference, "cookie")
+      && setBefore(context, hostOf(urlOf(difference.request))).length > 0,
+  },
+  {
+    name: "same-site-cookies", browsers: ["chromium"], section, scenario: "request-heads/cookies-of-another-site-over-http",
+    says: "a cookie of another site that is not SameSite=None and Secure stays",
+    explains: (difference, context) => isHeader(difference, "cookie") && difference.browser === null
+      && urlOf(difference.request).startsWith("http:") && siteOf(urlOf(difference.request)) !== siteOf(context.document.url),
+  },
+  {
+    name: "cookies-by-host", browsers: both, section, scenario: "request-heads/cookies-and-ports",
+    says: "a cookie belongs to the host, whatever the port",
+    explains: (difference, context) => isHeader(difference, "cookie") && difference.engine === null
+      && (context.scenario.cookies || []).some(([origin]) => hostOf(origin) === hostOf(urlOf(difference.request))
+        && origin !== originOf(urlOf(difference.request))),
+  },
+  {
+    name: "public-suffixes", browsers: both, section, scenario: "answers/resource-policy-and-suffixes",
+    says: "sites are told apart by the public suffix list",
+    explains: (difference, context) => ["result", "reason"].includes(difference.what)
+      && valuesOf(lastAnswer(context), "cross-origin-resource-policy").includes("same-site")
+      && siteOf(context.asked.url) === siteOf(context.document.url) && documentOrigin(context).split(".").length > 2,
+  },
+];
