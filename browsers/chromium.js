@@ -59,7 +59,6 @@ function reasonOf(failed) {
 
 class Chromium {
   constructor(program, servers, authority) {
-    this.browser = "chromium";
     this.version = program.version;
     this.servers = servers;
     this.folder = fs.mkdtempSync(path.join(os.tmpdir(), "in-browser-"));
@@ -67,9 +66,10 @@ class Chromium {
     const words = wordsFor(this.folder, servers.port, authority.keyHash());
     this.process = spawn(program.name, words, { stdio: ["ignore", "ignore", "ignore", "pipe", "pipe"], detached: true });
     this.gone = new Promise((resolve) => this.process.on("exit", resolve));
+    this.process.on("error", () => {});
     this.asked = new Map();
+    this.listeners = new Map();
     this.count = 0;
-    this.ended = [];
     this.rest = Buffer.alloc(0);
     this.process.stdio[3].on("error", () => {});
     this.process.stdio[4].on("data", (bytes) => this.take(bytes));
@@ -87,14 +87,12 @@ class Chromium {
     if (message.id !== undefined) {
       this.asked.get(message.id)(message);
       this.asked.delete(message.id);
-    } else if (message.method === "Network.loadingFailed") {
-      this.ended.push({ reason: reasonOf(message.params) });
-    } else if (message.method === "Network.loadingFinished") {
-      this.ended.push({ reason: null });
+    } else if (this.listeners.has(message.sessionId)) {
+      this.listeners.get(message.sessionId)(message);
     }
   }
 
-  ask(method, params = {}) {
+  ask(method, params = {}, sessionId = undefined) {
     this.count += 1;
     const id = this.count;
     return new Promise((resolve, reject) => {
@@ -103,15 +101,57 @@ class Chromium {
         clearTimeout(late);
         return message.error ? reject(new Error(method + ": " + message.error.message)) : resolve(message.result);
       });
-      this.process.stdio[3].write(JSON.stringify({ id, method, params, sessionId: this.session }) + "\0");
+      this.process.stdio[3].write(JSON.stringify({ id, method, params, sessionId }) + "\0");
     });
   }
 
-  async start() {
-    const { targetId } = await this.ask("Target.createTarget", { url: "about:blank" });
+  // A page in a profile of its own, which is forgotten with it.
+  async session() {
+    const { browserContextId } = await this.ask("Target.createBrowserContext", { disposeOnDetach: true });
+    const { targetId } = await this.ask("Target.createTarget", { url: "about:blank", browserContextId });
     const { sessionId } = await this.ask("Target.attachToTarget", { targetId, flatten: true });
-    this.session = sessionId;
-    await Promise.all(["Page.enable", "Runtime.enable", "Network.enable"].map((method) => this.ask(method)));
+    const session = new Session(this, sessionId, browserContextId);
+    this.listeners.set(sessionId, (message) => session.hear(message));
+    await Promise.all(["Page.enable", "Runtime.enable", "Network.enable"].map((method) => session.ask(method)));
+    return session;
+  }
+
+  // Ends the browser with the processes that it started: they are a group of its own.
+  kill() {
+    try {
+      process.kill(-this.process.pid, "SIGKILL");
+    } catch {
+      // It is gone already.
+    }
+  }
+
+  async close() {
+    const late = setTimeout(() => this.kill(), 3000);
+    await this.ask("Browser.close").catch(() => this.kill());
+    await this.gone;
+    clearTimeout(late);
+    fs.rmSync(this.folder, { recursive: true, force: true, maxRetries: 10, retryDelay: 100 });
+  }
+}
+
+class Session {
+  constructor(browser, id, context) {
+    this.browser = browser;
+    this.id = id;
+    this.context = context;
+    this.ended = [];
+  }
+
+  ask(method, params) {
+    return this.browser.ask(method, params, this.id);
+  }
+
+  hear(message) {
+    if (message.method === "Network.loadingFailed") {
+      this.ended.push({ reason: reasonOf(message.params) });
+    } else if (message.method === "Network.loadingFinished") {
+      this.ended.push({ reason: null });
+    }
   }
 
   // A cookie of an https origin goes with requests of other sites, too.
@@ -123,7 +163,7 @@ class Chromium {
   // Makes a host known: a visit to it, whose answer says for how long.
   async makeKnown(known, seconds) {
     const url = "https://" + known.host + "/";
-    this.servers.expect(url, [["Strict-Transport-Security",
+    this.browser.servers.expect(url, [["Strict-Transport-Security",
       "max-age=" + seconds + (known.subdomains ? "; includeSubDomains" : "")]]);
     await this.visit(url);
   }
@@ -167,22 +207,9 @@ class Chromium {
     return { ...seen, reasons, finished: this.ended.some((end) => end.reason === null) };
   }
 
-  // Ends the browser with the processes that it started: they are a group of its own.
-  kill() {
-    try {
-      process.kill(-this.process.pid, "SIGKILL");
-    } catch {
-      // It is gone already.
-    }
-  }
-
   async close() {
-    this.session = undefined;
-    const late = setTimeout(() => this.kill(), 3000);
-    await this.ask("Browser.close").catch(() => this.kill());
-    await this.gone;
-    clearTimeout(late);
-    fs.rmSync(this.folder, { recursive: true, force: true, maxRetries: 10, retryDelay: 100 });
+    this.browser.listeners.delete(this.id);
+    await this.browser.ask("Target.disposeBrowserContext", { browserContextId: this.context }).catch(() => null);
   }
 }
 

@@ -3,7 +3,10 @@
 // What is run in the page itself, as text: these functions stand by themselves and use nothing of node. `watch` is called
 // once; `begin` starts a fetch or a load; `outcome` waits for it. All that the page tells is JSON.
 
-function watch() {
+async function watch() {
+  while (document.body === null) {
+    await new Promise((resolve) => setTimeout(resolve, 5));
+  }
   window.fiorrudda = { violations: [], pending: null };
   document.addEventListener("securitypolicyviolation", (event) => {
     window.fiorrudda.violations.push({ directive: event.effectiveDirective, disposition: event.disposition,

@@ -117,36 +117,76 @@ async function playScript(session, servers, document) {
   return commands;
 }
 
-async function playWith(session, servers, scenario) {
-  const document = scenario.documents[0];
-  await session.start();
-  await seed(session, scenario);
-  const page = servers.expect(document.url, spokenHeaders(document));
-  servers.arrivals = [];
-  await session.open(page);
-  return { browser: session.browser, version: session.version, commands: await playScript(session, servers, document) };
+// A browser that plays scenarios, each in a profile of its own.
+class Player {
+  constructor(program) {
+    this.program = program;
+    this.authority = new Authority();
+    this.servers = new Servers(this.authority);
+  }
+
+  async start() {
+    await this.servers.listen();
+    this.browser = BROWSERS[this.program.browser].start(this.program, this.servers, this.authority);
+    this.stop = () => this.browser.kill();
+    process.once("exit", this.stop);
+  }
+
+  async play(scenario) {
+    const document = scenario.documents[0];
+    this.servers.become(scenario);
+    const session = await this.browser.session();
+    try {
+      await seed(session, scenario);
+      const page = this.servers.expect(document.url, spokenHeaders(document));
+      this.servers.arrivals = [];
+      await session.open(page);
+      const commands = await playScript(session, this.servers, document);
+      return { browser: this.program.browser, version: this.program.version, commands };
+    } finally {
+      await session.close();
+    }
+  }
+
+  async close() {
+    await this.browser.close();
+    process.removeListener("exit", this.stop);
+    await this.servers.close();
+  }
 }
 
-// The play in the browser of this name; `kept` is given what the servers received.
+// The play in a browser that is started for it; `kept` is given what the servers received.
 async function playIn(program, scenario, kept = () => {}) {
-  const authority = new Authority();
-  const servers = new Servers(scenario, authority);
-  await servers.listen();
-  const session = BROWSERS[program.browser].start(program, servers, authority);
-  const stop = () => session.kill();
-  process.once("exit", stop);
+  const player = new Player(program);
   try {
-    return await playWith(session, servers, scenario);
+    await player.start();
+    return await player.play(scenario);
   } finally {
-    await session.close();
-    process.removeListener("exit", stop);
-    kept(servers.arrivals);
-    await servers.close();
+    await player.close();
+    kept(player.servers.arrivals);
   }
+}
+
+// Plays many by a few browsers side by side; `played` is given each with its key.
+async function playMany(program, jobs, scenarios, played) {
+  const rest = [...scenarios];
+  const work = async () => {
+    const player = new Player(program);
+    await player.start();
+    try {
+      while (rest.length > 0) {
+        const [key, scenario] = rest.shift();
+        await played(key, await player.play(scenario));
+      }
+    } finally {
+      await player.close();
+    }
+  };
+  await Promise.all(Array.from({ length: jobs }, work));
 }
 
 function find(browser) {
   return BROWSERS[browser].find();
 }
 
-module.exports = { playIn, find };
+module.exports = { playIn, playMany, find };

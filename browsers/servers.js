@@ -125,19 +125,24 @@ class Page {
 }
 
 class Servers {
-  constructor(scenario, authority) {
-    this.rules = scenario.servers || [];
-    this.text = JSON.stringify(scenario);
-    this.authority = authority;
-    this.pages = [];
-    this.arrivals = [];
+  constructor(authority) {
     this.sockets = new Set();
+    this.become({});
     const spare = authority.contextOf(["127.0.0.1", "::1", "localhost"]);
     this.secure = tls.createServer({ ...spare, ALPNProtocols: ["http/1.1"],
       SNICallback: (name, done) => done(null, tls.createSecureContext(authority.contextOf([name]))) });
     this.secure.on("secureConnection", (socket) => this.serve(socket, "https"));
     this.secure.on("tlsClientError", () => {});
     this.listener = net.createServer((socket) => this.accept(socket));
+  }
+
+  // Answers by this scenario from now on.
+  become(scenario) {
+    this.rules = scenario.servers || [];
+    this.text = JSON.stringify(scenario);
+    this.pages = [];
+    this.arrivals = [];
+    this.sockets.forEach((socket) => socket.destroy());
   }
 
   listen() {
