@@ -7,7 +7,7 @@ const { readScenario } = require("./scenario.js");
 const { printedPlay, readCommands } = require("./engine.js");
 const { comparePlays } = require("./compare.js");
 const { explained, unexplained } = require("./explained.js");
-const { playIn, find } = require("./played.js");
+const { playMany, find } = require("./played.js");
 const { differenceText, NAMES } = require("./show.js");
 const { rules } = require("./rules.js");
 const { documentFaults } = require("./document.js");
@@ -51,14 +51,6 @@ function engineOf(name) {
 
 function comparedWith(engine, played) {
   return explained(engine.scenario, played.browser, comparePlays(engine.scenario, engine.commands, played));
-}
-
-async function playLive(name, program, store) {
-  const played = await playIn(program, readScenario(corpus.textOf(name)));
-  if (store) {
-    corpus.store(name, played);
-  }
-  return played;
 }
 
 // ---- the corpus
@@ -110,15 +102,12 @@ async function compareLive(names, engines, given) {
     throw new Error("there is no " + NAMES[given.live]);
   }
   const findings = new Findings();
-  const rest = [...names];
-  const work = async () => {
-    while (rest.length > 0) {
-      const name = rest.shift();
-      const played = await playLive(name, program, given.store);
-      findings.add(name, played, comparedWith(engines.get(name), played));
+  await playMany(program, given.jobs, names.map((name) => [name, engines.get(name).scenario]), (name, played) => {
+    findings.add(name, played, comparedWith(engines.get(name), played));
+    if (given.store) {
+      corpus.store(name, played);
     }
-  };
-  await Promise.all(Array.from({ length: given.jobs }, work));
+  });
   return findings;
 }
 
@@ -134,6 +123,9 @@ async function check(given) {
   const engines = new Map(names.map((name) => [name, engineOf(name)]));
   const browsers = given.live === null ? Object.keys(NAMES) : [given.live];
   const faults = given.names.length === 0 ? documentFaults() : [];
+  browsers.filter((browser) => given.live === null && find(browser) === null).forEach((browser) => {
+    console.error("browsers/check: there is no " + NAMES[browser] + " here: its stored answers alone are compared");
+  });
   for (const browser of browsers) {
     const findings = given.live === null ? compareStored(names, engines, browser) : await compareLive(names, engines, given);
     console.log("browsers/check: " + findings.told(browser));

@@ -10,7 +10,7 @@ const { spawn, spawnSync } = require("child_process");
 const { watch, begin, outcome, call, scriptTag } = require("./page.js");
 
 const NAMES = process.env.CHROMIUM ? [process.env.CHROMIUM] : ["chromium", "chromium-browser", "google-chrome"];
-const PATIENCE = 20000; // milliseconds
+const PATIENCE = 60000; // milliseconds
 const SETTLE = 40; // milliseconds until the last events of a command are there
 const SWITCHED_OFF = ["HttpsUpgrades", "HttpsFirstModeV2", "HttpsFirstModeIncognito", "HttpsFirstBalancedMode",
   "HttpsFirstBalancedModeAutoEnable", "LocalNetworkAccessChecks", "LocalNetworkAccessChecksWarn",

@@ -13,7 +13,7 @@ const { watch, begin, outcome, call, scriptTag } = require("./page.js");
 const { prefsFor } = require("./firefox-prefs.js");
 
 const NAMES = process.env.FIREFOX ? [process.env.FIREFOX] : ["firefox-esr", "firefox"];
-const PATIENCE = 30000; // milliseconds
+const PATIENCE = 90000; // milliseconds
 const SETTLE = 60; // milliseconds until the last events of a command are there
 
 function versionOf(name) {
@@ -41,11 +41,17 @@ function trust(certificate) {
   Cc["@mozilla.org/security/x509certdb;1"].getService(Ci.nsIX509CertDB).addCertFromBase64(certificate, "CT,,");
 }
 
-function giveCookie(host, name, value, secure) {
+function giveCookie(host, name, value, secure, userContextId) {
   const inAYear = Date.now() + 365 * 24 * 3600 * 1000;
   const scheme = secure ? Ci.nsICookie.SCHEME_HTTPS : Ci.nsICookie.SCHEME_HTTP;
   const sameSite = secure ? Ci.nsICookie.SAMESITE_NONE : Ci.nsICookie.SAMESITE_UNSET;
-  Services.cookies.add(host, "/", name, value, secure, false, false, inAYear, {}, sameSite, scheme);
+  Services.cookies.add(host, "/", name, value, secure, false, false, inAYear, { userContextId }, sameSite, scheme);
+}
+
+// A tab of a container that was never used: it has cookies, known hosts and caches of its own.
+function openTab(userContextId) {
+  const triggeringPrincipal = Services.scriptSecurityManager.getSystemPrincipal();
+  gBrowser.selectedTab = gBrowser.addTab("about:blank", { userContextId, triggeringPrincipal });
 }
 
 // Listens to how requests end, and to what the console is told of them.
@@ -78,7 +84,6 @@ function heardSince() {
 
 class Firefox {
   constructor(program, servers, authority) {
-    this.browser = "firefox";
     this.version = program.version;
     this.servers = servers;
     this.authority = authority;
@@ -88,6 +93,8 @@ class Firefox {
     this.process = spawn(program.name, words, { stdio: "ignore", detached: true,
       env: { ...process.env, MOZ_CRASHREPORTER_DISABLE: "1", MOZ_REMOTE_SETTINGS_DEVTOOLS: "1", HOME: this.folder } });
     this.gone = new Promise((resolve) => this.process.on("exit", resolve));
+    this.process.on("error", () => {});
+    this.containers = 0;
     this.asked = new Map();
     this.count = 0;
     this.rest = Buffer.alloc(0);
@@ -170,49 +177,16 @@ class Firefox {
     return value;
   }
 
-  async setCookie(origin, name, value) {
-    await this.inBrowser(giveCookie, new URL(origin).hostname, name, value, origin.startsWith("https:"));
-  }
-
-  // Makes a host known: a visit to it, whose answer says for how long.
-  async makeKnown(known, seconds) {
-    const url = "https://" + known.host + "/";
-    const page = this.servers.expect(url, [["Strict-Transport-Security",
-      "max-age=" + seconds + (known.subdomains ? "; includeSubDomains" : "")]]);
-    await this.visit(page);
-  }
-
-  // Marionette answers once the document has ended, which it never does here: a navigation is over once its page is the
-  // one that scripts run in.
-  async visit(page) {
-    this.ask("WebDriver:Navigate", { url: page.url.href }).catch(() => null);
-    for (let until = Date.now() + PATIENCE; Date.now() < until;) {
-      const there = await this.value("document.title !== '' && location.href").catch(() => null);
-      if (there === page.url.href) {
-        return;
-      }
-      await new Promise((resolve) => setTimeout(resolve, 10));
-    }
-    throw new Error("firefox does not open " + page.url.href);
-  }
-
-  async open(page) {
-    this.page = page;
-    await this.visit(page);
-    await this.value(call(watch));
-  }
-
-  // Plays one fetch or load, and tells what the page saw and how each request of the network layer ended.
-  async perform(command, number) {
-    await this.inBrowser(heardSince);
-    const parsed = command.load !== undefined && command.load.kind === "script" && command.load.parser !== false;
-    await this.value(call(begin, parsed ? { load: { ...command.load, parsed } } : command, number));
-    if (parsed) {
-      this.page.append(scriptTag(command.load, number));
-    }
-    const seen = JSON.parse(await this.value(call(outcome, SETTLE)));
-    const { ended, said } = await this.inBrowser(heardSince);
-    return { ...seen, reasons: said, finished: ended.some((end) => end.status === 0), ended };
+  // A page in a container of its own.
+  async session() {
+    this.started = this.started || this.start();
+    await this.started;
+    this.containers += 1;
+    const before = await this.ask("WebDriver:GetWindowHandles");
+    await this.inBrowser(openTab, 100 + this.containers);
+    const session = new Session(this, 100 + this.containers);
+    await session.take(before);
+    return session;
   }
 
   kill() {
@@ -230,6 +204,77 @@ class Firefox {
     clearTimeout(late);
     this.socket.destroy();
     fs.rmSync(this.folder, { recursive: true, force: true, maxRetries: 10, retryDelay: 100 });
+  }
+}
+
+class Session {
+  constructor(browser, container) {
+    this.browser = browser;
+    this.container = container;
+  }
+
+  // Leads Marionette to the tab that was not there before.
+  async take(before) {
+    for (let until = Date.now() + PATIENCE; Date.now() < until;) {
+      const handle = (await this.browser.ask("WebDriver:GetWindowHandles")).find((one) => !before.includes(one));
+      if (handle !== undefined) {
+        await this.browser.ask("WebDriver:SwitchToWindow", { handle, focus: true });
+        return;
+      }
+    }
+    throw new Error("firefox opens no tab");
+  }
+
+  async setCookie(origin, name, value) {
+    await this.browser.inBrowser(giveCookie, new URL(origin).hostname, name, value, origin.startsWith("https:"),
+      this.container);
+  }
+
+  // Makes a host known: a visit to it, whose answer says for how long.
+  async makeKnown(known, seconds) {
+    const url = "https://" + known.host + "/";
+    const page = this.browser.servers.expect(url, [["Strict-Transport-Security",
+      "max-age=" + seconds + (known.subdomains ? "; includeSubDomains" : "")]]);
+    await this.visit(page);
+  }
+
+  // Marionette answers once the document has ended, which it never does here: a navigation is over once its page is the
+  // one that scripts run in.
+  async visit(page) {
+    this.browser.ask("WebDriver:Navigate", { url: page.url.href }).catch(() => null);
+    for (let until = Date.now() + PATIENCE; Date.now() < until;) {
+      const there = await this.browser.value("document.title !== '' && location.href").catch(() => null);
+      if (there === page.url.href) {
+        return;
+      }
+      await new Promise((resolve) => setTimeout(resolve, 10));
+    }
+    throw new Error("firefox does not open " + page.url.href);
+  }
+
+  async open(page) {
+    this.page = page;
+    await this.visit(page);
+    await this.browser.value(call(watch));
+  }
+
+  // Plays one fetch or load, and tells what the page saw and how each request of the network layer ended.
+  async perform(command, number) {
+    await this.browser.inBrowser(heardSince);
+    const parsed = command.load !== undefined && command.load.kind === "script" && command.load.parser !== false;
+    await this.browser.value(call(begin, parsed ? { load: { ...command.load, parsed } } : command, number));
+    if (parsed) {
+      this.page.append(scriptTag(command.load, number));
+    }
+    const seen = JSON.parse(await this.browser.value(call(outcome, SETTLE)));
+    const { ended, said } = await this.browser.inBrowser(heardSince);
+    return { ...seen, reasons: said, finished: ended.some((end) => end.status === 0), ended };
+  }
+
+  async close() {
+    await this.browser.ask("WebDriver:CloseWindow").catch(() => null);
+    const [handle] = await this.browser.ask("WebDriver:GetWindowHandles");
+    await this.browser.ask("WebDriver:SwitchToWindow", { handle, focus: true });
   }
 }
 

@@ -9,7 +9,7 @@ const { readScenario } = require("./scenario.js");
 const { printedPlay, readCommands } = require("./engine.js");
 const { comparePlays } = require("./compare.js");
 const { explained, unexplained } = require("./explained.js");
-const { playIn, find } = require("./played.js");
+const { playMany, find } = require("./played.js");
 const { differenceText, NAMES } = require("./show.js");
 
 const USAGE = `usage: browsers/fuzz [--firefox] [--jobs N] [--keep FOLDER] AREA FIRST COUNT
@@ -45,36 +45,36 @@ function readWords(words) {
 
 const textOf = (given, number) => JSON.stringify(made(given.area, number), null, 1) + "\n";
 
-async function playNumber(given, program, number) {
-  const text = textOf(given, number);
-  const scenario = readScenario(text);
-  const engine = readCommands(printedPlay(text), scenario.documents[0]);
-  const played = await playIn(program, scenario);
-  const commands = explained(scenario, given.browser, comparePlays(scenario, engine, played));
-  const left = unexplained(commands);
-  left.forEach((one) => console.log(given.area + " " + number + " " + one.place + " " + differenceText(one)));
+// Each scenario with the engine's play of it.
+function preparedOf(given) {
+  return Array.from({ length: given.count }, (_, index) => {
+    const number = given.first + index;
+    const text = textOf(given, number);
+    const scenario = readScenario(text);
+    return { number, text, scenario, engine: readCommands(printedPlay(text), scenario.documents[0]) };
+  });
+}
+
+// The differences of one that no rule explains are told, and it is kept.
+function tell(given, prepared, left) {
+  left.forEach((one) => console.log(given.area + " " + prepared.number + " " + one.place + " " + differenceText(one)));
   if (left.length > 0 && given.keep !== null) {
     fs.mkdirSync(given.keep, { recursive: true });
-    fs.writeFileSync(path.join(given.keep, given.area + "-" + number + ".json"), text);
+    fs.writeFileSync(path.join(given.keep, given.area + "-" + prepared.number + ".json"), prepared.text);
   }
-  const differences = commands.flatMap((compared) => compared.differences).length;
-  return { commands: commands.length, explained: differences - left.length, unexplained: left.length };
 }
 
 async function playAll(given, program) {
   const sums = { commands: 0, explained: 0, unexplained: 0 };
-  let next = given.first;
-  const work = async () => {
-    while (next < given.first + given.count) {
-      const number = next;
-      next += 1;
-      const one = await playNumber(given, program, number);
-      Object.keys(sums).forEach((name) => {
-        sums[name] += one[name];
-      });
-    }
-  };
-  await Promise.all(Array.from({ length: given.jobs }, work));
+  const scenarios = preparedOf(given).map((prepared) => [prepared, prepared.scenario]);
+  await playMany(program, given.jobs, scenarios, (prepared, played) => {
+    const commands = explained(prepared.scenario, given.browser, comparePlays(prepared.scenario, prepared.engine, played));
+    const left = unexplained(commands);
+    tell(given, prepared, left);
+    sums.commands += commands.length;
+    sums.unexplained += left.length;
+    sums.explained += commands.flatMap((compared) => compared.differences).length - left.length;
+  });
   return sums;
 }
 
