@@ -17,6 +17,9 @@ const SWITCHED_OFF = ["HttpsUpgrades", "HttpsFirstModeV2", "HttpsFirstModeIncogn
   "PrivateNetworkAccessSendPreflights", "PrivateNetworkAccessRespectPreflightResults", "OptimizationHints",
   "MediaRouter", "Translate", "AutofillServerCommunication"];
 
+// Requests by which the browser reports a page's violations: none of the script's.
+const REPORTS = ["CSPViolationReport", "Ping"];
+
 function versionOf(name) {
   const ran = spawnSync(name, ["--version"], { encoding: "utf8" });
   const found = ran.status === 0 ? /[0-9]+(\.[0-9]+)+/.exec(ran.stdout) : null;
@@ -139,6 +142,7 @@ class Session {
     this.browser = browser;
     this.id = id;
     this.context = context;
+    this.types = new Map();
     this.ended = [];
   }
 
@@ -147,9 +151,12 @@ class Session {
   }
 
   hear(message) {
-    if (message.method === "Network.loadingFailed") {
+    const { requestId, type } = message.params;
+    if (message.method === "Network.requestWillBeSent") {
+      this.types.set(requestId, type);
+    } else if (message.method === "Network.loadingFailed" && !REPORTS.includes(type)) {
       this.ended.push({ reason: reasonOf(message.params) });
-    } else if (message.method === "Network.loadingFinished") {
+    } else if (message.method === "Network.loadingFinished" && !REPORTS.includes(this.types.get(requestId))) {
       this.ended.push({ reason: null });
     }
   }

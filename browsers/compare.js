@@ -4,24 +4,27 @@
 // the engine's value and the browser's; null is what was not there. What is not compared is listed in docs/BROWSERS.md.
 
 const { errorsOf } = require("./reasons.js");
+const { ruleFor } = require("./scripted.js");
 
 // Headers that browsers add by themselves, beside the Accept of a load.
 const ADDED = /^(user-agent|accept-language|accept-encoding|connection|cache-control|pragma|priority|te|dnt|range|upgrade-insecure-requests|sec-.*)$/;
 
-// Whether a browser adds a header of this name by itself to the requests of a fetch or load, whatever it asks for.
-function isAdded(name, command) {
+// Whether a browser adds a header of this name by itself to a request of a fetch or load, whatever it asks for. What a
+// script gives is not sent with a preflight.
+function isAdded(name, command, method) {
   const key = name.toLowerCase();
   const given = ((command.fetch || {}).headers || []).some(([one]) => one.toLowerCase() === key);
-  return !given && (ADDED.test(key) || (key === "accept" && command.load !== undefined));
+  return !(given && method !== "OPTIONS") && (ADDED.test(key) || (key === "accept" && command.load !== undefined));
 }
 
 // The headers of a request that are compared, by their lower-case names: the spelling and the joined values.
 function comparedHeaders(request, command) {
   const headers = new Map();
-  request.headers.filter(([name]) => !isAdded(name, command)).forEach(([name, value]) => {
+  request.headers.filter(([name]) => !isAdded(name, command, request.method)).forEach(([name, value]) => {
     const key = name.toLowerCase();
     const before = headers.get(key);
-    headers.set(key, { name, value: before === undefined ? value : before.value + ", " + value });
+    // Blanks at the ends are no part of a value on the wire.
+    headers.set(key, { name, value: before === undefined ? value.trim() : (before.value + ", " + value).trim() });
   });
   return headers;
 }
@@ -157,10 +160,8 @@ function resultDifferences(browser, ours, theirs, statusOfLoad) {
 // The status with which the last request of a command is answered by the scenario's rules, or null.
 function statusOf(scenario, requests) {
   const last = requests[requests.length - 1];
-  const server = last && (scenario.servers || []).find((one) => one.origin === last.origin);
-  const rule = server && server.rules.find((one) => (one.method === undefined || one.method === last.method)
-    && (one.path === undefined || one.path === last.target));
-  return server === undefined ? null : rule === undefined ? 404 : rule.status === undefined ? null : rule.status;
+  const rule = last === undefined ? null : ruleFor(scenario, last.origin, last.method, last.target);
+  return rule === null || rule.status === undefined ? null : rule.status;
 }
 
 function compareCommand(scenario, browser, ours, theirs) {

@@ -36,7 +36,7 @@ function answers(name, browser) {
 // Stores a play without the headers that no comparison looks at, a command on a line.
 function store(name, played) {
   const kept = played.commands.map(({ command, ...one }) => ({ ...one, requests: one.requests.map((request) => ({ ...request,
-    headers: request.headers.filter(([header]) => !isAdded(header, command)) })) }));
+    headers: request.headers.filter(([header]) => !isAdded(header, command, request.method)) })) }));
   const head = "{\"browser\": " + JSON.stringify(played.browser) + ", \"version\": " + JSON.stringify(played.version);
   const lines = kept.map((one) => "\n  " + JSON.stringify(one)).join(",");
   fs.writeFileSync(answersFile(name, played.browser), head + ",\n \"commands\": [" + lines + "]}\n");

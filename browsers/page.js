@@ -132,6 +132,8 @@ function begin(command, number) {
       return heardParsed("load" + number);
     }
     const element = elements[asked.kind](asked);
+    // Of several manifests a document takes the first.
+    document.querySelectorAll("link[rel=manifest]").forEach((other) => other.remove());
     const told = asked.kind === "manifest" ? Promise.resolve({ event: "none" }) : heard(element);
     document.body.appendChild(element);
     return told;

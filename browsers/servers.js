@@ -6,6 +6,7 @@
 
 const net = require("net");
 const tls = require("tls");
+const { ruleFor, textOf } = require("./scripted.js");
 
 const SOCKS = 0x05;
 const HANDSHAKE = 0x16;
@@ -78,23 +79,7 @@ function isUncached(rule) {
 }
 
 function bytesOf(rule) {
-  if (rule.raw !== undefined) {
-    return Buffer.from(rule.raw, "utf8");
-  }
-  const lines = (rule.headers || []).map(([name, value]) => name + ": " + value + "\r\n").join("");
-  const head = "HTTP/1.1 " + rule.status + " Scripted\r\n" + lines + (isUncached(rule) ? UNCACHED : "") + "\r\n";
-  return Buffer.from(head + (rule.body || ""), "utf8");
-}
-
-// The first rule of the first server of this origin that fits; null where there is no such server.
-function ruleFor(servers, origin, request) {
-  const server = servers.find((one) => one.origin === origin);
-  if (server === undefined) {
-    return null;
-  }
-  const fits = (rule) => (rule.method === undefined || rule.method === request.method)
-    && (rule.path === undefined || rule.path === request.target);
-  return server.rules.find(fits) || { status: 404 };
+  return Buffer.from(textOf(rule, isUncached(rule) ? UNCACHED : ""), "utf8");
 }
 
 // A page whose document stays open, so that what is appended to it later is read by the browser's parser.
@@ -138,7 +123,7 @@ class Servers {
 
   // Answers by this scenario from now on.
   become(scenario) {
-    this.rules = scenario.servers || [];
+    this.scenario = scenario;
     this.text = JSON.stringify(scenario);
     this.pages = [];
     this.arrivals = [];
@@ -210,7 +195,7 @@ class Servers {
       page.open(socket);
       return;
     }
-    const rule = ruleFor(this.rules, origin, request);
+    const rule = ruleFor(this.scenario, origin, request.method, request.target);
     this.keep(origin, request, rule);
     socket.end(rule === null ? Buffer.alloc(0) : bytesOf(rule));
   }

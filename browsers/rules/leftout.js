@@ -31,8 +31,8 @@ module.exports = [
   {
     name: "cookies-by-host", browsers: both, section, scenario: "request-heads/cookies-and-ports",
     says: "a cookie belongs to the host, whatever the port",
-    explains: (difference, context) => isHeader(difference, "cookie") && difference.engine === null
-      && (context.scenario.cookies || []).some(([origin]) => hostOf(origin) === hostOf(urlOf(difference.request))
+    explains: (difference, context) => isHeader(difference, "cookie") && difference.browser !== null
+      && difference.browser.startsWith(difference.engine || "") && (context.scenario.cookies || []).some(([origin]) => hostOf(origin) === hostOf(urlOf(difference.request))
         && origin !== originOf(urlOf(difference.request))),
   },
   {

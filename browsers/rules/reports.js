@@ -14,11 +14,31 @@ function isToldOnceMore(difference, context) {
     && countOf(context.theirs.violations, difference.engine) > 0;
 }
 
+// A browser tells once more what the engine tells once.
+function isToldTwice(difference, context) {
+  return difference.what === "violation" && isReport(difference.browser) && difference.engine === null
+    && countOf(context.ours.violations, difference.browser) === 1 && countOf(context.theirs.violations, difference.browser) === 2;
+}
+
+const hasOtherScheme = (context) => ["Scheme", "RedirectScheme"].includes(context.ours.result.name);
+
 module.exports = [
   {
+    name: "policy-before-scheme", browsers: ["chromium"], section, scenario: "reports/other-schemes",
+    says: "policies are asked about a URL of another scheme, too",
+    explains: (difference, context) => difference.what === "violation" && difference.engine === null
+      && hasOtherScheme(context),
+  },
+  {
     name: "report-only-load-once", browsers: ["chromium"], section, scenario: "reports/report-only-image",
-    says: "a load's violation of a report-only policy is told at the request alone",
-    explains: (difference, context) => context.command.load !== undefined && isToldOnceMore(difference, context),
+    says: "a violation of a report-only policy is told at the request alone, by loads and by XMLHttpRequest",
+    explains: (difference, context) => (context.command.load !== undefined || context.asked.upload === true)
+      && isToldOnceMore(difference, context),
+  },
+  {
+    name: "report-only-fetch-twice", browsers: ["chromium"], section, scenario: "reports/report-only-failed",
+    says: "a fetch asks report-only policies twice at the request, whether a response comes or not",
+    explains: (difference, context) => context.command.fetch !== undefined && isToldTwice(difference, context),
   },
   {
     name: "report-only-once", browsers: ["firefox"], section, scenario: "reports/report-only-fetch",

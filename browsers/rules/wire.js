@@ -1,16 +1,16 @@
 "use strict";
 
-const { rawAnswer } = require("./looked.js");
+const { lastText, isRequest, answerTo } = require("./looked.js");
 
 const section = "bytes-on-the-wire";
 const both = ["chromium", "firefox"];
 const SEEN = ["result", "type", "status", "body", "response header", "reason"];
 
 // A rule of an answer whose bytes have this form: its head alone, or all of them.
-function wireRule(name, browsers, says, form) {
-  return { name, browsers, section, scenario: "wire/" + name, says,
-    explains: (difference, context) => SEEN.includes(difference.what) && rawAnswer(context) !== null
-      && form.test(rawAnswer(context)) };
+function wireRule(name, browsers, says, form, scenario = name) {
+  return { name, browsers, section, scenario: "wire/" + scenario, says,
+    explains: (difference, context) => SEEN.includes(difference.what) && lastText(context) !== null
+      && form.test(lastText(context)) };
 }
 
 module.exports = [
@@ -34,8 +34,22 @@ module.exports = [
     /^HTTP\/1\.0 [^]*\r\nTransfer-Encoding: chunked\r\n/i),
   wireRule("chunks-with-lf", both, "lines of chunks may end in LF alone",
     /\r\nTransfer-Encoding: chunked\r\n\r\n[0-9a-f]+\n/i),
+  wireRule("chunk-size-of-many-digits", ["chromium"], "the size of a chunk may have more than 16 digits",
+    /\r\n0{17,}\r\n/),
+  wireRule("chunk-size-and-a-tab", ["chromium"], "a tab behind the size of a chunk is a fault", /\r\n[0-9a-f]+\t;/i),
   wireRule("status-101", ["chromium"], "a 101 is skipped, and the next head counts", /^HTTP\/1\.1 101 [^]*\r\n\r\nHTTP\//),
-  wireRule("status-101-alone", ["chromium"], "a 101 alone is a network error", /^HTTP\/1\.1 101 [^\r]*\r\n\r\n$/),
+  {
+    name: "status-101-alone", browsers: ["chromium"], section, scenario: "wire/status-101-alone",
+    says: "a 101 that no other head follows is a network error",
+    explains: (difference, context) => difference.what === "result" && context.ours.result.status === 101
+      && /^HTTP\/1\.1 101 /.test(lastText(context) || ""),
+  },
+  {
+    name: "empty-answer", browsers: both, section, scenario: "answers/no-server",
+    says: "a request that is answered by nothing at all may be sent once more",
+    explains: (difference, context) => isRequest(difference) && difference.engine === null
+      && context.ours.result.name === "BadHead" && answerTo(context, difference.browser) === null,
+  },
   wireRule("folded-line", both, "a folded line is one value", /\r\n[ \t]/),
   wireRule("cr-in-a-value", both, "a CR alone in a value is taken", /[^\r\n]\r[^\n]/),
   wireRule("blank-before-a-colon", both, "a line with a blank before its colon is no fault", /\r\n[^\r\n: ]+ :/),
