@@ -201,7 +201,9 @@ function headers(chance) {
 
 // ---- loads of all kinds
 
-const TYPES = { image: ["image/png", "text/plain"], audio: ["audio/ogg"], video: ["video/mp4"], style: ["text/css"],
+// The beginnings of real files, so that no browser takes an answer for something else.
+const BODIES = { image: "GIF89a", audio: "OggS\u0000", script: "1", manifest: "{}" };
+const TYPES = { image: ["image/gif", "image/gif", "text/plain"], audio: ["audio/ogg"], video: ["video/mp4"], style: ["text/css"],
   script: ["text/javascript", "application/javascript", "text/plain", "text/html", "application/json"], font: ["font/woff"],
   manifest: ["application/manifest+json"] };
 
@@ -213,7 +215,7 @@ function loadAnswer(chance, kind) {
   if (chance.in(1, 5) && ["script", "style"].includes(kind)) {
     headers.push(["X-Content-Type-Options", "nosniff"]);
   }
-  return { path: "/" + kind, status: 200, headers };
+  return { path: "/" + kind, status: 200, headers, body: BODIES[kind] || "" };
 }
 
 function loads(chance) {
