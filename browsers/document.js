@@ -1,7 +1,7 @@
 "use strict";
 
-// The table of rules against docs/BROWSERS.md: each rule is named once there, in its section, with a link to its scenario,
-// and the page names no other rule.
+// The table of rules against docs/BROWSERS.md: each rule is named there, in its section, with a link to its scenario; the
+// page names no other rule; and a row says of each browser what its rules say.
 
 const fs = require("fs");
 const path = require("path");
@@ -22,42 +22,42 @@ function namedRules(text) {
   return text.split("\n").flatMap((line) => {
     const heading = /^#+ (.*)$/.exec(line);
     section = heading === null ? section : anchorOf(heading[1]);
-    return [...line.matchAll(LINK)].map(([, name, scenario]) => ({ name, scenario, section, line }));
+    return [...line.matchAll(LINK)].map(([, name, scenario]) => ({ name, scenario, section }));
   });
 }
 
-// In a table with a column for each browser, a cell `as here` says that this browser does not differ.
-function columnFaults(rule, line, columns) {
-  const cells = line.split("|").map((cell) => cell.trim());
-  return Object.keys(columns).filter((browser) => columns[browser] < cells.length - 1)
-    .filter((browser) => (cells[columns[browser]] !== "as here") !== rule.browsers.includes(browser))
-    .map((browser) => "docs/BROWSERS.md and the rule " + rule.name + " say other things of " + browser);
+const cellsOf = (line) => line.split("|").map((cell) => cell.trim());
+
+// The numbers of the columns of the table that this line is in; none where it has no column for each browser.
+function columnsOf(lines, number) {
+  let first = number;
+  while (first > 0 && lines[first - 1].startsWith("|")) {
+    first -= 1;
+  }
+  const cells = cellsOf(lines[first]);
+  const columns = ["Chromium", "Firefox"].map((name) => cells.findIndex((cell) => cell.startsWith(name)));
+  return columns.includes(-1) ? {} : { chromium: columns[0], firefox: columns[1] };
 }
 
-function columnsOf(text, line) {
-  const lines = text.split("\n");
-  const before = lines.slice(0, lines.indexOf(line)).reverse();
-  const head = before.find((one) => /^\|.*\bChromium\b.*\bFirefox\b/.test(one));
-  const row = before.findIndex((one) => one === head);
-  const inTable = head !== undefined && before.slice(0, row).every((one) => one.startsWith("|"));
-  if (!inTable) {
-    return {};
-  }
-  const cells = head.split("|").map((cell) => cell.trim());
-  return { chromium: cells.findIndex((cell) => cell.startsWith("Chromium")),
-    firefox: cells.findIndex((cell) => cell.startsWith("Firefox")) };
+// A cell `as here` says that this browser does not differ: then none of the row's rules is of it, and else one is.
+function rowFaults(lines, line, number) {
+  const rows = [...line.matchAll(LINK)].map(([, name]) => rules.find((rule) => rule.name === name)).filter(Boolean);
+  const columns = rows.length > 0 && line.startsWith("|") ? columnsOf(lines, number) : {};
+  return Object.keys(columns)
+    .filter((browser) => (cellsOf(line)[columns[browser]] !== "as here") !== rows.some((rule) => rule.browsers.includes(browser)))
+    .map((browser) => "docs/BROWSERS.md, line " + (number + 1) + ", and its rules say other things of " + browser);
 }
 
-function ruleFaults(rule, found, text) {
-  if (found.length !== 1) {
-    return ["docs/BROWSERS.md names the rule " + rule.name + " " + found.length + " times, and not once"];
+function ruleFaults(rule, found) {
+  const faults = found.length > 0 ? [] : ["docs/BROWSERS.md does not name the rule " + rule.name];
+  if (found.some((one) => one.scenario !== rule.scenario)) {
+    faults.push("docs/BROWSERS.md has another scenario of " + rule.name);
   }
-  const [{ scenario, section, line }] = found;
-  const faults = scenario === rule.scenario ? [] : ["docs/BROWSERS.md has another scenario of " + rule.name];
-  if (section !== rule.section) {
-    faults.push("docs/BROWSERS.md names the rule " + rule.name + " in " + section + ", and not in " + rule.section);
+  const other = found.find((one) => one.section !== rule.section);
+  if (other !== undefined) {
+    faults.push("docs/BROWSERS.md names the rule " + rule.name + " in " + other.section + ", and not in " + rule.section);
   }
-  return line.startsWith("|") ? [...faults, ...columnFaults(rule, line, columnsOf(text, line))] : faults;
+  return faults;
 }
 
 function versionFaults(text) {
@@ -69,12 +69,13 @@ function versionFaults(text) {
 
 function documentFaults() {
   const text = fs.readFileSync(PAGE, "utf8");
+  const lines = text.split("\n");
   const named = namedRules(text);
   const known = new Set(rules.map((rule) => rule.name));
   const strange = named.filter((one) => !known.has(one.name))
     .map((one) => "docs/BROWSERS.md names the rule " + one.name + ", which the table has not");
-  return [...strange, ...versionFaults(text),
-    ...rules.flatMap((rule) => ruleFaults(rule, named.filter((one) => one.name === rule.name), text))];
+  return [...strange, ...versionFaults(text), ...lines.flatMap((line, number) => rowFaults(lines, line, number)),
+    ...rules.flatMap((rule) => ruleFaults(rule, named.filter((one) => one.name === rule.name)))];
 }
 
 module.exports = { documentFaults };
