@@ -50,7 +50,6 @@ const AS_THE_ENGINE = {
   "network.lna.blocking": false,
   "network.lna.enabled": false,
   "network.trr.mode": 5,
-  "privacy.partition.network_state": false,
   "privacy.trackingprotection.enabled": false,
   "security.cert_pinning.enforcement_level": 0,
 };

@@ -60,8 +60,7 @@ function listen() {
   heard.observe = (subject, topic) => {
     if (topic === "http-on-stop-request") {
       const channel = subject.QueryInterface(Ci.nsIHttpChannel);
-      heard.ended.push({ status: channel.status, url: channel.URI.spec,
-        blocked: channel.loadInfo.requestBlockingReason });
+      heard.ended.push({ status: channel.status, url: channel.URI.spec });
       return;
     }
     if (subject instanceof Ci.nsIScriptError) {
@@ -207,6 +206,16 @@ class Firefox {
   }
 }
 
+// What the console is told of a request that was refused: by CORS, mixed content, policies, types or integrity.
+const REASONS = /^(CORS|CSP|Mixed Content|ORB|SRI|MIMEMISMATCH|Script Loader|MimeType|InterferenceUnsafe|CORP|Sub-resource Integrity)/i;
+
+// Whether the network layer has taken an answer: a request has ended well, and no refusal by CORS or ORB was told, which
+// Firefox decides behind it. The page's icon is none of the script's requests.
+function isFinished(ended, reasons) {
+  return ended.some((end) => end.status === 0 && !end.url.endsWith("/favicon.ico"))
+    && !reasons.some((reason) => /^(CORS|ORB)/.test(reason));
+}
+
 class Session {
   constructor(browser, container) {
     this.browser = browser;
@@ -268,7 +277,8 @@ class Session {
     }
     const seen = JSON.parse(await this.browser.value(call(outcome, SETTLE)));
     const { ended, said } = await this.browser.inBrowser(heardSince);
-    return { ...seen, reasons: said, finished: ended.some((end) => end.status === 0), ended };
+    const reasons = said.filter((text) => REASONS.test(text)).map((text) => text.slice(0, 200));
+    return { ...seen, reasons, finished: isFinished(ended, reasons) };
   }
 
   async close() {

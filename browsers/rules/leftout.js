@@ -36,6 +36,12 @@ module.exports = [
         && origin !== originOf(urlOf(difference.request))),
   },
   {
+    name: "opaque-response-blocking", browsers: ["firefox"], section, scenario: "loads/blocked-by-orb",
+    says: "an opaque answer whose bytes are not of its type is kept back",
+    explains: (difference, context) => difference.what === "result" && context.ours.result.result === "loaded"
+      && context.command.load !== undefined && context.theirs.reasons.some((reason) => /^ORB/.test(reason)),
+  },
+  {
     name: "public-suffixes", browsers: both, section, scenario: "answers/resource-policy-and-suffixes",
     says: "sites are told apart by the public suffix list",
     explains: (difference, context) => ["result", "reason"].includes(difference.what)
