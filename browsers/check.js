@@ -107,7 +107,7 @@ async function compareLive(names, engines, given) {
     if (given.store) {
       corpus.store(name, played);
     }
-  });
+  }, (name, error) => findings.unexplained.push(name + ": " + error.message));
   return findings;
 }
 

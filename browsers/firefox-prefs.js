@@ -44,6 +44,7 @@ const AS_THE_ENGINE = {
   "dom.security.https_first": false,
   "dom.security.https_only_mode": false,
   "media.autoplay.default": 0,
+  "network.auth.subresource-http-auth-allow": 0,
   "network.cookie.cookieBehavior": 0,
   "network.http.http2.enabled": false,
   "network.http.http3.enable": false,

@@ -74,6 +74,9 @@ async function playAll(given, program) {
     sums.commands += commands.length;
     sums.unexplained += left.length;
     sums.explained += commands.flatMap((compared) => compared.differences).length - left.length;
+  }, (prepared, error) => {
+    console.log(given.area + " " + prepared.number + " " + error.message);
+    sums.unexplained += 1;
   });
   return sums;
 }

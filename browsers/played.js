@@ -167,22 +167,30 @@ async function playIn(program, scenario, kept = () => {}) {
   }
 }
 
-// Plays many by a few browsers side by side; `played` is given each with its key.
-async function playMany(program, jobs, scenarios, played) {
-  const rest = [...scenarios];
-  const work = async () => {
+// Plays scenarios in one browser until none is left. After a failure comes a fresh browser.
+async function playRest(program, rest, played, failed) {
+  while (rest.length > 0) {
     const player = new Player(program);
-    await player.start();
+    let key;
     try {
+      await player.start();
       while (rest.length > 0) {
-        const [key, scenario] = rest.shift();
+        const [next, scenario] = rest.shift();
+        key = next;
         await played(key, await player.play(scenario));
       }
+    } catch (error) {
+      failed(key, error);
     } finally {
       await player.close();
     }
-  };
-  await Promise.all(Array.from({ length: jobs }, work));
+  }
+}
+
+// Plays many by a few browsers side by side: `played` is given each play with its key, `failed` a browser's error.
+async function playMany(program, jobs, scenarios, played, failed) {
+  const rest = [...scenarios];
+  await Promise.all(Array.from({ length: jobs }, () => playRest(program, rest, played, failed)));
 }
 
 function find(browser) {
