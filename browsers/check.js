@@ -11,6 +11,7 @@ const { playMany, find } = require("./played.js");
 const { differenceText, NAMES } = require("./show.js");
 const { rules } = require("./rules.js");
 const { documentFaults } = require("./document.js");
+const { foundPlanted } = require("./planted.js");
 const corpus = require("./corpus.js");
 
 const USAGE = `usage: browsers/check [--live chromium | --live firefox] [--store] [--jobs N] [NAME ..]
@@ -66,6 +67,15 @@ class Findings {
     this.unexplained = [];
     this.used = new Set();
     this.versions = new Set();
+    this.planted = 0;
+    this.swallowed = [];
+  }
+
+  addPlanted(name, { planted, found }) {
+    this.planted += planted;
+    if (found < planted) {
+      this.swallowed.push(name + ": of " + planted + " planted differences " + (planted - found) + " are explained");
+    }
   }
 
   add(name, played, commands) {
@@ -83,7 +93,7 @@ class Findings {
   told(browser) {
     return NAMES[browser] + " " + [...this.versions].join(", ") + ": " + this.scenarios + " scenarios, " + this.commands
       + " commands, " + this.agreeing + " agree; " + this.explained + " differences explained, " + this.unexplained.length
-      + " unexplained";
+      + " unexplained" + (this.planted > 0 ? "; " + this.planted + " planted" : "");
   }
 }
 
@@ -91,7 +101,9 @@ function compareStored(names, engines, browser) {
   const findings = new Findings();
   names.filter((name) => corpus.hasAnswers(name, browser)).forEach((name) => {
     const played = corpus.answers(name, browser);
+    const { scenario, commands } = engines.get(name);
     findings.add(name, played, comparedWith(engines.get(name), played));
+    findings.addPlanted(name, foundPlanted(scenario, commands, played));
   });
   return findings;
 }
@@ -130,6 +142,7 @@ async function check(given) {
     const findings = given.live === null ? compareStored(names, engines, browser) : await compareLive(names, engines, given);
     console.log("browsers/check: " + findings.told(browser));
     faults.push(...findings.unexplained.map((one) => NAMES[browser] + ": unexplained: " + one));
+    faults.push(...findings.swallowed.map((one) => NAMES[browser] + ": " + one));
     if (given.names.length === 0) {
       faults.push(...ruleFaults(browser, findings));
     }
