@@ -182,4 +182,4 @@ function comparePlays(scenario, engine, played) {
   });
 }
 
-module.exports = { comparePlays, isAdded };
+module.exports = { comparePlays, violationDifferences, isAdded };

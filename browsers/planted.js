@@ -56,4 +56,4 @@ function foundPlanted(scenario, commands, played) {
   return { planted: plays.length, found: plays.filter(isFound).length };
 }
 
-module.exports = { foundPlanted };
+module.exports = { plantedPlays, foundPlanted };

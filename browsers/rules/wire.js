@@ -1,6 +1,6 @@
 "use strict";
 
-const { lastText, isRequest, answerTo } = require("./looked.js");
+const { lastText, isRequest, answerTo, keyOf } = require("./looked.js");
 
 const section = "bytes-on-the-wire";
 const both = ["chromium", "firefox"];
@@ -52,7 +52,8 @@ module.exports = [
     name: "empty-answer", browsers: both, section, scenario: "answers/no-server",
     says: "a request that is answered by nothing at all may be sent once more",
     explains: (difference, context) => isRequest(difference) && difference.engine === null
-      && context.ours.result.name === "BadHead" && answerTo(context, difference.browser) === null,
+      && context.ours.result.name === "BadHead" && answerTo(context, difference.browser) === null
+      && context.ours.requests.map(keyOf).includes(difference.browser),
   },
   wireRule("folded-line", both, FAULT, "a folded line is one value", /\r\n[ \t]/),
   wireRule("cr-in-a-value", both, FAULT, "a CR alone in a value is taken", /[^\r\n]\r[^\n]/),
