@@ -108,9 +108,9 @@ class Chromium {
     });
   }
 
-  // A page in a profile of its own, which is forgotten with it.
-  async session() {
-    const { browserContextId } = await this.ask("Target.createBrowserContext", { disposeOnDetach: true });
+  // A page: in the browser's own profile, or in another one, which is forgotten with the page.
+  async session(apart) {
+    const { browserContextId } = apart ? await this.ask("Target.createBrowserContext", { disposeOnDetach: true }) : {};
     const { targetId } = await this.ask("Target.createTarget", { url: "about:blank", browserContextId });
     const { sessionId } = await this.ask("Target.attachToTarget", { targetId, flatten: true });
     const session = new Session(this, sessionId, browserContextId);
@@ -216,7 +216,9 @@ class Session {
 
   async close() {
     this.browser.listeners.delete(this.id);
-    await this.browser.ask("Target.disposeBrowserContext", { browserContextId: this.context }).catch(() => null);
+    if (this.context !== undefined) {
+      await this.browser.ask("Target.disposeBrowserContext", { browserContextId: this.context }).catch(() => null);
+    }
   }
 }
 

@@ -131,10 +131,10 @@ function toldResult(result) {
   return [result.result, result.status || "", result.name || ""].join(" ").trim();
 }
 
-// Scripts and styles of a status that is not ok fail in their elements, and not in the network.
+// Scripts, styles and fonts of a status that is not ok fail in their elements, and not in the network.
 function isOpen(ours, theirs, statusOfLoad) {
   const kind = ours.command.load && ours.command.load.kind;
-  return (kind === "script" || kind === "style") && theirs.result.result === "failed"
+  return ["script", "style", "font"].includes(kind) && theirs.result.result === "failed"
     && ours.result.result === "loaded" && statusOfLoad !== null && (statusOfLoad < 200 || statusOfLoad > 299);
 }
 

@@ -54,6 +54,12 @@ function openTab(userContextId) {
   gBrowser.selectedTab = gBrowser.addTab("about:blank", { userContextId, triggeringPrincipal });
 }
 
+// Asks for the manifest of the selected tab, as the browser does where it is installed.
+function obtainManifest() {
+  const { ManifestObtainer } = ChromeUtils.importESModule("resource://gre/modules/ManifestObtainer.sys.mjs");
+  return ManifestObtainer.browserObtainManifest(gBrowser.selectedBrowser).then(() => true, () => false);
+}
+
 // Listens to how requests end, and to what the console is told of them.
 function listen() {
   const heard = { ended: [], said: [] };
@@ -274,6 +280,9 @@ class Session {
     await this.browser.value(call(begin, parsed ? { load: { ...command.load, parsed } } : command, number));
     if (parsed) {
       this.page.append(scriptTag(command.load, number));
+    }
+    if (command.load !== undefined && command.load.kind === "manifest") {
+      await this.browser.inBrowser(obtainManifest);
     }
     const seen = JSON.parse(await this.browser.value(call(outcome, SETTLE)));
     const { ended, said } = await this.browser.inBrowser(heardSince);

@@ -132,10 +132,10 @@ function begin(command, number) {
       return heardParsed("load" + number);
     }
     const element = elements[asked.kind](asked);
-    // Of several manifests a document takes the first.
+    // Of several manifests a document takes the first that its head has.
     document.querySelectorAll("link[rel=manifest]").forEach((other) => other.remove());
     const told = asked.kind === "manifest" ? Promise.resolve({ event: "none" }) : heard(element);
-    document.body.appendChild(element);
+    (asked.kind === "manifest" ? document.head : document.body).appendChild(element);
     return told;
   }
 

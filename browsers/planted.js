@@ -16,9 +16,13 @@ function withCommand(commands, at, change) {
 
 const changedOrigin = (headers) => headers.map(([name, value]) => [name, name === "Origin" ? STRANGER : value]);
 
-function withOriginsChanged(commands, at) {
+// Of requests that the browser sends, too: the headers of others are not compared.
+function withOriginsChanged(commands, at, theirs) {
   const { requests } = commands[at];
-  return requests.map((_, number) => number).filter((number) => requests[number].headers.some(([name]) => name === "Origin"))
+  const sent = theirs.requests.map((request) => request.method + request.origin + request.target);
+  const isSent = (request) => sent.includes(request.method + request.origin + request.target);
+  return requests.map((_, number) => number)
+    .filter((number) => isSent(requests[number]) && requests[number].headers.some(([name]) => name === "Origin"))
     .map((number) => withCommand(commands, at, { requests: requests.map((request, index) => (index === number
       ? { ...request, headers: changedOrigin(request.headers) } : request)) }));
 }
@@ -44,8 +48,8 @@ function withViolationMore(commands, at, document) {
 function plantedPlays(scenario, commands, played) {
   return commands.flatMap((command, at) => {
     const theirs = played.commands.find((one) => one.place === command.place);
-    return theirs === undefined ? [] : [...withOriginsChanged(commands, at), ...withPreflightsLeftOut(commands, at, theirs),
-      ...withViolationMore(commands, at, scenario.documents[0])];
+    return theirs === undefined ? [] : [...withOriginsChanged(commands, at, theirs),
+      ...withPreflightsLeftOut(commands, at, theirs), ...withViolationMore(commands, at, scenario.documents[0])];
   });
 }
 

@@ -132,10 +132,11 @@ class Player {
     process.once("exit", this.stop);
   }
 
-  async play(scenario) {
+  // Plays in the browser's own profile, or in one apart, so that many can be played one after another.
+  async play(scenario, apart = false) {
     const document = scenario.documents[0];
     this.servers.become(scenario);
-    const session = await this.browser.session();
+    const session = await this.browser.session(apart);
     try {
       await seed(session, scenario);
       const page = this.servers.expect(document.url, spokenHeaders(document));
@@ -177,7 +178,7 @@ async function playRest(program, rest, played, failed) {
       while (rest.length > 0) {
         const [next, scenario] = rest.shift();
         key = next;
-        await played(key, await player.play(scenario));
+        await played(key, await player.play(scenario, true));
       }
     } catch (error) {
       failed(key, error);

@@ -30,12 +30,22 @@ function checkUpload(asked, place) {
   }
 }
 
+// A page loads fonts by FontFace, which has no crossorigin: a font is asked for as by `anonymous`.
+function checkLoad(asked, place) {
+  if (asked.kind === "font" && asked.crossorigin === "use-credentials") {
+    refuse(place + "/crossorigin", "a font is never asked for with credentials");
+  }
+}
+
 // The seconds that a list of commands waits at most.
 function secondsOf(commands, place) {
   return commands.map((command, index) => {
     const here = place + "/" + index;
     if (command.fetch && command.fetch.upload) {
       checkUpload(command.fetch, here + "/fetch");
+    }
+    if (command.load) {
+      checkLoad(command.load, here + "/load");
     }
     if (command.repeat !== undefined) {
       return command.repeat * secondsOf(command.do, here + "/do");

@@ -36,10 +36,22 @@ module.exports = [
         && origin !== originOf(urlOf(difference.request))),
   },
   {
-    name: "opaque-response-blocking", browsers: ["firefox"], section, scenario: "loads/blocked-by-orb",
+    name: "opaque-response-blocking", browsers: both, section, scenario: "loads/blocked-by-orb",
     says: "an opaque answer whose bytes are not of its type is kept back",
     explains: (difference, context) => difference.what === "result" && context.ours.result.result === "loaded"
-      && context.command.load !== undefined && context.theirs.reasons.some((reason) => /^ORB/.test(reason)),
+      && context.command.load !== undefined && context.theirs.reasons.some((reason) => /\bORB\b|_ORB$/.test(reason)),
+  },
+  {
+    name: "data-url", browsers: both, section, scenario: "urls/schemes",
+    says: "a data: URL is answered",
+    explains: (difference, context) => difference.what === "result" && context.ours.result.name === "Scheme"
+      && /^data:/i.test(context.asked.url) && /^(response|loaded)/.test(difference.browser),
+  },
+  {
+    name: "login-prompt", browsers: ["chromium"], section, scenario: "answers/login-asked",
+    says: "a 401 with a challenge waits for a login, and a 407 of a server is an error",
+    explains: (difference, context) => difference.what === "result" && [401, 407].includes(context.ours.result.status)
+      && /^(late|error)/.test(difference.browser),
   },
   {
     name: "public-suffixes", browsers: both, section, scenario: "answers/resource-policy-and-suffixes",

@@ -1,5 +1,7 @@
 "use strict";
 
+const { isOfOwnUrl } = require("./looked.js");
+
 const section = "reports";
 
 // What is told of a report-only policy, as compare.js writes it: `NUMBER report DIRECTIVE URL`.
@@ -20,20 +22,28 @@ function isToldTwice(difference, context) {
     && countOf(context.ours.violations, difference.browser) === 1 && countOf(context.theirs.violations, difference.browser) === 2;
 }
 
+// A violation of the command's own URL that the browser alone tells, and the reason by it.
+const isAskedMore = (difference, context) => (difference.what === "violation" && difference.engine === null
+  && isOfOwnUrl(difference.browser, context)) || (difference.what === "reason" && /blocked csp/.test(difference.browser));
 const hasOtherScheme = (context) => ["Scheme", "RedirectScheme"].includes(context.ours.result.name);
 
 module.exports = [
   {
     name: "policy-before-scheme", browsers: ["chromium"], section, scenario: "reports/other-schemes",
     says: "policies are asked about a URL of another scheme, too",
-    explains: (difference, context) => difference.what === "violation" && difference.engine === null
-      && hasOtherScheme(context),
+    explains: (difference, context) => hasOtherScheme(context) && isAskedMore(difference, context),
+  },
+  {
+    name: "policy-before-port", browsers: ["chromium"], section, scenario: "reports/bad-port-and-policy",
+    says: "policies are asked before bad ports and mixed content",
+    explains: (difference, context) => ["BadPort", "Mixed"].includes(context.ours.result.name)
+      && isAskedMore(difference, context),
   },
   {
     name: "report-only-load-once", browsers: ["chromium"], section, scenario: "reports/report-only-image",
-    says: "a violation of a report-only policy is told at the request alone, by loads and by XMLHttpRequest",
-    explains: (difference, context) => (context.command.load !== undefined || context.asked.upload === true)
-      && isToldOnceMore(difference, context),
+    says: "a violation of a report-only policy is told at the request alone, by loads, XMLHttpRequest and behind redirects",
+    explains: (difference, context) => isToldOnceMore(difference, context) && (context.command.load !== undefined
+      || context.asked.upload === true || context.ours.requests.length > 1),
   },
   {
     name: "report-only-fetch-twice", browsers: ["chromium"], section, scenario: "reports/report-only-failed",

@@ -14,7 +14,8 @@ const HEAD = ["status", "type", "body", "response header"];
 // A rule of an answer whose bytes have this form.
 function wireRule(name, browsers, kinds, says, form) {
   return { name, browsers, section, scenario: "wire/" + name, says,
-    explains: (difference, context) => kinds.includes(difference.what) && form.test(lastText(context) || "") };
+    explains: (difference, context) => kinds.includes(difference.what) && lastText(context) !== null
+      && form.test(lastText(context)) };
 }
 
 module.exports = [
@@ -49,7 +50,7 @@ module.exports = [
       && /^HTTP\/1\.1 101 /.test(lastText(context) || ""),
   },
   {
-    name: "empty-answer", browsers: both, section, scenario: "answers/no-server",
+    name: "empty-answer", browsers: both, section, scenario: "answers/silent-server",
     says: "a request that is answered by nothing at all may be sent once more",
     explains: (difference, context) => isRequest(difference) && difference.engine === null
       && context.ours.result.name === "BadHead" && answerTo(context, difference.browser) === null
