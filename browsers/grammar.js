@@ -228,7 +228,7 @@ function loads(chance) {
   const script = chance.many(3, 5, () => {
     const kind = chance.of(KINDS);
     return { load: { kind, url: chance.of(origins) + (chance.in(1, 5) ? "/to-" : "/") + kind,
-      ...(chance.in(1, 3) ? { crossorigin: chance.of(["anonymous", "use-credentials"]) } : {}),
+      ...(chance.in(1, 3) ? { crossorigin: kind === "font" ? "anonymous" : chance.of(["anonymous", "use-credentials"]) } : {}),
       ...setting(chance, "referrer_policy", POLICIES, 1, 5), ...(chance.in(1, 3) ? { parser: false } : {}) } };
   });
   return scenario({ url: PAGE + "/page", script }, servers, { cookies: [["https://api.test", "a=2"], [PAGE, "s=1"]] });

@@ -108,6 +108,14 @@ function begin(command, number) {
     });
   }
 
+  // A sound or a video asks for nothing more.
+  function silenced(element, seen) {
+    element.removeAttribute("src");
+    element.load();
+    element.remove();
+    return seen;
+  }
+
   // A script that the parser inserts comes by the document itself; its events are heard from above.
   function heardParsed(id) {
     return new Promise((resolve) => {
@@ -136,7 +144,7 @@ function begin(command, number) {
     document.querySelectorAll("link[rel=manifest]").forEach((other) => other.remove());
     const told = asked.kind === "manifest" ? Promise.resolve({ event: "none" }) : heard(element);
     (asked.kind === "manifest" ? document.head : document.body).appendChild(element);
-    return told;
+    return ["audio", "video"].includes(asked.kind) ? told.then((seen) => silenced(element, seen)) : told;
   }
 
   window.fiorrudda.violations = [];

@@ -111,14 +111,14 @@ class Page {
 
 class Servers {
   constructor(authority) {
+    this.authority = authority;
     this.sockets = new Set();
-    this.become({});
-    const spare = authority.contextOf(["127.0.0.1", "::1", "localhost"]);
-    this.secure = tls.createServer({ ...spare, ALPNProtocols: ["http/1.1"],
+    this.secure = tls.createServer({ ALPNProtocols: ["http/1.1"],
       SNICallback: (name, done) => done(null, tls.createSecureContext(authority.contextOf([name]))) });
     this.secure.on("secureConnection", (socket) => this.serve(socket, "https"));
     this.secure.on("tlsClientError", () => {});
     this.listener = net.createServer((socket) => this.accept(socket));
+    this.become({});
   }
 
   // Answers by this scenario from now on.
@@ -127,6 +127,9 @@ class Servers {
     this.text = JSON.stringify(scenario);
     this.pages = [];
     this.arrivals = [];
+    // A connection to an address names no host: the certificate that it gets has all addresses of the scenario.
+    const addresses = this.text.match(/\b[0-9]{1,3}(\.[0-9]{1,3}){3}\b/g) || [];
+    this.secure.setSecureContext(this.authority.contextOf(["127.0.0.1", "::1", "localhost", ...new Set(addresses)]));
     this.sockets.forEach((socket) => socket.destroy());
   }
 

@@ -1,6 +1,6 @@
 "use strict";
 
-const { isHeader, urlOf, hostOf, originOf, answerTo, valuesOf, lastAnswer, keyOf, documentOrigin } = require("./looked.js");
+const { isRequest, isHeader, urlOf, hostOf, originOf, answerTo, valuesOf, lastAnswer, keyOf, documentOrigin } = require("./looked.js");
 
 const section = "what-the-engine-leaves-out";
 const both = ["chromium", "firefox"];
@@ -46,6 +46,13 @@ module.exports = [
     says: "a data: URL is answered",
     explains: (difference, context) => difference.what === "result" && context.ours.result.name === "Scheme"
       && /^data:/i.test(context.asked.url) && /^(response|loaded)/.test(difference.browser),
+  },
+  {
+    name: "media-asked-again", browsers: ["firefox"], section, scenario: "loads/video", sometimes: true,
+    says: "a sound or a video that cannot be decoded is asked for again",
+    explains: (difference, context) => isRequest(difference, "GET ") && difference.engine === null
+      && context.command.load !== undefined && ["audio", "video"].includes(context.command.load.kind)
+      && context.ours.requests.map(keyOf).includes(difference.browser),
   },
   {
     name: "login-prompt", browsers: ["chromium"], section, scenario: "answers/login-asked",

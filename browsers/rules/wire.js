@@ -51,7 +51,7 @@ module.exports = [
   },
   {
     name: "empty-answer", browsers: both, section, scenario: "answers/silent-server",
-    says: "a request that is answered by nothing at all may be sent once more",
+    says: "a request that is answered by nothing at all may be sent once more", sometimes: true,
     explains: (difference, context) => isRequest(difference) && difference.engine === null
       && context.ours.result.name === "BadHead" && answerTo(context, difference.browser) === null
       && context.ours.requests.map(keyOf).includes(difference.browser),
