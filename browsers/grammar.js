@@ -229,7 +229,8 @@ function loads(chance) {
     const kind = chance.of(KINDS);
     return { load: { kind, url: chance.of(origins) + (chance.in(1, 5) ? "/to-" : "/") + kind,
       ...(chance.in(1, 3) ? { crossorigin: kind === "font" ? "anonymous" : chance.of(["anonymous", "use-credentials"]) } : {}),
-      ...setting(chance, "referrer_policy", POLICIES, 1, 5), ...(chance.in(1, 3) ? { parser: false } : {}) } };
+      ...(["image", "style", "script"].includes(kind) ? setting(chance, "referrer_policy", POLICIES, 1, 4) : {}),
+      ...(chance.in(1, 3) ? { parser: false } : {}) } };
   });
   return scenario({ url: PAGE + "/page", script }, servers, { cookies: [["https://api.test", "a=2"], [PAGE, "s=1"]] });
 }
@@ -243,12 +244,12 @@ function referrers(chance) {
     { path: "/1", status: chance.of([302, 307]), headers: [["Location", chance.of(origins) + chance.of(["/1", "/2", "/2"])],
       ["Access-Control-Allow-Origin", "*"],
       ...(chance.in(1, 2) ? [["Referrer-Policy", chance.of([...POLICIES, "bogus", "origin, bogus", "", "no-referrer, unsafe-url"])]] : [])] },
-    { status: 200, headers: [["Access-Control-Allow-Origin", "*"]] }]]));
+    { status: 200, headers: [["Access-Control-Allow-Origin", "*"], ["Content-Type", "text/css"]] }]]));
   const script = chance.many(3, 5, () => {
     const url = chance.of(origins) + chance.of(["/1", "/2?q#f"]);
     const policy = setting(chance, "referrer_policy", POLICIES, 1, 2);
     if (chance.in(1, 3)) {
-      return { load: { kind: chance.of(["image", "font"]), url, ...policy } };
+      return { load: { kind: chance.of(["image", "style"]), url, ...policy } };
     }
     const mode = chance.of(["cors", "cors", "no-cors"]);
     return { fetch: { url, mode, ...policy, ...setting(chance, "method", ["POST"], 1, 3),

@@ -30,8 +30,12 @@ function checkUpload(asked, place) {
   }
 }
 
-// A page loads fonts by FontFace, which has no crossorigin: a font is asked for as by `anonymous`.
+// A page loads fonts by FontFace, which has no crossorigin: a font is asked for as by `anonymous`. Neither fonts nor sounds
+// and videos have a referrer policy of their own.
 function checkLoad(asked, place) {
+  if (["font", "audio", "video"].includes(asked.kind) && asked.referrer_policy) {
+    refuse(place + "/referrer_policy", "no element that loads this has a referrer policy");
+  }
   if (asked.kind === "font" && asked.crossorigin === "use-credentials") {
     refuse(place + "/crossorigin", "a font is never asked for with credentials");
   }
