@@ -52,7 +52,7 @@ module.exports = [
       && isAfterDetour(context, difference.request),
   },
   {
-    name: "manifest-without-cookies", browsers: ["chromium"], section, scenario: "request-heads/cookies-of-a-manifest",
+    name: "manifest-without-cookies", browsers: both, section, scenario: "request-heads/cookies-of-a-manifest",
     says: "a manifest of the own origin is asked for without cookies",
     explains: (difference, context) => isHeader(difference, "cookie") && difference.browser === null
       && context.command.load !== undefined && context.command.load.kind === "manifest"

@@ -13,6 +13,9 @@ function setBefore(context, host) {
     .flatMap((request) => valuesOf(answerTo(context, keyOf(request)), "set-cookie"));
 }
 
+const isMedia = (command) => command !== undefined && command.command.load !== undefined
+  && ["audio", "video"].includes(command.command.load.kind);
+
 const siteOf = (url) => hostOf(url).split(".").slice(-2).join(".");
 
 module.exports = [
@@ -51,8 +54,8 @@ module.exports = [
     name: "media-asked-again", browsers: ["firefox"], section, scenario: "loads/video", sometimes: true,
     says: "a sound or a video that cannot be decoded is asked for again",
     explains: (difference, context) => isRequest(difference, "GET ") && difference.engine === null
-      && context.command.load !== undefined && ["audio", "video"].includes(context.command.load.kind)
-      && context.ours.requests.map(keyOf).includes(difference.browser),
+      && [...context.before.map((compared) => compared.engine), context.ours].filter(isMedia)
+        .some((command) => command.requests.map(keyOf).includes(difference.browser)),
   },
   {
     name: "login-prompt", browsers: ["chromium"], section, scenario: "answers/login-asked",

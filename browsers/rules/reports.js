@@ -29,12 +29,12 @@ const hasOtherScheme = (context) => ["Scheme", "RedirectScheme"].includes(contex
 
 module.exports = [
   {
-    name: "policy-before-scheme", browsers: ["chromium"], section, scenario: "reports/other-schemes",
+    name: "policy-before-scheme", browsers: ["chromium", "firefox"], section, scenario: "reports/other-schemes",
     says: "policies are asked about a URL of another scheme, too",
     explains: (difference, context) => hasOtherScheme(context) && isAskedMore(difference, context),
   },
   {
-    name: "policy-before-port", browsers: ["chromium"], section, scenario: "reports/bad-port-and-policy",
+    name: "policy-before-port", browsers: ["chromium", "firefox"], section, scenario: "reports/bad-port-and-policy",
     says: "policies are asked before bad ports and mixed content",
     explains: (difference, context) => ["BadPort", "Mixed"].includes(context.ours.result.name)
       && isAskedMore(difference, context),

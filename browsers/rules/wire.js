@@ -39,7 +39,7 @@ module.exports = [
     /^HTTP\/1\.0 [^]*\r\nTransfer-Encoding: chunked\r\n/i),
   wireRule("chunks-with-lf", both, BODY, "lines of chunks may end in LF alone",
     /\r\nTransfer-Encoding: chunked\r\n\r\n[0-9a-f]+\n/i),
-  wireRule("chunk-size-of-many-digits", ["chromium"], BODY, "the size of a chunk may have more than 16 digits",
+  wireRule("chunk-size-of-many-digits", both, BODY, "the size of a chunk may have more than 16 digits",
     /\r\n0{17,}\r\n/),
   wireRule("chunk-size-and-a-tab", ["chromium"], BODY, "a tab behind the size of a chunk is a fault", /\r\n[0-9a-f]+\t;/i),
   wireRule("status-101", ["chromium"], HEAD, "a 101 is skipped, and the next head counts", /^HTTP\/1\.1 101 [^]*\r\n\r\nHTTP\//),
@@ -52,9 +52,9 @@ module.exports = [
   {
     name: "empty-answer", browsers: both, section, scenario: "answers/silent-server",
     says: "a request that is answered by nothing at all may be sent once more", sometimes: true,
-    explains: (difference, context) => isRequest(difference) && difference.engine === null
-      && context.ours.result.name === "BadHead" && answerTo(context, difference.browser) === null
-      && context.ours.requests.map(keyOf).includes(difference.browser),
+    explains: (difference, context) => context.ours.result.name === "BadHead"
+      && ((isRequest(difference) && difference.engine === null && answerTo(context, difference.browser) === null
+        && context.ours.requests.map(keyOf).includes(difference.browser)) || difference.browser === "late"),
   },
   wireRule("folded-line", both, FAULT, "a folded line is one value", /\r\n[ \t]/),
   wireRule("cr-in-a-value", both, FAULT, "a CR alone in a value is taken", /[^\r\n]\r[^\n]/),
