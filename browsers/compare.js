@@ -1,0 +1,185 @@
+"use strict";
+
+// Compares the engine's play of a scenario with a browser's, command by command. A difference says `what` differs, with
+// the engine's value and the browser's; null is what was not there. What is not compared is listed in docs/BROWSERS.md.
+
+const { errorsOf } = require("./reasons.js");
+const { ruleFor } = require("./scripted.js");
+
+// Headers that browsers add by themselves, beside the Accept of a load.
+const ADDED = /^(user-agent|accept-language|accept-encoding|connection|cache-control|pragma|priority|te|dnt|range|upgrade-insecure-requests|sec-.*)$/;
+
+// Whether a browser adds a header of this name by itself to a request of a fetch or load, whatever it asks for. What a
+// script gives is not sent with a preflight.
+function isAdded(name, command, method) {
+  const key = name.toLowerCase();
+  const given = ((command.fetch || {}).headers || []).some(([one]) => one.toLowerCase() === key);
+  return !(given && method !== "OPTIONS") && (ADDED.test(key) || (key === "accept" && command.load !== undefined));
+}
+
+// The headers of a request that are compared, by their lower-case names: the spelling and the joined values.
+function comparedHeaders(request, command) {
+  const headers = new Map();
+  request.headers.filter(([name]) => !isAdded(name, command, request.method)).forEach(([name, value]) => {
+    const key = name.toLowerCase();
+    const before = headers.get(key);
+    // Blanks at the ends are no part of a value on the wire.
+    headers.set(key, { name, value: before === undefined ? value.trim() : (before.value + ", " + value).trim() });
+  });
+  return headers;
+}
+
+// ---- requests
+
+const keyOf = (request) => request.method + " " + request.origin + request.target;
+
+// Pairs the requests of both sides in order, as many as can be (the longest common subsequence).
+function paired(ours, theirs) {
+  const best = Array.from({ length: ours.length + 1 }, () => Array(theirs.length + 1).fill(0));
+  for (let i = ours.length - 1; i >= 0; i -= 1) {
+    for (let j = theirs.length - 1; j >= 0; j -= 1) {
+      best[i][j] = keyOf(ours[i]) === keyOf(theirs[j]) ? best[i + 1][j + 1] + 1 : Math.max(best[i + 1][j], best[i][j + 1]);
+    }
+  }
+  const pairs = [];
+  for (let i = 0, j = 0; i < ours.length || j < theirs.length;) {
+    if (i < ours.length && j < theirs.length && keyOf(ours[i]) === keyOf(theirs[j])) {
+      pairs.push([ours[i++], theirs[j++]]);
+    } else if (j >= theirs.length || (i < ours.length && best[i + 1][j] >= best[i][j + 1])) {
+      pairs.push([ours[i++], null]);
+    } else {
+      pairs.push([null, theirs[j++]]);
+    }
+  }
+  return pairs;
+}
+
+function headerDifferences(command, ours, theirs) {
+  const [engine, browser] = [comparedHeaders(ours, command), comparedHeaders(theirs, command)];
+  const names = new Set([...engine.keys(), ...browser.keys()]);
+  return [...names].flatMap((name) => {
+    const [one, other] = [engine.get(name) || null, browser.get(name) || null];
+    const values = { engine: one && one.value, browser: other && other.value };
+    if (values.engine !== values.browser) {
+      return [{ what: "header", request: keyOf(ours), name, ...values }];
+    }
+    return one.name === other.name ? [] : [{ what: "spelling", request: keyOf(ours), name, engine: one.name,
+      browser: other.name }];
+  });
+}
+
+function requestDifferences(ours, theirs) {
+  return paired(ours.requests, theirs.requests).flatMap(([one, other]) => {
+    if (one === null || other === null) {
+      return [{ what: "request", engine: one && keyOf(one), browser: other && keyOf(other) }];
+    }
+    const bodies = one.body === other.body ? []
+      : [{ what: "body sent", request: keyOf(one), engine: one.body, browser: other.body }];
+    return [...headerDifferences(ours.command, one, other), ...bodies];
+  });
+}
+
+// ---- violations: how often each is told, in any order
+
+const toldAs = (violation) => [violation.policy, violation.enforced ? "enforce" : "report", violation.directive,
+  violation.url.replace(/#.*$/, "")].join(" ");
+
+function violationDifferences(ours, theirs) {
+  const rest = theirs.violations.map(toldAs);
+  const missing = ours.violations.map(toldAs).filter((told) => {
+    const at = rest.indexOf(told);
+    if (at >= 0) {
+      rest.splice(at, 1);
+    }
+    return at < 0;
+  });
+  return [...missing.map((told) => ({ what: "violation", engine: told, browser: null })),
+    ...rest.map((told) => ({ what: "violation", engine: null, browser: told }))];
+}
+
+// ---- results
+
+function joined(headers) {
+  const all = new Map();
+  headers.forEach(([name, value]) => {
+    const key = name.toLowerCase();
+    all.set(key, all.has(key) ? all.get(key) + ", " + value : value);
+  });
+  return all;
+}
+
+function responseHeaderDifferences(ours, theirs) {
+  const [engine, browser] = [joined(ours.headers), joined(theirs.headers)];
+  return [...new Set([...engine.keys(), ...browser.keys()])].filter((name) => engine.get(name) !== browser.get(name))
+    .map((name) => ({ what: "response header", name, engine: engine.has(name) ? engine.get(name) : null,
+      browser: browser.has(name) ? browser.get(name) : null }));
+}
+
+const bodyText = (body) => (body.end === "whole" ? "whole " + body.hex : body.end === "fault" ? "cut" : body.end);
+
+// An upload listener is a part of XMLHttpRequest, which tells no type, and no body of none.
+function responseDifferences(ours, theirs) {
+  const parts = ["type", "status", "url"].filter((part) => theirs[part] !== null && ours[part] !== theirs[part])
+    .map((part) => ({ what: part, engine: ours[part], browser: theirs[part] }));
+  const [one, other] = [bodyText(ours.body), bodyText(theirs.body)];
+  const sameBody = one === other || one === "toobig" || (theirs.type === null && one === "none" && other === "whole ");
+  return [...parts, ...responseHeaderDifferences(ours, theirs),
+    ...(sameBody ? [] : [{ what: "body", engine: one, browser: other }])];
+}
+
+function toldResult(result) {
+  return [result.result, result.status || "", result.name || ""].join(" ").trim();
+}
+
+// Scripts, styles and fonts of a status that is not ok fail in their elements, and not in the network.
+function isOpen(ours, theirs, statusOfLoad) {
+  const kind = ours.command.load && ours.command.load.kind;
+  return ["script", "style", "font"].includes(kind) && theirs.result.result === "failed"
+    && ours.result.result === "loaded" && statusOfLoad !== null && (statusOfLoad < 200 || statusOfLoad > 299);
+}
+
+function reasonDifferences(browser, ours, theirs) {
+  const names = errorsOf(browser, theirs.reasons);
+  if (names === null || ours.result.fault || !ours.result.name || names.includes(ours.result.name)) {
+    return [];
+  }
+  return [{ what: "reason", engine: ours.result.name, browser: theirs.reasons.join("; ") }];
+}
+
+function resultDifferences(browser, ours, theirs, statusOfLoad) {
+  if (ours.result.result !== theirs.result.result) {
+    return isOpen(ours, theirs, statusOfLoad) ? []
+      : [{ what: "result", engine: toldResult(ours.result), browser: toldResult(theirs.result) }];
+  }
+  return ours.result.result === "response" ? responseDifferences(ours.result, theirs.result)
+    : reasonDifferences(browser, ours, theirs);
+}
+
+// ---- all of it
+
+// The status with which the last request of a command is answered by the scenario's rules, or null.
+function statusOf(scenario, requests) {
+  const last = requests[requests.length - 1];
+  const rule = last === undefined ? null : ruleFor(scenario, last.origin, last.method, last.target);
+  return rule === null || rule.status === undefined ? null : rule.status;
+}
+
+function compareCommand(scenario, browser, ours, theirs) {
+  if (ours === undefined || theirs === undefined) {
+    return [{ what: "command", engine: ours ? ours.place : null, browser: theirs ? theirs.place : null }];
+  }
+  return [...requestDifferences(ours, theirs), ...violationDifferences(ours, theirs),
+    ...resultDifferences(browser, ours, theirs, statusOf(scenario, ours.requests))];
+}
+
+// The commands of both sides by their places, each with its differences.
+function comparePlays(scenario, engine, played) {
+  const places = [...new Set([...engine, ...played.commands].map((command) => command.place))];
+  return places.map((place) => {
+    const ours = engine.find((command) => command.place === place);
+    const theirs = played.commands.find((command) => command.place === place);
+    return { place, engine: ours, browser: theirs, differences: compareCommand(scenario, played.browser, ours, theirs) };
+  });
+}
+
+module.exports = { comparePlays, violationDifferences, isAdded };

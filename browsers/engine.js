@@ -1,0 +1,94 @@
+"use strict";
+
+// The engine's play of a scenario, in the shape in which a browser's is kept: command by command, what was sent, which
+// policies were violated and what came of it. The text is read by view/play.js.
+
+const path = require("path");
+const { spawnSync } = require("child_process");
+const { readPlay } = require("../view/play.js");
+const { commandsOf, NOTHING } = require("./scenario.js");
+
+const PROGRAM = process.env.FETCHPLAY || path.join(__dirname, "..", "bin", "fetchplay");
+
+class Refused extends Error {
+  constructor(complaint, status) {
+    super(complaint);
+    this.name = "Refused";
+    this.status = status;
+  }
+}
+
+// The printed text of the play; `Refused` with the program's own words and status where it plays nothing.
+function printedPlay(scenario) {
+  const ran = spawnSync(PROGRAM, ["play"], { input: scenario, encoding: "latin1", maxBuffer: 1 << 28 });
+  if (ran.error !== undefined) {
+    throw new Refused(PROGRAM + ": " + ran.error.message, 1);
+  }
+  if (ran.status !== 0) {
+    throw new Refused(ran.stderr.trim() || PROGRAM + " ended with " + ran.status, ran.status);
+  }
+  return ran.stdout;
+}
+
+// The bytes of an escaped text, each a character.
+function unescaped(text) {
+  return text.replace(/\\x([0-9a-f]{2})/g, (_, digits) => String.fromCharCode(parseInt(digits, 16)));
+}
+
+const pairsOf = (headers) => headers.map((header) => [header.name, unescaped(header.value)]);
+const hexOf = (body) => Buffer.from(unescaped(body.text), "latin1").toString("hex");
+
+function requestOf(event) {
+  return { origin: event.origin, method: event.method, target: unescaped(event.target), headers: pairsOf(event.headers),
+    body: event.body === null ? "" : hexOf(event.body) };
+}
+
+function resultOf(event) {
+  if (event.result !== "response") {
+    const { result, number, name, header, of } = event;
+    return { result: result === "loaded" ? "loaded" : of === "load" ? "failed" : "error", fault: result === "fault",
+      number: number === undefined ? null : number, name: name === undefined ? null : name, header: header || null };
+  }
+  const body = event.body.end === "whole" ? { end: "whole", hex: hexOf(event.body) } : { end: event.body.end };
+  return { result: "response", type: event.type, status: event.status, url: event.url === null ? "" : event.url,
+    headers: pairsOf(event.headers), body };
+}
+
+function lastOf(result) {
+  if (result.result === "response") {
+    const body = result.body.end === "whole" ? Buffer.from(result.body.hex, "hex").toString("utf8") : null;
+    return { ...NOTHING, type: result.type, status: result.status, body };
+  }
+  return { ...NOTHING, type: result.fault && result.result === "error" ? "type-error" : result.result };
+}
+
+function commandOf(events) {
+  const of = (kind) => events.filter((event) => event.kind === kind);
+  return { requests: of("send").map(requestOf), calls: of("call"),
+    violations: of("violation").map(({ policy, enforced, directive, url }) => ({ policy, enforced, directive, url })),
+    result: resultOf(of("result")[0]) };
+}
+
+// The fetches and loads of the one document, each with the place of its command in the script.
+function readCommands(text, document) {
+  const starts = [];
+  readPlay(text).documents[0].events.forEach((event) => {
+    if (event.kind === "fetch" || event.kind === "load") {
+      starts.push([]);
+    } else {
+      starts[starts.length - 1].push(event);
+    }
+  });
+  const state = { last: NOTHING };
+  const commands = [];
+  for (const { place, command } of commandsOf(document.script, state)) {
+    if (command.wait === undefined && commands.length < starts.length) {
+      const played = commandOf(starts[commands.length]);
+      commands.push({ place, command, ...played });
+      state.last = lastOf(played.result);
+    }
+  }
+  return commands;
+}
+
+module.exports = { printedPlay, readCommands, Refused };

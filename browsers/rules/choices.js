@@ -1,0 +1,31 @@
+"use strict";
+
+const { isRequest, valuesOf, lastAnswer } = require("./looked.js");
+
+// An absolute URL with a blank in its host.
+const BLANK = /^https?:\/\/[^/?#]* [^/?#]*/i;
+
+module.exports = [
+  {
+    name: "open-ports", browsers: ["chromium"], section: "choices-of-this-project", scenario: "urls/ports-that-chromium-opens",
+    says: "ports 4190 and 6679 are open",
+    explains: (difference, context) => context.ours.result.name === "BadPort"
+      && ["4190", "6679"].includes(new URL(context.asked.url, context.document.url).port)
+      && (isRequest(difference) || difference.what === "result"),
+  },
+  {
+    name: "blank-in-a-host", browsers: ["chromium"], section: "urls", scenario: "urls/blank-in-a-host",
+    says: "a blank in a host becomes %20, and is no error",
+    explains: (difference, context) => (context.ours.result.name === "BadUrl" && BLANK.test(context.asked.url)
+      && isRequest(difference) && difference.engine === null)
+      || (context.ours.result.name === "BadLocation" && difference.what === "reason"
+        && valuesOf(lastAnswer(context), "location").some((location) => BLANK.test(location))),
+  },
+  {
+    name: "pipe-in-a-path", browsers: ["chromium"], section: "urls", scenario: "urls/pipe-in-a-path",
+    says: "a | in a path is encoded",
+    explains: (difference, context) => (context.asked.url || "").includes("|")
+      && ((isRequest(difference) && (difference.engine || difference.browser).match(/\||%7C/) !== null)
+        || difference.what === "url"),
+  },
+];

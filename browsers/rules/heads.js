@@ -1,0 +1,72 @@
+"use strict";
+
+const { isHeader, urlOf, methodOf, hostOf, originOf, documentOrigin, isSecurePage, isLoopback, isAfterDetour,
+  keyOf } = require("./looked.js");
+
+const section = "origin-referer-and-cookies";
+const both = ["chromium", "firefox"];
+
+const isCorsLoad = (load) => load !== undefined && (["font", "manifest"].includes(load.kind) || load.crossorigin !== undefined);
+const isNoCorsPost = (context, difference) => context.asked.mode === "no-cors" && methodOf(difference.request) === "POST";
+
+module.exports = [
+  {
+    name: "referrer-to-loopback", browsers: both, section, scenario: "request-heads/referrer-to-an-address",
+    says: "http to the loopback is a downgrade, so it gets no Referer",
+    explains: (difference, context) => isHeader(difference, "referer") && difference.browser === null && isSecurePage(context)
+      && isLoopback(hostOf(urlOf(difference.request))) && urlOf(difference.request).startsWith("http:"),
+  },
+  {
+    name: "origin-of-own-loads", browsers: ["chromium"], section, scenario: "request-heads/origin-of-own-fonts",
+    says: "a font, or a load with crossorigin, sends Origin to the page's own origin, too",
+    explains: (difference, context) => isHeader(difference, "origin") && difference.engine === null
+      && difference.browser === documentOrigin(context) && isCorsLoad(context.command.load)
+      && originOf(urlOf(difference.request)) === documentOrigin(context),
+  },
+  {
+    name: "origin-never-by-policy", browsers: ["chromium"], section, scenario: "request-heads/origin-under-strict-policies",
+    says: "no referrer policy makes the Origin of a no-cors request null",
+    explains: (difference, context) => isHeader(difference, "origin") && difference.engine === "null"
+      && difference.browser === documentOrigin(context) && context.asked.mode === "no-cors"
+      && !isAfterDetour(context, difference.request),
+  },
+  {
+    name: "origin-without-a-referrer", browsers: ["firefox"], section, scenario: "request-heads/post-without-a-referrer",
+    says: "Origin is null where the referrer is none",
+    explains: (difference, context) => isHeader(difference, "origin") && difference.browser === "null"
+      && difference.engine === documentOrigin(context) && context.asked.referrer === "none",
+  },
+  {
+    name: "origin-of-a-redirected-post", browsers: ["chromium"], section, scenario: "request-heads/origin-of-a-redirected-post",
+    says: "Origin of a no-cors POST is null behind the first redirect to another origin",
+    explains: (difference, context) => isHeader(difference, "origin") && difference.browser === "null"
+      && difference.engine === documentOrigin(context) && isNoCorsPost(context, difference)
+      && keyOf(context.ours.requests[0]) !== difference.request,
+  },
+  {
+    name: "origin-of-a-later-preflight", browsers: ["firefox"], section,
+    scenario: "request-heads/origin-of-a-preflight-after-a-detour",
+    says: "a preflight behind a redirect has the page's Origin",
+    explains: (difference, context) => isHeader(difference, "origin") && difference.engine === "null"
+      && difference.browser === documentOrigin(context) && methodOf(difference.request) === "OPTIONS"
+      && isAfterDetour(context, difference.request),
+  },
+  {
+    name: "manifest-without-cookies", browsers: both, section, scenario: "request-heads/cookies-of-a-manifest",
+    says: "a manifest of the own origin is asked for without cookies",
+    explains: (difference, context) => isHeader(difference, "cookie") && difference.browser === null
+      && context.command.load !== undefined && context.command.load.kind === "manifest"
+      && context.command.load.crossorigin === undefined,
+  },
+  {
+    name: "user-agent-of-a-script", browsers: ["chromium"], section, scenario: "request-heads/user-agent-of-a-script",
+    says: "a script's User-Agent is not taken",
+    explains: (difference, context) => isHeader(difference, "user-agent")
+      && (context.asked.headers || []).some(([name]) => name.toLowerCase() === "user-agent"),
+  },
+  {
+    name: "spelling-of-range", browsers: ["chromium"], section, scenario: "request-heads/spelling-of-names",
+    says: "Range is spelled anew",
+    explains: (difference) => difference.what === "spelling" && difference.name === "range",
+  },
+];

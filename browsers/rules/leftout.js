@@ -1,0 +1,73 @@
+"use strict";
+
+const { isRequest, isHeader, urlOf, hostOf, originOf, answerTo, valuesOf, lastAnswer, keyOf, documentOrigin } = require("./looked.js");
+
+const section = "what-the-engine-leaves-out";
+const both = ["chromium", "firefox"];
+
+// The cookies that answers to earlier requests to this host have set.
+function setBefore(context, host) {
+  const requests = [...context.before.flatMap((compared) => (compared.engine ? compared.engine.requests : [])),
+    ...context.ours.requests];
+  return requests.filter((request) => hostOf(request.origin) === host)
+    .flatMap((request) => valuesOf(answerTo(context, keyOf(request)), "set-cookie"));
+}
+
+const isMedia = (command) => command !== undefined && command.command.load !== undefined
+  && ["audio", "video"].includes(command.command.load.kind);
+
+const siteOf = (url) => hostOf(url).split(".").slice(-2).join(".");
+
+module.exports = [
+  {
+    name: "set-cookie", browsers: both, section, scenario: "request-heads/cookies-that-answers-set",
+    says: "an answer's Set-Cookie is kept",
+    explains: (difference, context) => isHeader(difference, "cookie")
+      && setBefore(context, hostOf(urlOf(difference.request))).length > 0,
+  },
+  {
+    name: "same-site-cookies", browsers: ["chromium"], section, scenario: "request-heads/cookies-of-another-site-over-http",
+    says: "a cookie of another site that is not SameSite=None and Secure stays",
+    explains: (difference, context) => isHeader(difference, "cookie") && difference.browser === null
+      && urlOf(difference.request).startsWith("http:") && siteOf(urlOf(difference.request)) !== siteOf(context.document.url),
+  },
+  {
+    name: "cookies-by-host", browsers: both, section, scenario: "request-heads/cookies-and-ports",
+    says: "a cookie belongs to the host, whatever the port",
+    explains: (difference, context) => isHeader(difference, "cookie") && difference.browser !== null
+      && difference.browser.startsWith(difference.engine || "") && (context.scenario.cookies || []).some(([origin]) => hostOf(origin) === hostOf(urlOf(difference.request))
+        && origin !== originOf(urlOf(difference.request))),
+  },
+  {
+    name: "opaque-response-blocking", browsers: both, section, scenario: "loads/blocked-by-orb",
+    says: "an opaque answer whose bytes are not of its type is kept back",
+    explains: (difference, context) => difference.what === "result" && context.ours.result.result === "loaded"
+      && context.command.load !== undefined && context.theirs.reasons.some((reason) => /\bORB\b|_ORB$/.test(reason)),
+  },
+  {
+    name: "data-url", browsers: both, section, scenario: "urls/schemes",
+    says: "a data: URL is answered",
+    explains: (difference, context) => difference.what === "result" && context.ours.result.name === "Scheme"
+      && /^data:/i.test(context.asked.url) && /^(response|loaded)/.test(difference.browser),
+  },
+  {
+    name: "media-asked-again", browsers: ["firefox"], section, scenario: "loads/video", sometimes: true,
+    says: "a sound or a video that cannot be decoded is asked for again",
+    explains: (difference, context) => isRequest(difference, "GET ") && difference.engine === null
+      && [...context.before.map((compared) => compared.engine), context.ours].filter(isMedia)
+        .some((command) => command.requests.map(keyOf).includes(difference.browser)),
+  },
+  {
+    name: "login-prompt", browsers: ["chromium"], section, scenario: "answers/login-asked",
+    says: "a 401 with a challenge waits for a login, and a 407 of a server is an error",
+    explains: (difference, context) => difference.what === "result" && [401, 407].includes(context.ours.result.status)
+      && /^(late|error)/.test(difference.browser),
+  },
+  {
+    name: "public-suffixes", browsers: both, section, scenario: "answers/resource-policy-and-suffixes",
+    says: "sites are told apart by the public suffix list",
+    explains: (difference, context) => ["result", "reason"].includes(difference.what)
+      && valuesOf(lastAnswer(context), "cross-origin-resource-policy").includes("same-site")
+      && siteOf(context.asked.url) === siteOf(context.document.url) && documentOrigin(context).split(".").length > 2,
+  },
+];
