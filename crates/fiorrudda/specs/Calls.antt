@@ -9,7 +9,7 @@ use Rattle.wf_total.specs.Headers.{appending}
 use Rattle.wf_total.specs.Hosts.{after_field, is_known_host, says}
 use Rattle.wf_total.specs.declared.refusal.Refusal.{Refusal}
 use Rattle.fiorrudda.specs.Codes.{code_of, told, yes_or_no, IsKept, IsTold}
-use Rattle.fiorrudda.specs.declared.TheConstants.{OK, WRONG_HANDLE}
+use Rattle.fiorrudda.specs.declared.codes.TheConstants.{OK, WRONG_HANDLE}
 use Rattle.fiorrudda.specs.declared.thing.Thing.{Thing}
 use Rattle.fiorrudda.specs.declared.thing.Thing.TheVariants as thing
 

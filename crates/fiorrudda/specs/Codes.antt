@@ -1,10 +1,10 @@
 -- What the codes tell, and what is written beside them.
-use Rattle.std.specs.Prelude.{◌≡◌, ℕ, Bool, true, false, List, ◌++◌, drop, length, nat_le, MatchBool}
+use Rattle.std.specs.Prelude.{◌≡◌, ℕ, Bool, true, false, List, drop, length, nat_lt, take, MatchBool}
 use Rattle.std.specs.Prelude.{Option, Some, None, Result, Ok, Err, if◌then◌else◌}
 use Rattle.wf_hsts.specs.Reading.{sts_in}
 use Rattle.wf_hsts.specs.declared.sts.Sts.{Sts}
-use Rattle.fiorrudda.specs.declared.TheConstants.{OK, NO, OUT_OF_MEMORY, TOO_SHORT, NOT_A_URL, NOT_HTTP}
-use Rattle.fiorrudda.specs.declared.TheConstants.{NOT_A_HEADER, TOO_LATE}
+use Rattle.fiorrudda.specs.declared.codes.TheConstants.{OK, NO, OUT_OF_MEMORY, TOO_SHORT, NOT_A_URL, NOT_HTTP}
+use Rattle.fiorrudda.specs.declared.codes.TheConstants.{NOT_A_HEADER, TOO_LATE}
 use Rattle.wf_total.specs.declared.refusal.Refusal.{Refusal}
 use Rattle.wf_total.specs.declared.refusal.Refusal.TheVariants.{OutOfMemory, NotUrl, NotHttp, NotHeader, TooLate}
 
@@ -30,8 +30,8 @@ told (Err refusal) = code_of refusal
 -- told in both cases.
 abbrev pub IsWritten : List ℕ → List ℕ → List ℕ → ℕ → ℕ → Type 0
 IsWritten text room after len code =
-    (len ≡ length text) × MatchBool (nat_le (length text) (length room))
-    ((code ≡ OK) × (after ≡ text ++ drop (length text) room)) ((code ≡ TOO_SHORT) × (after ≡ room))
+    (len ≡ length text) × MatchBool (nat_lt (length room) (length text)) ((code ≡ TOO_SHORT) × (after ≡ room))
+    ((code ≡ OK) × (take len after ≡ text) × (drop len after ≡ drop len room))
 
 -- nothing is written
 abbrev pub IsKept : List ℕ → List ℕ → ℕ → ℕ → Type 0

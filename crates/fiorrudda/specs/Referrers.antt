@@ -1,7 +1,7 @@
 -- Referrer policies by their numbers, and what is told of a referrer.
 use Rattle.std.specs.Prelude.{◌≡◌, ℕ, ◌==◌, List, Option, Some, None, if◌then◌else◌}
 use Rattle.fiorrudda.specs.Codes.{IsKept, IsTold}
-use Rattle.fiorrudda.specs.declared.TheConstants.{NO_SUCH_NUMBER}
+use Rattle.fiorrudda.specs.declared.codes.TheConstants.{NO_SUCH_NUMBER}
 use Rattle.wf_types.specs.declared.mode.ReferrerPolicy.{ReferrerPolicy}
 use Rattle.wf_types.specs.declared.mode.ReferrerPolicy.TheVariants as policy
 use Rattle.wf_total.specs.Referrers.{told_referrer}

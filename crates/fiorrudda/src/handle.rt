@@ -1,5 +1,5 @@
 // A thing behind one word that C holds.
-ghost use Rattle.std.specs.Prelude.{◌≡◌, ◌⊎◌, Option, Some, None, MatchOption};
+ghost use Rattle.std.specs.Prelude.{◌≡◌, ◌≢◌, Option, Some, None, MatchOption};
 ghost use Rattle.fiorrudda.specs.Handle.{handle_owns};
 ghost use Rattle.fiorrudda.specs.declared.thing.Thing.{Thing as Held};
 
@@ -72,7 +72,8 @@ impl Handle {
 
     /// Frees what the handle holds, and has it hold this thing, unless memory is refused.
     pub(crate) fn fill(&mut self, alloc: Global, thing: Thing) -> u32
-        ensures { (result ≡ OK) × (self.new.held ≡ Some thing) ⊎ (result ≡ OUT_OF_MEMORY) × (self.new.held ≡ None) }
+        ensures ok { result ≡ OK → self.new.held ≡ Some thing }
+        ensures out_of_memory { result ≢ OK → (result ≡ OUT_OF_MEMORY) × (self.new.held ≡ None) }
     {
         drop(self.take(alloc));
         match Box::new(alloc, thing) {

@@ -1,7 +1,6 @@
 // Header lists.
-ghost use Rattle.std.specs.Prelude.{◌≡◌, ◌≢◌, ◌⊎◌, [], None, Some};
-ghost use Rattle.fiorrudda.specs.Calls.{append_to, IsGot};
-ghost use Rattle.fiorrudda.specs.declared.thing.Thing.TheVariants.{Headers};
+ghost use Rattle.std.specs.Prelude.{◌≡◌, ◌≢◌, [], None, Some};
+ghost use Rattle.fiorrudda.specs.Calls.{append_to, done, IsGot};
 
 use crate::codes::{OK, OUT_OF_MEMORY, WRONG_HANDLE};
 use crate::handle::Handle;
@@ -9,7 +8,7 @@ use crate::thing::Thing;
 use crate::told::{code_of, write_answer};
 use std::alloc::Global;
 use wf_headers::HeaderList;
-use wf_total::{Refusal, append_header, value_of};
+use wf_total::{append_header, value_of};
 
 /// Makes an empty header list in a handle (Fetch, section 2.2.2). What the handle held is freed first, also where memory
 /// is refused.
@@ -17,9 +16,24 @@ use wf_total::{Refusal, append_header, value_of};
 /// `OK` or `OUT_OF_MEMORY`.
 #[unsafe(no_mangle)]
 pub extern "C" fn fiorrudda_headers(alloc: Global, headers: &mut Handle) -> u32
-    ensures { (result ≡ OK) × (headers.new.held ≡ Some (Headers [])) ⊎ (result ≡ OUT_OF_MEMORY) × (headers.new.held ≡ None) }
+    ensures ok { result ≡ OK → headers.new.held ≡ Some (Thing.Headers []) }
+    ensures out_of_memory { result ≢ OK → (result ≡ OUT_OF_MEMORY) × (headers.new.held ≡ None) }
 {
     headers.fill(alloc, Thing::Headers(HeaderList::new(alloc)))
+}
+
+// "append" to a thing that is a header list.
+fn appended(thing: &mut Thing, name: &[u8], value: &[u8]) -> u32
+    ensures told { result ≢ OUT_OF_MEMORY → done result (Some thing.new) ≡ append_to name.now value.now (Some thing.old) }
+    ensures out_of_memory { result ≡ OUT_OF_MEMORY → thing.new ≡ thing.old }
+{
+    let Thing::Headers(list) = thing else {
+        return WRONG_HANDLE;
+    };
+    match append_header(list, name, value) {
+        Ok(()) => OK,
+        Err(refusal) => code_of(refusal),
+    }
 }
 
 /// "append": adds a header to a list, its name in the spelling that the list has already (Fetch, section 2.2.2).
@@ -32,21 +46,26 @@ pub extern "C" fn fiorrudda_append(
     name: &[u8],
     value: &[u8],
 ) -> u32
-    ensures told { result ≢ OUT_OF_MEMORY → record { code = result; held = headers.new.held } ≡ append_to name.now value.now headers.old.held }
+    ensures told { result ≢ OUT_OF_MEMORY → done result headers.new.held ≡ append_to name.now value.now headers.old.held }
     ensures out_of_memory { result ≡ OUT_OF_MEMORY → headers.new.held ≡ headers.old.held }
 {
     let Some(mut thing) = headers.take(alloc) else {
         return WRONG_HANDLE;
     };
-    let code = match &mut *thing {
-        Thing::Headers(list) => match append_header(list, name, value) {
-            Ok(()) => OK,
-            Err(refusal) => code_of(refusal),
-        },
-        Thing::Book(_) => WRONG_HANDLE,
-    };
+    let code = appended(&mut thing, name, value);
     headers.put(thing);
     code
+}
+
+// Writes what "get" gives of a thing that is a header list.
+fn got(alloc: Global, thing: &Thing, name: &[u8], room: &mut [u8], len: &mut usize) -> u32
+    ensures told { result ≢ OUT_OF_MEMORY → IsGot name.now (Some thing.now) room.old room.new len.old len.new result }
+    ensures out_of_memory { result ≡ OUT_OF_MEMORY → (room.new ≡ room.old) × (len.new ≡ len.old) }
+{
+    match thing {
+        Thing::Headers(list) => write_answer(value_of(alloc, list, name), room, len),
+        Thing::Book(_) => WRONG_HANDLE,
+    }
 }
 
 /// "get": writes all values of a name, joined by a comma and a space, at the beginning of `room`, with no NUL after
@@ -69,10 +88,7 @@ pub extern "C" fn fiorrudda_get(
     let Some(thing) = headers.take(alloc) else {
         return WRONG_HANDLE;
     };
-    let code = match &*thing {
-        Thing::Headers(list) => write_answer(value_of(alloc, list, name), room, len),
-        Thing::Book(_) => WRONG_HANDLE,
-    };
+    let code = got(alloc, &thing, name, room, len);
     headers.put(thing);
     code
 }

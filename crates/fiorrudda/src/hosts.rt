@@ -1,8 +1,7 @@
 // The book, and the hosts that it knows.
-ghost use Rattle.std.specs.Prelude.{◌≡◌, ◌≢◌, ◌⊎◌, None, Some};
-ghost use Rattle.fiorrudda.specs.Calls.{known_host, note_host};
+ghost use Rattle.std.specs.Prelude.{◌≡◌, ◌≢◌, None, Some};
+ghost use Rattle.fiorrudda.specs.Calls.{done, known_host, note_host};
 ghost use Rattle.fiorrudda.specs.Codes.{IsSts};
-ghost use Rattle.fiorrudda.specs.declared.thing.Thing.TheVariants as thing;
 ghost use Rattle.wf_book.specs.Book.{empty};
 
 use crate::codes::{NO, OK, OUT_OF_MEMORY, WRONG_HANDLE};
@@ -20,9 +19,21 @@ use wf_total::{is_known_host, note_field};
 /// `OK` or `OUT_OF_MEMORY`.
 #[unsafe(no_mangle)]
 pub extern "C" fn fiorrudda_book(alloc: Global, book: &mut Handle) -> u32
-    ensures { (result ≡ OK) × (book.new.held ≡ Some (thing.Book empty)) ⊎ (result ≡ OUT_OF_MEMORY) × (book.new.held ≡ None) }
+    ensures ok { result ≡ OK → book.new.held ≡ Some (Thing.Book empty) }
+    ensures out_of_memory { result ≢ OK → (result ≡ OUT_OF_MEMORY) × (book.new.held ≡ None) }
 {
     book.fill(alloc, Thing::Book(Book::new(alloc)))
+}
+
+// Has a thing that is a book note a field.
+fn noted(alloc: Global, thing: &mut Thing, host: &[u8], field: &[u8], now: u64) -> u32
+    ensures told { result ≢ OUT_OF_MEMORY → done result (Some thing.new) ≡ note_host host.now field.now now (Some thing.old) }
+    ensures out_of_memory { result ≡ OUT_OF_MEMORY → thing.new ≡ thing.old }
+{
+    let Thing::Book(book) = thing else {
+        return WRONG_HANDLE;
+    };
+    told(note_field(alloc, book, host, field, now))
 }
 
 /// Has a book note what the value of a Strict-Transport-Security field of a host says (RFC 6797, section 8.1), at a time
@@ -38,18 +49,26 @@ pub extern "C" fn fiorrudda_note_host(
     field: &[u8],
     now: u64,
 ) -> u32
-    ensures told { result ≢ OUT_OF_MEMORY → record { code = result; held = book.new.held } ≡ note_host host.now field.now now book.old.held }
+    ensures told { result ≢ OUT_OF_MEMORY → done result book.new.held ≡ note_host host.now field.now now book.old.held }
     ensures out_of_memory { result ≡ OUT_OF_MEMORY → book.new.held ≡ book.old.held }
 {
     let Some(mut thing) = book.take(alloc) else {
         return WRONG_HANDLE;
     };
-    let code = match &mut *thing {
-        Thing::Book(book) => told(note_field(alloc, book, host, field, now)),
-        Thing::Headers(_) => WRONG_HANDLE,
-    };
+    let code = noted(alloc, &mut thing, host, field, now);
     book.put(thing);
     code
+}
+
+// Whether a host of a thing that is a book is known.
+fn known(alloc: Global, thing: &mut Thing, host: &[u8], now: u64) -> u32
+    ensures told { result ≢ OUT_OF_MEMORY → result ≡ known_host host.now now (Some thing.old) }
+    ensures kept { thing.new ≡ thing.old }
+{
+    let Thing::Book(book) = thing else {
+        return WRONG_HANDLE;
+    };
+    told(is_known_host(alloc, book, host, now))
 }
 
 /// Whether a host is a known HSTS host of a book at a time in seconds (RFC 6797, section 8.2): http URLs of it are to be
@@ -69,10 +88,7 @@ pub extern "C" fn fiorrudda_known_host(
     let Some(mut thing) = book.take(alloc) else {
         return WRONG_HANDLE;
     };
-    let code = match &mut *thing {
-        Thing::Book(book) => told(is_known_host(alloc, book, host, now)),
-        Thing::Headers(_) => WRONG_HANDLE,
-    };
+    let code = known(alloc, &mut thing, host, now);
     book.put(thing);
     code
 }
@@ -94,7 +110,7 @@ pub extern "C" fn fiorrudda_sts(
     match parse_sts(alloc, field) {
         Ok(Some(sts)) => {
             *age = sts.age;
-            *subdomains = u32::from(sts.subdomains);
+            *subdomains = if sts.subdomains { 1 } else { 0 };
             OK
         }
         Ok(None) => NO,

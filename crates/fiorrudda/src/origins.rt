@@ -1,5 +1,5 @@
 // Rules on URLs and their origins.
-ghost use Rattle.std.specs.Prelude.{◌≡◌, ◌≢◌, Ok, Some};
+ghost use Rattle.std.specs.Prelude.{◌≡◌, ◌≢◌};
 ghost use Rattle.fiorrudda.specs.Codes.{some_text, told, IsTold};
 ghost use Rattle.wf_total.specs.Origins as origins;
 

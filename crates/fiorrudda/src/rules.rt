@@ -1,7 +1,7 @@
 // Rules on an answer, on a referrer and on a body.
-ghost use Rattle.std.specs.Prelude.{◌≡◌, ◌≢◌, Ok};
+ghost use Rattle.std.specs.Prelude.{◌≡◌, ◌≢◌, Some};
 ghost use Rattle.fiorrudda.specs.Calls.{cors_check, resource_policy};
-ghost use Rattle.fiorrudda.specs.Codes.{told, IsTold};
+ghost use Rattle.fiorrudda.specs.Codes.{told};
 ghost use Rattle.fiorrudda.specs.Referrers.{IsReferrer};
 ghost use Rattle.wf_total.specs.Bodies.{matches_integrity};
 
@@ -13,6 +13,16 @@ use crate::told::{told, write_answer, yes_or_no};
 use std::alloc::Global;
 use wf_total::{is_kept_by_resource_policy, matches_integrity, told_referrer};
 use wf_types::passes_cors_check;
+
+// "CORS check" of a thing that is a header list.
+fn checked(thing: &Thing, origin: &[u8], include: bool) -> u32
+    ensures { result ≡ cors_check origin.now include (Some thing.now) }
+{
+    match thing {
+        Thing::Headers(list) => yes_or_no(passes_cors_check(origin, include, list)),
+        Thing::Book(_) => WRONG_HANDLE,
+    }
+}
 
 /// "CORS check" of an answer's header list, for the serialised origin of a request and whether its credentials mode is
 /// include (Fetch, section 4.10). The origin is compared byte for byte; `null` is that of a request that was tainted by
@@ -32,12 +42,19 @@ pub extern "C" fn fiorrudda_cors_check(
     let Some(thing) = headers.take(alloc) else {
         return WRONG_HANDLE;
     };
-    let code = match &*thing {
-        Thing::Headers(list) => yes_or_no(passes_cors_check(origin, include, list)),
-        Thing::Book(_) => WRONG_HANDLE,
-    };
+    let code = checked(&thing, origin, include);
     headers.put(thing);
     code
+}
+
+// "cross-origin resource policy check" of a thing that is a header list.
+fn kept(alloc: Global, thing: &Thing, page: &[u8], url: &[u8]) -> u32
+    ensures { result ≢ OUT_OF_MEMORY → result ≡ resource_policy page.now url.now (Some thing.now) }
+{
+    match thing {
+        Thing::Headers(list) => told(is_kept_by_resource_policy(alloc, page, url, list)),
+        Thing::Book(_) => WRONG_HANDLE,
+    }
 }
 
 /// Whether the answer of a URL is kept from a page's requests in mode no-cors (Fetch, "cross-origin resource policy
@@ -58,10 +75,7 @@ pub extern "C" fn fiorrudda_resource_policy(
     let Some(thing) = headers.take(alloc) else {
         return WRONG_HANDLE;
     };
-    let code = match &*thing {
-        Thing::Headers(list) => told(is_kept_by_resource_policy(alloc, page, url, list)),
-        Thing::Book(_) => WRONG_HANDLE,
-    };
+    let code = kept(alloc, &thing, page, url);
     headers.put(thing);
     code
 }

@@ -2,7 +2,6 @@
 ghost use Rattle.std.specs.Prelude.{◌≡◌, ◌≢◌, Bool, ℕ, List, Option, Result};
 ghost use Rattle.fiorrudda.specs.Codes.{code_of, some_text, told, yes_or_no, IsTold, IsWritten};
 ghost use Rattle.wf_total.specs.Answers.{Answers};
-ghost use Rattle.wf_total.specs.declared.refusal.Refusal.{Refusal as Refused};
 
 use crate::codes::{NO, NOT_A_HEADER, NOT_A_URL, NOT_HTTP, OK, OUT_OF_MEMORY, TOO_LATE, TOO_SHORT};
 use wf_text::Bytes;
@@ -30,7 +29,7 @@ pub(crate) fn yes_or_no(holds: bool) -> u32
 
 // The code that tells whether something holds, or why there is no answer.
 pub(crate) fn told(answer: Result<bool, Refusal>) -> u32
-    ensures { (expected : Result Bool Refused) → Answers answer expected → result ≢ OUT_OF_MEMORY → result ≡ told expected }
+    ensures { (expected : Result Bool Refusal) → Answers answer expected → result ≢ OUT_OF_MEMORY → result ≡ told expected }
 {
     match answer {
         Ok(holds) => yes_or_no(holds),
@@ -56,7 +55,7 @@ pub(crate) fn write_answer(
     room: &mut [u8],
     len: &mut usize,
 ) -> u32
-    ensures told { (expected : Result (Option (List ℕ)) Refused) → Answers answer expected → result ≢ OUT_OF_MEMORY →
+    ensures told { (expected : Result (Option (List ℕ)) Refusal) → Answers answer expected → result ≢ OUT_OF_MEMORY →
         IsTold expected room.old room.new len.old len.new result }
     ensures out_of_memory { result ≡ OUT_OF_MEMORY → (room.new ≡ room.old) × (len.new ≡ len.old) }
 {
@@ -69,7 +68,7 @@ pub(crate) fn write_answer(
 
 // Writes the text that answers.
 pub(crate) fn write_text(answer: Result<Bytes, Refusal>, room: &mut [u8], len: &mut usize) -> u32
-    ensures told { (expected : Result (List ℕ) Refused) → Answers answer expected → result ≢ OUT_OF_MEMORY →
+    ensures told { (expected : Result (List ℕ) Refusal) → Answers answer expected → result ≢ OUT_OF_MEMORY →
         IsTold (some_text expected) room.old room.new len.old len.new result }
     ensures out_of_memory { result ≡ OUT_OF_MEMORY → (room.new ≡ room.old) × (len.new ≡ len.old) }
 {

@@ -12,15 +12,18 @@ use wf_act::{Act, Input};
 use wf_book::{Book, Op};
 use wf_text::OutOfMemory;
 
+// The first time, and the first age, that a book does not have.
+const LATEST: u64 = 281_474_976_710_656;
+
 // Whether an operation is in range: its time and a noted age are below 2^48, and a lesson's age is at most 7,200.
 fn is_in_range(op: &Op) -> bool
     ensures value { result ≡ is_in_range op.now }
     ensures range { IsTrue result ↔ InRange op.now }
 {
     match op {
-        Op::Match(_, now) | Op::Covers(_, now) | Op::Clear(_, _, _, now) => *now < 1 << 48,
-        Op::Note(_, sts, now) => *now < 1 << 48 && sts.age < 1 << 48,
-        Op::Learn(lesson, now) => *now < 1 << 48 && lesson.age <= 7_200,
+        Op::Match(_, now) | Op::Covers(_, now) | Op::Clear(_, _, _, now) => *now < LATEST,
+        Op::Note(_, sts, now) => *now < LATEST && sts.age < LATEST,
+        Op::Learn(lesson, now) => *now < LATEST && lesson.age <= 7_200,
     }
 }
 

@@ -2,7 +2,6 @@
 ghost use Rattle.std.specs.Prelude.{◌≡◌, ◌≢◌, IfErr, OnErr, OnOk, Ok, Err};
 ghost use Rattle.wf_total.specs.Answers.{Answers};
 ghost use Rattle.wf_total.specs.Headers as spec;
-ghost use Rattle.wf_total.specs.declared.refusal.Refusal.TheVariants.{OutOfMemory};
 
 use crate::refusal::Refusal;
 use std::alloc::Global;
@@ -13,7 +12,7 @@ use wf_text::{Bytes, is_token, is_value};
 /// where the name is no token or the value no header value. A refused one leaves the list as it was.
 pub fn append_header(list: &mut HeaderList, name: &[u8], value: &[u8]) -> Result<(), Refusal>
     ensures ok { OnOk result (spec.appending name.now value.now list.old ≡ Ok list.new) }
-    ensures refused { IfErr result (λ refusal. refusal ≢ OutOfMemory → spec.appending name.now value.now list.old ≡ Err refusal) }
+    ensures refused { IfErr result (λ refusal. refusal ≢ Refusal.OutOfMemory → spec.appending name.now value.now list.old ≡ Err refusal) }
     ensures kept { OnErr result (list.new ≡ list.old) }
 {
     if !is_token(name) || !is_value(value) {

@@ -1,5 +1,5 @@
 // The known hosts of a book.
-ghost use Rattle.std.specs.Prelude.{◌≡◌, ◌≢◌, Bool, IfErr, OnErr, IfOk, OnOk, Ok, Err};
+ghost use Rattle.std.specs.Prelude.{◌≡◌, OnErr, OnOk};
 ghost use Rattle.wf_total.specs.Answers.{Answers};
 ghost use Rattle.wf_total.specs.Hosts as spec;
 
@@ -10,7 +10,7 @@ use wf_hsts::parse_sts;
 use wf_text::Bytes;
 
 /// The first time, in seconds, that is too late for a book.
-const END_OF_TIME: u64 = 1 << 48;
+const END_OF_TIME: u64 = 281_474_976_710_656;
 
 /// Notes what the value of a Strict-Transport-Security field of a host says, at a time in seconds, and tells whether it
 /// says something (RFC 6797, section 8.1). The host is the domain of a URL, which came over https with no error.

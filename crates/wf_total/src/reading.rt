@@ -12,10 +12,10 @@ use wf_types::{url_alone, utf8_text};
 pub fn read_url(alloc: Global, text: &[u8]) -> Result<Url, Refusal>
     ensures { Answers result (spec.url_in text.now) }
 {
-    let Some(text) = utf8_text(text) else {
+    let Some(address) = utf8_text(text) else {
         return Err(Refusal::NotUrl);
     };
-    match url_alone(alloc, text)? {
+    match url_alone(alloc, address)? {
         Some(url) => Ok(url),
         None => Err(Refusal::NotUrl),
     }

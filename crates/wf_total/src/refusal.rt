@@ -1,5 +1,3 @@
-ghost use Rattle.std.specs.Prelude.{◌≡◌};
-
 use wf_text::OutOfMemory;
 
 /// Why a call has no answer.
@@ -18,7 +16,10 @@ pub enum Refusal {
 }
 
 impl From<OutOfMemory> for Refusal {
-    ghost from_gives = { λ _ refusal. refusal ≡ Refusal.OutOfMemory };
+    ghost use Rattle.std.specs.Prelude.{◌≡◌};
+    ghost use Rattle.wf_total.specs.declared.refusal.Refusal.TheVariants as refusal;
+
+    ghost from_gives = { λ _ made. made ≡ refusal.OutOfMemory };
 
     fn from(_error: OutOfMemory) -> Self {
         Refusal::OutOfMemory
