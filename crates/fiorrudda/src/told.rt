@@ -39,7 +39,8 @@ pub(crate) fn told(answer: Result<bool, Refusal>) -> u32
 
 // Writes a text at the beginning of the room, if it is long enough, and tells how long the text is.
 pub(crate) fn write(text: &[u8], room: &mut [u8], len: &mut usize) -> u32
-    ensures { IsWritten text.now room.old room.new len.new result }
+    ensures written { IsWritten text.now room.old room.new len.new result }
+    ensures bound { result ≢ OUT_OF_MEMORY }
 {
     *len = text.len();
     if text.len() > room.len() {

@@ -1,5 +1,5 @@
 -- What it comes to where an answer ends, or a link fails.
-use Rattle.std.specs.Prelude.{◌≡◌, ℕ, ◌-◌, ◌^◌, min, Bool, true, false, length, if◌then◌else◌}
+use Rattle.std.specs.Prelude.{◌≡◌, ℕ, ◌-◌, ◌^◌, min, Bool, true, false, length}
 use Rattle.wf_act.specs.declared.act.Input.{Input}
 use Rattle.wf_act.specs.declared.act.Input.TheVariants.{BodyIs, Fault, HeadBad}
 use Rattle.wf_http1.specs.Bodies.{body_end}

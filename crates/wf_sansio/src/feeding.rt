@@ -7,14 +7,14 @@ ghost use Rattle.wf_sansio.specs.Readers.{is_reading};
 use crate::conversation::{Conversation, Waiting, Went};
 use crate::document::Document;
 use crate::going::resumed;
-use crate::reading::{Bodies, Reader};
+use crate::reading::{Bodies, Reader, fitted};
 use std::alloc::Global;
 use std::mem::replace;
 use wf_act::{Act, Input};
 use wf_fetch::Fetching;
 use wf_http1::{BodyReader, BodyStep, HeadReader, HeadStep, framing_of};
 use wf_text::OutOfMemory;
-use wf_types::{BodyEnd, Head};
+use wf_types::Head;
 
 /// What a piece of an answer came to: how the call went, and how many bytes of the piece were read. Those behind them
 /// belong to the body, if one is read.
@@ -84,16 +84,6 @@ fn head_moved(
             let to = resumed(alloc, document, fetching, bodies, Input::HeadLong)?;
             Ok(Moved { to, used: len })
         }
-    }
-}
-
-// The same end of a body, which holds no more room than it needs.
-fn fitted(alloc: Global, end: BodyEnd) -> Result<BodyEnd, OutOfMemory>
-    ensures { IfOk result (λ fitted. fitted ≡ end) }
-{
-    match end {
-        BodyEnd::Whole(bytes) => Ok(BodyEnd::Whole(bytes.fitted(alloc)?)),
-        other => Ok(other),
     }
 }
 

@@ -12,4 +12,5 @@ mod taking;
 
 pub use conversation::{Conversation, Waiting, Went};
 pub use document::Document;
+pub use feeding::Fed;
 pub use reading::{Bodies, Reader};

@@ -5,6 +5,7 @@ use std::alloc::Global;
 use wf_act::Act;
 use wf_http1::{BodyReader, Framing, HeadReader};
 use wf_text::OutOfMemory;
+use wf_types::BodyEnd;
 
 /// How the body of the last head is framed, and how many bytes a body may have.
 #[derive(Clone, Copy, Debug, PartialEq, Eq)]
@@ -44,5 +45,15 @@ impl Reader {
             Reader::Head(_) | Reader::Body(_) => true,
             Reader::Idle => false,
         }
+    }
+}
+
+// The same end of a body, which holds no more room than it needs.
+pub(crate) fn fitted(alloc: Global, end: BodyEnd) -> Result<BodyEnd, OutOfMemory>
+    ensures { IfOk result (λ fitted. fitted ≡ end) }
+{
+    match end {
+        BodyEnd::Whole(bytes) => Ok(BodyEnd::Whole(bytes.fitted(alloc)?)),
+        other => Ok(other),
     }
 }
