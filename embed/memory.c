@@ -58,12 +58,15 @@ static uint32_t sts(void) { uint64_t age; uint32_t subdomains; return fiorrudda_
 static uint32_t note_host(void) { return fiorrudda_note_host(&book, T("a-host-of-a-long-name.example"), T("max-age=9"), 1); }
 static uint32_t known_host(void) { return fiorrudda_known_host(&book, T("a-host-of-a-long-name.example"), 1); }
 
+static uint32_t essence(void) { return fiorrudda_essence(&headers, room, sizeof room, &len); }
+static uint32_t source_matches(void) { return fiorrudda_source_matches(T("https://a-host-of-a-long-name.example/p"), T("https://a-host-of-a-long-name.example/p"), T("https://a.example/"), 0); }
+
 static const struct { const char *name; uint32_t (*call)(void); } calls[] = {
     {"headers", make_headers}, {"book", make_book}, {"append", append}, {"get", get},
     {"resource_policy", resource_policy}, {"origin", origin}, {"same_origin", same_origin},
     {"same_site", same_site}, {"trustworthy", trustworthy}, {"bad_port", bad_port},
     {"referrer", referrer}, {"integrity", integrity}, {"sts", sts}, {"note_host", note_host},
-    {"known_host", known_host},
+    {"known_host", known_host}, {"essence", essence}, {"source_matches", source_matches},
 };
 
 // What the header list and the book hold is as it was: told by calls that the refused ones are not.
@@ -80,6 +83,7 @@ int main(void) {
         for (uint32_t code = FIORRUDDA_OUT_OF_MEMORY; code != FIORRUDDA_OK; n++) {
             HOLDS(fiorrudda_headers(&headers) == FIORRUDDA_OK && fiorrudda_book(&book) == FIORRUDDA_OK);
             HOLDS(fiorrudda_append(&headers, T("Long"), T("a value of thirty bytes, or so")) == FIORRUDDA_OK);
+            HOLDS(fiorrudda_append(&headers, T("Content-Type"), T("text/a-subtype-of-thirty-bytes-or-so")) == FIORRUDDA_OK);
             HOLDS(fiorrudda_note_host(&book, T("known.example"), T("max-age=9"), 1) == FIORRUDDA_OK);
             // A host that is looked for is known once it was noted.
             if (calls[at].call == known_host) HOLDS(note_host() == FIORRUDDA_OK);

@@ -199,6 +199,38 @@ static void hosts(void) {
     fiorrudda_free(&book);
 }
 
+static void requests(void) {
+    IS(OK, fiorrudda_safelisted(T("Accept"), T("text/html")));
+    IS(OK, fiorrudda_safelisted(T("content-type"), T("text/plain;charset=utf-8")));
+    IS(NO, fiorrudda_safelisted(T("Content-Type"), T("application/json")));
+    IS(NO, fiorrudda_safelisted(T("X-A"), T("1")));
+    IS(OK, fiorrudda_forbidden_method(T("trace")));
+    IS(NO, fiorrudda_forbidden_method(T("PUT")));
+}
+
+static void answers(void) {
+    fiorrudda_handle headers = {0};
+    IS(WRONG_HANDLE, fiorrudda_nosniff(&headers));
+    IS(WRONG_HANDLE, fiorrudda_essence(&headers, room, sizeof room, &len));
+    IS(OK, fiorrudda_headers(&headers));
+    IS(NO, fiorrudda_nosniff(&headers));
+    IS(NO, fiorrudda_essence(&headers, room, sizeof room, &len));
+    IS(OK, fiorrudda_append(&headers, T("X-Content-Type-Options"), T("NoSniff, x")));
+    IS(OK, fiorrudda_append(&headers, T("Content-Type"), T("Text/HTML;charset=utf-8")));
+    IS(OK, fiorrudda_nosniff(&headers));
+    IS(OK, fiorrudda_essence(&headers, room, sizeof room, &len));
+    HOLDS(wrote("text/html"));
+    fiorrudda_free(&headers);
+    IS(OK, fiorrudda_source_matches(T("https://*.example"), T("https://a.example/x"), T("https://p.test/"), 0));
+    IS(NO, fiorrudda_source_matches(T("https://*.example"), T("https://example/x"), T("https://p.test/"), 0));
+    IS(NO, fiorrudda_source_matches(T("https://a.example/y/"), T("https://a.example/x"), T("https://p.test/"), 0));
+    IS(OK, fiorrudda_source_matches(T("https://a.example/y/"), T("https://a.example/x"), T("https://p.test/"), 1));
+    IS(OK, fiorrudda_source_matches(T("'self'"), T("https://p.test/x"), T("https://p.test/"), 0));
+    IS(NO, fiorrudda_source_matches(T("'none'"), T("https://p.test/x"), T("https://p.test/"), 0));
+    IS(NOT_HTTP, fiorrudda_source_matches(T("*"), T("https://p.test/x"), T("data:,x"), 0));
+    IS(NOT_A_URL, fiorrudda_source_matches(T("*"), T("x"), T("https://p.test/"), 0));
+}
+
 int main(void) {
     memset(room, 0xEE, sizeof room);
     lists();
@@ -208,6 +240,8 @@ int main(void) {
     referrers();
     integrity();
     hosts();
+    requests();
+    answers();
     puts("rules: ok");
     return 0;
 }

@@ -89,6 +89,26 @@ _Static_assert(sizeof(fiorrudda_handle) == 8, "fiorrudda_handle");
 // Frees what a handle holds, and leaves it empty. An empty handle stays so.
 void fiorrudda_free(fiorrudda_handle *handle);
 
+// "determine nosniff" of an answer's header list (Fetch): scripts and styles of another MIME type are blocked then.
+//
+// FIORRUDDA_OK where the answer says nosniff; FIORRUDDA_NO; FIORRUDDA_WRONG_HANDLE.
+uint32_t fiorrudda_nosniff(fiorrudda_handle *headers);
+
+// Writes the essence of the MIME type of an answer, in lower case, at the beginning of `room`, with no NUL after it,
+// and tells in `len` how many bytes it is (Fetch, "extract a MIME type").
+//
+// FIORRUDDA_OK; FIORRUDDA_NO where the list gives no MIME type; FIORRUDDA_TOO_SHORT where `room` has less than `len`
+// bytes; FIORRUDDA_WRONG_HANDLE; FIORRUDDA_OUT_OF_MEMORY. But for FIORRUDDA_OK nothing is written to `room`, and but
+// for FIORRUDDA_OK and FIORRUDDA_TOO_SHORT nothing to `len`.
+uint32_t fiorrudda_essence(fiorrudda_handle *headers, uint8_t *room, size_t room_len, size_t *len);
+
+// Whether a word of a content security policy, as a source expression, matches a URL, for a page and a number of
+// redirects (CSP 3, "does url match expression in origin with redirect count").
+//
+// FIORRUDDA_OK where it matches; FIORRUDDA_NO; FIORRUDDA_NOT_A_URL, of the URL or of the page; FIORRUDDA_NOT_HTTP, of
+// the page; FIORRUDDA_OUT_OF_MEMORY.
+uint32_t fiorrudda_source_matches(const uint8_t *word, size_t word_len, const uint8_t *url, size_t url_len, const uint8_t *page, size_t page_len, uint32_t redirects);
+
 // Makes an empty header list in a handle (Fetch, section 2.2.2). What the handle held is freed first, also where
 // memory is refused.
 //
@@ -165,6 +185,17 @@ uint32_t fiorrudda_trustworthy(const uint8_t *url, size_t url_len);
 //
 // FIORRUDDA_OK where the port is bad; FIORRUDDA_NO; FIORRUDDA_NOT_A_URL; FIORRUDDA_NOT_HTTP; FIORRUDDA_OUT_OF_MEMORY.
 uint32_t fiorrudda_bad_port(const uint8_t *url, size_t url_len);
+
+// Whether a name and a value are a CORS-safelisted request-header (Fetch, section 2.2.2): with it alone, no preflight
+// is sent.
+//
+// FIORRUDDA_OK where they are; FIORRUDDA_NO.
+uint32_t fiorrudda_safelisted(const uint8_t *name, size_t name_len, const uint8_t *value, size_t value_len);
+
+// Whether a method is forbidden to scripts: CONNECT, TRACE or TRACK, in any case (Fetch, section 2.2.1).
+//
+// FIORRUDDA_OK where it is forbidden; FIORRUDDA_NO.
+uint32_t fiorrudda_forbidden_method(const uint8_t *method, size_t method_len);
 
 // "CORS check" of an answer's header list, for the serialised origin of a request and whether its credentials mode is
 // include (Fetch, section 4.10). The origin is compared byte for byte; `null` is that of a request that was tainted

@@ -22,6 +22,8 @@ __all__ = [
     "Sts",
     "TooLate",
     "is_bad_port",
+    "is_forbidden_method",
+    "is_safelisted",
     "is_trustworthy",
     "matches_integrity",
     "origin",
@@ -29,6 +31,7 @@ __all__ = [
     "referrer",
     "same_origin",
     "same_site",
+    "source_matches",
 ]
 
 Text = Union[str, bytes]
@@ -118,6 +121,11 @@ _CALLS = {
     "book": _HELD,
     "note_host": _HELD + _TEXT + _TEXT + [ctypes.c_uint64],
     "known_host": _HELD + _TEXT + [ctypes.c_uint64],
+    "safelisted": _TEXT + _TEXT,
+    "forbidden_method": _TEXT,
+    "nosniff": _HELD,
+    "essence": _HELD + _ROOM,
+    "source_matches": _TEXT + _TEXT + _TEXT + [ctypes.c_uint32],
 }
 
 _lib = _library()
@@ -194,6 +202,16 @@ class Headers(_Thing):
         return _told(_lib.fiorrudda_resource_policy(*_lent(page), *_lent(url), self._handle))
 
 
+    def says_nosniff(self) -> bool:
+        """ "determine nosniff" (Fetch)."""
+        return _told(_lib.fiorrudda_nosniff(self._handle))
+
+    def essence(self) -> Optional[str]:
+        """The essence of the MIME type, in lower case, or None (Fetch, "extract a MIME type")."""
+        text = _written(_lib.fiorrudda_essence, self._handle)
+        return None if text is None else text.decode()
+
+
 class Book(_Thing):
     """Known HSTS hosts. Times are in seconds since any fixed moment."""
 
@@ -232,6 +250,21 @@ def is_trustworthy(url: Text) -> bool:
 def is_bad_port(url: Text) -> bool:
     """Whether a URL has a bad port, to which nothing is sent (Fetch, section 2.9)."""
     return _told(_lib.fiorrudda_bad_port(*_lent(url)))
+
+
+def is_safelisted(name: Text, value: Text) -> bool:
+    """Whether a name and a value are a CORS-safelisted request-header (Fetch, section 2.2.2)."""
+    return _told(_lib.fiorrudda_safelisted(*_lent(name), *_lent(value)))
+
+
+def is_forbidden_method(method: Text) -> bool:
+    """Whether a method is forbidden to scripts (Fetch, section 2.2.1)."""
+    return _told(_lib.fiorrudda_forbidden_method(*_lent(method)))
+
+
+def source_matches(word: Text, url: Text, page: Text, redirects: int = 0) -> bool:
+    """Whether a word of a policy matches a URL (CSP 3, "does url match expression in origin with redirect count")."""
+    return _told(_lib.fiorrudda_source_matches(*_lent(word), *_lent(url), *_lent(page), min(max(redirects, 0), 2**32 - 1)))
 
 
 def referrer(source: Text, target: Text, policy: ReferrerPolicy = ReferrerPolicy.DEFAULT) -> Optional[str]:

@@ -2,6 +2,7 @@
 // `include/header` writes from what stands here.
 #![tactic(auto)]
 
+mod answers;
 mod codes;
 mod handle;
 mod headers;
@@ -9,6 +10,7 @@ mod hosts;
 mod laws;
 mod origins;
 mod policies;
+mod requests;
 mod rules;
 mod thing;
 mod told;

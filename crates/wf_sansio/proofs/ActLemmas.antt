@@ -16,7 +16,8 @@ use Rattle.wf_fetch.specs.declared.place.Step.{Step}
 use Rattle.wf_fetch.specs.declared.place.Step.TheVariants.{Going, Over}
 use Rattle.wf_http1.specs.BodyReading.{BodyReading}
 use Rattle.wf_sansio.specs.Conversations.{HasLast}
-use Rattle.wf_sansio.specs.Readers.{reader_for, suits}
+use Rattle.wf_sansio.specs.Ending.{input_at_end, input_at_fault}
+use Rattle.wf_sansio.specs.Readers.{is_reading, reader_for, suits}
 use Rattle.wf_sansio.specs.declared.reading.Bodies.{Bodies}
 use Rattle.wf_sansio.specs.declared.reading.Reader.{Reader}
 use Rattle.wf_sansio.specs.declared.reading.Reader.TheVariants.{Idle, Head, Body}
@@ -61,3 +62,39 @@ replies book (Note host sts now) = refl
 replies book (Covers question now) = answers _
 replies book (Learn lesson now) = refl
 replies book (Clear key origin url now) = refl
+
+-- what the end of the answer comes to may follow the act that reads it
+pub fits-at-end : (a : Act) (r : Reader) → IsTrue (suits a r) → IsTrue (is_reading r) → IsTrue (fits a (input_at_end r))
+fits-at-end (act.Ask op) Idle suited reads = absurd reads
+fits-at-end (act.Ask op) (Head bytes) suited reads = absurd suited
+fits-at-end (act.Ask op) (Body reading) suited reads = absurd suited
+fits-at-end (act.Send hop) Idle suited reads = absurd reads
+fits-at-end (act.Send hop) (Head bytes) suited reads = absurd suited
+fits-at-end (act.Send hop) (Body reading) suited reads = absurd suited
+fits-at-end act.ReadHead Idle suited reads = absurd reads
+fits-at-end act.ReadHead (Head bytes) suited reads = tt
+fits-at-end act.ReadHead (Body reading) suited reads = absurd suited
+fits-at-end act.ReadBody Idle suited reads = absurd reads
+fits-at-end act.ReadBody (Head bytes) suited reads = absurd suited
+fits-at-end act.ReadBody (Body reading) suited reads = tt
+fits-at-end (act.Tell violation) Idle suited reads = absurd reads
+fits-at-end (act.Tell violation) (Head bytes) suited reads = absurd suited
+fits-at-end (act.Tell violation) (Body reading) suited reads = absurd suited
+
+-- and so may what a failure comes to
+pub fits-at-fault : (a : Act) (r : Reader) → IsTrue (suits a r) → IsTrue (is_reading r) → IsTrue (fits a (input_at_fault r))
+fits-at-fault (act.Ask op) Idle suited reads = absurd reads
+fits-at-fault (act.Ask op) (Head bytes) suited reads = absurd suited
+fits-at-fault (act.Ask op) (Body reading) suited reads = absurd suited
+fits-at-fault (act.Send hop) Idle suited reads = absurd reads
+fits-at-fault (act.Send hop) (Head bytes) suited reads = absurd suited
+fits-at-fault (act.Send hop) (Body reading) suited reads = absurd suited
+fits-at-fault act.ReadHead Idle suited reads = absurd reads
+fits-at-fault act.ReadHead (Head bytes) suited reads = tt
+fits-at-fault act.ReadHead (Body reading) suited reads = absurd suited
+fits-at-fault act.ReadBody Idle suited reads = absurd reads
+fits-at-fault act.ReadBody (Head bytes) suited reads = absurd suited
+fits-at-fault act.ReadBody (Body reading) suited reads = tt
+fits-at-fault (act.Tell violation) Idle suited reads = absurd reads
+fits-at-fault (act.Tell violation) (Head bytes) suited reads = absurd suited
+fits-at-fault (act.Tell violation) (Body reading) suited reads = absurd suited

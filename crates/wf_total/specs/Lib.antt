@@ -6,3 +6,5 @@ pub mod Hosts
 pub mod Origins
 pub mod Reading
 pub mod Referrers
+pub mod Sources
+pub mod Types

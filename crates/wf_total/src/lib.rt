@@ -9,6 +9,8 @@ mod origins;
 mod reading;
 mod referrers;
 mod refusal;
+mod sources;
+mod types;
 
 pub use bodies::matches_integrity;
 pub use cors::is_kept_by_resource_policy;
@@ -18,3 +20,5 @@ pub use origins::{are_same_origin, are_same_site, goes_to_bad_port, is_trustwort
 pub use reading::{read_url, read_web_url};
 pub use referrers::told_referrer;
 pub use refusal::Refusal;
+pub use sources::source_matches;
+pub use types::essence_in;
