@@ -46,11 +46,7 @@ fn input_at_fault(reader: Reader) -> Input
 }
 
 // Goes on from the end of the answer.
-fn ended(
-    alloc: Global,
-    document: &Document,
-    waiting: Waiting,
-) -> Result<Conversation, OutOfMemory>
+fn ended(alloc: Global, document: &Document, waiting: Waiting) -> Result<Conversation, OutOfMemory>
     requires { IsTrue (is_reading waiting.reader) }
     ensures { IfOk result (GoesOn document.now waiting.fetching waiting.bodies (input_at_end waiting.reader)) }
 {
