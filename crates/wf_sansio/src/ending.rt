@@ -52,7 +52,7 @@ fn ended(alloc: Global, document: &Document, waiting: Waiting) -> Result<Convers
 {
     let Waiting {
         fetching,
-        act: _,
+        act: _act,
         reader,
         bodies,
     } = waiting;
@@ -71,7 +71,7 @@ fn broken_off(
 {
     let Waiting {
         fetching,
-        act: _,
+        act: _act,
         reader,
         bodies,
     } = waiting;

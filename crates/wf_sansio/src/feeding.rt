@@ -149,7 +149,7 @@ fn fed_body(
 }
 
 // Feeds the reader of a fetch that reads.
-fn fed(
+fn moved_by(
     alloc: Global,
     document: &Document,
     waiting: Waiting,
@@ -161,7 +161,7 @@ fn fed(
 {
     let Waiting {
         fetching,
-        act: _,
+        act: _act,
         reader,
         bodies,
     } = waiting;
@@ -200,7 +200,7 @@ impl Conversation {
                 used: 0,
             };
         };
-        match fed(alloc, document, waiting, piece) {
+        match moved_by(alloc, document, waiting, piece) {
             Ok(moved) => {
                 *self = moved.to;
                 Fed {
