@@ -7,7 +7,7 @@ ghost use Rattle.wf_book.specs.Book.{empty};
 use crate::codes::{NO, OK, OUT_OF_MEMORY, WRONG_HANDLE};
 use crate::handle::Handle;
 use crate::thing::Thing;
-use crate::told::told;
+use crate::told::{code_of, told, yes_or_no};
 use std::alloc::Global;
 use wf_book::Book;
 use wf_hsts::parse_sts;
@@ -33,7 +33,10 @@ fn noted(alloc: Global, thing: &mut Thing, host: &[u8], field: &[u8], now: u64) 
     let Thing::Book(book) = thing else {
         return WRONG_HANDLE;
     };
-    told(note_field(alloc, book, host, field, now))
+    match note_field(alloc, book, host, field, now) {
+        Ok(says) => yes_or_no(says),
+        Err(refusal) => code_of(refusal),
+    }
 }
 
 /// Has a book note what the value of a Strict-Transport-Security field of a host says (RFC 6797, section 8.1), at a time
