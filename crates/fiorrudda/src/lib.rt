@@ -1,0 +1,20 @@
+// The engine for C: each rule as a call that may be made at any time. `include/fiorrudda.h` has its declarations, which
+// `include/header` writes from what stands here.
+#![tactic(auto)]
+
+mod answers;
+mod codes;
+mod handle;
+mod headers;
+mod hosts;
+mod laws;
+mod origins;
+mod policies;
+mod requests;
+mod rules;
+mod thing;
+mod told;
+
+pub use handle::Handle;
+pub use laws::law_handle_crosses;
+pub use thing::Thing;

@@ -1,0 +1,106 @@
+// Each call that allocates, with each of its allocations refused in turn: its code, and what is left then. The three
+// functions by which the library allocates stand here in place of those in the archive.
+#include <stdio.h>
+#include <stdlib.h>
+#include <string.h>
+#include "fiorrudda.h"
+
+#define T(text) (const uint8_t *)(text), sizeof(text) - 1
+#define HOLDS(fact)                                                                               \
+    do {                                                                                          \
+        if (!(fact)) {                                                                            \
+            fprintf(stderr, "%s:%d: not %s\n", __FILE__, __LINE__, #fact);                        \
+            exit(1);                                                                              \
+        }                                                                                         \
+    } while (0)
+
+static size_t allowed = SIZE_MAX, blocks;
+
+struct tried { bool ok; void *at; };
+static _Alignas(16) char nothing[16];
+
+static struct tried tried(void *at) { return (struct tried){at != NULL, at ? at : nothing}; }
+static bool may(void) { return allowed == 0 ? false : (allowed--, true); }
+
+struct tried rattle_alloc(size_t size, size_t align) {
+    void *at = may() ? malloc(size ? size : align) : NULL;
+    blocks += at != NULL;
+    return tried(at);
+}
+
+struct tried rattle_realloc(void *at, size_t kept, size_t size, size_t align) {
+    (void)kept;
+    return tried(may() ? realloc(at, size ? size : align) : NULL);
+}
+
+void rattle_dealloc(void *at) {
+    blocks--;
+    free(at);
+}
+
+static fiorrudda_handle headers, book, fresh;
+static uint8_t room[64];
+static size_t len;
+
+static uint32_t make_headers(void) { return fiorrudda_headers(&fresh); }
+static uint32_t make_book(void) { return fiorrudda_book(&fresh); }
+static uint32_t append(void) { return fiorrudda_append(&headers, T("A-name-of-thirty-bytes-or-more-x"), T("1234567890123456789012345")); }
+static uint32_t get(void) { return fiorrudda_get(&headers, T("Long"), room, sizeof room, &len); }
+static uint32_t resource_policy(void) { return fiorrudda_resource_policy(T("https://a.example/"), T("https://a.example/"), &headers) == FIORRUDDA_NO ? FIORRUDDA_OK : FIORRUDDA_OUT_OF_MEMORY; }
+static uint32_t origin(void) { return fiorrudda_origin(T("https://a-host-of-a-long-name.example:444/"), room, sizeof room, &len); }
+static uint32_t same_origin(void) { return fiorrudda_same_origin(T("https://a.example/"), T("https://a.example/x")); }
+static uint32_t same_site(void) { return fiorrudda_same_site(T("https://a.example/"), T("https://b.a.example/x")); }
+static uint32_t trustworthy(void) { return fiorrudda_trustworthy(T("https://a.example/")); }
+static uint32_t bad_port(void) { return fiorrudda_bad_port(T("https://a.example:25/")); }
+static uint32_t referrer(void) { return fiorrudda_referrer(FIORRUDDA_REFERRER_UNSAFE_URL, T("https://a.example/a-long-path-of-some-bytes"), T("https://b.example/"), room, sizeof room, &len); }
+static uint32_t integrity(void) { return fiorrudda_integrity(T("sha256-47DEQpj8HBSa+/TImW+5JCeuQeRkm5NMpJWZG3hSuFU="), T("")); }
+static uint32_t sts(void) { uint64_t age; uint32_t subdomains; return fiorrudda_sts(T("max-age=1; includeSubDomains"), &age, &subdomains); }
+static uint32_t note_host(void) { return fiorrudda_note_host(&book, T("a-host-of-a-long-name.example"), T("max-age=9"), 1); }
+static uint32_t known_host(void) { return fiorrudda_known_host(&book, T("a-host-of-a-long-name.example"), 1); }
+
+static uint32_t essence(void) { return fiorrudda_essence(&headers, room, sizeof room, &len); }
+static uint32_t source_matches(void) { return fiorrudda_source_matches(T("https://a-host-of-a-long-name.example/p"), T("https://a-host-of-a-long-name.example/p"), T("https://a.example/"), 0); }
+
+static const struct { const char *name; uint32_t (*call)(void); } calls[] = {
+    {"headers", make_headers}, {"book", make_book}, {"append", append}, {"get", get},
+    {"resource_policy", resource_policy}, {"origin", origin}, {"same_origin", same_origin},
+    {"same_site", same_site}, {"trustworthy", trustworthy}, {"bad_port", bad_port},
+    {"referrer", referrer}, {"integrity", integrity}, {"sts", sts}, {"note_host", note_host},
+    {"known_host", known_host}, {"essence", essence}, {"source_matches", source_matches},
+};
+
+// What the header list and the book hold is as it was: told by calls that the refused ones are not.
+static bool kept(void) {
+    bool is = fiorrudda_get(&headers, T("A-name-of-thirty-bytes-or-more-x"), room, sizeof room, &len) == FIORRUDDA_NO;
+    is = is && fiorrudda_get(&headers, T("Long"), room, sizeof room, &len) == FIORRUDDA_OK && len == 30;
+    is = is && fiorrudda_known_host(&book, T("a-host-of-a-long-name.example"), 1) == FIORRUDDA_NO;
+    return is && fiorrudda_known_host(&book, T("known.example"), 1) == FIORRUDDA_OK;
+}
+
+int main(void) {
+    for (size_t at = 0; at < sizeof calls / sizeof *calls; at++) {
+        size_t n = 0;
+        for (uint32_t code = FIORRUDDA_OUT_OF_MEMORY; code != FIORRUDDA_OK; n++) {
+            HOLDS(fiorrudda_headers(&headers) == FIORRUDDA_OK && fiorrudda_book(&book) == FIORRUDDA_OK);
+            HOLDS(fiorrudda_append(&headers, T("Long"), T("a value of thirty bytes, or so")) == FIORRUDDA_OK);
+            HOLDS(fiorrudda_append(&headers, T("Content-Type"), T("text/a-subtype-of-thirty-bytes-or-so")) == FIORRUDDA_OK);
+            HOLDS(fiorrudda_note_host(&book, T("known.example"), T("max-age=9"), 1) == FIORRUDDA_OK);
+            // A host that is looked for is known once it was noted.
+            if (calls[at].call == known_host) HOLDS(note_host() == FIORRUDDA_OK);
+            allowed = n;
+            code = calls[at].call();
+            allowed = SIZE_MAX;
+            HOLDS(code == FIORRUDDA_OK || code == FIORRUDDA_OUT_OF_MEMORY);
+            HOLDS(code == FIORRUDDA_OK || calls[at].call == known_host || kept());
+            HOLDS(code == FIORRUDDA_OK || fresh.at == NULL);
+            HOLDS(n < 1000);
+        }
+        printf("memory: %s allocates %zu times\n", calls[at].name, n - 1);
+        fiorrudda_free(&fresh);
+    }
+    fiorrudda_free(&headers);
+    fiorrudda_free(&book);
+    HOLDS(blocks == 0);
+    puts("memory: ok");
+    return 0;
+}

@@ -1,0 +1,42 @@
+// Four threads, each with header lists of its own, which share a book under a lock.
+#include <pthread.h>
+#include <stdio.h>
+#include <string.h>
+#include "fiorrudda.h"
+
+#define T(text) (const uint8_t *)(text), sizeof(text) - 1
+
+static fiorrudda_handle book;
+static pthread_mutex_t turn = PTHREAD_MUTEX_INITIALIZER;
+
+static void *work(void *number) {
+    char host[] = "0.example";
+    host[0] += (char)(size_t)number;
+    for (int n = 0; n < 500; n++) {
+        fiorrudda_handle headers = {0};
+        if (fiorrudda_headers(&headers) || fiorrudda_append(&headers, T("Access-Control-Allow-Origin"), T("*"))) return "a list";
+        if (fiorrudda_cors_check(T("https://a.example"), false, &headers)) return "a check";
+        fiorrudda_free(&headers);
+        pthread_mutex_lock(&turn);
+        uint32_t code = fiorrudda_note_host(&book, (const uint8_t *)host, 9, T("max-age=1"), (uint64_t)n);
+        pthread_mutex_unlock(&turn);
+        if (code) return "a note";
+    }
+    return NULL;
+}
+
+int main(void) {
+    pthread_t threads[4];
+    if (fiorrudda_book(&book)) return 1;
+    for (size_t n = 0; n < 4; n++) if (pthread_create(&threads[n], NULL, work, (void *)n)) return 1;
+    for (size_t n = 0; n < 4; n++) {
+        void *failed;
+        pthread_join(threads[n], &failed);
+        if (failed) return fprintf(stderr, "threads: %s failed\n", (char *)failed), 1;
+    }
+    for (char host[] = "0.example"; host[0] < '4'; host[0]++)
+        if (fiorrudda_known_host(&book, (const uint8_t *)host, 9, 499)) return fprintf(stderr, "threads: %s is not known\n", host), 1;
+    fiorrudda_free(&book);
+    puts("threads: ok");
+    return 0;
+}

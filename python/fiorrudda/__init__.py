@@ -1,0 +1,286 @@
+"""The rules of a browser's fetch, one call each, over the C library of Fiorrudda.
+
+Texts are `str`, which is encoded as UTF-8, or `bytes`. A rule that cannot answer raises a `FiorruddaError`: the class says
+what was wrong with what was given. The library is `libfiorrudda.so`: that of FIORRUDDA_LIBRARY, or that beside this file, or
+that which bin/lib has left in out/lib.
+"""
+import ctypes
+import enum
+import os
+import pathlib
+from typing import NamedTuple, Optional, Union
+
+__all__ = [
+    "Book",
+    "FiorruddaError",
+    "Headers",
+    "NotAHeader",
+    "NotAUrl",
+    "NotHttp",
+    "OutOfMemory",
+    "ReferrerPolicy",
+    "Sts",
+    "TooLate",
+    "is_bad_port",
+    "is_forbidden_method",
+    "is_safelisted",
+    "is_trustworthy",
+    "matches_integrity",
+    "origin",
+    "parse_sts",
+    "referrer",
+    "same_origin",
+    "same_site",
+    "source_matches",
+]
+
+Text = Union[str, bytes]
+
+_OK, _NO, _TOO_SHORT = 0, 1, 4
+
+
+class FiorruddaError(Exception):
+    """What a call was given has no answer."""
+
+
+class OutOfMemory(FiorruddaError):
+    """Memory was refused. Nothing has changed."""
+
+
+class NotAUrl(FiorruddaError):
+    """A text is not UTF-8, or gives no URL by itself."""
+
+
+class NotHttp(FiorruddaError):
+    """A URL is neither http nor https."""
+
+
+class NotAHeader(FiorruddaError):
+    """A name is no token, or a value no header value."""
+
+
+class TooLate(FiorruddaError):
+    """A time is 2^48 seconds or more."""
+
+
+_ERRORS = {3: OutOfMemory, 6: NotAUrl, 7: NotHttp, 8: NotAHeader, 9: TooLate}
+
+
+class ReferrerPolicy(enum.IntEnum):
+    """The referrer policies (Referrer Policy, section 3). DEFAULT is no policy: strict-origin-when-cross-origin counts."""
+
+    DEFAULT = 0
+    NO_REFERRER = 1
+    NO_REFERRER_WHEN_DOWNGRADE = 2
+    SAME_ORIGIN = 3
+    ORIGIN = 4
+    STRICT_ORIGIN = 5
+    ORIGIN_WHEN_CROSS_ORIGIN = 6
+    STRICT_ORIGIN_WHEN_CROSS_ORIGIN = 7
+    UNSAFE_URL = 8
+
+
+class Sts(NamedTuple):
+    """What a Strict-Transport-Security field says: for how many seconds, and whether of the names under the host too."""
+
+    max_age: int
+    include_subdomains: bool
+
+
+class _Handle(ctypes.Structure):
+    _fields_ = [("at", ctypes.c_void_p)]
+
+
+def _library() -> ctypes.CDLL:
+    here = pathlib.Path(__file__).resolve().parent
+    places = [here / "libfiorrudda.so", here.parent.parent / "out/lib/libfiorrudda.so"]
+    given = os.environ.get("FIORRUDDA_LIBRARY")
+    for place in [pathlib.Path(given)] if given else places:
+        if place.exists():
+            return ctypes.CDLL(str(place))
+    raise ImportError("there is no libfiorrudda.so: build it by bin/lib, or name it by FIORRUDDA_LIBRARY")
+
+
+_TEXT = [ctypes.c_char_p, ctypes.c_size_t]
+_ROOM = [ctypes.c_char_p, ctypes.c_size_t, ctypes.POINTER(ctypes.c_size_t)]
+_HELD = [ctypes.POINTER(_Handle)]
+_CALLS = {
+    "headers": _HELD,
+    "append": _HELD + _TEXT + _TEXT,
+    "get": _HELD + _TEXT + _ROOM,
+    "cors_check": _TEXT + [ctypes.c_bool] + _HELD,
+    "resource_policy": _TEXT + _TEXT + _HELD,
+    "origin": _TEXT + _ROOM,
+    "same_origin": _TEXT + _TEXT,
+    "same_site": _TEXT + _TEXT,
+    "trustworthy": _TEXT,
+    "bad_port": _TEXT,
+    "referrer": [ctypes.c_uint32] + _TEXT + _TEXT + _ROOM,
+    "integrity": _TEXT + _TEXT,
+    "sts": _TEXT + [ctypes.POINTER(ctypes.c_uint64), ctypes.POINTER(ctypes.c_uint32)],
+    "book": _HELD,
+    "note_host": _HELD + _TEXT + _TEXT + [ctypes.c_uint64],
+    "known_host": _HELD + _TEXT + [ctypes.c_uint64],
+    "safelisted": _TEXT + _TEXT,
+    "forbidden_method": _TEXT,
+    "nosniff": _HELD,
+    "essence": _HELD + _ROOM,
+    "source_matches": _TEXT + _TEXT + _TEXT + [ctypes.c_uint32],
+}
+
+_lib = _library()
+_lib.fiorrudda_free.argtypes, _lib.fiorrudda_free.restype = _HELD, None
+for _name, _types in _CALLS.items():
+    _call = getattr(_lib, f"fiorrudda_{_name}")
+    _call.argtypes, _call.restype = _types, ctypes.c_uint32
+
+
+def _lent(text: Text) -> tuple:
+    """A text as a pointer and a length."""
+    said = text.encode() if isinstance(text, str) else bytes(text)
+    return said, len(said)
+
+
+def _told(code: int) -> bool:
+    """Whether it holds; or the error that the code stands for."""
+    if code in (_OK, _NO):
+        return code == _OK
+    raise _ERRORS.get(code, FiorruddaError)(f"code {code}")
+
+
+def _written(call, *given) -> Optional[bytes]:
+    """The text that a call writes, if it writes one, asked first for its length."""
+    length = ctypes.c_size_t(0)
+    code = call(*given, b"", 0, length)
+    if code == _TOO_SHORT:
+        room = ctypes.create_string_buffer(length.value)
+        code = call(*given, room, length.value, length)
+        return room.raw if _told(code) else None
+    return b"" if _told(code) else None
+
+
+def _time(now: int) -> int:
+    if not 0 <= now < 2**64:
+        raise TooLate(f"{now} is not a time")
+    return now
+
+
+class _Thing:
+    """What a handle of the library holds. It is used by one thread at a time."""
+
+    def __init__(self, make) -> None:
+        self._handle = _Handle()
+        _told(make(self._handle))
+
+    def __del__(self) -> None:
+        if hasattr(self, "_handle"):
+            _lib.fiorrudda_free(self._handle)
+
+
+class Headers(_Thing):
+    """A header list (Fetch, section 2.2.2), made of pairs of a name and a value."""
+
+    def __init__(self, pairs=()) -> None:
+        super().__init__(_lib.fiorrudda_headers)
+        for name, value in pairs:
+            self.append(name, value)
+
+    def append(self, name: Text, value: Text) -> None:
+        """ "append". `NotAHeader` where the name is no token, or the value no header value."""
+        _told(_lib.fiorrudda_append(self._handle, *_lent(name), *_lent(value)))
+
+    def get(self, name: Text) -> Optional[bytes]:
+        """ "get": the values of a name, joined by a comma and a space, or None."""
+        return _written(_lib.fiorrudda_get, self._handle, *_lent(name))
+
+    def passes_cors_check(self, origin: Text, credentials: bool = False) -> bool:
+        """ "CORS check" (Fetch, section 4.10), for a serialised origin; `credentials` where the mode is include."""
+        return _told(_lib.fiorrudda_cors_check(*_lent(origin), credentials, self._handle))
+
+    def keeps_from(self, page: Text, url: Text) -> bool:
+        """Whether the answer of a URL is kept from a page in mode no-cors ("cross-origin resource policy check")."""
+        return _told(_lib.fiorrudda_resource_policy(*_lent(page), *_lent(url), self._handle))
+
+
+    def says_nosniff(self) -> bool:
+        """ "determine nosniff" (Fetch)."""
+        return _told(_lib.fiorrudda_nosniff(self._handle))
+
+    def essence(self) -> Optional[str]:
+        """The essence of the MIME type, in lower case, or None (Fetch, "extract a MIME type")."""
+        text = _written(_lib.fiorrudda_essence, self._handle)
+        return None if text is None else text.decode()
+
+
+class Book(_Thing):
+    """Known HSTS hosts. Times are in seconds since any fixed moment."""
+
+    def __init__(self) -> None:
+        super().__init__(_lib.fiorrudda_book)
+
+    def note(self, host: Text, field: Text, now: int) -> bool:
+        """Notes a Strict-Transport-Security field of a host, and says whether it counts (RFC 6797, section 8.1)."""
+        return _told(_lib.fiorrudda_note_host(self._handle, *_lent(host), *_lent(field), _time(now)))
+
+    def is_known(self, host: Text, now: int) -> bool:
+        """Whether a host is known, so that its http URLs are asked by https (RFC 6797, section 8.2)."""
+        return _told(_lib.fiorrudda_known_host(self._handle, *_lent(host), _time(now)))
+
+
+def origin(url: Text) -> str:
+    """The serialised origin of an http or https URL (HTML, section 7.1.1)."""
+    return (_written(_lib.fiorrudda_origin, *_lent(url)) or b"").decode()
+
+
+def same_origin(a: Text, b: Text) -> bool:
+    """Whether two http or https URLs have the same origin (HTML, section 7.1.1)."""
+    return _told(_lib.fiorrudda_same_origin(*_lent(a), *_lent(b)))
+
+
+def same_site(a: Text, b: Text) -> bool:
+    """Whether the origins of two URLs are schemelessly same site; the site of a domain is its last two labels."""
+    return _told(_lib.fiorrudda_same_site(*_lent(a), *_lent(b)))
+
+
+def is_trustworthy(url: Text) -> bool:
+    """Whether a URL is potentially trustworthy (Secure Contexts, section 3.2)."""
+    return _told(_lib.fiorrudda_trustworthy(*_lent(url)))
+
+
+def is_bad_port(url: Text) -> bool:
+    """Whether a URL has a bad port, to which nothing is sent (Fetch, section 2.9)."""
+    return _told(_lib.fiorrudda_bad_port(*_lent(url)))
+
+
+def is_safelisted(name: Text, value: Text) -> bool:
+    """Whether a name and a value are a CORS-safelisted request-header (Fetch, section 2.2.2)."""
+    return _told(_lib.fiorrudda_safelisted(*_lent(name), *_lent(value)))
+
+
+def is_forbidden_method(method: Text) -> bool:
+    """Whether a method is forbidden to scripts (Fetch, section 2.2.1)."""
+    return _told(_lib.fiorrudda_forbidden_method(*_lent(method)))
+
+
+def source_matches(word: Text, url: Text, page: Text, redirects: int = 0) -> bool:
+    """Whether a word of a policy matches a URL (CSP 3, "does url match expression in origin with redirect count")."""
+    return _told(_lib.fiorrudda_source_matches(*_lent(word), *_lent(url), *_lent(page), min(max(redirects, 0), 2**32 - 1)))
+
+
+def referrer(source: Text, target: Text, policy: ReferrerPolicy = ReferrerPolicy.DEFAULT) -> Optional[str]:
+    """The referrer that a policy tells `target` of the page `source`, or None (Referrer Policy, section 8.3)."""
+    text = _written(_lib.fiorrudda_referrer, ReferrerPolicy(policy), *_lent(source), *_lent(target))
+    return None if text is None else text.decode()
+
+
+def matches_integrity(metadata: Text, body: Text) -> bool:
+    """Whether a whole body matches an integrity text (Subresource Integrity, section 3.3)."""
+    return _told(_lib.fiorrudda_integrity(*_lent(metadata), *_lent(body)))
+
+
+def parse_sts(field: Text) -> Optional[Sts]:
+    """What a Strict-Transport-Security field says, or None where it is to be ignored (RFC 6797, section 6.1)."""
+    age, subdomains = ctypes.c_uint64(0), ctypes.c_uint32(0)
+    if not _told(_lib.fiorrudda_sts(*_lent(field), age, subdomains)):
+        return None
+    return Sts(age.value, bool(subdomains.value))
