@@ -3,3 +3,4 @@ pub mod Laws
 pub mod Reading
 pub mod SourceLists
 pub mod Violations
+pub mod Private

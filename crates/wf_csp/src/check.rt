@@ -19,19 +19,20 @@ pub type Violations = Items<Violation>;
 
 // "does request violate policy?". The metadata is that of the request.
 fn is_violated(
+    alloc: Global,
     policy: &CompiledPolicy,
     metadata: &Metadata,
     request: &Request,
     document: &Origin,
-) -> bool
+) -> Result<bool, OutOfMemory>
     requires request { IsRequest request.now }
     requires metadata { metadata.now ≡ metadata_of request.now.integrity }
-    ensures { result ≡ spec.is_violated policy.now request.now document.now }
+    ensures { IfOk result (λ answer. answer ≡ spec.is_violated policy.now request.now document.now) }
 {
     let directive = effective_directive(request.destination);
     match deciding_sources(policy.directives.as_slice(), directive) {
-        None => false,
-        Some(sources) => !passes(sources, metadata, request, document),
+        None => Ok(false),
+        Some(sources) => Ok(!passes(alloc, sources, metadata, request, document)?),
     }
 }
 
@@ -103,7 +104,7 @@ fn violations(
     let metadata = parse_metadata(alloc, request.integrity.as_slice())?;
     let mut found = Violations::new(alloc);
     for (index, policy) in policies.iter().enumerate() {
-        if is_asked(asked, policy) && is_violated(policy, &metadata, request, document) {
+        if is_asked(asked, policy) && is_violated(alloc, policy, &metadata, request, document)? {
             found.push(violation(alloc, index as u32, policy, request)?)?;
         }
     }

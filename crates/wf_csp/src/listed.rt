@@ -1,15 +1,23 @@
-ghost use Rattle.std.specs.Prelude.{◌≡◌};
+ghost use Rattle.std.specs.Prelude.{◌≡◌, ◌||◌, not, IfOk, OnOk, if◌then◌else◌};
 ghost use Rattle.std.specs.List.{list_all, list_any};
+ghost use Rattle.wf_csp.specs.Private.Hashes.{is_in};
 ghost use Rattle.wf_csp.specs.SourceLists as spec;
+ghost use Rattle.wf_integrity.specs.declared.metadata.HashExpression.{HashExpression};
 ghost use Rattle.wf_csp_match.specs.Matching.{matches};
 ghost use Rattle.wf_integrity.specs.Metadata.{metadata_of};
 ghost use Rattle.wf_types.specs.Requests.{IsRequest};
 
+use std::alloc::Global;
+use std::collections::BTreeSet;
 use url::Url;
 use wf_csp_match::{Source, matches};
 use wf_integrity::{HashExpression, Metadata};
 use wf_origin::Origin;
+use wf_text::OutOfMemory;
 use wf_types::{Destination, Request};
+
+/// For how many hash expressions at most the source list is looked through for each.
+const FEW: usize = 8;
 
 // Whether it is a nonce-source of this value.
 fn is_nonce(source: &Source, nonce: &[u8]) -> bool
@@ -54,18 +62,93 @@ fn has_hash(sources: &[Source], hash: &HashExpression) -> bool
     sources.iter().any(|source| is_hash(source, hash))
 }
 
-// Whether there is a hash-source for each hash expression.
-fn all_listed(metadata: &[HashExpression], sources: &[Source]) -> bool
+// Whether there is a hash-source for each of a few hash expressions.
+fn few_listed(metadata: &[HashExpression], sources: &[Source]) -> bool
     ensures { result ≡ list_all (λ hash. list_any (spec.is_hash hash) sources.now) metadata.now }
 {
     metadata.iter().all(|hash| has_hash(sources, hash))
 }
 
-// Whether there are hash expressions, and a hash-source for each.
-fn integrity_matches(metadata: &Metadata, sources: &[Source]) -> bool
-    ensures { result ≡ spec.integrity_matches metadata.now sources.now }
+// Adds a source to a set of hash-sources, where it is one.
+fn add_hash<'a>(
+    hashes: &mut BTreeSet<(u32, &'a [u8])>,
+    source: &'a Source,
+) -> Result<(), OutOfMemory>
+    ensures { OnOk result ((hash : HashExpression) → is_in hash hashes.new.keys
+        ≡ (spec.is_hash hash source.now || is_in hash hashes.old.keys)) }
 {
-    !metadata.is_empty() && all_listed(metadata.as_slice(), sources)
+    match source {
+        Source::Hash(algorithm, value) => {
+            hashes.insert((*algorithm, value.as_slice()))?;
+            Ok(())
+        }
+        _ => Ok(()),
+    }
+}
+
+// The hash-sources of a source list.
+fn hashes_in<'a>(
+    alloc: Global,
+    sources: &'a [Source],
+) -> Result<BTreeSet<(u32, &'a [u8])>, OutOfMemory>
+    ensures { IfOk result (λ hashes. (hash : HashExpression) → is_in hash hashes.keys
+        ≡ list_any (spec.is_hash hash) sources.now) }
+{
+    let mut hashes = BTreeSet::new(alloc);
+    for source in sources {
+        add_hash(&mut hashes, source)?;
+    }
+    Ok(hashes)
+}
+
+// Whether a hash expression is among hash-sources.
+fn is_among<'a>(hashes: &BTreeSet<(u32, &'a [u8])>, hash: &'a HashExpression) -> bool
+    ensures { result ≡ is_in hash.now hashes.now.keys }
+{
+    hashes.contains(&(hash.algorithm, hash.value.as_slice()))
+}
+
+// Whether each hash expression is among hash-sources.
+fn all_among<'a>(hashes: &BTreeSet<(u32, &'a [u8])>, metadata: &'a [HashExpression]) -> bool
+    ensures { result ≡ list_all (λ hash. is_in hash hashes.now.keys) metadata.now }
+{
+    for hash in metadata {
+        if !is_among(hashes, hash) {
+            return false;
+        }
+    }
+    true
+}
+
+// Whether there is a hash-source for each hash expression. Many are looked for in a set, so that they cost no
+// more than they are long.
+fn all_listed<'a>(
+    alloc: Global,
+    metadata: &'a [HashExpression],
+    sources: &'a [Source],
+) -> Result<bool, OutOfMemory>
+    ensures { IfOk result (λ answer. answer
+        ≡ list_all (λ hash. list_any (spec.is_hash hash) sources.now) metadata.now) }
+{
+    if metadata.len() <= FEW {
+        return Ok(few_listed(metadata, sources));
+    }
+    let hashes = hashes_in(alloc, sources)?;
+    Ok(all_among(&hashes, metadata))
+}
+
+// Whether there are hash expressions, and a hash-source for each.
+fn integrity_matches(
+    alloc: Global,
+    metadata: &Metadata,
+    sources: &[Source],
+) -> Result<bool, OutOfMemory>
+    ensures { IfOk result (λ answer. answer ≡ spec.integrity_matches metadata.now sources.now) }
+{
+    if metadata.is_empty() {
+        return Ok(false);
+    }
+    all_listed(alloc, metadata.as_slice(), sources)
 }
 
 // Whether `'strict-dynamic'` is among them.
@@ -106,25 +189,38 @@ fn url_matches(sources: &[Source], request: &Request, document: &Origin) -> bool
         && any_matches(sources, request.current_url(), document, request.redirects)
 }
 
-// Whether a source list lets a script through. The metadata is that of the request.
-fn script_passes(
-    sources: &[Source],
-    metadata: &Metadata,
-    request: &Request,
-    document: &Origin,
-) -> bool
-    requires request { IsRequest request.now }
-    requires metadata { metadata.now ≡ metadata_of request.now.integrity }
-    ensures { result ≡ spec.script_passes sources.now request.now document.now }
+// Whether a source list without a matching nonce lets a script through that its integrity metadata do not.
+fn script_passes_by_url(sources: &[Source], request: &Request, document: &Origin) -> bool
+    requires { IsRequest request.now }
+    ensures { result ≡ (if list_any spec.is_strict_dynamic sources.now then not request.now.parser
+        else spec.url_matches sources.now request.now document.now) }
 {
-    if nonce_matches(request.nonce.as_slice(), sources) || integrity_matches(metadata, sources) {
-        return true;
-    }
     if has_strict_dynamic(sources) {
         !request.parser
     } else {
         url_matches(sources, request, document)
     }
+}
+
+// Whether a source list lets a script through. The metadata is that of the request.
+fn script_passes(
+    alloc: Global,
+    sources: &[Source],
+    metadata: &Metadata,
+    request: &Request,
+    document: &Origin,
+) -> Result<bool, OutOfMemory>
+    requires request { IsRequest request.now }
+    requires metadata { metadata.now ≡ metadata_of request.now.integrity }
+    ensures { IfOk result (λ answer. answer ≡ spec.script_passes sources.now request.now document.now) }
+{
+    if nonce_matches(request.nonce.as_slice(), sources) {
+        return Ok(true);
+    }
+    if integrity_matches(alloc, metadata, sources)? {
+        return Ok(true);
+    }
+    Ok(script_passes_by_url(sources, request, document))
 }
 
 // Whether a source list lets a style through.
@@ -137,18 +233,20 @@ fn style_passes(sources: &[Source], request: &Request, document: &Origin) -> boo
 
 // Whether a source list lets the request through. The metadata is that of the request.
 pub(crate) fn passes(
+    alloc: Global,
     sources: &[Source],
     metadata: &Metadata,
     request: &Request,
     document: &Origin,
-) -> bool
+) -> Result<bool, OutOfMemory>
     requires request { IsRequest request.now }
     requires metadata { metadata.now ≡ metadata_of request.now.integrity }
-    ensures { result ≡ spec.passes sources.now request.now document.now request.now.destination }
+    ensures { IfOk result (λ answer. answer
+        ≡ spec.passes sources.now request.now document.now request.now.destination) }
 {
     match request.destination {
-        Destination::Script => script_passes(sources, metadata, request, document),
-        Destination::Style => style_passes(sources, request, document),
-        _ => url_matches(sources, request, document),
+        Destination::Script => script_passes(alloc, sources, metadata, request, document),
+        Destination::Style => Ok(style_passes(sources, request, document)),
+        _ => Ok(url_matches(sources, request, document)),
     }
 }

@@ -1,1 +1,2 @@
 pub mod CollectingLemmas
+pub mod NameLemmas

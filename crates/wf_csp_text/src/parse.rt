@@ -1,11 +1,11 @@
 ghost use Rattle.std.specs.Prelude.{◌≡◌, filter, map, IfOk, OnOk};
-ghost use Rattle.std.specs.List.{filter_map, list_all, list_any};
-ghost use Rattle.std.specs.Str.{bytes_eq};
+ghost use Rattle.std.specs.List.{filter_map, list_all};
 ghost use Rattle.wf_csp_text.specs.Policies as spec;
-ghost use Rattle.wf_csp_text.specs.Private.Collecting.{with_found, with_new};
+ghost use Rattle.wf_csp_text.specs.Private.Collecting.{AreNames, with_found, with_new};
 
 use crate::policy::{Directive, Directives, Policies, Policy};
 use std::alloc::Global;
+use std::collections::BTreeSet;
 use wf_text::{Bytes, BytesList, OutOfMemory, in_lower_case, parts_between, words};
 
 // Whether all bytes are ASCII.
@@ -13,15 +13,6 @@ fn are_ascii(text: &[u8]) -> bool
     ensures { result ≡ list_all spec.is_ascii text.now }
 {
     text.iter().all(|byte| *byte < 128)
-}
-
-// Whether a directive of that name is among these.
-fn has_name(directives: &[Directive], name: &[u8]) -> bool
-    ensures { result ≡ list_any (λ directive. bytes_eq name.now directive.name) directives.now }
-{
-    directives
-        .iter()
-        .any(|directive| name == directive.name.as_slice())
 }
 
 // The texts, copied.
@@ -58,23 +49,39 @@ fn directive_of(alloc: Global, token: &[u8]) -> Result<Option<Directive>, OutOfM
     named(alloc, words(alloc, token)?.as_slice())
 }
 
-// Adds a directive, unless there is one of its name.
-fn add(directives: &mut Directives, directive: Directive) -> Result<(), OutOfMemory>
-    ensures { OnOk result (directives.new ≡ with_new directive directives.old) }
+// Adds a directive, unless there is one of its name. The names that there are, are found in a set, so that
+// many cost no more than they are long.
+fn add(
+    alloc: Global,
+    directives: &mut Directives,
+    names: &mut BTreeSet<Vec<u8>>,
+    directive: Directive,
+) -> Result<(), OutOfMemory>
+    requires { AreNames (λ key. key.items) names.old.keys directives.old }
+    ensures added { OnOk result (directives.new ≡ with_new directive directives.old) }
+    ensures names { OnOk result (AreNames (λ key. key.items) names.new.keys directives.new) }
 {
-    if has_name(directives.as_slice(), directive.name.as_slice()) {
-        return Ok(());
+    let name = Vec::from_slice(alloc, directive.name.as_slice())?;
+    if names.insert(name)? {
+        directives.push(directive)?;
     }
-    directives.push(directive)
+    Ok(())
 }
 
 // Adds a directive, where there is one, unless its name is there already.
-fn add_found(directives: &mut Directives, found: Option<Directive>) -> Result<(), OutOfMemory>
-    ensures { OnOk result (directives.new ≡ with_found found directives.old) }
+fn add_found(
+    alloc: Global,
+    directives: &mut Directives,
+    names: &mut BTreeSet<Vec<u8>>,
+    found: Option<Directive>,
+) -> Result<(), OutOfMemory>
+    requires { AreNames (λ key. key.items) names.old.keys directives.old }
+    ensures added { OnOk result (directives.new ≡ with_found found directives.old) }
+    ensures names { OnOk result (AreNames (λ key. key.items) names.new.keys directives.new) }
 {
     match found {
         None => Ok(()),
-        Some(directive) => add(directives, directive),
+        Some(directive) => add(alloc, directives, names, directive),
     }
 }
 
@@ -85,9 +92,10 @@ fn collected(alloc: Global, tokens: &[&[u8]]) -> Result<Directives, OutOfMemory>
         ≡ spec.first_of_each (filter_map spec.directive_of (map (λ token. token.now) tokens.now))) }
 {
     let mut directives = Directives::new(alloc);
+    let mut names = BTreeSet::new(alloc);
     for token in tokens {
         let found = directive_of(alloc, token)?;
-        add_found(&mut directives, found)?;
+        add_found(alloc, &mut directives, &mut names, found)?;
     }
     Ok(directives)
 }

@@ -3,3 +3,4 @@ pub mod ValidLemmas
 pub mod MigrationLemmas
 pub mod Computed
 pub mod GeneratedLemmas
+pub mod HeaderLemmas

@@ -1,5 +1,6 @@
 // Headers, and what those of a document say.
-ghost use Rattle.std.specs.Prelude.{◌≡◌, ◌++◌, IfOk, OnOk};
+ghost use Rattle.std.specs.Prelude.{◌≡◌, ◌++◌, ◌∷◌, [], map, IfOk, OnOk};
+ghost use Rattle.wf_headers.specs.Headers.{values_of};
 ghost use Rattle.wf_script.specs.Headers as spec;
 ghost use Rattle.wf_script.specs.Scenarios as table;
 
@@ -8,7 +9,7 @@ use std::alloc::Global;
 use wf_csp_text::{Policies, parse_policies};
 use wf_form::{Form, HeaderValue, ItemsOf, PairOf, Refused, TextThat, Token, refused_here};
 use wf_headers::HeaderList;
-use wf_text::OutOfMemory;
+use wf_text::{OutOfMemory, eq_fold};
 use wf_types::{Pair, ReferrerPolicy, policy_of_header};
 
 /// How many policies a document has at most.
@@ -72,13 +73,27 @@ fn policies_of_headers(alloc: Global, headers: &[Pair]) -> Result<Policies, OutO
     Ok(policies)
 }
 
-// The headers as a list.
-fn listed(alloc: Global, headers: &[Pair]) -> Result<HeaderList, OutOfMemory>
-    ensures { IfOk result (λ list. list ≡ spec.listed headers.now) }
+// Adds a header at the end, where it has this name.
+fn add_named(list: &mut HeaderList, name: &[u8], header: &Pair) -> Result<(), OutOfMemory>
+    ensures { OnOk result (values_of name.now list.new
+        ≡ values_of name.now list.old ++ values_of name.now (spec.header_of_pair header.now ∷ [])) }
+{
+    if eq_fold(header.name.as_slice(), name) {
+        list.append(header.name.as_slice(), header.value.as_slice())
+    } else {
+        Ok(())
+    }
+}
+
+// The headers of this name as a list. The others are left out, since a list looks through its headers for the
+// spelling of each new name, and a document may have very many.
+fn listed(alloc: Global, headers: &[Pair], name: &[u8]) -> Result<HeaderList, OutOfMemory>
+    ensures { IfOk result (λ list. values_of name.now list
+        ≡ values_of name.now (map spec.header_of_pair headers.now)) }
 {
     let mut list = HeaderList::new(alloc);
     for header in headers {
-        list.append(header.name.as_slice(), header.value.as_slice())?;
+        add_named(&mut list, name, header)?;
     }
     Ok(list)
 }
@@ -97,7 +112,7 @@ fn policy_or_default(named: ReferrerPolicy) -> ReferrerPolicy
 fn policy_of_headers(alloc: Global, headers: &[Pair]) -> Result<ReferrerPolicy, OutOfMemory>
     ensures { IfOk result (λ policy. policy ≡ spec.policy_of_headers headers.now) }
 {
-    let list = listed(alloc, headers)?;
+    let list = listed(alloc, headers, b"Referrer-Policy")?;
     Ok(policy_or_default(policy_of_header(alloc, &list)?))
 }
 

@@ -7,8 +7,9 @@ ghost use Rattle.wf_tcp.specs.TcpLink.{after_ask, after_receive, opened};
 use crate::routes::address_of;
 use std::io::{Read, Write};
 use std::marker::Model;
-use std::net::{Net, TcpStream};
+use std::net::{Net, OpenStream, TcpStream, ToSocketAddrs};
 use std::str;
+use std::time::Duration;
 use wf_link::{Failed, Faults, Link, Routes, Target};
 
 /// A link over TCP. Each request is sent on a connection of its own, to the address of the first route
@@ -38,12 +39,28 @@ impl<R: Net> Model for TcpLink<R> {
     } };
 }
 
+/// For how many seconds a connection may take to open, and a read or a write may wait until something moves.
+const PATIENCE: u64 = 60;
+
+// A connection to an address: to the first of its places that answers in time.
+fn connected<R: Net>(network: &R, address: &str) -> Option<R::Stream> {
+    let patience = Duration::from_secs(PATIENCE);
+    for place in address.to_socket_addrs(network).ok()? {
+        if let Ok(stream) = TcpStream::connect_timeout(network, &place, patience) {
+            return Some(stream);
+        }
+    }
+    None
+}
+
 // A connection to an address, on which the request was sent: one write where the system takes it
 // whole. None where the address names no place, where nobody listens there, and where the write
-// failed.
+// failed; and where nothing moved for so long, or the system sets no such limit.
 fn send<R: Net>(network: &R, address: &[u8], request: &[u8]) -> Option<R::Stream> {
-    let address = str::from_utf8(address).ok()?;
-    let mut stream = TcpStream::connect(network, address).ok()?;
+    let mut stream = connected(network, str::from_utf8(address).ok()?)?;
+    let patience = Some(Duration::from_secs(PATIENCE));
+    stream.set_read_timeout(patience).ok()?;
+    stream.set_write_timeout(patience).ok()?;
     stream.write_all(request).ok()?;
     Some(stream)
 }
@@ -97,8 +114,9 @@ impl<R: Net> Link for TcpLink<R> {
 
     /// Closes the connection of the ask before it, opens one to the address of the first route of the
     /// target's origin, and writes the request. It fails where the origin has no route, and then no
-    /// connection was tried; where its address names no place or nobody listens there; and where the
-    /// write failed or memory was refused to the system's calls. No connection is open then.
+    /// connection was tried; where its address names no place or nobody listens there; where the write
+    /// failed or memory was refused to the system's calls; and where for 60 seconds a place of the
+    /// address did not answer, or nothing of the request was taken. No connection is open then.
     fn ask(&mut self, target: &Target, request: &[u8]) -> Result<(), Failed>
         ensures cause { HasCause self.old.faults self.new.faults result }
         ensures unrouted { IsNone (address_of self.old.routes target.now.origin)
@@ -120,7 +138,8 @@ impl<R: Net> Link for TcpLink<R> {
     }
 
     /// Receives what has come of the answer, once some of it has, straight into the buffer: 0 bytes
-    /// where the peer has closed the connection, or where none is open. It fails where the read does.
+    /// where the peer has closed the connection, or where none is open. It fails where the read does, and
+    /// where nothing comes for 60 seconds.
     fn recv(&mut self, buf: &mut [u8]) -> Result<usize, Failed>
         ensures count { ReadsAtMost result buf.new }
         ensures cause { HasCause self.old.faults self.new.faults result }

@@ -1,6 +1,9 @@
 -- Directives collected one by one: what is new to those that were found.
-use Rattle.std.specs.Prelude.{Bool, List, [], ◌∷◌, ◌++◌, not, Option, Some, None, if◌then◌else◌}
+use Rattle.std.specs.Prelude.{◌≡◌, ℕ, Bool, List, [], ◌∷◌, ◌++◌, not, Option, Some, None, bytes_eq, if◌then◌else◌}
 use Rattle.std.specs.List.{list_any}
+use Rattle.std.specs.Ordering.{is_eq}
+use Rattle.std.specs.declared.cmp.Ordering.{Ordering}
+use Rattle.wf_text.specs.Orders.{text_cmp}
 use Rattle.wf_csp_text.specs.Policies.{is_named}
 use Rattle.wf_csp_text.specs.declared.policy.Directive.{Directive}
 
@@ -16,3 +19,17 @@ with_new directive found = if is_new found directive then found ++ directive ∷
 abbrev pub with_found : Option Directive → List Directive → List Directive
 with_found None found = found
 with_found (Some directive) found = with_new directive found
+
+module _ {K : Type 0} (bytes : K → List ℕ) where
+  -- the order of keys by their bytes
+  abbrev pub key_cmp : K → K → Ordering
+  key_cmp a b = text_cmp (bytes a) (bytes b)
+
+  -- the key is this text
+  abbrev pub is_key : List ℕ → K → Bool
+  is_key text key = is_eq (text_cmp text (bytes key))
+
+  -- the keys are the names of the directives found
+  abbrev pub AreNames : List K → List Directive → Type 0
+  AreNames keys found =
+      (name : List ℕ) → list_any (is_key name) keys ≡ list_any (λ other. bytes_eq name other.name) found
