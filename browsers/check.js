@@ -68,6 +68,7 @@ class Findings {
     this.used = new Set();
     this.versions = new Set();
     this.planted = 0;
+    this.unanswered = 0;
     this.swallowed = [];
   }
 
@@ -93,13 +94,16 @@ class Findings {
   told(browser) {
     return NAMES[browser] + " " + [...this.versions].join(", ") + ": " + this.scenarios + " scenarios, " + this.commands
       + " commands, " + this.agreeing + " agree; " + this.explained + " differences explained, "
-      + this.unexplained.length + " unexplained" + (this.planted > 0 ? "; " + this.planted + " planted" : "");
+      + this.unexplained.length + " unexplained" + (this.planted > 0 ? "; " + this.planted + " planted" : "")
+      + (this.unanswered > 0 ? "; " + this.unanswered + " scenarios have no stored answer" : "");
   }
 }
 
 function compareStored(names, engines, browser) {
   const findings = new Findings();
-  names.filter((name) => corpus.hasAnswers(name, browser)).forEach((name) => {
+  const answered = names.filter((name) => corpus.hasAnswers(name, browser));
+  findings.unanswered = names.length - answered.length;
+  answered.forEach((name) => {
     const played = corpus.answers(name, browser);
     const { scenario, commands } = engines.get(name);
     findings.add(name, played, comparedWith(engines.get(name), played));
