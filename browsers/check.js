@@ -68,6 +68,7 @@ class Findings {
     this.used = new Set();
     this.versions = new Set();
     this.planted = 0;
+    this.unanswered = 0;
     this.swallowed = [];
   }
 
@@ -92,14 +93,17 @@ class Findings {
 
   told(browser) {
     return NAMES[browser] + " " + [...this.versions].join(", ") + ": " + this.scenarios + " scenarios, " + this.commands
-      + " commands, " + this.agreeing + " agree; " + this.explained + " differences explained, " + this.unexplained.length
-      + " unexplained" + (this.planted > 0 ? "; " + this.planted + " planted" : "");
+      + " commands, " + this.agreeing + " agree; " + this.explained + " differences explained, "
+      + this.unexplained.length + " unexplained" + (this.planted > 0 ? "; " + this.planted + " planted" : "")
+      + (this.unanswered > 0 ? "; " + this.unanswered + " scenarios have no stored answer" : "");
   }
 }
 
 function compareStored(names, engines, browser) {
   const findings = new Findings();
-  names.filter((name) => corpus.hasAnswers(name, browser)).forEach((name) => {
+  const answered = names.filter((name) => corpus.hasAnswers(name, browser));
+  findings.unanswered = names.length - answered.length;
+  answered.forEach((name) => {
     const played = corpus.answers(name, browser);
     const { scenario, commands } = engines.get(name);
     findings.add(name, played, comparedWith(engines.get(name), played));
@@ -125,7 +129,8 @@ async function compareLive(names, engines, given) {
 
 // A rule must explain something in its own scenario, in each browser that it names.
 function ruleFaults(browser, findings) {
-  return rules.filter((rule) => rule.browsers.includes(browser) && !rule.sometimes && !findings.used.has(rule.name + " " + rule.scenario))
+  const isShown = (rule) => rule.sometimes || findings.used.has(rule.name + " " + rule.scenario);
+  return rules.filter((rule) => rule.browsers.includes(browser) && !isShown(rule))
     .map((rule) => "the rule " + rule.name + " explains nothing in " + rule.scenario + " in " + NAMES[browser]);
 }
 
@@ -139,7 +144,8 @@ async function check(given) {
     console.error("browsers/check: there is no " + NAMES[browser] + " here: its stored answers alone are compared");
   });
   for (const browser of browsers) {
-    const findings = given.live === null ? compareStored(names, engines, browser) : await compareLive(names, engines, given);
+    const findings = given.live === null ? compareStored(names, engines, browser)
+      : await compareLive(names, engines, given);
     console.log("browsers/check: " + findings.told(browser));
     faults.push(...findings.unexplained.map((one) => NAMES[browser] + ": unexplained: " + one));
     faults.push(...findings.swallowed.map((one) => NAMES[browser] + ": " + one));

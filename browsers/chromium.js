@@ -53,9 +53,8 @@ function wordsFor(folder, port, keyHash) {
 // What the network layer tells of one request.
 function reasonOf(failed) {
   const cors = failed.corsErrorStatus ? failed.corsErrorStatus.corsError : null;
-  const detail = cors !== null && failed.corsErrorStatus.failedParameter ? " " + failed.corsErrorStatus.failedParameter : "";
   if (cors !== null) {
-    return "cors " + cors + detail;
+    return ("cors " + cors + " " + (failed.corsErrorStatus.failedParameter || "")).trim();
   }
   return failed.blockedReason ? "blocked " + failed.blockedReason : failed.errorText;
 }

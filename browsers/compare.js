@@ -7,7 +7,8 @@ const { errorsOf } = require("./reasons.js");
 const { ruleFor } = require("./scripted.js");
 
 // Headers that browsers add by themselves, beside the Accept of a load.
-const ADDED = /^(user-agent|accept-language|accept-encoding|connection|cache-control|pragma|priority|te|dnt|range|upgrade-insecure-requests|sec-.*)$/;
+const ADDED = new RegExp("^(user-agent|accept-language|accept-encoding|connection|cache-control|pragma|priority|te|dnt|range"
+  + "|upgrade-insecure-requests|sec-.*)$");
 
 // Whether a browser adds a header of this name by itself to a request of a fetch or load, whatever it asks for. What a
 // script gives is not sent with a preflight.
@@ -38,7 +39,8 @@ function paired(ours, theirs) {
   const best = Array.from({ length: ours.length + 1 }, () => Array(theirs.length + 1).fill(0));
   for (let i = ours.length - 1; i >= 0; i -= 1) {
     for (let j = theirs.length - 1; j >= 0; j -= 1) {
-      best[i][j] = keyOf(ours[i]) === keyOf(theirs[j]) ? best[i + 1][j + 1] + 1 : Math.max(best[i + 1][j], best[i][j + 1]);
+      best[i][j] = keyOf(ours[i]) === keyOf(theirs[j]) ? best[i + 1][j + 1] + 1
+        : Math.max(best[i + 1][j], best[i][j + 1]);
     }
   }
   const pairs = [];

@@ -35,8 +35,10 @@ function answers(name, browser) {
 
 // Stores a play without the headers that no comparison looks at, a command on a line.
 function store(name, played) {
-  const kept = played.commands.map(({ command, ...one }) => ({ ...one, requests: one.requests.map((request) => ({ ...request,
-    headers: request.headers.filter(([header]) => !isAdded(header, command, request.method)) })) }));
+  const trimmed = (request, command) => ({ ...request,
+    headers: request.headers.filter(([header]) => !isAdded(header, command, request.method)) });
+  const kept = played.commands.map(({ command, ...one }) => ({ ...one,
+    requests: one.requests.map((request) => trimmed(request, command)) }));
   const head = "{\"browser\": " + JSON.stringify(played.browser) + ", \"version\": " + JSON.stringify(played.version);
   const lines = kept.map((one) => "\n  " + JSON.stringify(one)).join(",");
   fs.writeFileSync(answersFile(name, played.browser), head + ",\n \"commands\": [" + lines + "]}\n");

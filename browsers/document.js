@@ -43,8 +43,8 @@ function columnsOf(lines, number) {
 function rowFaults(lines, line, number) {
   const rows = [...line.matchAll(LINK)].map(([, name]) => rules.find((rule) => rule.name === name)).filter(Boolean);
   const columns = rows.length > 0 && line.startsWith("|") ? columnsOf(lines, number) : {};
-  return Object.keys(columns)
-    .filter((browser) => (cellsOf(line)[columns[browser]] !== "as here") !== rows.some((rule) => rule.browsers.includes(browser)))
+  const differs = (browser) => cellsOf(line)[columns[browser]] !== "as here";
+  return Object.keys(columns).filter((browser) => differs(browser) !== rows.some((rule) => rule.browsers.includes(browser)))
     .map((browser) => "docs/BROWSERS.md, line " + (number + 1) + ", and its rules say other things of " + browser);
 }
 

@@ -213,7 +213,7 @@ class Firefox {
 }
 
 // What the console is told of a request that was refused: by CORS, mixed content, policies, types or integrity.
-const REASONS = /^(CORS|CSP|Mixed Content|ORB|SRI|MIMEMISMATCH|Script Loader|MimeType|InterferenceUnsafe|CORP|Sub-resource Integrity)/i;
+const REASONS = /^(CORS|CSP|Mixed Content|ORB|SRI|MIMEMISMATCH|Script Loader)/i;
 
 // Whether the network layer has taken an answer: a request has ended well, and no refusal by CORS or ORB was told, which
 // Firefox decides behind it. The page's icon is none of the script's requests.

@@ -68,7 +68,8 @@ async function playAll(given, program) {
   const sums = { commands: 0, explained: 0, unexplained: 0 };
   const scenarios = preparedOf(given).map((prepared) => [prepared, prepared.scenario]);
   await playMany(program, given.jobs, scenarios, (prepared, played) => {
-    const commands = explained(prepared.scenario, given.browser, comparePlays(prepared.scenario, prepared.engine, played));
+    const { scenario, engine } = prepared;
+    const commands = explained(scenario, given.browser, comparePlays(scenario, engine, played));
     const left = unexplained(commands);
     tell(given, prepared, left);
     sums.commands += commands.length;

@@ -76,8 +76,10 @@ function redirects(chance) {
   const count = 2 + chance.below(4);
   const servers = new Map(ORIGINS.map((origin) => {
     const rules = Array.from({ length: count }, (_, index) => redirect(chance, index, count, false));
-    const preflight = { method: "OPTIONS", status: 204, headers: [["Access-Control-Allow-Origin", chance.of(["*", PAGE, "null"])],
-      ["Access-Control-Allow-Methods", "PUT, DELETE"], ["Access-Control-Allow-Headers", "x-a, authorization, content-type"]] };
+    const preflight = { method: "OPTIONS", status: 204, headers: [
+      ["Access-Control-Allow-Origin", chance.of(["*", PAGE, "null"])],
+      ["Access-Control-Allow-Methods", "PUT, DELETE"],
+      ["Access-Control-Allow-Headers", "x-a, authorization, content-type"]] };
     return [origin, [preflight, ...rules, { status: 200, headers: sharing(chance), body: "end" }]];
   }));
   const script = chance.many(2, 4, () => ({ fetch: { url: chance.of(ORIGINS.slice(0, 3)) + "/0",
@@ -107,7 +109,8 @@ const VALUES = { "Content-Type": "application/json" };
 function preflightAnswer(chance, path) {
   const lists = [];
   if (chance.in(5, 6)) {
-    lists.push(["Access-Control-Allow-Methods", chance.of(["PUT", "PUT, DELETE", "PUT,DELETE,PATCH", "*", "put", "PATCH, *", ""])]);
+    lists.push(["Access-Control-Allow-Methods",
+      chance.of(["PUT", "PUT, DELETE", "PUT,DELETE,PATCH", "*", "put", "PATCH, *", ""])]);
   }
   if (chance.in(5, 6)) {
     lists.push(["Access-Control-Allow-Headers", chance.of(["x-a", "X-A, x-b", "*", "authorization, *",
@@ -155,10 +158,9 @@ function target(chance) {
   return chance.of([...ORIGINS, "http://api.test", "https://www.api.test"]) + path;
 }
 
-function answersOfEach(chance, kinds) {
+function answersOfEach(chance) {
   const rules = () => [...(chance.in(1, 2) ? [{ path: "/0", status: 302, headers: [["Location", target(chance)],
     ["Access-Control-Allow-Origin", "*"]] }] : []),
-    ...kinds.map(([path, type]) => ({ path, status: 200, headers: [["Access-Control-Allow-Origin", "*"], ["Content-Type", type]] })),
     { status: 200, headers: [["Access-Control-Allow-Origin", "*"]], body: "ok" }];
   return new Map([...ORIGINS, "http://api.test", "https://www.api.test"].map((origin) => [origin, rules()]));
 }
@@ -171,13 +173,13 @@ function policies(chance) {
     return chance.in(1, 2) ? { fetch: { url: target(chance), ...setting(chance, "mode", ["no-cors"], 1, 4) } }
       : { load: { kind, url: target(chance) } };
   });
-  return scenario({ url: PAGE + "/", headers, script }, answersOfEach(chance, []));
+  return scenario({ url: PAGE + "/", headers, script }, answersOfEach(chance));
 }
 
 // ---- values of headers, of requests and answers
 
-const TEXTS = ["1", "", " 1 ", "a,b", "text/plain", "text/plain;charset=utf-8", "bytes=0-9", "bytes=-1", "bytes=5-2", "de, en;q=0.5",
-  "a\tb", "(x)", "*/*", "application/json", "a".repeat(128), "a".repeat(129), "x=\"y\"", "<a>", "true", "=="];
+const TEXTS = ["1", "", " 1 ", "a,b", "text/plain", "text/plain;charset=utf-8", "bytes=0-9", "bytes=-1", "bytes=5-2",
+  "de, en;q=0.5", "a\tb", "(x)", "*/*", "application/json", "a".repeat(128), "a".repeat(129), "x=\"y\"", "<a>", "true", "=="];
 const HEADERS = ["Accept", "Accept-Language", "Content-Language", "Content-Type", "Range", "X-A", "Authorization", "X-B",
   "X-HTTP-Method-Override", "If-None-Match", "Via", "Cookie2", "Sec-X", "Proxy-A", "DNT"];
 const ANSWERED = [["X-A", "1"], ["X-A", "2"], ["X-B", "b, c"], ["Content-Type", "text/html"], ["Cache-Control", "no-store"],
@@ -185,14 +187,17 @@ const ANSWERED = [["X-A", "1"], ["X-A", "2"], ["X-B", "b, c"], ["Content-Type", 
   ["Access-Control-Expose-Headers", "x-a"], ["Access-Control-Expose-Headers", "*"],
   ["Access-Control-Expose-Headers", "X-B, etag"], ["Vary", "Origin"]];
 
+const ALL_NAMES = "accept, accept-language, content-language, content-type, range, x-a, x-b, authorization, if-none-match, "
+  + "x-http-method-override";
+
 function headers(chance) {
   const answer = (path) => ({ path, status: chance.of([200, 200, 200, 404]), body: "ok",
     headers: [...sharing(chance), ...chance.many(0, 4, () => chance.of(ANSWERED))] });
   const preflight = { method: "OPTIONS", status: 204, headers: [["Access-Control-Allow-Origin", PAGE],
-    ["Access-Control-Allow-Credentials", "true"], ["Access-Control-Allow-Headers", chance.of(["*", "x-a, range",
-      "accept, accept-language, content-language, content-type, range, x-a, x-b, authorization, if-none-match, x-http-method-override"])]] };
+    ["Access-Control-Allow-Credentials", "true"], ["Access-Control-Allow-Headers", chance.of(["*", "x-a, range", ALL_NAMES])]] };
   const rules = () => [preflight, answer("/1"), answer("/2"), { status: 200, headers: sharing(chance) }];
-  const script = chance.many(3, 5, () => ({ fetch: { url: chance.of(["", "https://api.test", "https://api.test"]) + chance.of(["/1", "/2", "/3"]),
+  const script = chance.many(3, 5, () => ({ fetch: {
+    url: chance.of(["", "https://api.test", "https://api.test"]) + chance.of(["/1", "/2", "/3"]),
     ...setting(chance, "method", ["POST", "HEAD"], 1, 4), ...setting(chance, "mode", ["no-cors"], 1, 6),
     ...setting(chance, "credentials", CREDENTIALS, 1, 4),
     headers: chance.many(1, 3, () => [chance.of(HEADERS), chance.of(TEXTS)]) } }));
@@ -203,8 +208,9 @@ function headers(chance) {
 
 // The beginnings of real files, so that no browser takes an answer for something else.
 const BODIES = { image: "GIF89a", audio: "OggS\u0000", script: "1", manifest: "{}" };
-const TYPES = { image: ["image/gif", "image/gif", "text/plain"], audio: ["audio/ogg"], video: ["video/mp4"], style: ["text/css"],
-  script: ["text/javascript", "application/javascript", "text/plain", "text/html", "application/json"], font: ["font/woff"],
+const TYPES = { image: ["image/gif", "image/gif", "text/plain"], audio: ["audio/ogg"], video: ["video/mp4"],
+  style: ["text/css"], font: ["font/woff"],
+  script: ["text/javascript", "application/javascript", "text/plain", "text/html", "application/json"],
   manifest: ["application/manifest+json"] };
 
 function loadAnswer(chance, kind) {
@@ -228,7 +234,7 @@ function loads(chance) {
   const script = chance.many(3, 5, () => {
     const kind = chance.of(KINDS);
     return { load: { kind, url: chance.of(origins) + (chance.in(1, 5) ? "/to-" : "/") + kind,
-      ...(chance.in(1, 3) ? { crossorigin: kind === "font" ? "anonymous" : chance.of(["anonymous", "use-credentials"]) } : {}),
+      ...setting(chance, "crossorigin", kind === "font" ? ["anonymous"] : ["anonymous", "use-credentials"], 1, 3),
       ...(["image", "style", "script"].includes(kind) ? setting(chance, "referrer_policy", POLICIES, 1, 4) : {}),
       ...(chance.in(1, 3) ? { parser: false } : {}) } };
   });
@@ -237,13 +243,15 @@ function loads(chance) {
 
 // ---- referrers
 
+const FIELDS = [...POLICIES, "bogus", "origin, bogus", "", "no-referrer, unsafe-url"];
+
 function referrers(chance) {
   const page = chance.of([PAGE, "http://shop.test"]);
   const origins = page === PAGE ? ORIGINS : [...ORIGINS, ...PLAIN];
   const servers = new Map(origins.map((origin) => [origin, [
     { path: "/1", status: chance.of([302, 307]), headers: [["Location", chance.of(origins) + chance.of(["/1", "/2", "/2"])],
       ["Access-Control-Allow-Origin", "*"],
-      ...(chance.in(1, 2) ? [["Referrer-Policy", chance.of([...POLICIES, "bogus", "origin, bogus", "", "no-referrer, unsafe-url"])]] : [])] },
+      ...(chance.in(1, 2) ? [["Referrer-Policy", chance.of(FIELDS)]] : [])] },
     { status: 200, headers: [["Access-Control-Allow-Origin", "*"], ["Content-Type", "text/css"]] }]]));
   const script = chance.many(3, 5, () => {
     const url = chance.of(origins) + chance.of(["/1", "/2?q#f"]);

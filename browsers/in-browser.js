@@ -59,9 +59,14 @@ async function compare(given) {
   if (program === null) {
     throw new Error("there is no " + NAMES[given.browser] + " (Debian: chromium, firefox-esr)");
   }
-  const kept = (arrivals) => given.keep !== null && fs.writeFileSync(given.keep, JSON.stringify(arrivals, null, 1) + "\n");
+  const kept = (arrivals) => {
+    if (given.keep !== null) {
+      fs.writeFileSync(given.keep, JSON.stringify(arrivals, null, 1) + "\n");
+    }
+  };
   const played = await playIn(program, scenario, kept);
-  const commands = explained(scenario, given.browser, comparePlays(scenario, readCommands(printed, scenario.documents[0]), played));
+  const engine = readCommands(printed, scenario.documents[0]);
+  const commands = explained(scenario, given.browser, comparePlays(scenario, engine, played));
   const left = unexplained(commands);
   process.stdout.write(given.json ? asJson(played, commands, left)
     : shown(played, commands, left, process.stdout.isTTY || Boolean(process.env.FORCE_COLOR)));

@@ -148,9 +148,10 @@ function begin(command, number) {
   }
 
   window.fiorrudda.violations = [];
-  const run = command.load ? runLoad(command.load) : command.fetch.upload ? runUpload(command.fetch) : runFetch(command.fetch);
+  const asked = command.load || command.fetch;
+  const run = command.load ? runLoad(asked) : asked.upload ? runUpload(asked) : runFetch(asked);
   window.fiorrudda.pending = Promise.race([run,
-    new Promise((resolve) => setTimeout(() => resolve({ result: "late", event: "late" }), 8000))]);
+    new Promise((resolve) => setTimeout(() => resolve({ result: "late", event: "late" }), 15000))]);
 }
 
 async function outcome(settle) {

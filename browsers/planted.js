@@ -56,7 +56,8 @@ function plantedPlays(scenario, commands, played) {
 // How many differences were planted, and how many of them no rule explains.
 function foundPlanted(scenario, commands, played) {
   const plays = plantedPlays(scenario, commands, played);
-  const isFound = (play) => unexplained(explained(scenario, played.browser, comparePlays(scenario, play, played))).length > 0;
+  const comparedTo = (play) => explained(scenario, played.browser, comparePlays(scenario, play, played));
+  const isFound = (play) => unexplained(comparedTo(play)).length > 0;
   return { planted: plays.length, found: plays.filter(isFound).length };
 }
 

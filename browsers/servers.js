@@ -198,16 +198,17 @@ class Servers {
       page.open(socket);
       return;
     }
-    const rule = ruleFor(this.scenario, origin, request.method, request.target);
-    this.keep(origin, request, rule);
+    const own = this.ownOf(origin, request);
+    const rule = own === null ? ruleFor(this.scenario, origin, request.method, request.target) : { status: 404 };
+    this.keep(origin, request, rule, own);
     socket.end(rule === null ? Buffer.alloc(0) : bytesOf(rule));
   }
 
-  // What browsers send by themselves is no request of the script: the icon of a page, reports of its policies, and
-  // questions to their makers' hosts, which no scenario names.
+  // What browsers send by themselves is no request of the script, and no rule answers it: the icon of a page, reports of its
+  // policies, and questions to their makers' hosts, which no scenario names.
   ownOf(origin, request) {
     const type = (valueOf(request.headers, "content-type") || "").split(";")[0];
-    if (request.target === "/favicon.ico") {
+    if (request.target === "/favicon.ico" && !this.text.includes(request.target)) {
       return "icon";
     }
     const host = origin.replace(/^https?:\/\//, "").replace(/:[0-9]*$/, "");
@@ -215,9 +216,9 @@ class Servers {
     return REPORTS.includes(type) ? "report" : foreign ? "maker" : null;
   }
 
-  keep(origin, request, rule) {
+  keep(origin, request, rule, own) {
     this.arrivals.push({ origin, method: request.method, target: request.target, headers: request.headers,
-      body: request.body.toString("hex"), own: this.ownOf(origin, request), uncached: rule !== null && isUncached(rule) });
+      body: request.body.toString("hex"), own, uncached: rule !== null && isUncached(rule) });
   }
 
   expect(url, headers) {

@@ -55,7 +55,10 @@ function beside(ours, theirs) {
 }
 
 function valueText(value) {
-  return value === null || value === undefined ? "none" : shortened(String(value) === "" ? "an empty one" : String(value), 100);
+  if (value === null || value === undefined) {
+    return "none";
+  }
+  return value === "" ? "an empty one" : shortened(String(value), 100);
 }
 
 function differenceText(difference) {

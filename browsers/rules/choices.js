@@ -7,7 +7,8 @@ const BLANK = /^https?:\/\/[^/?#]* [^/?#]*/i;
 
 module.exports = [
   {
-    name: "open-ports", browsers: ["chromium"], section: "choices-of-this-project", scenario: "urls/ports-that-chromium-opens",
+    name: "open-ports", browsers: ["chromium"], section: "choices-of-this-project",
+    scenario: "urls/ports-that-chromium-opens",
     says: "ports 4190 and 6679 are open",
     explains: (difference, context) => context.ours.result.name === "BadPort"
       && ["4190", "6679"].includes(new URL(context.asked.url, context.document.url).port)

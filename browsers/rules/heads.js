@@ -6,7 +6,8 @@ const { isHeader, urlOf, methodOf, hostOf, originOf, documentOrigin, isSecurePag
 const section = "origin-referer-and-cookies";
 const both = ["chromium", "firefox"];
 
-const isCorsLoad = (load) => load !== undefined && (["font", "manifest"].includes(load.kind) || load.crossorigin !== undefined);
+const isCorsLoad = (load) => load !== undefined
+  && (["font", "manifest"].includes(load.kind) || load.crossorigin !== undefined);
 const isNoCorsPost = (context, difference) => context.asked.mode === "no-cors" && methodOf(difference.request) === "POST";
 
 module.exports = [
@@ -37,7 +38,8 @@ module.exports = [
       && difference.engine === documentOrigin(context) && context.asked.referrer === "none",
   },
   {
-    name: "origin-of-a-redirected-post", browsers: ["chromium"], section, scenario: "request-heads/origin-of-a-redirected-post",
+    name: "origin-of-a-redirected-post", browsers: ["chromium"], section,
+    scenario: "request-heads/origin-of-a-redirected-post",
     says: "Origin of a no-cors POST is null behind the first redirect to another origin",
     explains: (difference, context) => isHeader(difference, "origin") && difference.browser === "null"
       && difference.engine === documentOrigin(context) && isNoCorsPost(context, difference)
@@ -68,5 +70,10 @@ module.exports = [
     name: "spelling-of-range", browsers: ["chromium"], section, scenario: "request-heads/spelling-of-names",
     says: "Range is spelled anew",
     explains: (difference) => difference.what === "spelling" && difference.name === "range",
+  },
+  {
+    name: "spelling-of-accept", browsers: ["firefox"], section, scenario: "request-heads/spelling-of-names",
+    says: "Accept is spelled anew",
+    explains: (difference) => difference.what === "spelling" && difference.name === "accept",
   },
 ];

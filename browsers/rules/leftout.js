@@ -1,6 +1,7 @@
 "use strict";
 
-const { isRequest, isHeader, urlOf, hostOf, originOf, answerTo, valuesOf, lastAnswer, keyOf, documentOrigin } = require("./looked.js");
+const { isRequest, isHeader, urlOf, hostOf, originOf, answerTo, valuesOf, lastAnswer, keyOf,
+  documentOrigin } = require("./looked.js");
 
 const section = "what-the-engine-leaves-out";
 const both = ["chromium", "firefox"];
@@ -35,7 +36,8 @@ module.exports = [
     name: "cookies-by-host", browsers: both, section, scenario: "request-heads/cookies-and-ports",
     says: "a cookie belongs to the host, whatever the port",
     explains: (difference, context) => isHeader(difference, "cookie") && difference.browser !== null
-      && difference.browser.startsWith(difference.engine || "") && (context.scenario.cookies || []).some(([origin]) => hostOf(origin) === hostOf(urlOf(difference.request))
+      && difference.browser.startsWith(difference.engine || "")
+      && (context.scenario.cookies || []).some(([origin]) => hostOf(origin) === hostOf(urlOf(difference.request))
         && origin !== originOf(urlOf(difference.request))),
   },
   {

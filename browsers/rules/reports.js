@@ -19,7 +19,8 @@ function isToldOnceMore(difference, context) {
 // A browser tells once more what the engine tells once.
 function isToldTwice(difference, context) {
   return difference.what === "violation" && isReport(difference.browser) && difference.engine === null
-    && countOf(context.ours.violations, difference.browser) === 1 && countOf(context.theirs.violations, difference.browser) === 2;
+    && countOf(context.ours.violations, difference.browser) === 1
+    && countOf(context.theirs.violations, difference.browser) === 2;
 }
 
 // A violation of the command's own URL that the browser alone tells, and the reason by it.

@@ -41,8 +41,10 @@ module.exports = [
     /\r\nTransfer-Encoding: chunked\r\n\r\n[0-9a-f]+\n/i),
   wireRule("chunk-size-of-many-digits", both, BODY, "the size of a chunk may have more than 16 digits",
     /\r\n0{17,}\r\n/),
+  wireRule("chunk-size-with-0x", ["firefox"], BODY, "the size of a chunk may begin with 0x", /\r\n0x[0-9a-f]+\r\n/i),
   wireRule("chunk-size-and-a-tab", ["chromium"], BODY, "a tab behind the size of a chunk is a fault", /\r\n[0-9a-f]+\t;/i),
-  wireRule("status-101", ["chromium"], HEAD, "a 101 is skipped, and the next head counts", /^HTTP\/1\.1 101 [^]*\r\n\r\nHTTP\//),
+  wireRule("status-101", ["chromium"], HEAD, "a 101 is skipped, and the next head counts",
+    /^HTTP\/1\.1 101 [^]*\r\n\r\nHTTP\//),
   {
     name: "status-101-alone", browsers: ["chromium"], section, scenario: "wire/status-101-alone",
     says: "a 101 that no other head follows is a network error",
