@@ -91,7 +91,7 @@ def libraries(folder, programs):
         with open(os.path.join(place, "debian", "control"), "w", encoding="ascii") as file:
             file.write("Source: fiorrudda\n\nPackage: fiorrudda\nArchitecture: any\n")
         paths = [os.path.join(folder, "usr", "bin", name) for name in programs]
-        told = output_of(["dpkg-shlibdeps", "-O", "--warnings=0", *paths], cwd=place)
+        told = output_of(["dpkg-shlibdeps", "-O", *paths], cwd=place, stderr=subprocess.DEVNULL)
     return [part for part in told.strip().partition("=")[2].split(", ") if part]
 
 
