@@ -153,7 +153,7 @@ function isAlive(pid) {
 
 async function checkLimits(playground, folder, compare) {
   const failure = async (scenario) => JSON.parse((await playground.play(scenario)).body).failure;
-  compare("a play that takes too long", await failure("sleeps"), "the play took longer than 5 seconds, and was stopped");
+  compare("a play that takes too long", await failure("sleeps"), "the play took longer than 20 seconds, and was stopped");
   const notes = () => fs.readFileSync(path.join(folder, "log"), "latin1").split("\n");
   const child = Number(notes().find((line) => line.startsWith("child ")).split(" ")[1]);
   compare("what it had started", isAlive(child), false);

@@ -18,8 +18,9 @@ class Chromium {
       "--disable-extensions", "--disable-background-networking", "--window-size=1400,900",
       "--user-data-dir=" + this.folder, ...sandbox];
     this.process = spawn(name, words, { stdio: ["ignore", "ignore", "ignore", "pipe", "pipe"] });
-    this.gone = new Promise((resolve) => this.process.on("exit", resolve));
     this.asked = new Map();
+    this.hasEnded = false;
+    this.gone = new Promise((resolve) => this.process.on("exit", resolve)).then(() => this.giveUp());
     this.count = 0;
     this.heard = [];
     this.loaded = () => {};
@@ -47,7 +48,17 @@ class Chromium {
     }
   }
 
+  // What was asked is not answered any more.
+  giveUp() {
+    this.hasEnded = true;
+    this.asked.forEach((answer) => answer({ error: { message: "the browser has ended" } }));
+    this.asked.clear();
+  }
+
   ask(method, params = {}) {
+    if (this.hasEnded) {
+      return Promise.reject(new Error("the browser has ended"));
+    }
     this.count += 1;
     const id = this.count;
     return new Promise((resolve, reject) => {

@@ -58,8 +58,9 @@ class Firefox {
     fs.writeFileSync(path.join(this.folder, "user.js"), lines.join(""));
     this.process = spawn(program, ["--headless", "--marionette", "--remote-allow-system-access", "--no-remote",
       "--profile", this.folder, "--width", "1400", "--height", "900"], { stdio: "ignore" });
-    this.gone = new Promise((resolve) => this.process.on("exit", resolve));
     this.asked = new Map();
+    this.hasEnded = false;
+    this.gone = new Promise((resolve) => this.process.on("exit", resolve)).then(() => this.giveUp());
     this.count = 0;
     this.rest = Buffer.alloc(0);
   }
@@ -100,7 +101,17 @@ class Firefox {
     }
   }
 
+  // What was asked is not answered any more.
+  giveUp() {
+    this.hasEnded = true;
+    this.asked.forEach((answer) => answer([1, 0, { message: "the browser has ended" }, null]));
+    this.asked.clear();
+  }
+
   ask(command, given = {}) {
+    if (this.hasEnded) {
+      return Promise.reject(new Error("the browser has ended"));
+    }
     this.count += 1;
     const id = this.count;
     return new Promise((resolve, reject) => {
@@ -140,6 +151,9 @@ class Firefox {
     try {
       return (await this.ask("WebDriver:ExecuteScript", { script, args: [] })).value;
     } catch (error) {
+      if (this.hasEnded) {
+        throw error;
+      }
       return "thrown: " + error.message;
     }
   }
