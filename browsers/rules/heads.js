@@ -66,7 +66,7 @@ module.exports = [
     says: "a manifest of the own origin is asked for without cookies",
     explains: (difference, context) => isHeader(difference, "cookie") && difference.browser === null
       && context.command.load !== undefined && context.command.load.kind === "manifest"
-      && context.command.load.crossorigin === undefined,
+      && context.command.load.crossorigin !== "use-credentials",
   },
   {
     name: "user-agent-of-a-script", browsers: ["chromium"], section, scenario: "request-heads/user-agent-of-a-script",
