@@ -133,10 +133,12 @@ function toldResult(result) {
   return [result.result, result.status || "", result.name || ""].join(" ").trim();
 }
 
-// Scripts, styles and fonts of a status that is not ok fail in their elements, and not in the network.
+// These fail in their elements, and not in the network, where the status is not ok.
+const OWN_EVENTS = ["script", "style", "font", "audio", "video"];
+
 function isOpen(ours, theirs, statusOfLoad) {
   const kind = ours.command.load && ours.command.load.kind;
-  return ["script", "style", "font"].includes(kind) && theirs.result.result === "failed"
+  return OWN_EVENTS.includes(kind) && theirs.result.result === "failed"
     && ours.result.result === "loaded" && statusOfLoad !== null && (statusOfLoad < 200 || statusOfLoad > 299);
 }
 

@@ -6,6 +6,7 @@ const { isHeader, urlOf, methodOf, hostOf, originOf, documentOrigin, isSecurePag
 const section = "origin-referer-and-cookies";
 const both = ["chromium", "firefox"];
 
+const siteOf = (url) => hostOf(url).split(".").slice(-2).join(".");
 const isCorsLoad = (load) => load !== undefined
   && (["font", "manifest"].includes(load.kind) || load.crossorigin !== undefined);
 const isNoCorsPost = (context, difference) => context.asked.mode === "no-cors" && methodOf(difference.request) === "POST";
@@ -16,6 +17,13 @@ module.exports = [
     says: "http to the loopback is a downgrade, so it gets no Referer",
     explains: (difference, context) => isHeader(difference, "referer") && difference.browser === null && isSecurePage(context)
       && isLoopback(hostOf(urlOf(difference.request))) && urlOf(difference.request).startsWith("http:"),
+  },
+  {
+    name: "referrer-cut-across-sites", browsers: ["firefox"], section, scenario: "request-heads/policy-unsafe-url",
+    says: "no policy tells another site more than the page's origin",
+    explains: (difference, context) => isHeader(difference, "referer") && difference.engine !== null
+      && difference.browser === originOf(difference.engine) + "/"
+      && siteOf(difference.engine) !== siteOf(urlOf(difference.request)),
   },
   {
     name: "origin-of-own-loads", browsers: ["chromium"], section, scenario: "request-heads/origin-of-own-fonts",
@@ -58,7 +66,7 @@ module.exports = [
     says: "a manifest of the own origin is asked for without cookies",
     explains: (difference, context) => isHeader(difference, "cookie") && difference.browser === null
       && context.command.load !== undefined && context.command.load.kind === "manifest"
-      && context.command.load.crossorigin === undefined,
+      && context.command.load.crossorigin !== "use-credentials",
   },
   {
     name: "user-agent-of-a-script", browsers: ["chromium"], section, scenario: "request-heads/user-agent-of-a-script",
