@@ -20,7 +20,7 @@ class Refused extends Error {
 
 // The printed text of the play; `Refused` with the program's own words and status where it plays nothing.
 function printedPlay(scenario) {
-  const ran = spawnSync(PROGRAM, ["play"], { input: scenario, encoding: "latin1", maxBuffer: 1 << 28 });
+  const ran = spawnSync(PROGRAM, ["play"], { input: Buffer.from(scenario, "utf8"), encoding: "latin1", maxBuffer: 1 << 28 });
   if (ran.error !== undefined) {
     throw new Refused(PROGRAM + ": " + ran.error.message, 1);
   }
