@@ -1,5 +1,4 @@
 pub mod Computed
-pub mod CutLemmas
 pub mod EmbedLemmas
 pub mod FillingLemmas
 pub mod PlayLemmas

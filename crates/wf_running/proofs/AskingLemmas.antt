@@ -12,7 +12,7 @@ use Rattle.wf_run.specs.Runs.{Next, Progress, Setting, after_events, asked, at_t
 use Rattle.wf_run.specs.Runs.{command_started, fetch_limit, fetched, filled_load, last_of, limit_before, load_event}
 use Rattle.wf_run.specs.Runs.{outcome_event, own_limit, showing, start_event, started}
 use Rattle.wf_run.specs.Traces.{shown, stop}
-use Rattle.wf_run.specs.Filling.{is_plain, with_cuts}
+use Rattle.wf_run.specs.Filling.{is_plain, with_cut_body}
 use Rattle.wf_run.specs.Runs.{filled_init}
 use Rattle.wf_run.proofs.FillingLemmas.{cut-same, plain-filled}
 use Rattle.wf_send.specs.Loading.{new_load}
@@ -45,7 +45,7 @@ asked-as-plain client last init result plain made = subst
     (λ (i : Init). IfOk result (λ made. made ≡ new_request client i)) (sym (plain-filled last init plain)) made
 
 pub asked-as-filled : (client : Client) (last : Option Event) (init filled : Init)
-    (result : Result (Result Request TypeFault) OutOfMemory) → filled ≡ with_cuts (filled_init last init)
+    (result : Result (Result Request TypeFault) OutOfMemory) → filled ≡ with_cut_body (filled_init last init)
     → IfOk result (λ made. made ≡ new_request client filled)
     → IfOk result (λ made. made ≡ new_request client (filled_init last init))
 asked-as-filled client last init filled result is made = subst

@@ -1,6 +1,6 @@
 use Rattle.std.proofs.Common.{subst, sym, ◌∙◌, ap}
 use Rattle.wf_run.proofs.FillingLemmas.{cut-same, plain-filled}
-use Rattle.wf_run.specs.Filling.{with_cuts}
+use Rattle.wf_run.specs.Filling.{with_cut_body}
 use Rattle.wf_run.specs.Results.{lent_result}
 use Rattle.wf_run.specs.Runs.{filled_init}
 use Rattle.wf_running.proofs.AskingLemmas.{asked-as-filled, asked-as-plain}
