@@ -3,7 +3,7 @@ use Rattle.std.specs.Prelude.{◌≡◌, ℕ, ◌≤◌, List, ◌++◌, length}
 use Rattle.wf_act.specs.declared.act.Input.{Input}
 use Rattle.wf_act.specs.Process.{Process, ended}
 use Rattle.wf_act.specs.Traces.{Driven, Trace, with_events}
-use Rattle.wf_print.specs.declared.events.Event.{Event}
+use Rattle.wf_events.specs.declared.events.Event.{Event}
 use Rattle.wf_run.specs.Play.{events_of}
 use Rattle.wf_types.specs.declared.response.Outcome.{Outcome}
 use Rattle.wf_wire.specs.Exchanges.{Answering, IsIdle}

@@ -12,8 +12,8 @@ use Rattle.wf_send.specs.Making.{new_request}
 use Rattle.wf_commands.specs.Scripts.{Step, Steps}
 use Rattle.wf_commands.specs.Scripts as script
 use Rattle.wf_commands.specs.declared.command.Test.{Test}
-use Rattle.wf_print.specs.declared.events.Ending.{Ending}
-use Rattle.wf_print.specs.declared.events.Event.{Event}
+use Rattle.wf_events.specs.declared.events.Ending.{Ending}
+use Rattle.wf_events.specs.declared.events.Event.{Event}
 use Rattle.wf_act.specs.Process.{Process, act, ended}
 use Rattle.wf_fetch.specs.Fetch.{fetch}
 use Rattle.wf_run.specs.Play.{Play, emit, events_of}

@@ -11,7 +11,7 @@ use Rattle.wf_act.specs.declared.act.Act.TheVariants.{Ask, Send, ReadHead, ReadB
 use Rattle.wf_act.specs.declared.act.Input.{Input}
 use Rattle.wf_act.specs.declared.act.Input.TheVariants.{BodyIs, Fault, HeadBad, HeadIs, HeadLong, Replied, Sent, Told}
 use Rattle.wf_act.specs.Process.{fits}
-use Rattle.wf_print.specs.declared.events.Event.{Event}
+use Rattle.wf_events.specs.declared.events.Event.{Event}
 use Rattle.wf_laws.specs.Apart.{replies_at, view_at}
 use Rattle.wf_laws.specs.Seen.{seen, sent_by}
 use Rattle.wf_laws.proofs.ApartLemmas.{fits-seen}

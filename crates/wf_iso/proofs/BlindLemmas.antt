@@ -9,7 +9,7 @@ use Rattle.wf_act.specs.declared.act.Act.{Act}
 use Rattle.wf_act.specs.declared.act.Act.TheVariants.{Ask, Send, ReadHead, ReadBody, Tell}
 use Rattle.wf_act.specs.declared.act.Input.{Input}
 use Rattle.wf_act.specs.Process.{Process, act, ended, fits}
-use Rattle.wf_script.specs.declared.types.Document.{Document}
+use Rattle.wf_scenario.specs.declared.document.Document.{Document}
 use Rattle.wf_fetch.specs.Fetch.{fetch}
 use Rattle.wf_laws.specs.Blind.{Blind}
 use Rattle.wf_laws.specs.Seen.{seen, sent_by}

@@ -40,7 +40,7 @@ use Rattle.wf_answers.specs.Endings.{ended_under}
 use Rattle.wf_answers.specs.Following.{redirected_request}
 use Rattle.wf_answers.specs.Judging.{refusal_after}
 use Rattle.wf_answers.specs.Redirects.{redirection}
-use Rattle.wf_script.specs.declared.types.Document.{Document}
+use Rattle.wf_scenario.specs.declared.document.Document.{Document}
 use Rattle.wf_fetch.specs.Fetch.{again, ends, fetch, finished, onward_of}
 use Rattle.wf_fetch.specs.HttpFetch.{after_head, answered, http_fetch, judged, read_head, redirected}
 use Rattle.wf_fetch.specs.MainFetch.{checked, main_fetch, matched_by, switched_by, unless_refused, unless_violated}

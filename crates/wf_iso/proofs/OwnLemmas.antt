@@ -23,9 +23,9 @@ use Rattle.wf_rules.specs.KnownHosts.{host_to_match, host_to_note, sts_of}
 use Rattle.wf_commands.specs.Scripts.{Step, Steps}
 use Rattle.wf_commands.specs.Scripts as script
 use Rattle.wf_commands.specs.Valid.{AreValid, IsValidStep}
-use Rattle.wf_script.specs.declared.types.Document.{Document}
-use Rattle.wf_print.specs.declared.events.Ending.TheVariants.{Commands}
-use Rattle.wf_print.specs.declared.events.Event.{Event}
+use Rattle.wf_scenario.specs.declared.document.Document.{Document}
+use Rattle.wf_events.specs.declared.events.Ending.TheVariants.{Commands}
+use Rattle.wf_events.specs.declared.events.Event.{Event}
 use Rattle.wf_fetch.specs.Fetch.{fetch}
 use Rattle.wf_fetch.specs.Then.{Context}
 use Rattle.wf_laws.specs.Prices.{fetch_price}

@@ -2,11 +2,11 @@
 use Rattle.std.proofs.Common.{None, ◌≡◌, ◌+◌, ℕ, List, [], ◌∷◌, Some, map, refl, ap, sym, ◌∙◌}
 use Rattle.wf_book.specs.declared.entry.Entry.{Entry}
 use Rattle.wf_http1.specs.HeadLaws.{HasOneEnd}
-use Rattle.wf_print.specs.declared.events.Ending.{Ending}
-use Rattle.wf_print.specs.declared.events.Transcript.{Transcript}
-use Rattle.wf_script.specs.declared.types.Document.{Document}
-use Rattle.wf_script.specs.declared.types.Scenario.{Scenario}
-use Rattle.wf_script.specs.declared.types.Server.{Server}
+use Rattle.wf_events.specs.declared.events.Ending.{Ending}
+use Rattle.wf_events.specs.declared.events.Transcript.{Transcript}
+use Rattle.wf_scenario.specs.declared.document.Document.{Document}
+use Rattle.wf_scenario.specs.declared.scenario.Scenario.{Scenario}
+use Rattle.wf_scenario.specs.declared.servers.Server.{Server}
 use Rattle.wf_run.specs.Play.{PlayRun, run_play}
 use Rattle.wf_wire.specs.Exchanges.{Answering}
 use Rattle.wf_iso.specs.Isolated.{run_in, run_of}

@@ -8,14 +8,14 @@ use Rattle.wf_book.specs.declared.entry.Entry.{Entry}
 use Rattle.wf_book.specs.declared.op.Op.TheVariants.{Note}
 use Rattle.wf_book.specs.Book.{after, empty}
 use Rattle.wf_book.specs.Entries.{Legal, entries_of}
-use Rattle.wf_print.specs.declared.events.Ending.{Ending}
-use Rattle.wf_print.specs.declared.events.Event.{Event}
-use Rattle.wf_print.specs.declared.events.Transcript.{Transcript}
-use Rattle.wf_script.specs.declared.types.Document.{Document}
-use Rattle.wf_script.specs.declared.types.KnownHost.{KnownHost}
-use Rattle.wf_script.specs.declared.types.Scenario.{Scenario}
-use Rattle.wf_script.specs.declared.types.Server.{Server}
-use Rattle.wf_script.specs.Servers.{answer}
+use Rattle.wf_events.specs.declared.events.Ending.{Ending}
+use Rattle.wf_events.specs.declared.events.Event.{Event}
+use Rattle.wf_events.specs.declared.events.Transcript.{Transcript}
+use Rattle.wf_scenario.specs.declared.document.Document.{Document}
+use Rattle.wf_scenario.specs.declared.hosts.KnownHost.{KnownHost}
+use Rattle.wf_scenario.specs.declared.scenario.Scenario.{Scenario}
+use Rattle.wf_scenario.specs.declared.servers.Server.{Server}
+use Rattle.wf_scenario.specs.Servers.{answer}
 use Rattle.wf_run.specs.Play.{Play}
 use Rattle.wf_run.specs.Runs.{document_client, document_run}
 use Rattle.wf_wire.specs.Exchanges.{Answering}

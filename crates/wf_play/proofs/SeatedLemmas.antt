@@ -8,7 +8,7 @@ use Rattle.atomic_table.specs.Seated.{TableId}
 use Rattle.wf_running.specs.Parts.{most_calls}
 use Rattle.wf_player.specs.Seats.{AreSeated, Seat}
 use Rattle.wf_player.specs.declared.seating.Seating.{Seating}
-use Rattle.wf_script.specs.declared.types.Scenario.{Scenario}
+use Rattle.wf_scenario.specs.declared.scenario.Scenario.{Scenario}
 use Rattle.wf_turn.specs.declared.pass.TurnPass.{TurnPass}
 use Rattle.wf_play.specs.Passes.{IsNew}
 use Rattle.wf_iso.specs.Plays.{opening_book}

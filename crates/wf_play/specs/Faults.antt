@@ -4,11 +4,11 @@ use Rattle.std.specs.Prelude.{◌≡◌, ℕ, ◌+◌, List, Some, None}
 use Rattle.wf_act.specs.declared.act.Input.{Input}
 use Rattle.wf_book.specs.declared.entry.Entry.{Entry}
 use Rattle.wf_link.specs.Counts.{counted_on}
-use Rattle.wf_print.specs.declared.events.Transcript.{Transcript}
+use Rattle.wf_events.specs.declared.events.Transcript.{Transcript}
 use Rattle.wf_run.specs.Play.{Play}
 use Rattle.wf_run.specs.Runs.{document_run}
-use Rattle.wf_script.specs.declared.types.Document.{Document}
-use Rattle.wf_script.specs.declared.types.Scenario.{Scenario}
+use Rattle.wf_scenario.specs.declared.document.Document.{Document}
+use Rattle.wf_scenario.specs.declared.scenario.Scenario.{Scenario}
 use Rattle.wf_wire.specs.Exchanges.{Answering}
 use Rattle.wf_faults.specs.Laws.{AreShown}
 use Rattle.wf_faults.specs.Numbers.{faults_of}

@@ -1,7 +1,7 @@
 // A play: the book is opened, the documents are seated and played, and the book is closed.
 ghost use Rattle.std.specs.Prelude.{◌≤◌, ◌+◌, ◌^◌, vec_capacity, vec_len, IfOk, OnErr};
 ghost use Rattle.wf_print.specs.Text.{HasText};
-ghost use Rattle.wf_script.specs.Valid.{IsValid};
+ghost use Rattle.wf_scenario.specs.Valid.{IsValid};
 ghost use Rattle.wf_wire.specs.Wires.{over_link};
 ghost use Rattle.wf_play.specs.Links.{IsPlayOverLinks, WasRefused, maker_of};
 ghost use Rattle.wf_play.specs.Private.Seated.{AreReady, AreUnseated};
@@ -15,11 +15,12 @@ use std::alloc::Global;
 use std::sync::Wait;
 use std::thread::Threads;
 use wf_book::History;
+use wf_events::Transcripts;
 use wf_faults::{law_faults_counted, law_faults_shown};
 use wf_link::Links;
 use wf_player::{Seating, play_all};
-use wf_print::{Transcripts, has_text};
-use wf_script::Scenario;
+use wf_print::has_text;
+use wf_scenario::Scenario;
 use wf_sim::SimLinks;
 use wf_text::OutOfMemory;
 use wf_turn::{Closed, TurnBook, TurnPass};

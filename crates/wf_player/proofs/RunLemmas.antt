@@ -6,15 +6,15 @@ use Rattle.wf_text.specs.declared.memory.OutOfMemory.{OutOfMemory}
 use Rattle.wf_act.specs.declared.act.Input.{Input}
 use Rattle.wf_commands.specs.Scripts.{Steps}
 use Rattle.wf_csp_text.specs.declared.policy.Policy.{Policy}
-use Rattle.wf_print.specs.declared.events.Ending.{Ending}
-use Rattle.wf_print.specs.declared.events.Ending.TheVariants.{Commands, Fetches, Finished, Memory, Text}
-use Rattle.wf_print.specs.declared.events.Event.{Event}
+use Rattle.wf_events.specs.declared.events.Ending.{Ending}
+use Rattle.wf_events.specs.declared.events.Ending.TheVariants.{Commands, Fetches, Finished, Memory, Text}
+use Rattle.wf_events.specs.declared.events.Event.{Event}
 use Rattle.wf_run.specs.Play.{Play, PlayRun, over, run_play}
 use Rattle.wf_run.specs.Runs.{Next, Progress, Setting, beginning, document_client, document_run, finished, script_run}
 use Rattle.wf_run.specs.Runs.{setting}
 use Rattle.wf_run.specs.Traces.{stop}
 use Rattle.wf_run.proofs.PlayLemmas.{play-run}
-use Rattle.wf_script.specs.declared.types.Document.{Document}
+use Rattle.wf_scenario.specs.declared.document.Document.{Document}
 use Rattle.wf_types.specs.declared.client.Client.{Client}
 use Rattle.wf_types.specs.declared.client.Cookie.{Cookie}
 use Rattle.wf_wire.specs.Exchanges.{Answering, IsIdle}

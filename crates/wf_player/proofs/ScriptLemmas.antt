@@ -12,7 +12,7 @@ use Rattle.wf_commands.specs.Depth.{step_size, steps_size}
 use Rattle.wf_commands.specs.Scripts.{Step, Steps}
 use Rattle.wf_commands.specs.Scripts as script
 use Rattle.wf_commands.specs.Valid.{AreValid, IsValidStep}
-use Rattle.wf_print.specs.declared.events.Ending.{Ending}
+use Rattle.wf_events.specs.declared.events.Ending.{Ending}
 use Rattle.wf_run.specs.Play.{over}
 use Rattle.wf_run.specs.Runs.{Next, Progress, Setting, chosen, command_started, last_of, limit_before, repeated}
 use Rattle.wf_run.specs.Runs.{script_run, started, unless_limit, waited}

@@ -1,9 +1,9 @@
 -- What a document's run comes to in the document's world.
 use Rattle.std.specs.Prelude.{◌≡◌, ℕ, ◌≤◌, List, [], ◌++◌, length, Option, Some, None}
 use Rattle.wf_act.specs.declared.act.Input.{Input}
-use Rattle.wf_print.specs.declared.events.Ending.{Ending}
-use Rattle.wf_print.specs.declared.events.Ending.TheVariants.{Finished, Memory}
-use Rattle.wf_print.specs.declared.events.Event.{Event}
+use Rattle.wf_events.specs.declared.events.Ending.{Ending}
+use Rattle.wf_events.specs.declared.events.Ending.TheVariants.{Finished, Memory}
+use Rattle.wf_events.specs.declared.events.Event.{Event}
 use Rattle.wf_run.specs.Play.{Play, over, run_play}
 use Rattle.wf_run.specs.Runs.{Next}
 use Rattle.wf_wire.specs.Exchanges.{Answering, IsIdle}

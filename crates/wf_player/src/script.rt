@@ -1,7 +1,7 @@
 ghost use Rattle.std.specs.Prelude.{◌≡◌, ◌≢◌, ◌≤◌, ◌<◌, ◌+◌, ◌*◌, Some, None, IfOk, OnOk, OnErr};
 ghost use Rattle.wf_commands.specs.Commands.{step_of};
 ghost use Rattle.wf_commands.specs.Valid.{AreValid, IsValidStep};
-ghost use Rattle.wf_print.specs.declared.events.Ending.TheVariants.{Memory};
+ghost use Rattle.wf_events.specs.declared.events.Ending.TheVariants.{Memory};
 ghost use Rattle.wf_types.specs.Requests.{IsClient};
 ghost use Rattle.wf_link.specs.Sources.{IsAtEnd};
 ghost use Rattle.wf_wire.specs.Wires.{over_link};
@@ -14,8 +14,8 @@ use std::thread::Threads;
 use wf_book::Share;
 use wf_commands::{Command, Script, Test};
 use wf_drive::Lent;
+use wf_events::Ending;
 use wf_link::Link;
-use wf_print::Ending;
 use wf_run::holds;
 use wf_running::{Running, run_fetch_command, run_load_command};
 use wf_text::OutOfMemory;

@@ -2,7 +2,7 @@
 ghost use Rattle.std.specs.Prelude.{◌≡◌, ℕ, ◌≤◌, ◌<◌, ◌^◌, [], length, map, slice_index_or};
 ghost use Rattle.std.specs.Prelude.{vec_capacity, vec_len, IfOk, OnErr};
 ghost use Rattle.std.specs.List.{All, range_with_len};
-ghost use Rattle.wf_script.specs.Valid.{IsValid};
+ghost use Rattle.wf_scenario.specs.Valid.{IsValid};
 ghost use Rattle.wf_wire.specs.Wires.{over_link};
 ghost use Rattle.wf_player.specs.Seats.{ArePlayed, AreRefused, AreSeated, seat_of};
 ghost use Rattle.wf_player.specs.Private.Rows.{CanPlay, RowPlayed, seatings_of, transcripts_of};
@@ -14,9 +14,9 @@ use std::sync::Wait;
 use std::thread::Threads;
 use std::{mem, thread};
 use wf_book::Share;
+use wf_events::{Ending, Transcript, Transcripts};
 use wf_link::Link;
-use wf_print::{Ending, Transcript, Transcripts};
-use wf_script::Scenario;
+use wf_scenario::Scenario;
 use wf_text::{Bytes, Items, OutOfMemory};
 
 // A document, in its row.

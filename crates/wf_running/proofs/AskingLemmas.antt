@@ -3,11 +3,11 @@ use Rattle.std.proofs.Common.{◌≡◌, ◌<◌, ℕ, Bool, true, false, cond, 
 use Rattle.std.proofs.Common.{subst, ◌∙◌, arith, Result, Ok, Err, OnOk, OnErr}
 use Rattle.std.specs.Prelude.{⊤, nat_le, IfOk}
 use Rattle.wf_commands.specs.Scripts.{Step, fetch as fetch_step, load as load_step}
-use Rattle.wf_print.specs.declared.events.Ending.{Ending}
-use Rattle.wf_print.specs.declared.events.Ending.TheVariants.{Commands}
+use Rattle.wf_events.specs.declared.events.Ending.{Ending}
+use Rattle.wf_events.specs.declared.events.Ending.TheVariants.{Commands}
 use Rattle.wf_text.specs.declared.memory.OutOfMemory.{OutOfMemory}
 use Rattle.wf_fetch.specs.Fetch.{fetch}
-use Rattle.wf_print.specs.declared.events.Event.{Event}
+use Rattle.wf_events.specs.declared.events.Event.{Event}
 use Rattle.wf_run.specs.Runs.{Next, Progress, Setting, after_events, asked, at_time, embed, fault_event, fetch_started}
 use Rattle.wf_run.specs.Runs.{command_started, fetch_limit, fetched, filled_load, last_of, limit_before, load_event}
 use Rattle.wf_run.specs.Runs.{outcome_event, own_limit, showing, start_event, started}

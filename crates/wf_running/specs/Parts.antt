@@ -1,8 +1,8 @@
 -- What each part of a document's run comes to in the document's world.
 use Rattle.std.specs.Prelude.{◌≡◌, ℕ, ◌+◌, ◌*◌, ◌≤◌, List, ◌++◌, length, Option}
 use Rattle.wf_act.specs.declared.act.Input.{Input}
-use Rattle.wf_print.specs.declared.events.Ending.{Ending}
-use Rattle.wf_print.specs.declared.events.Event.{Event}
+use Rattle.wf_events.specs.declared.events.Ending.{Ending}
+use Rattle.wf_events.specs.declared.events.Event.{Event}
 use Rattle.wf_run.specs.Play.{Play}
 use Rattle.wf_laws.specs.Laws.{most_asks}
 use Rattle.wf_run.specs.Runs.{Next, Progress, most_fetches, unless_limit}

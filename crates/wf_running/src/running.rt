@@ -9,7 +9,7 @@ use std::alloc::Global;
 use std::marker::Model;
 use wf_commands::Command;
 use wf_drive::Shown;
-use wf_print::{Ending, Event, Events};
+use wf_events::{Ending, Event, Events};
 use wf_text::OutOfMemory;
 use wf_types::{Destination, Outcome, TypeFault};
 

@@ -3,7 +3,7 @@ ghost use Rattle.wf_iso.specs.Plays.{IsPlay};
 ghost use Rattle.wf_play.specs.Links.{maker_of};
 ghost use Rattle.wf_print.specs.Text.{HasText};
 ghost use Rattle.wf_script.specs.Generated.{generated};
-ghost use Rattle.wf_script.specs.Valid.{IsValid};
+ghost use Rattle.wf_scenario.specs.Valid.{IsValid};
 ghost use Rattle.wf_wire.specs.Wires.{over_link};
 ghost use Rattle.wf_top.specs.Private.Steps.{IsRead, IsUnread, IsWritten};
 ghost use Rattle.wf_top.specs.Program.{Answers, IsBase, IsPlayed, IsPlayedOver, IsScripted, IsSummed, IsVerdict};
@@ -22,7 +22,8 @@ use wf_iso::law_isolated;
 use wf_link::{Clock, Links, ReadStop, Sink, Source, read_whole};
 use wf_play::{Played, play_over, play_scripted};
 use wf_print::{Failure, write_play, write_summary};
-use wf_script::{Scenario, generate};
+use wf_scenario::Scenario;
+use wf_script::{generate, read_scenario};
 use wf_sim::SimLink;
 use wf_text::OutOfMemory;
 
@@ -107,7 +108,7 @@ fn scenario_in<S: Source>(alloc: Global, input: &mut S) -> Result<Scenario, Stat
         Err(ReadStop::OutOfMemory) => return Err(Status::OutOfMemory),
         Ok(text) => text,
     };
-    match Scenario::read(alloc, text.as_slice()) {
+    match read_scenario(alloc, text.as_slice()) {
         Err(OutOfMemory) => Err(Status::OutOfMemory),
         Ok(Err(place)) => Err(Status::Scenario(place)),
         Ok(Ok(scenario)) => Ok(scenario),

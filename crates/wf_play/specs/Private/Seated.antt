@@ -4,7 +4,7 @@ use Rattle.atomic_table.specs.Seated.{TableId}
 use Rattle.wf_link.specs.Links.{Lent}
 use Rattle.wf_player.specs.Seats.{Seat, seat_of}
 use Rattle.wf_player.specs.declared.seating.Seating.{Seating}
-use Rattle.wf_script.specs.declared.types.Scenario.{Scenario}
+use Rattle.wf_scenario.specs.declared.scenario.Scenario.{Scenario}
 use Rattle.wf_turn.specs.Passes.{left_of, opening_of, own_of}
 use Rattle.wf_turn.specs.declared.pass.TurnPass.{TurnPass}
 use Rattle.wf_iso.specs.Plays.{Way, opening_book}

@@ -1,7 +1,7 @@
 use Rattle.std.proofs.Common.{◌≤◌, ℕ, ◌∙◌, List, [], ◌∷◌, ◌++◌, ap, arith, length, subst, sym}
 use Rattle.wf_book.specs.declared.book.Book.{Book}
 use Rattle.wf_book.specs.Book.{empty}
-use Rattle.wf_script.specs.declared.types.KnownHost.{KnownHost}
+use Rattle.wf_scenario.specs.declared.hosts.KnownHost.{KnownHost}
 use Rattle.wf_turn.specs.Passes.{opening_of}
 use Rattle.wf_turn.specs.declared.pass.TurnPass.{TurnPass}
 use Rattle.wf_wire.specs.Wires.{over_link}

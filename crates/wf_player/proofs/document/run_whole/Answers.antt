@@ -1,6 +1,6 @@
 use Rattle.std.proofs.Common.{◌≢◌, ap, refl, subst, sym}
-use Rattle.wf_print.specs.declared.events.Ending.{Ending}
-use Rattle.wf_print.specs.declared.events.Ending.TheVariants.{Memory}
+use Rattle.wf_events.specs.declared.events.Ending.{Ending}
+use Rattle.wf_events.specs.declared.events.Ending.TheVariants.{Memory}
 use Rattle.wf_run.specs.Runs.{Progress, finished, script_run, setting}
 use Rattle.wf_wire.specs.Wires.{over_link, window_of}
 use Rattle.wf_running.specs.Parts.{standing_of}
