@@ -1,0 +1,5 @@
+pub mod Asking
+pub mod Conversations
+pub mod Ending
+pub mod Feeding
+pub mod Readers
