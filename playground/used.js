@@ -42,7 +42,7 @@ async function checkFirst(browser, check, address) {
   return took;
 }
 
-// Each question is chosen, played and drawn: the marks are as many as the text has, by `countsOf`.
+// Each question is chosen, played and drawn: the marks are as many as its counts say, where it has these.
 async function checkQuestions(browser, check, questions) {
   for (const { name, counts } of questions) {
     await browser.value(`(() => {
@@ -52,7 +52,8 @@ async function checkQuestions(browser, check, questions) {
       list.onchange({ target: list });
     })()`);
     await until(browser, PLAYED);
-    check.compare(name + ": its marks, refusals and entries", await browser.value(COUNTS), counts);
+    const drawn = await browser.value(COUNTS);
+    check.compare(name + ": its marks, refusals and entries", counts === null ? drawn[0] > 10 : drawn, counts || true);
     check.compare(name + ": the link", await browser.value("location.hash"), "#gallery/" + name);
     check.compare(name + ": no problem", await browser.value(PROBLEMS), []);
   }
