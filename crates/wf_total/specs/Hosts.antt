@@ -1,5 +1,6 @@
 -- The known hosts of a book.
-use Rattle.std.specs.Prelude.{ℕ, ◌^◌, Bool, true, false, List, nat_lt, Option, Some, None, is_some, Result, Ok, Err, if◌then◌else◌}
+use Rattle.std.specs.Prelude.{ℕ, ◌^◌, Bool, List, nat_lt, Option, Some, None, is_some, Result, Ok, Err}
+use Rattle.std.specs.Prelude.{if◌then◌else◌}
 use Rattle.wf_book.specs.Book.{after}
 use Rattle.wf_book.specs.declared.book.Book.{Book}
 use Rattle.wf_book.specs.declared.op.Op.TheVariants.{Note}
