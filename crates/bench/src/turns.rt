@@ -80,7 +80,7 @@ fn calls<S: Share, R: Threads + Wait + Sync>(
     count: u32,
 ) -> u64
     requires belongs { S.belongs share.now pass.old }
-    requires left { count ≤ S.left pass.old }
+    requires left { count ≤ (S.account pass.old).left }
 {
     for made in 0..count {
         let Ok(op) = numbered(alloc, u64::from(made)) else {
@@ -105,14 +105,14 @@ fn play_rows<S: Share + Sync, R: Threads + Wait + Sync>(
 where
     S::Pass: Send,
     requires threads { 0 < threads }
-    requires rows { All (λ row. S.belongs share.now row.pass × (count ≤ S.left row.pass)) rows.old }
+    requires rows { All (λ row. S.belongs share.now row.pass × (count ≤ (S.account row.pass).left)) rows.old }
 {
     thread::for_each_mut(
         rt,
         rows,
         threads,
         &|_: usize, row: &mut Played<S::Pass>|
-            requires { S.belongs share.now row.now.pass × (count ≤ S.left row.now.pass) }
+            requires { S.belongs share.now row.now.pass × (count ≤ (S.account row.now.pass).left) }
         { row.answered = calls(rt, alloc, share, &mut row.pass, count) },
     );
 }

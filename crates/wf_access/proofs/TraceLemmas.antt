@@ -31,8 +31,8 @@ use Rattle.wf_wire.specs.Exchanges.{IsAnswered, is_fault}
 use Rattle.wf_print.specs.declared.events.Event.{Event}
 use Rattle.wf_print.specs.declared.events.Event.TheVariants as event
 use Rattle.wf_run.specs.Play.{events_of}
-use Rattle.wf_drive.specs.Driving.{LeadsOn}
-use Rattle.wf_drive.specs.Worlds.{Answers, World}
+use Rattle.wf_player.specs.Driving.{LeadsOn}
+use Rattle.wf_player.specs.Worlds.{Answers, World}
 
 -- ---- a trace by its first act
 

@@ -1,3 +1,4 @@
+pub mod Accounts
 pub mod Book
 pub mod Entries
 pub mod Ops

@@ -77,15 +77,13 @@ impl Share for SoloBook {
 
     ghost belongs = { λ b p. Unit {0} };
 
-    ghost document = { λ p. 0 };
-
-    ghost opening = { λ p. p.opening };
-
-    ghost own = { λ p. p.entries };
-
-    ghost seen = { λ p. p.entries };
-
-    ghost left = { λ p. 4294967295 - p.calls };
+    ghost account = { λ p. record {
+      document = 0;
+      opening = p.opening;
+      own = p.entries;
+      seen = p.entries;
+      left = 4294967295 - p.calls;
+    } };
 
     fn call<R: Threads + Wait + Sync>(
         &self,

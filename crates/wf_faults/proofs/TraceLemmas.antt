@@ -14,11 +14,11 @@ use Rattle.wf_print.specs.declared.events.Ending.{Ending}
 use Rattle.wf_print.specs.declared.events.Ending.TheVariants as ending
 use Rattle.wf_print.specs.declared.events.Event.{Event}
 use Rattle.wf_print.specs.declared.events.Event.TheVariants as event
-use Rattle.wf_script.specs.declared.types.Document.{Document}
+use Rattle.wf_scenario.specs.declared.document.Document.{Document}
 use Rattle.wf_run.specs.Play.{Play, PlayRun, emit, over, run_play, step}
 use Rattle.wf_run.specs.Runs.{document_run}
 use Rattle.wf_run.specs.Traces.{PlayTrace, shown, stepped, stop}
-use Rattle.wf_drive.specs.Worlds.{Answers, Outside, Settles, World}
+use Rattle.wf_player.specs.Worlds.{Answers, Outside, Settles, World}
 use Rattle.wf_player.specs.Playing.{Began, Came, Ran}
 use Rattle.wf_faults.specs.Failures.{tells_fault}
 use Rattle.wf_faults.specs.Laws.{AreShown, FaultsCounted, FaultsCountedShort, RanShown, ToldCounted}

@@ -6,11 +6,11 @@ use Rattle.wf_types.specs.declared.client.Cookie.{Cookie}
 use Rattle.wf_link.specs.Counts.{counted_on, grown_by}
 use Rattle.wf_print.specs.declared.events.Ending.{Ending}
 use Rattle.wf_print.specs.declared.events.Event.{Event}
-use Rattle.wf_script.specs.declared.types.Document.{Document}
+use Rattle.wf_scenario.specs.declared.document.Document.{Document}
 use Rattle.wf_run.specs.Play.{Play, PlayRun, run_play}
 use Rattle.wf_run.specs.Runs.{document_run}
 use Rattle.wf_wire.specs.Exchanges.{Answering}
-use Rattle.wf_drive.specs.Worlds.{Outside}
+use Rattle.wf_player.specs.Worlds.{Outside}
 use Rattle.wf_player.specs.Playing.{Began, Came, Ran}
 use Rattle.wf_faults.specs.Failures.{may_hide_fault, tells_fault}
 use Rattle.wf_faults.specs.Numbers.{faults_of, outcomes_that, unshown}

@@ -6,12 +6,14 @@ use Rattle.wf_book.specs.declared.entry.Entry.{Entry}
 use Rattle.wf_book.specs.Book.{after, reply}
 use Rattle.wf_book.specs.Entries.{book_after, entries_of}
 use Rattle.wf_book.specs.Past.{Answer, PastsAnswer, is_of_key, pasts_of}
+use Rattle.wf_laws.specs.Apart.{Made}
+use Rattle.wf_laws.proofs.ApartLemmas.{SayReplies}
 use Rattle.wf_run.specs.Runs.{document_client, document_run}
 use Rattle.wf_iso.specs.Alone.{after_ops, ops_of, pasts, reply_after}
-use Rattle.wf_iso.specs.Calls.{Made, calls_of, document_calls}
+use Rattle.wf_iso.specs.Calls.{calls_of, document_calls}
 use Rattle.wf_iso.specs.Laws.{CallsInRange, CallsOwn, RunsAlike, RunsAlone, RunsApart}
-use Rattle.wf_iso.proofs.AloneLemmas.{Answers, run-apart, run-by}
-use Rattle.wf_iso.proofs.BlindLemmas.{blind-document}
+use Rattle.wf_iso.proofs.AloneLemmas.{run-apart, run-by}
+use Rattle.wf_iso.proofs.BlindLemmas.{blind-document, silent-document}
 use Rattle.wf_iso.proofs.OwnLemmas.{document-calls, range-calls}
 
 pub runs-apart : RunsApart
@@ -32,7 +34,7 @@ book-ops book (e ∷ es) = book-ops (after book e.op) es
 
 -- the books after the pasts of entries say what their calls were replied
 pasts-answer : (opening : Book) (before : List (List Entry)) (own : List Entry) → Answer opening before own
-    → Answers (reply_after opening) (map ops_of before) (calls_of own)
+    → SayReplies (reply_after opening) (map ops_of before) (calls_of own)
 pasts-answer opening [] [] is = tt
 pasts-answer opening [] (e ∷ es) is = absurd is
 pasts-answer opening (past ∷ before) [] is = absurd is
@@ -56,11 +58,12 @@ runs-alone law cookies base document opening history number tape is =
     let own : AllByRecursion (λ (call : Made). is_of_key key call.op ≡ true) (document_calls number history) =
     subst (AllByRecursion (λ (call : Made). is_of_key key call.op ≡ true)) is.calls
     (document-calls cookies base document tape) in
-    let answer : Answers (reply_after opening) (pasts number key history) (document_calls number history) =
+    let answer : SayReplies (reply_after opening) (pasts number key history) (document_calls number history) =
     pasts-answer opening (pasts_of number key history) (entries_of number history)
     (law opening history number key is.legal (entries-own key (entries_of number history) own)) in
     run-by (reply_after opening) None whole tape (pasts number key history) (blind-document cookies base document)
-    (subst (Answers (reply_after opening) (pasts number key history)) (sym is.calls) answer)
+    (silent-document cookies base document)
+    (subst (SayReplies (reply_after opening) (pasts number key history)) (sym is.calls) answer)
 
 pub runs-alike : PastsAnswer → RunsAlike
 runs-alike law cookies base document opening history others number another tape different is are past view = rw (

@@ -7,5 +7,4 @@ pub mod OnceLemmas
 pub mod OrderLemmas
 pub mod OwnLemmas
 pub mod PlayLemmas
-pub mod ScriptLemmas
 pub mod TranscriptLemmas

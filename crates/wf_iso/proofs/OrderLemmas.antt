@@ -40,7 +40,7 @@ use Rattle.wf_answers.specs.Endings.{ended_under}
 use Rattle.wf_answers.specs.Following.{redirected_request}
 use Rattle.wf_answers.specs.Judging.{refusal_after}
 use Rattle.wf_answers.specs.Redirects.{redirection}
-use Rattle.wf_script.specs.declared.types.Document.{Document}
+use Rattle.wf_scenario.specs.declared.document.Document.{Document}
 use Rattle.wf_fetch.specs.Fetch.{again, ends, fetch, finished, onward_of}
 use Rattle.wf_fetch.specs.HttpFetch.{after_head, answered, http_fetch, judged, read_head, redirected}
 use Rattle.wf_fetch.specs.MainFetch.{checked, main_fetch, matched_by, switched_by, unless_refused, unless_violated}
@@ -48,8 +48,9 @@ use Rattle.wf_fetch.specs.PreflightFetch.{after_preflight_head, clearing, covere
 use Rattle.wf_fetch.specs.PreflightFetch.{preflight_judged, read_preflight_head}
 use Rattle.wf_fetch.specs.Then.{Context, Onward, Then, said_yes, tell_all, then_ask_where, was_sent}
 use Rattle.wf_run.specs.Play.{Play, emit, events_of, over, step}
-use Rattle.wf_run.specs.Runs.{Next, Progress, after_events, at_time, document_run, embed, setting_of}
-use Rattle.wf_iso.proofs.ScriptLemmas.{good-document}
+use Rattle.wf_run.specs.Runs.{Next, Progress, after_events, at_time, document_run, embed, outcome_event, setting_of}
+use Rattle.wf_run.specs.Runs.{showing}
+use Rattle.wf_run.proofs.ScriptLemmas.{good-document}
 
 -- How far an exchange has come: nothing is known of what is to come; a request was sent; and the head of its answer was
 -- read.
@@ -302,12 +303,13 @@ ordered-embed stage (act request first after) next progress ordered all = (
 pub ordered-document : (cookies : List Cookie) (base : ℕ) (document : Document)
     → OrderedPlay idle (document_run cookies base document)
 ordered-document cookies base document =
-    good-document cookies base document (λ (sent : Option Hop) (play : Play). (stage : Stage) → OrderedPlay stage play)
-    (record {
-      at_end = λ sent ending clock stage. tt;
-      at_event = λ sent shown rest silent good stage. good idle;
-      at_fetch = λ sent now request next progress plain good stage.
-          let context = at_time (setting_of cookies document) now in
-          ordered-embed stage (fetch context request) next progress (ordered-fetch context request stage)
-          (λ came later behind. good None came later behind);
+    good-document cookies base document (λ (play : Play). (stage : Stage) → OrderedPlay stage play) (record {
+      at_end = λ ending clock stage. tt;
+      at_start = λ kind number rest good stage. good idle;
+      at_fault = λ kind fault rest good stage. good idle;
+      at_fetch = λ kind request next progress made stands good stage.
+          let context = at_time (setting_of cookies document) progress.clock in
+          ordered-embed stage (fetch context request) (λ came. showing (outcome_event kind came) next) progress
+          (ordered-fetch context request stage)
+          (λ came later behind. good (after_events (outcome_event kind came ∷ []) later) tt idle);
     }) idle

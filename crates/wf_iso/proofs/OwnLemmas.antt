@@ -7,7 +7,6 @@ use Rattle.std.specs.Str.{bytes_eq}
 use Rattle.std.specs.Cmp.Lexicographic.{bytes_decides}
 use Rattle.wf_hsts.specs.declared.sts.Sts.{Sts}
 use Rattle.wf_types.specs.declared.client.Cookie.{Cookie}
-use Rattle.wf_types.specs.declared.hop.Hop.{Hop}
 use Rattle.wf_types.specs.declared.request.Request.{Request}
 use Rattle.wf_types.specs.declared.response.Outcome.{Outcome}
 use Rattle.wf_book.specs.declared.op.Op.{Op}
@@ -17,38 +16,41 @@ use Rattle.wf_book.specs.Past.{is_of_key}
 use Rattle.wf_act.specs.declared.act.Act.{Act}
 use Rattle.wf_act.specs.declared.act.Act.TheVariants.{Ask, Send, ReadHead, ReadBody, Tell}
 use Rattle.wf_act.specs.declared.act.Input.{Input}
+use Rattle.wf_act.specs.declared.act.Input.TheVariants.{Replied}
 use Rattle.wf_act.specs.Process.{Process, act, ended, fits}
 use Rattle.wf_act.specs.Within.{Anything, Within, asks, price_of}
 use Rattle.wf_rules.specs.KnownHosts.{host_to_match, host_to_note, sts_of}
 use Rattle.wf_commands.specs.Scripts.{Step, Steps}
 use Rattle.wf_commands.specs.Scripts as script
 use Rattle.wf_commands.specs.Valid.{AreValid, IsValidStep}
-use Rattle.wf_script.specs.declared.types.Document.{Document}
+use Rattle.wf_scenario.specs.declared.document.Document.{Document}
 use Rattle.wf_print.specs.declared.events.Ending.TheVariants.{Commands}
 use Rattle.wf_print.specs.declared.events.Event.{Event}
 use Rattle.wf_fetch.specs.Fetch.{fetch}
 use Rattle.wf_fetch.specs.Then.{Context}
+use Rattle.wf_laws.specs.Apart.{Made, Plan, calls_on, does, stops, with_call}
 use Rattle.wf_laws.specs.Prices.{fetch_price}
 use Rattle.wf_laws.specs.Own.{IsOwnAct}
 use Rattle.wf_laws.proofs.OwnLemmas.{fetch-within}
 use Rattle.wf_laws.proofs.RuleLemmas.{Keeps, within-fetch}
-use Rattle.wf_run.specs.Play.{Play, PlayRun, emit, events_of, over, run_play, shows, step, unseen}
+use Rattle.wf_run.specs.Play.{Play, events_of, run_play}
 use Rattle.wf_run.specs.Runs.{Next, Progress, after_events, at_time, document_client, document_run, embed}
-use Rattle.wf_run.specs.Runs.{own_limit, setting_of}
-use Rattle.wf_iso.specs.Calls.{Made, call_in, calls_in}
-use Rattle.wf_iso.proofs.AloneLemmas.{calls-append, calls-silent}
-use Rattle.wf_iso.proofs.ScriptLemmas.{AllWaits, Bounds, WaitsOfStep, good-document, good-from}
+use Rattle.wf_run.specs.Runs.{outcome_event, own_limit, setting_of, showing}
+use Rattle.wf_run.proofs.ScriptLemmas.{AllWaits, Anywhere, Bounds, WaitsOfStep, good-document, good-from}
+use Rattle.wf_iso.specs.Apart.{plan_of}
+use Rattle.wf_iso.specs.Calls.{calls_in}
+use Rattle.wf_iso.proofs.AloneLemmas.{calls-shown}
+use Rattle.wf_iso.proofs.BlindLemmas.{ShowsNoCall, silent-document}
 
 -- the op of the act, where it is a call, is as P says
 abbrev pub AsksBy : (Op → Type 0) → Request → Act → Type 0
 AsksBy P request (Ask op) = P op
 AsksBy P request _ = Unit {0}
 
--- so is each act of a run, and no event that it shows itself is a call
-abbrev pub AreAsked : (Op → Type 0) → Play → Type 0
-AreAsked P (over ending clock) = Unit {0}
-AreAsked P (emit event rest) = (call_in event ≡ []) × AreAsked P rest
-AreAsked P (step request first after) = AsksBy P request first × ((input : Input) → AreAsked P (after input))
+-- so is each act of a plan
+abbrev pub AreAsked : (Op → Type 0) → Plan → Type 0
+AreAsked P stops = Unit {0}
+AreAsked P (does request first after) = AsksBy P request first × ((input : Input) → AreAsked P (after input))
 
 -- the op is one that a document of this key makes
 abbrev pub IsOfKey : List ℕ → Op → Type 0
@@ -100,76 +102,72 @@ asked-embed : (P : Op → Type 0) (Q : Request → Act → Type 0)
     → (most : ℕ) (process : Process) (next : Outcome → Next) (progress : Progress) (Stands : Progress → Type 0)
     → ((events : List Event) (later : Progress) → Stands later → Stands (after_events events later))
     → Stands progress → Within (price_of asks) Anything Q most process
-    → ((came : Outcome) (later : Progress) → Stands later → AreAsked P (next came later))
-    → AreAsked P (embed process next progress)
-asked-embed P Q says most (ended outcome) next progress Stands stays stands within good = good outcome progress stands
+    → ((came : Outcome) (later : Progress) → Stands later → AreAsked P (plan_of (next came later)))
+    → AreAsked P (plan_of (embed process next progress))
+asked-embed P Q says most (ended outcome) next progress Stands stays stands within good =
+    good outcome progress stands
 asked-embed P Q says most (act request first after) next progress Stands stays stands within good = (
   asks-by P Q request first (says request) within.0,
-  λ input. asked-embed P Q says within.1.left (after input) next (after_events (events_of first input) progress) Stands
-      stays (stays (events_of first input) progress stands) (within.1.rest input tt) good,
+  λ input. asked-embed P Q says within.1.left (after input) next (after_events (events_of first input) progress)
+      Stands stays (stays (events_of first input) progress stands) (within.1.rest input tt) good,
 )
 
 key-document : (cookies : List Cookie) (base : ℕ) (document : Document)
-    → AreAsked (IsOfKey (document_client document).key) (document_run cookies base document)
+    → AreAsked (IsOfKey (document_client document).key) (plan_of (document_run cookies base document))
 key-document cookies base document =
     let P = IsOfKey (document_client document).key in
-    good-document cookies base document (λ (sent : Option Hop) (play : Play). AreAsked P play) (record {
-      at_end = λ sent ending clock. tt;
-      at_event = λ sent shown rest silent good. (silent, good);
-      at_fetch = λ sent now request next progress plain good.
-          let context = at_time (setting_of cookies document) now in
-          asked-embed P (AsksBy P) (λ about op is. is) (fetch_price asks context request) (fetch context request) next
-          progress (λ later. Unit {0}) (λ events later stood. tt) tt
+    good-document cookies base document (λ (play : Play). AreAsked P (plan_of play)) (record {
+      at_end = λ ending clock. tt;
+      at_start = λ kind number rest good. good;
+      at_fault = λ kind fault rest good. good;
+      at_fetch = λ kind request next progress made stands good.
+          let context = at_time (setting_of cookies document) progress.clock in
+          asked-embed P (AsksBy P) (λ about op is. is) (fetch_price asks context request) (fetch context request)
+          (λ came. showing (outcome_event kind came) next) progress Anywhere (λ events later stood. tt) tt
           (within-fetch asks context (AsksBy P) (key-kept context) request)
-          (λ came later stood. good None came later);
+          (λ came later stood. good (after_events (outcome_event kind came ∷ []) later) tt);
     })
 
 -- ---- its calls
-
-all-append : (P : Made → Type 0) (a b : List Made) → AllByRecursion P a → AllByRecursion P b → AllByRecursion P (a ++ b)
-all-append P [] b x y = y
-all-append P (call ∷ a) b x y = (x.0, all-append P a b x.1 y)
 
 module _ (P : Op → Type 0) where
   -- the op of a call is so
   abbrev Says : Made → Type 0
   Says call = P call.op
 
-  event-calls : (request : Request) (first : Act) (input : Input) → AsksBy P request first
-      → AllByRecursion Says (calls_in (events_of first input))
-  event-calls request (Ask op) input is = (is, tt)
-  event-calls request (Send hop) input is = tt
-  event-calls request ReadHead input is = tt
-  event-calls request ReadBody input is = tt
-  event-calls request (Tell violation) input is = tt
+  call-says : (request : Request) (first : Act) (input : Input) (calls : List Made) → AsksBy P request first
+      → AllByRecursion Says calls → AllByRecursion Says (with_call first input calls)
+  call-says request (Ask op) (Replied reply) calls is all = (is, all)
+  call-says request (Ask op) input calls is all = all
+  call-says request first input calls is all = all
 
-  step-calls : (request : Request) (first : Act) (input : Input) (rest : PlayRun) (fit : Bool)
-      → AsksBy P request first → AllByRecursion Says (calls_in rest.events)
-      → AllByRecursion Says (calls_in (cond fit (shows (events_of first input) rest) unseen).events)
-  step-calls request first input rest true is all =
-      subst (AllByRecursion Says) (sym (calls-append (events_of first input) rest.events))
-      (all-append Says (calls_in (events_of first input)) (calls_in rest.events)
-      (event-calls request first input is) all)
-  step-calls request first input rest false is all = tt
+  -- as far as inputs fit
+  calls-by : (request : Request) (first : Act) (input : Input) (calls : List Made) (fit : Bool)
+      → AsksBy P request first → AllByRecursion Says calls
+      → AllByRecursion Says (cond fit (with_call first input calls) [])
+  calls-by request first input calls true is all = call-says request first input calls is all
+  calls-by request first input calls false is all = tt
 
-  pub asked-calls : (play : Play) (tape : List Input) → AreAsked P play
-      → AllByRecursion Says (calls_in (run_play play tape).events)
-  asked-calls (over ending clock) tape are = tt
-  asked-calls (emit shown rest) tape are =
-      subst (AllByRecursion Says) (sym (calls-silent shown (run_play rest tape).events are.0))
-      (asked-calls rest tape are.1)
-  asked-calls (step request first after) [] are = tt
-  asked-calls (step request first after) (input ∷ tape) are =
-      step-calls request first input (run_play (after input) tape) (fits first input) are.0
+  asked-calls : (plan : Plan) (tape : List Input) → AreAsked P plan → AllByRecursion Says (calls_on plan tape)
+  asked-calls stops tape are = tt
+  asked-calls (does request first after) [] are = tt
+  asked-calls (does request first after) (input ∷ tape) are =
+      calls-by request first input (calls_on (after input) tape) (fits first input) are.0
       (asked-calls (after input) tape (are.1 input))
+
+  -- so is each call that a run shows
+  shown-calls : (play : Play) (tape : List Input) → ShowsNoCall play → AreAsked P (plan_of play)
+      → AllByRecursion Says (calls_in (run_play play tape).events)
+  shown-calls play tape silent are =
+      subst (AllByRecursion Says) (sym (calls-shown play tape silent)) (asked-calls (plan_of play) tape are)
 
 -- each call of a document's run is of its key
 pub document-calls : (cookies : List Cookie) (base : ℕ) (document : Document) (tape : List Input)
     → AllByRecursion (λ (call : Made). is_of_key (document_client document).key call.op ≡ true)
     (calls_in (run_play (document_run cookies base document) tape).events)
 document-calls cookies base document tape =
-    asked-calls (IsOfKey (document_client document).key) (document_run cookies base document) tape
-    (key-document cookies base document)
+    shown-calls (IsOfKey (document_client document).key) (document_run cookies base document) tape
+    (silent-document cookies base document) (key-document cookies base document)
 
 -- ---- in range
 
@@ -217,18 +215,21 @@ mutual
   short-waits (script.step one more) valid = (short-wait one valid.0, short-waits more valid.1)
 
 range-document : (cookies : List Cookie) (base : ℕ) (document : Document) → AreValid document.script
-    → base ≤ 1099511627776 → AreAsked InRange (document_run cookies base document)
+    → base ≤ 1099511627776 → AreAsked InRange (plan_of (document_run cookies base document))
 range-document cookies base document valid soon =
     good-from cookies base document (InTime base) (InTimeToWait base) IsShort
-    (λ (sent : Option Hop) (play : Play). AreAsked InRange play) (time-bounds base) (record {
-      at_end = λ sent ending clock. tt;
-      at_event = λ sent shown rest silent good. (silent, good);
-      at_fetch = λ sent request next progress plain stands good.
+    (λ (play : Play). AreAsked InRange (plan_of play)) (time-bounds base) (record {
+      at_end = λ ending clock. tt;
+      at_start = λ kind number rest good. good;
+      at_fault = λ kind fault rest good. good;
+      at_fetch = λ kind request next progress made stands good.
           let context = at_time (setting_of cookies document) progress.clock in
           asked-embed InRange (IsOwnAct context) (λ about op is. is.0) (fetch_price asks context request)
-          (fetch context request) next progress (InTime base) (time-bounds base).showing stands
+          (fetch context request) (λ came. showing (outcome_event kind came) next) progress (InTime base)
+          (time-bounds base).showing stands
           (fetch-within asks context request (omega (arith, stands.few, stands.early, soon)))
-          (λ came later stood. good None came later stood);
+          (λ came later stood. good (after_events (outcome_event kind came ∷ []) later)
+          ((time-bounds base).showing (outcome_event kind came ∷ []) later stood));
     }) (record { few = omega arith; early = omega arith }) (short-waits document.script valid)
 
 -- each call of a run of a valid script is in range
@@ -237,4 +238,5 @@ pub range-calls : (cookies : List Cookie) (base : ℕ) (document : Document) (ta
     → AllByRecursion (λ (call : Made). InRange call.op)
     (calls_in (run_play (document_run cookies base document) tape).events)
 range-calls cookies base document tape valid soon =
-    asked-calls InRange (document_run cookies base document) tape (range-document cookies base document valid soon)
+    shown-calls InRange (document_run cookies base document) tape (silent-document cookies base document)
+    (range-document cookies base document valid soon)

@@ -1,8 +1,7 @@
 -- The documents of a play.
-use Rattle.std.proofs.Common.{◌≡◌, ℕ, List, [], ◌∷◌, ◌++◌, refl, ap, sym, ◌∙◌, Option, None}
+use Rattle.std.proofs.Common.{◌≡◌, ℕ, List, [], ◌∷◌, ◌++◌, refl, ap, sym, ◌∙◌}
 use Rattle.std.proofs.Common.{append_assoc}
 use Rattle.std.proofs.lemmas.List.{append-nil, map-append}
-use Rattle.wf_types.specs.declared.hop.Hop.{Hop}
 use Rattle.wf_book.specs.declared.entry.Entry.{Entry}
 use Rattle.wf_book.specs.Book.{empty}
 use Rattle.wf_book.specs.Entries.{Legal, entries_of}
@@ -13,22 +12,23 @@ use Rattle.wf_act.specs.declared.act.Input.{Input}
 use Rattle.wf_print.specs.declared.events.Event.{Event}
 use Rattle.wf_print.specs.declared.events.Event.TheVariants as event
 use Rattle.wf_print.specs.declared.events.Transcript.{Transcript}
-use Rattle.wf_script.specs.declared.types.Document.{Document}
-use Rattle.wf_script.specs.declared.types.Scenario.{Scenario}
-use Rattle.wf_laws.specs.Seen.{sent_by}
+use Rattle.wf_scenario.specs.declared.document.Document.{Document}
+use Rattle.wf_scenario.specs.declared.scenario.Scenario.{Scenario}
+use Rattle.wf_laws.specs.Apart.{Made, views_on}
 use Rattle.wf_run.specs.Play.{Play, PlayRun, events_of, run_play}
 use Rattle.wf_run.specs.Runs.{document_client, document_run}
 use Rattle.wf_run.specs.Traces.{PlayTrace, shown, stepped, stop}
+use Rattle.wf_run.proofs.DocumentLemmas.{each-so}
 use Rattle.wf_wire.specs.Exchanges.{Answering}
-use Rattle.wf_drive.specs.Worlds.{Answers, Outside, Settles, World}
-use Rattle.wf_iso.specs.Calls.{Made, call_of, calls_in, calls_of}
-use Rattle.wf_iso.specs.Isolated.{AreAlone, IsAlone, alone_in, run_in, run_of}
+use Rattle.wf_player.specs.Worlds.{Answers, Outside, Settles, World}
+use Rattle.wf_iso.specs.Calls.{call_of, calls_in, calls_of}
+use Rattle.wf_iso.specs.Isolated.{IsAlone, alone_in, run_in, run_of}
 use Rattle.wf_iso.specs.Laws.{IsIn, PlaysAlone, WorldsAlike}
 use Rattle.wf_iso.specs.Alone.{alone, pasts}
-use Rattle.wf_iso.specs.Plays.{AreTranscripts, IsTranscript, Way, opening_book, with_hosts}
-use Rattle.wf_iso.specs.Views.{views}
+use Rattle.wf_iso.specs.Apart.{plan_of}
+use Rattle.wf_iso.specs.Plays.{IsTranscript, Way, opening_book, with_hosts}
 use Rattle.wf_iso.proofs.AloneLemmas.{calls-append, calls-silent}
-use Rattle.wf_iso.proofs.BlindLemmas.{BlindPlay, blind-document}
+use Rattle.wf_iso.proofs.BlindLemmas.{ShowsNoCall, silent-document}
 use Rattle.wf_iso.proofs.HistoryLemmas.{runs-alone}
 
 -- ---- the calls of a trace are the entries that it makes
@@ -58,16 +58,16 @@ module _ {State : Type 0} (by : Answering State) (limit document : ℕ) where
   event-own a b (event.LoadFailed error) is = ap (λ (o : Outside State). o.own) is.outside_is
   event-own a b one is = ap (λ (w : World State). w.own) is
 
-  trace-calls : {p q : Play} {a b : World State} {t : List Input} {e : List Event} → (sent : Option Hop)
-      → PlayTrace (Answers by limit document) Settles p a t e q b → BlindPlay sent p
+  trace-calls : {p q : Play} {a b : World State} {t : List Input} {e : List Event}
+      → PlayTrace (Answers by limit document) Settles p a t e q b → ShowsNoCall p
       → calls_of b.own ≡ calls_of a.own ++ calls_in e
-  trace-calls {a = a} sent stop blind = sym (append-nil (calls_of a.own))
-  trace-calls {a = a} {b = b} sent (shown {mid = mid} {events = events} one is x) blind =
-      trace-calls sent x blind.1
+  trace-calls {a = a} stop silent = sym (append-nil (calls_of a.own))
+  trace-calls {a = a} {b = b} (shown {mid = mid} {events = events} one is x) silent =
+      trace-calls x silent.1
       ∙ ap (λ (l : List Entry). calls_of l ++ calls_in events) (event-own a mid one is)
-      ∙ ap (λ (l : List Made). calls_of a.own ++ l) (sym (calls-silent one events blind.0))
-  trace-calls {a = a} {b = b} sent (stepped {mid = mid} {events = events} request first after input is fit x) blind =
-      trace-calls (sent_by first sent) x (blind.1 input)
+      ∙ ap (λ (l : List Made). calls_of a.own ++ l) (sym (calls-silent one events silent.0))
+  trace-calls {a = a} {b = b} (stepped {mid = mid} {events = events} request first after input is fit x) silent =
+      trace-calls x (silent input)
       ∙ ap (λ (l : List Made). l ++ calls_in events) (act-calls a mid first input is)
       ∙ append_assoc (calls_of a.own) (calls_in (events_of first input)) (calls_in events)
       ∙ ap (λ (l : List Made). calls_of a.own ++ l) (sym (calls-append (events_of first input) events))
@@ -93,7 +93,7 @@ module _ {State : Type 0} (by : Answering State) (scenario : Scenario) (base : �
       let opened : ran.first.own ≡ [] = ap (λ o. o.own) ran.from in
       let closed : ran.last.own ≡ entries_of number history = ap (λ o. o.own) ran.to in
       let made : calls_of ran.last.own ≡ calls_of ran.first.own ++ calls_in transcript.events =
-      trace-calls by scenario.body_limit number None ran.trace (blind-document scenario.cookies base document) in
+      trace-calls by scenario.body_limit number ran.trace (silent-document scenario.cookies base document) in
       record {
         legal = legal;
         calls = ap (λ (r : PlayRun). calls_in r.events) run-is
@@ -102,7 +102,7 @@ module _ {State : Type 0} (by : Answering State) (scenario : Scenario) (base : �
       }
 
   pub transcript-alone : PastsAnswer → Legal (opening_book scenario) history
-      → run_of transcript ≡ alone_in scenario base history number document (views whole tape)
+      → run_of transcript ≡ alone_in scenario base history number document (views_on (plan_of whole) tape)
   unfolding run-is transcript-in
   transcript-alone law legal =
       sym run-is
@@ -115,22 +115,11 @@ module _ {State : Type 0} (by : Answering State) (scenario : Scenario) (base : �
 
 -- ---- all of them
 
-are-alone : PastsAnswer → {State : Type 0} (by : Answering State) (scenario : Scenario) (base : ℕ)
-    (history : List Entry) {number : ℕ} {documents : List Document} {olds news : List (Way State)}
-    {transcripts : List Transcript} → Legal (opening_book scenario) history
-    → AreTranscripts by scenario base history number documents olds news transcripts
-    → AreAlone by scenario base history number documents olds news transcripts
-are-alone law by scenario base history legal AreTranscripts.none = AreAlone.none
-are-alone law by scenario base history {number} legal
-    (AreTranscripts.one_more {document = document} {old = old} {new = new} {transcript = transcript} is more) =
-    AreAlone.one_more
-    (is-alone by scenario base history number document old new transcript is law legal)
-    (are-alone law by scenario base history legal more)
-
 pub plays-alone : PastsAnswer → (State : Type 0) → PlaysAlone State
 plays-alone law State by scenario base olds news transcripts history play = record {
   play = play;
-  alone = are-alone law by scenario base history play.legal play.runs;
+  alone = each-so (λ number document old new transcript is.
+      is-alone by scenario base history number document old new transcript is law play.legal) play.runs;
 }
 
 -- ---- two plays
@@ -139,7 +128,7 @@ pub worlds-alike : PastsAnswer → (State Other : Type 0) → WorldsAlike State 
 worlds-alike law State Other by otherwise scenario other base history others number another document old new before
     behind transcript different alike legal legals one two past view =
     let key = (document_client document).key in
-    let seen = views (run_in scenario base document) one.run_is.ran.tape in
+    let seen = views_on (plan_of (run_in scenario base document)) one.run_is.ran.tape in
     transcript-alone by scenario base history number document old new transcript one law legal
     ∙ ap (λ hosts. alone (with_hosts hosts empty) (run_in scenario base document) (pasts number key history) seen)
     alike.hosts

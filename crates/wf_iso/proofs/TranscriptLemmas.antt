@@ -4,14 +4,15 @@ use Rattle.wf_book.specs.declared.entry.Entry.{Entry}
 use Rattle.wf_http1.specs.HeadLaws.{HasOneEnd}
 use Rattle.wf_print.specs.declared.events.Ending.{Ending}
 use Rattle.wf_print.specs.declared.events.Transcript.{Transcript}
-use Rattle.wf_script.specs.declared.types.Document.{Document}
-use Rattle.wf_script.specs.declared.types.Scenario.{Scenario}
-use Rattle.wf_script.specs.declared.types.Server.{Server}
+use Rattle.wf_scenario.specs.declared.document.Document.{Document}
+use Rattle.wf_scenario.specs.declared.scenario.Scenario.{Scenario}
+use Rattle.wf_scenario.specs.declared.servers.Server.{Server}
+use Rattle.wf_run.specs.Documents.{EachDocument}
 use Rattle.wf_run.specs.Play.{PlayRun, run_play}
 use Rattle.wf_wire.specs.Exchanges.{Answering}
 use Rattle.wf_iso.specs.Isolated.{run_in, run_of}
 use Rattle.wf_iso.specs.Laws.{IsTold, PlaysOnce, TapesOnce}
-use Rattle.wf_iso.specs.Plays.{AreTranscripts, IsTranscript, Way, by_rules}
+use Rattle.wf_iso.specs.Plays.{IsTranscript, Way, by_rules}
 use Rattle.wf_iso.proofs.OnceLemmas.{once, opened-same}
 use Rattle.wf_iso.proofs.OrderLemmas.{idle, ordered-document}
 
@@ -74,14 +75,14 @@ ways servers documents = map (λ document. way servers) documents
 
 transcripts-once : HasOneEnd → (scenario : Scenario) (history : List Entry) (number : ℕ) (documents : List Document)
     {transcripts others : List Transcript}
-    → AreTranscripts by_rules scenario scenario.now history number documents (ways scenario.servers documents)
-    (ways scenario.servers documents) transcripts
-    → AreTranscripts by_rules scenario scenario.now history number documents (ways scenario.servers documents)
-    (ways scenario.servers documents) others → transcripts ≡ others
-transcripts-once law scenario history number [] AreTranscripts.none AreTranscripts.none = refl
+    → EachDocument (IsTranscript by_rules scenario scenario.now history) number documents
+    (ways scenario.servers documents) (ways scenario.servers documents) transcripts
+    → EachDocument (IsTranscript by_rules scenario scenario.now history) number documents
+    (ways scenario.servers documents) (ways scenario.servers documents) others → transcripts ≡ others
+transcripts-once law scenario history number [] EachDocument.none EachDocument.none = refl
 transcripts-once law scenario history number (document ∷ documents)
-    (AreTranscripts.one_more {transcript = transcript} {transcripts = transcripts} is are)
-    (AreTranscripts.one_more {transcript = other} same more) =
+    (EachDocument.one_more {transcript = transcript} {transcripts = transcripts} is are)
+    (EachDocument.one_more {transcript = other} same more) =
     ap (λ (t : Transcript). t ∷ transcripts)
     (transcript-once law by_rules scenario scenario.now history number document (way scenario.servers)
     (way scenario.servers) transcript other (way-told scenario.servers) is same)

@@ -2,16 +2,10 @@
 -- project's own definition).
 use Rattle.std.specs.Prelude.{ℕ, List, [], ◌∷◌, ◌++◌, map}
 use Rattle.wf_book.specs.declared.entry.Entry.{Entry}
-use Rattle.wf_book.specs.declared.op.Op.{Op}
-use Rattle.wf_book.specs.declared.op.Reply.{Reply}
 use Rattle.wf_book.specs.Entries.{entries_of}
 use Rattle.wf_print.specs.declared.events.Event.{Event}
 use Rattle.wf_print.specs.declared.events.Event.TheVariants as event
-
--- An op that was done on the book, and what the book replied.
-pub record Made : Type 0 where
-  pub op : Op
-  pub reply : Reply
+use Rattle.wf_laws.specs.Apart.{Made}
 
 -- the call that an event shows, where it shows one
 abbrev pub call_in : Event → List Made

@@ -1,18 +1,20 @@
 -- Isolation in a play: what each document of it sends and sees is what it would alone, over what it may learn of the
 -- answers to its requests, what was learnt and cleared under its key, and what was noted of known hosts (this project's
 -- own definition).
-use Rattle.std.specs.Prelude.{◌≡◌, ℕ, ◌+◌, List, [], ◌∷◌, Some}
+use Rattle.std.specs.Prelude.{◌≡◌, ℕ, List, Some}
 use Rattle.wf_act.specs.declared.act.Input.{Input}
 use Rattle.wf_book.specs.declared.entry.Entry.{Entry}
 use Rattle.wf_print.specs.declared.events.Transcript.{Transcript}
-use Rattle.wf_script.specs.declared.types.Document.{Document}
-use Rattle.wf_script.specs.declared.types.Scenario.{Scenario}
+use Rattle.wf_scenario.specs.declared.document.Document.{Document}
+use Rattle.wf_scenario.specs.declared.scenario.Scenario.{Scenario}
+use Rattle.wf_run.specs.Documents.{EachDocument}
 use Rattle.wf_run.specs.Play.{Play, PlayRun}
 use Rattle.wf_run.specs.Runs.{document_client, document_run}
 use Rattle.wf_wire.specs.Exchanges.{Answering}
+use Rattle.wf_laws.specs.Apart.{views_on}
 use Rattle.wf_iso.specs.Alone.{alone, pasts}
+use Rattle.wf_iso.specs.Apart.{plan_of}
 use Rattle.wf_iso.specs.Plays.{IsPlayOver, IsTranscript, Way, opening_book}
-use Rattle.wf_iso.specs.Views.{views}
 
 -- what a transcript says of its document's run: the events, and the ending with the clock
 abbrev pub run_of : Transcript → PlayRun
@@ -36,21 +38,11 @@ pub record IsAlone {State : Type 0} (by : Answering State) (scenario : Scenario)
     (number : ℕ) (document : Document) (old new : Way State) (transcript : Transcript) : Type 0 where
   pub is : IsTranscript by scenario base history number document old new transcript
   pub alone_is : run_of transcript
-      ≡ alone_in scenario base history number document (views (run_in scenario base document) is.run_is.ran.tape)
-
--- the same of each transcript and its document, from this number on
-pub data AreAlone {State : Type 0} (by : Answering State) (scenario : Scenario) (base : ℕ) (history : List Entry)
-    : ℕ → List Document → List (Way State) → List (Way State) → List Transcript → Type 0 where
-  none : {number : ℕ} → AreAlone by scenario base history number [] [] [] []
-  one_more : {number : ℕ} {document : Document} {old new : Way State} {transcript : Transcript}
-      {documents : List Document} {olds news : List (Way State)} {transcripts : List Transcript}
-      → IsAlone by scenario base history number document old new transcript
-      → AreAlone by scenario base history (number + 1) documents olds news transcripts
-      → AreAlone by scenario base history number (document ∷ documents) (old ∷ olds) (new ∷ news)
-      (transcript ∷ transcripts)
+      ≡ alone_in scenario base history number document
+      (views_on (plan_of (run_in scenario base document)) is.run_is.ran.tape)
 
 -- A play in which what each document sends and sees is what it would alone.
 pub record IsIsolated {State : Type 0} (by : Answering State) (scenario : Scenario) (base : ℕ)
     (olds news : List (Way State)) (transcripts : List Transcript) (history : List Entry) : Type 0 where
   pub play : IsPlayOver by scenario base olds news transcripts history
-  pub alone : AreAlone by scenario base history 0 scenario.documents olds news transcripts
+  pub alone : EachDocument (IsAlone by scenario base history) 0 scenario.documents olds news transcripts

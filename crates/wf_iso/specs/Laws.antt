@@ -13,15 +13,16 @@ use Rattle.wf_commands.specs.Valid.{AreValid}
 use Rattle.wf_print.specs.declared.events.Transcript.{Transcript}
 use Rattle.wf_run.specs.Play.{Play, run_play}
 use Rattle.wf_run.specs.Runs.{document_client, document_run}
-use Rattle.wf_script.specs.declared.types.Document.{Document}
-use Rattle.wf_script.specs.declared.types.Scenario.{Scenario}
+use Rattle.wf_scenario.specs.declared.document.Document.{Document}
+use Rattle.wf_scenario.specs.declared.scenario.Scenario.{Scenario}
 use Rattle.wf_types.specs.declared.client.Cookie.{Cookie}
 use Rattle.wf_wire.specs.Exchanges.{Answering}
-use Rattle.wf_iso.specs.Alone.{alone, apart, pasts}
-use Rattle.wf_iso.specs.Calls.{Made, calls_in, document_calls}
+use Rattle.wf_laws.specs.Apart.{Made, replies_on, views_on}
+use Rattle.wf_iso.specs.Alone.{alone, pasts}
+use Rattle.wf_iso.specs.Apart.{apart, plan_of}
+use Rattle.wf_iso.specs.Calls.{calls_in, document_calls}
 use Rattle.wf_iso.specs.Isolated.{IsIsolated, run_in, run_of}
 use Rattle.wf_iso.specs.Plays.{IsPlay, IsPlayOver, IsTranscript, Way, opening_book}
-use Rattle.wf_iso.specs.Views.{replies_of, views}
 
 -- ---- runs over tapes
 
@@ -30,7 +31,7 @@ abbrev pub RunsApart : Type 0
 RunsApart =
     (cookies : List Cookie) (base : ℕ) (document : Document) (tape : List Input)
     → let whole = document_run cookies base document in
-    run_play whole tape ≡ apart whole (replies_of whole tape) (views whole tape)
+    run_play whole tape ≡ apart whole (replies_on (plan_of whole) tape) (views_on (plan_of whole) tape)
 
 -- each call of a document's run is one that a document of its key makes
 abbrev pub CallsOwn : Type 0
@@ -61,7 +62,7 @@ RunsAlone =
     (tape : List Input) → let whole = document_run cookies base document in
     IsIn opening history number whole tape
     → run_play whole tape
-    ≡ alone opening whole (pasts number (document_client document).key history) (views whole tape)
+    ≡ alone opening whole (pasts number (document_client document).key history) (views_on (plan_of whole) tape)
 
 -- in two histories from one opening book: where the pasts of the calls of a document are equal, and the views of its
 -- answers, its runs are
@@ -71,7 +72,8 @@ RunsAlike =
     (number another : ℕ) (tape different : List Input) → let whole = document_run cookies base document in
     let key = (document_client document).key in
     IsIn opening history number whole tape → IsIn opening others another whole different
-    → pasts number key history ≡ pasts another key others → views whole tape ≡ views whole different
+    → pasts number key history ≡ pasts another key others
+    → views_on (plan_of whole) tape ≡ views_on (plan_of whole) different
     → run_play whole tape ≡ run_play whole different
 
 -- ---- plays
@@ -123,5 +125,6 @@ WorldsAlike State Other =
     → (one : IsTranscript by scenario base history number document old new transcript)
     → (two : IsTranscript otherwise other base others another document before behind different)
     → pasts number (document_client document).key history ≡ pasts another (document_client document).key others
-    → views (run_in scenario base document) one.run_is.ran.tape ≡ views (run_in other base document) two.run_is.ran.tape
+    → views_on (plan_of (run_in scenario base document)) one.run_is.ran.tape
+    ≡ views_on (plan_of (run_in other base document)) two.run_is.ran.tape
     → run_of transcript ≡ run_of different

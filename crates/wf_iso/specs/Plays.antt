@@ -1,6 +1,6 @@
 -- A play of a scenario: one history of the shared book, and the run of each document over what its link answers and
 -- over the document's own entries of that history (this project's own; what a run does is wf_run's definition, what
--- comes of its acts wf_drive's, and a fetch is the whole one, Fetch, section 4.1).
+-- comes of its acts wf_player's, and a fetch is the whole one, Fetch, section 4.1).
 use Rattle.std.specs.Prelude.{◌≡◌, ℕ, ◌+◌, ◌<◌, List, [], ◌∷◌, length, map, Option, Some, None}
 use Rattle.std.specs.List.{AllByRecursion}
 use Rattle.wf_book.specs.declared.book.Book.{Book}
@@ -11,16 +11,17 @@ use Rattle.wf_book.specs.Entries.{Legal, entries_of}
 use Rattle.wf_print.specs.declared.events.Ending.{Ending}
 use Rattle.wf_print.specs.declared.events.Event.{Event}
 use Rattle.wf_print.specs.declared.events.Transcript.{Transcript}
-use Rattle.wf_script.specs.declared.types.Document.{Document}
-use Rattle.wf_script.specs.declared.types.KnownHost.{KnownHost}
-use Rattle.wf_script.specs.declared.types.Scenario.{Scenario}
-use Rattle.wf_script.specs.declared.types.Server.{Server}
-use Rattle.wf_script.specs.Servers.{answer}
+use Rattle.wf_scenario.specs.declared.document.Document.{Document}
+use Rattle.wf_scenario.specs.declared.hosts.KnownHost.{KnownHost}
+use Rattle.wf_scenario.specs.declared.scenario.Scenario.{Scenario}
+use Rattle.wf_scenario.specs.declared.servers.Server.{Server}
+use Rattle.wf_scenario.specs.Servers.{answer}
+use Rattle.wf_run.specs.Documents.{EachDocument}
 use Rattle.wf_run.specs.Play.{Play}
 use Rattle.wf_run.specs.Runs.{document_client, document_run}
 use Rattle.wf_wire.specs.Exchanges.{Answering}
 use Rattle.wf_player.specs.Playing.{Ran}
-use Rattle.wf_drive.specs.Worlds.{Outside}
+use Rattle.wf_player.specs.Worlds.{Outside}
 
 -- ---- the book
 
@@ -78,17 +79,6 @@ pub record IsTranscript {State : Type 0} (by : Answering State) (scenario : Scen
   pub run_is : RunsOver by scenario.body_limit number old new (entries_of number history)
       (document_run scenario.cookies base document) transcript.events transcript.ending transcript.clock
 
--- each transcript is that of its document, from this number on
-pub data AreTranscripts {State : Type 0} (by : Answering State) (scenario : Scenario) (base : ℕ)
-    (history : List Entry) : ℕ → List Document → List (Way State) → List (Way State) → List Transcript → Type 0 where
-  none : {number : ℕ} → AreTranscripts by scenario base history number [] [] [] []
-  one_more : {number : ℕ} {document : Document} {old new : Way State} {transcript : Transcript}
-      {documents : List Document} {olds news : List (Way State)} {transcripts : List Transcript}
-      → IsTranscript by scenario base history number document old new transcript
-      → AreTranscripts by scenario base history (number + 1) documents olds news transcripts
-      → AreTranscripts by scenario base history number (document ∷ documents) (old ∷ olds) (new ∷ news)
-      (transcript ∷ transcripts)
-
 -- ---- the whole
 
 -- A play of the scenario from this time on, over links from their first moments to their last, with this history: it is
@@ -99,7 +89,7 @@ pub record IsPlayOver {State : Type 0} (by : Answering State) (scenario : Scenar
   pub legal : Legal (opening_book scenario) history
   pub turns : HasTurnsFrom 0 history
   pub named : AllByRecursion (λ (entry : Entry). entry.document < length scenario.documents) history
-  pub runs : AreTranscripts by scenario base history 0 scenario.documents olds news transcripts
+  pub runs : EachDocument (IsTranscript by scenario base history) 0 scenario.documents olds news transcripts
 
 -- ---- the servers of the scenario
 

@@ -8,13 +8,17 @@ use Rattle.wf_act.specs.Process.{Process, act, ended, fits}
 use Rattle.wf_act.specs.Readings.{Reading}
 use Rattle.wf_laws.specs.Seen.{seen, sent_by}
 
--- From each input that fits it goes on as from what is seen of the input, and so it is of what follows; the hop is that
--- which was sent last.
+-- after an act it goes on from what is seen of each input that fits as from the input; the hop is that which was sent
+-- last
+abbrev pub GoesBlind : {Rest : Type 0} → Option Hop → Request → Act → (Input → Rest) → Type 0
+GoesBlind sent request first after =
+    (input : Input) → IsTrue (fits first input) → after (seen first request sent input) ≡ after input
+
+-- so it does after each of its acts
 abbrev pub Blind : Option Hop → Process → Type 0
 Blind sent (ended outcome) = Unit {0}
 Blind sent (act request first after) =
-    ((input : Input) → IsTrue (fits first input) → after (seen first request sent input) ≡ after input)
-    × ((input : Input) → Blind (sent_by first sent) (after input))
+    GoesBlind sent request first after × ((input : Input) → Blind (sent_by first sent) (after input))
 
 -- what is read of an item is the same of what is seen of it
 abbrev pub IsBlind : {R : Type 0} → Reading R → Type 0

@@ -6,10 +6,10 @@ use Rattle.wf_filter.specs.Laws.{follows_or_fetches}
 use Rattle.wf_act.specs.declared.act.Act.{Act}
 use Rattle.wf_act.specs.declared.act.Input.{Input}
 use Rattle.wf_act.specs.Process.{Process, run}
-use Rattle.wf_act.specs.Readings.{runs, shown}
+use Rattle.wf_act.specs.Readings.{shown}
 use Rattle.wf_fetch.specs.Fetch.{fetch}
 use Rattle.wf_fetch.specs.Then.{Context}
-use Rattle.wf_laws.specs.Apart.{apart, replies_of, view_of}
+use Rattle.wf_laws.specs.Apart.{apart, plan_of, replies_on, views_on}
 use Rattle.wf_laws.specs.Blind.{Blind, ShowsNoHead}
 
 -- a fetch goes on from the permitted view of each head as from the head, where the redirect mode is follow or the
@@ -24,12 +24,12 @@ abbrev pub RunsApart : Type 0
 RunsApart =
     (context : Context) (request : Request) (tape : List Input) → IsTrue (follows_or_fetches request)
     → let whole = fetch context request in
-    run whole tape ≡ apart runs whole (replies_of whole tape) (view_of None whole tape)
+    run whole tape ≡ apart whole (replies_on (plan_of whole) tape) (views_on (plan_of whole) tape)
 
 -- Two tapes have equal replies to the ops of a process, and equal views.
 pub record LookAlike (whole : Process) (tape other : List Input) : Type 0 where
-  pub replies : replies_of whole tape ≡ replies_of whole other
-  pub views : view_of None whole tape ≡ view_of None whole other
+  pub replies : replies_on (plan_of whole) tape ≡ replies_on (plan_of whole) other
+  pub views : views_on (plan_of whole) tape ≡ views_on (plan_of whole) other
 
 -- over tapes that look alike a fetch has the same run
 abbrev pub RunsAlike : Type 0

@@ -3,6 +3,27 @@ use Rattle.std.specs.Prelude.{◌≡◌, ◌⊎◌, ℕ, ◌+◌, ◌-◌, ◌<�
 use Rattle.wf_link.specs.Counts.{counted_on}
 use Rattle.wf_link.specs.declared.target.Ask.{Ask}
 
+-- What answers requests: in a state, the bytes of the answer of the target with this origin to a request, and the state
+-- after such a request, whether its ask succeeded or failed.
+pub record Serves (State : Type 0) : Type 0 where
+  pub answer : State → List ℕ → List ℕ → List ℕ
+  pub next : State → List ℕ → List ℕ → State
+
+-- What a link tells of itself: its state, the bytes of the current answer still to come, and what it was asked so far,
+-- each where told; how many bytes of each answer were received, where told: a number for each ask that succeeded, in
+-- order, which begins at 0 and stops at its greatest value (an ask that failed may have added a number too, or not); and
+-- how often it failed.
+pub record Told (State : Type 0) : Type 0 where
+  pub state : Option State
+  pub left : Option (List ℕ)
+  pub asks : Option (List Ask)
+  pub received : Option (List ℕ)
+  pub faults : ℕ
+
+-- how often a link failed, as it tells
+abbrev pub faults_told : {L State : Type 0} → (L → Told State) → L → ℕ
+faults_told told link = (told link).faults
+
 -- the asks grew by this one
 abbrev pub Asked : Option (List Ask) → Option (List Ask) → Ask → Type 0
 Asked None new ask = Unit {0}

@@ -45,5 +45,5 @@ pub trait Links {
         ensures took { TookBack (lent self.old) (lent self.new) link }
         ensures opening { (k number : ℕ) (by : List Route)
             → opening self.new k number by ≡ opening self.old k number by }
-        ensures faults { faults self.new ≡ grown_by (faults self.old) (Self.Link.faults link) };
+        ensures faults { faults self.new ≡ grown_by (faults self.old) (Self.Link.told link).faults };
 }

@@ -46,9 +46,7 @@ impl MemoryEnd {
 }
 
 impl Source for MemoryEnd {
-    ghost left = { λ end. Some end.source.left };
-
-    ghost faults = { λ end. end.source.faults };
+    ghost gives = { as_source };
 
     ghost beside = { as_sink };
 
@@ -71,11 +69,7 @@ impl Source for MemoryEnd {
 }
 
 impl Sink for MemoryEnd {
-    ghost taken = { λ end. Some end.sink.taken };
-
-    ghost faults = { λ end. end.sink.faults };
-
-    ghost zeros = { λ end. end.sink.zeros };
+    ghost takes = { as_sink };
 
     ghost beside = { as_source };
 

@@ -103,19 +103,15 @@ impl MemoryLink {
 impl Link for MemoryLink {
     ghost State = { LinkState };
 
-    ghost state = { λ link. Some link.state };
+    ghost serves = { record { answer = answer_to; next = state_after } };
 
-    ghost left = { λ link. Some (concat link.pieces) };
-
-    ghost answer = { answer_to };
-
-    ghost next = { state_after };
-
-    ghost asks = { λ link. Some link.state.asks };
-
-    ghost received = { λ link. Some link.received };
-
-    ghost faults = { λ link. link.faults };
+    ghost told = { λ link. record {
+      state = Some link.state;
+      left = Some (concat link.pieces);
+      asks = Some link.state.asks;
+      received = Some link.received;
+      faults = link.faults;
+    } };
 
     /// Uses up the next answer, whose bytes are then to come: none where no answer is left. An ask
     /// needs as much room as its target's origin and its request have bytes, and one byte more, and

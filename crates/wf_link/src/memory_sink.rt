@@ -84,11 +84,7 @@ impl MemorySink {
 }
 
 impl Sink for MemorySink {
-    ghost taken = { λ sink. Some sink.taken };
-
-    ghost faults = { λ sink. sink.faults };
-
-    ghost zeros = { λ sink. sink.zeros };
+    ghost takes = { λ sink. record { taken = Some sink.taken; faults = sink.faults; zeros = sink.zeros } };
 
     ghost beside = { λ _. no_source };
 

@@ -52,9 +52,7 @@ impl MemorySource {
 }
 
 impl Source for MemorySource {
-    ghost left = { λ source. Some source.left };
-
-    ghost faults = { λ source. source.faults };
+    ghost gives = { λ source. record { left = Some source.left; faults = source.faults } };
 
     ghost beside = { λ _. no_sink };
 

@@ -6,9 +6,7 @@ use crate::source::Source;
 /// The peer at the other end of a connection: what it sends is read, and it is sent what is written. Reading
 /// leaves what it tells as a sink, and writing leaves what it tells as a source.
 pub trait Peer: Source + Sink {
-    ghost reads_beside: { (peer : Self) → Self.Source.beside peer
-        ≡ record { taken = Self.taken peer; faults = Self.Sink.faults peer; zeros = Self.zeros peer } };
+    ghost reads_beside: { (peer : Self) → Self.Source.beside peer ≡ Self.takes peer };
 
-    ghost writes_beside: { (peer : Self) → Self.Sink.beside peer
-        ≡ record { left = Self.left peer; faults = Self.Source.faults peer } };
+    ghost writes_beside: { (peer : Self) → Self.Sink.beside peer ≡ Self.gives peer };
 }

@@ -1,7 +1,7 @@
-ghost use Rattle.std.specs.Prelude.{◌≡◌, ◌≤◌, ℕ, List, [], take, Option, Err, IfOk, OnOk, OnErr};
+ghost use Rattle.std.specs.Prelude.{◌≡◌, ◌≤◌, [], take, Err, IfOk, OnOk, OnErr};
 ghost use Rattle.std.specs.Io.{WritesAtMost};
 ghost use Rattle.wf_link.specs.Counts.{HasCause, Rose};
-ghost use Rattle.wf_link.specs.Sinks.{CountsZero, Took, TookPart};
+ghost use Rattle.wf_link.specs.Sinks.{CountsZero, SinkTold, Took, TookPart};
 ghost use Rattle.wf_link.specs.Sources.{SourceTold};
 
 use crate::source::Failed;
@@ -9,14 +9,8 @@ use crate::source::Failed;
 /// Where bytes go. It counts its faults and its answers 0 to a piece that is not empty, and may
 /// tell which bytes it has taken.
 pub trait Sink {
-    /// The bytes taken, where told.
-    ghost taken: { Self → Option (List ℕ) };
-
-    /// How often it failed.
-    ghost faults: { Self → ℕ };
-
-    /// How often it took nothing of a piece that is not empty.
-    ghost zeros: { Self → ℕ };
+    /// What it tells of itself.
+    ghost takes: { Self → SinkTold };
 
     /// What it tells as a source, where it is one beside (`Peer`): writing leaves that as it is.
     ghost beside: { Self → SourceTold };
@@ -25,10 +19,10 @@ pub trait Sink {
     /// rises by one where it fails, and only there.
     fn write(&mut self, piece: &[u8]) -> Result<usize, Failed>
         ensures count { WritesAtMost result piece.now }
-        ensures took { IfOk result (λ n. Took (taken self.old) (taken self.new) (take n piece.now)) }
-        ensures failed { OnErr result (Took (taken self.old) (taken self.new) []) }
-        ensures cause { HasCause (faults self.old) (faults self.new) result }
-        ensures zero { CountsZero (zeros self.old) (zeros self.new) result piece.now }
+        ensures took { IfOk result (λ n. Took (takes self.old).taken (takes self.new).taken (take n piece.now)) }
+        ensures failed { OnErr result (Took (takes self.old).taken (takes self.new).taken []) }
+        ensures cause { HasCause (takes self.old).faults (takes self.new).faults result }
+        ensures zero { CountsZero (takes self.old).zeros (takes self.new).zeros result piece.now }
         ensures beside { beside self.new ≡ beside self.old };
 }
 
@@ -43,12 +37,12 @@ pub enum WriteFault {
 
 /// Writes the whole text. After a fault the sink has taken a prefix of it.
 pub fn write_whole<K: Sink>(sink: &mut K, text: &[u8]) -> Result<(), WriteFault>
-    ensures ok { OnOk result (Took (K.taken sink.old) (K.taken sink.new) text.now) }
-    ensures err { OnErr result (TookPart (K.taken sink.old) (K.taken sink.new) text.now) }
-    ensures faults { K.faults sink.old ≤ K.faults sink.new }
-    ensures zeros { K.zeros sink.old ≤ K.zeros sink.new }
-    ensures fault { result ≡ Err WriteFault.Fault → Rose (K.faults sink.old) (K.faults sink.new) }
-    ensures nothing { result ≡ Err WriteFault.TookNothing → Rose (K.zeros sink.old) (K.zeros sink.new) }
+    ensures ok { OnOk result (Took (K.takes sink.old).taken (K.takes sink.new).taken text.now) }
+    ensures err { OnErr result (TookPart (K.takes sink.old).taken (K.takes sink.new).taken text.now) }
+    ensures faults { (K.takes sink.old).faults ≤ (K.takes sink.new).faults }
+    ensures zeros { (K.takes sink.old).zeros ≤ (K.takes sink.new).zeros }
+    ensures fault { result ≡ Err WriteFault.Fault → Rose (K.takes sink.old).faults (K.takes sink.new).faults }
+    ensures nothing { result ≡ Err WriteFault.TookNothing → Rose (K.takes sink.old).zeros (K.takes sink.new).zeros }
     ensures beside { K.beside sink.new ≡ K.beside sink.old }
 {
     let mut rest = text;

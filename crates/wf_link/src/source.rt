@@ -1,9 +1,8 @@
-ghost use Rattle.std.specs.Prelude.{◌≡◌, ◌+◌, ◌<◌, ◌≤◌, ◌^◌, ℕ, List, [], take, length};
-ghost use Rattle.std.specs.Prelude.{Option, Ok, Err, IfOk, OnErr, vec_len};
+ghost use Rattle.std.specs.Prelude.{◌≡◌, ◌+◌, ◌<◌, ◌≤◌, ◌^◌, [], take, length, Ok, Err, IfOk, OnErr, vec_len};
 ghost use Rattle.std.specs.Io.{ReadsAtMost};
 ghost use Rattle.wf_link.specs.Counts.{HasCause, Rose};
 ghost use Rattle.wf_link.specs.Sinks.{SinkTold};
-ghost use Rattle.wf_link.specs.Sources.{Gave, GaveAtMost, GaveJust, GaveWhole, IsAtEnd};
+ghost use Rattle.wf_link.specs.Sources.{Gave, GaveAtMost, GaveJust, GaveWhole, IsAtEnd, SourceTold};
 
 use std::alloc::Global;
 use wf_text::{Bytes, OutOfMemory};
@@ -14,11 +13,8 @@ pub struct Failed;
 
 /// Where bytes come from. It counts its faults, and may tell which bytes it has left.
 pub trait Source {
-    /// The bytes left, where told.
-    ghost left: { Self → Option (List ℕ) };
-
-    /// How often it failed.
-    ghost faults: { Self → ℕ };
+    /// What it tells of itself.
+    ghost gives: { Self → SourceTold };
 
     /// What it tells as a sink, where it is one beside (`Peer`): reading leaves that as it is.
     ghost beside: { Self → SinkTold };
@@ -27,10 +23,10 @@ pub trait Source {
     /// is not empty is the end. The count of faults rises by one where it fails, and only there.
     fn read(&mut self, buf: &mut [u8]) -> Result<usize, Failed>
         ensures count { ReadsAtMost result buf.new }
-        ensures gave { IfOk result (λ n. Gave (left self.old) (left self.new) (take n buf.new)) }
-        ensures end { result ≡ Ok 0 → 0 < length buf.new → IsAtEnd (left self.new) }
-        ensures failed { OnErr result (left self.new ≡ left self.old) }
-        ensures cause { HasCause (faults self.old) (faults self.new) result }
+        ensures gave { IfOk result (λ n. Gave (gives self.old).left (gives self.new).left (take n buf.new)) }
+        ensures end { result ≡ Ok 0 → 0 < length buf.new → IsAtEnd (gives self.new).left }
+        ensures failed { OnErr result ((gives self.new).left ≡ (gives self.old).left) }
+        ensures cause { HasCause (gives self.old).faults (gives self.new).faults result }
         ensures beside { beside self.new ≡ beside self.old };
 }
 
@@ -61,12 +57,12 @@ fn piece_buffer(alloc: Global) -> Result<Vec<u8>, OutOfMemory>
 /// refused memory `OutOfMemory`: then the source has given at most `most` bytes.
 pub fn read_whole<S: Source>(alloc: Global, source: &mut S, most: usize) -> Result<Bytes, ReadStop>
     requires { most < 2 ^ 32 }
-    ensures ok { IfOk result (λ text. GaveWhole (S.left source.old) (S.left source.new) text most) }
-    ensures too_long { result ≡ Err ReadStop.TooLong → GaveJust (S.left source.old) (S.left source.new) (most + 1) }
-    ensures stopped { result ≡ Err ReadStop.Fault → GaveAtMost (S.left source.old) (S.left source.new) most }
-    ensures refused { result ≡ Err ReadStop.OutOfMemory → GaveAtMost (S.left source.old) (S.left source.new) most }
-    ensures faults { S.faults source.old ≤ S.faults source.new }
-    ensures fault { result ≡ Err ReadStop.Fault → Rose (S.faults source.old) (S.faults source.new) }
+    ensures ok { IfOk result (λ text. GaveWhole (S.gives source.old).left (S.gives source.new).left text most) }
+    ensures too_long { result ≡ Err ReadStop.TooLong → GaveJust (S.gives source.old).left (S.gives source.new).left (most + 1) }
+    ensures stopped { result ≡ Err ReadStop.Fault → GaveAtMost (S.gives source.old).left (S.gives source.new).left most }
+    ensures refused { result ≡ Err ReadStop.OutOfMemory → GaveAtMost (S.gives source.old).left (S.gives source.new).left most }
+    ensures faults { (S.gives source.old).faults ≤ (S.gives source.new).faults }
+    ensures fault { result ≡ Err ReadStop.Fault → Rose (S.gives source.old).faults (S.gives source.new).faults }
 {
     let mut buffer = match piece_buffer(alloc) {
         Ok(buffer) => buffer,

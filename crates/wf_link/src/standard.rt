@@ -41,9 +41,7 @@ impl<R: Read> ReaderSource<R> {
 }
 
 impl<R: Read> Source for ReaderSource<R> {
-    ghost left = { λ _. None };
-
-    ghost faults = { λ source. source };
+    ghost gives = { λ source. record { left = None; faults = source } };
 
     ghost beside = { λ _. no_sink };
 
@@ -91,11 +89,7 @@ impl<W: Write> WriterSink<W> {
 }
 
 impl<W: Write> Sink for WriterSink<W> {
-    ghost taken = { λ _. None };
-
-    ghost faults = { λ sink. sink.faults };
-
-    ghost zeros = { λ sink. sink.zeros };
+    ghost takes = { λ sink. record { taken = None; faults = sink.faults; zeros = sink.zeros } };
 
     ghost beside = { λ _. no_source };
 

@@ -2,9 +2,10 @@
 -- the book that a play opens with.
 use Rattle.std.proofs.Common.{◌≡◌, ℕ, Bool, refl, true, false, List, [], ◌∷◌, codes, Some, None}
 use Rattle.wf_book.specs.Book.{empty}
-use Rattle.wf_script.specs.Servers.{answer, answer_bytes}
-use Rattle.wf_script.specs.declared.types.KnownHost.{KnownHost}
-use Rattle.wf_script.specs.declared.types.Server.{Server}
+use Rattle.wf_scenario.specs.Servers.{answer}
+use Rattle.wf_script.specs.Answers.{answer_bytes}
+use Rattle.wf_scenario.specs.declared.hosts.KnownHost.{KnownHost}
+use Rattle.wf_scenario.specs.declared.servers.Server.{Server}
 use Rattle.wf_run.proofs.Computed.{hop}
 use Rattle.wf_iso.specs.Plays.{with_hosts}
 

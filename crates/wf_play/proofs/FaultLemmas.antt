@@ -3,17 +3,19 @@ use Rattle.std.proofs.Common.{◌≡◌, ℕ, ◌+◌, ◌≤◌, List, [], map,
 use Rattle.wf_book.specs.declared.entry.Entry.{Entry}
 use Rattle.wf_link.specs.Counts.{counted_on, grown_by}
 use Rattle.wf_print.specs.declared.events.Transcript.{Transcript}
+use Rattle.wf_run.specs.Documents.{EachDocument}
 use Rattle.wf_run.specs.Runs.{document_run}
-use Rattle.wf_script.specs.declared.types.Document.{Document}
-use Rattle.wf_script.specs.declared.types.Scenario.{Scenario}
+use Rattle.wf_scenario.specs.declared.document.Document.{Document}
+use Rattle.wf_scenario.specs.declared.scenario.Scenario.{Scenario}
 use Rattle.wf_wire.specs.Exchanges.{Answering}
 use Rattle.wf_faults.specs.Laws.{FaultsCounted, FaultsPlaced, RanShown}
 use Rattle.wf_faults.specs.Numbers.{faults_of}
-use Rattle.wf_iso.specs.Plays.{AreTranscripts, Way, outside_on}
+use Rattle.wf_iso.specs.Plays.{IsTranscript, Way, outside_on}
 use Rattle.wf_book.specs.Entries.{entries_of}
 use Rattle.wf_play.specs.Faults.{AllAreTold, all_faults}
 use Rattle.wf_play.specs.Links.{Maker, TookBack, grown_by_all, way_of}
 use Rattle.wf_play.proofs.PlayLemmas.{map-map}
+use Rattle.wf_link.specs.Links.{Told}
 
 -- so many more of so many more
 grown-sum : (start old new faults rest : ℕ) → new ≡ counted_on old faults
@@ -24,10 +26,11 @@ module _ {State : Type 0} (by : Answering State) (scenario : Scenario) (base : �
     (placed : FaultsPlaced) (counted : FaultsCounted State) (shown : RanShown State) where
   -- the faults in each run are told
   pub told-faults : {number : ℕ} {documents : List Document} {olds news : List (Way State)}
-      {transcripts : List Transcript} (runs : AreTranscripts by scenario base history number documents olds news transcripts)
+      {transcripts : List Transcript}
+      (runs : EachDocument (IsTranscript by scenario base history) number documents olds news transcripts)
       → AllAreTold runs
-  told-faults AreTranscripts.none = tt
-  told-faults {number} (AreTranscripts.one_more {document = document} {old = old} {new = new} {transcript = t} is more) =
+  told-faults EachDocument.none = tt
+  told-faults {number} (EachDocument.one_more {document = document} {old = old} {new = new} {transcript = t} is more) =
       let whole = document_run scenario.cookies base document in
       let before = outside_on old [] is.run_is.before in
       let behind = outside_on new (entries_of number history) is.run_is.behind in (
@@ -42,25 +45,26 @@ module _ {State : Type 0} (by : Answering State) (scenario : Scenario) (base : �
 
   -- and all of them are counted
   counted-from : (start : ℕ) {number : ℕ} {documents : List Document} {olds news : List (Way State)}
-      {transcripts : List Transcript} (runs : AreTranscripts by scenario base history number documents olds news transcripts)
+      {transcripts : List Transcript}
+      (runs : EachDocument (IsTranscript by scenario base history) number documents olds news transcripts)
       → AllAreTold runs → grown_by start (all_faults runs) ≤ grown_by_all start (map (λ (w : Way State). w.faults) news)
-  counted-from start AreTranscripts.none told = omega arith
-  counted-from start (AreTranscripts.one_more {document = document} {old = old} {new = new} is more) told =
+  counted-from start EachDocument.none told = omega arith
+  counted-from start (EachDocument.one_more {document = document} {old = old} {new = new} is more) told =
       let rest = counted-from (grown_by start new.faults) more told.1 in
       let here = faults_of (document_run scenario.cookies base document) is.run_is.ran.tape in
       omega (arith, rest, grown-sum start old.faults new.faults here (all_faults more) told.0.counted)
 
 -- what made the links has counted them
-pub counted-faults : {L State : Type 0} (by : Answering State) (state : L → Option State) (received : L → Option (List ℕ)) (faults : L → ℕ)
+pub counted-faults : {L State : Type 0} (by : Answering State) (told : L → Told State)
     (scenario : Scenario) (base : ℕ) (history : List Entry) (placed : FaultsPlaced) (counted : FaultsCounted State)
-    (shown : RanShown State) (old new : Maker L) (made back : List L) (transcripts : List Transcript) → TookBack faults old new back
-    → (runs : AreTranscripts by scenario base history 0 scenario.documents (map (way_of state received faults) made)
-    (map (way_of state received faults) back) transcripts)
+    (shown : RanShown State) (old new : Maker L) (made back : List L) (transcripts : List Transcript) → TookBack told old new back
+    → (runs : EachDocument (IsTranscript by scenario base history) 0 scenario.documents
+    (map (way_of told) made) (map (way_of told) back) transcripts)
     → grown_by old.faults (all_faults runs) ≤ new.faults
-counted-faults {L} {State} by state received faults scenario base history placed counted shown old new made back transcripts took
+counted-faults {L} {State} by told scenario base history placed counted shown old new made back transcripts took
     runs =
     let all = counted-from by scenario base history placed counted shown old.faults runs
     (told-faults by scenario base history placed counted shown runs) in
-    let same : grown_by_all old.faults (map (λ (w : Way State). w.faults) (map (way_of state received faults) back)) ≡ new.faults =
-    ap (grown_by_all old.faults) (map-map (way_of state received faults) (λ (w : Way State). w.faults) back) ∙ sym took.counted in
+    let same : grown_by_all old.faults (map (λ (w : Way State). w.faults) (map (way_of told) back)) ≡ new.faults =
+    ap (grown_by_all old.faults) (map-map (way_of told) (λ (w : Way State). w.faults) back) ∙ sym took.counted in
     omega (arith, all, same)

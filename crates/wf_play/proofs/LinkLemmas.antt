@@ -4,7 +4,7 @@ use Rattle.std.proofs.Common.{refl, ap, sym, subst, ◌∙◌, arith, append_ass
 use Rattle.std.proofs.lemmas.List.{append-nil, length-map, map_push}
 use Rattle.std.specs.Prelude.{option_map}
 use Rattle.wf_link.specs.Counts.{grown_by}
-use Rattle.wf_link.specs.Links.{Lent, TookBack, one_back, one_out}
+use Rattle.wf_link.specs.Links.{Lent, Told, TookBack, faults_told, one_back, one_out}
 use Rattle.wf_play.specs.Links.{AreBack, grown_by_all}
 use Rattle.wf_play.specs.Links.{TookBack as TookAll, Maker, HasTakenBack}
 use Rattle.wf_play.specs.Private.Lendings.{AreTaken, out_more}
@@ -95,8 +95,8 @@ faults_one faults first mid last links link so_far next =
 -- ---- what makes links
 
 -- nothing was made
-pub nothing-taken : {L : Type 0} (faults : L → ℕ) (maker : Maker L) → TookAll faults maker maker []
-nothing-taken {L} faults maker = record { lent = same maker.lent; counted = refl }
+pub nothing-taken : {L State : Type 0} (told : L → Told State) (maker : Maker L) → TookAll told maker maker []
+nothing-taken {L} told maker = record { lent = same maker.lent; counted = refl }
   where
     same : (lent : Option (Lent L)) → AreBack lent lent []
     same None = tt
@@ -104,24 +104,24 @@ nothing-taken {L} faults maker = record { lent = same maker.lent; counted = refl
         ap (λ (l : Lent L). let o : Option (Lent L) = Some l in o)
         (lent-is lent.back (lent.back ++ []) lent.out lent.out (sym (append-nil lent.back)) refl)
 
-pub none-taken : {L : Type 0} (faults : L → ℕ) (maker : Maker L) → HasTakenBack faults maker maker
-none-taken faults maker = record { back = []; took = nothing-taken faults maker }
+pub none-taken : {L State : Type 0} (told : L → Told State) (maker : Maker L) → HasTakenBack told maker maker
+none-taken told maker = record { back = []; took = nothing-taken told maker }
 
 -- all that were made came back
-pub took-all : {L : Type 0} (faults : L → ℕ) (old mid new : Maker L) (links : List L) (count : ℕ)
+pub took-all : {L State : Type 0} (told : L → Told State) (old mid new : Maker L) (links : List L) (count : ℕ)
     → mid.lent ≡ option_map (out_more count) old.lent → mid.faults ≡ old.faults → length links ≡ count
-    → AreTaken mid.lent new.lent links → new.faults ≡ grown_by_all mid.faults (map faults links)
-    → TookAll faults old new links
-took-all faults old mid new links count out same many taken counted = record {
+    → AreTaken mid.lent new.lent links → new.faults ≡ grown_by_all mid.faults (map (faults_told told) links)
+    → TookAll told old new links
+took-all told old mid new links count out same many taken counted = record {
   lent = all-back old.lent mid.lent new.lent links count out taken many;
-  counted = counted ∙ ap (λ (n : ℕ). grown_by_all n (map faults links)) same;
+  counted = counted ∙ ap (λ (n : ℕ). grown_by_all n (map (faults_told told) links)) same;
 }
 
 -- the links of seats, all of which were out
-pub took-seats : {L : Type 0} (faults : L → ℕ) (old mid new : Maker L) (seats : List (Seating L TurnPass))
+pub took-seats : {L State : Type 0} (told : L → Told State) (old mid new : Maker L) (seats : List (Seating L TurnPass))
     → mid.lent ≡ option_map (out_more (length seats)) old.lent → mid.faults ≡ old.faults
-    → AreTaken mid.lent new.lent (links_in seats) → new.faults ≡ grown_by_all mid.faults (map faults (links_in seats))
-    → TookAll faults old new (links_in seats)
-took-seats {L} faults old mid new seats out same taken counted =
-    took-all faults old mid new (links_in seats) (length seats) out same
+    → AreTaken mid.lent new.lent (links_in seats) → new.faults ≡ grown_by_all mid.faults (map (faults_told told) (links_in seats))
+    → TookAll told old new (links_in seats)
+took-seats {L} told old mid new seats out same taken counted =
+    took-all told old mid new (links_in seats) (length seats) out same
     (length-map seats (λ (s : Seating L TurnPass). s.link)) taken counted

@@ -4,7 +4,7 @@ use Rattle.std.proofs.lemmas.List.{length-map}
 use Rattle.std.specs.Prelude.{option_map}
 use Rattle.wf_book.specs.declared.entry.Entry.{Entry}
 use Rattle.wf_print.specs.declared.events.Transcript.{Transcript}
-use Rattle.wf_script.specs.declared.types.Scenario.{Scenario}
+use Rattle.wf_scenario.specs.declared.scenario.Scenario.{Scenario}
 use Rattle.wf_wire.specs.Exchanges.{Answering}
 use Rattle.wf_player.specs.declared.seating.Seating.{Seating}
 use Rattle.wf_turn.specs.declared.pass.TurnPass.{TurnPass}
@@ -17,18 +17,18 @@ use Rattle.wf_play.specs.Refused.{NoneOrAllPlayed}
 use Rattle.wf_faults.specs.Laws.{FaultsCounted, FaultsPlaced, RanShown}
 use Rattle.wf_play.proofs.FaultLemmas.{counted-faults, told-faults}
 use Rattle.wf_play.proofs.LinkLemmas.{nothing-taken, took-all, took-seats}
+use Rattle.wf_link.specs.Links.{Told, faults_told}
 
-module _ {L State : Type 0} (by : Answering State) (state : L → Option State)
-    (received : L → Option (List ℕ)) (faults : L → ℕ) (scenario : Scenario)
+module _ {L State : Type 0} (by : Answering State) (told : L → Told State) (scenario : Scenario)
     (base : ℕ) where
   -- no link was made
-  pub none-refused : (maker : Maker L) → WasRefused by state received faults maker maker scenario base
+  pub none-refused : (maker : Maker L) → WasRefused by told maker maker scenario base
   none-refused maker = record {
     made = [];
     back = [];
     opened = λ k link at. absurd (cc (at));
     few = omega arith;
-    took = nothing-taken faults maker;
+    took = nothing-taken told maker;
     left = inl refl;
   }
 
@@ -37,14 +37,14 @@ module _ {L State : Type 0} (by : Answering State) (state : L → Option State)
       → AreOpened (for_documents old.opening scenario.routes) (links_in seats) → length seats ≤ length scenario.documents
       → mid.lent ≡ option_map (out_more (length seats)) old.lent → mid.faults ≡ old.faults
       → AreTaken mid.lent new.lent (links_in seats)
-      → new.faults ≡ grown_by_all mid.faults (map faults (links_in seats))
-      → WasRefused by state received faults old new scenario base
+      → new.faults ≡ grown_by_all mid.faults (map (faults_told told) (links_in seats))
+      → WasRefused by told old new scenario base
   seats-refused old mid new seats opened few out same taken counted = record {
     made = links_in seats;
     back = links_in seats;
     opened = opened;
     few = omega (arith, few, length-map seats (λ (s : Seating L TurnPass). s.link));
-    took = took-seats faults old mid new seats out same taken counted;
+    took = took-seats told old mid new seats out same taken counted;
     left = inl refl;
   }
 
@@ -52,14 +52,14 @@ module _ {L State : Type 0} (by : Answering State) (state : L → Option State)
   pub played-refused : (old mid new : Maker L) (seats : List (Seating L TurnPass))
       → AreOpened (for_documents old.opening scenario.routes) (links_in seats) → length seats ≤ length scenario.documents
       → mid.lent ≡ option_map (out_more (length seats)) old.lent → mid.faults ≡ old.faults
-      → AreUnseated state received faults mid.lent new.lent mid.faults new.faults seats (NoneOrAllPlayed by scenario base)
-      → WasRefused by state received faults old new scenario base
+      → AreUnseated told mid.lent new.lent mid.faults new.faults seats (NoneOrAllPlayed by scenario base)
+      → WasRefused by told old new scenario base
   played-refused old mid new seats opened few out same unseated = record {
     made = links_in seats;
     back = unseated.back;
     opened = opened;
     few = omega (arith, few, length-map seats (λ (s : Seating L TurnPass). s.link));
-    took = took-all faults old mid new unseated.back (length seats) out same unseated.many unseated.taken unseated.counted;
+    took = took-all told old mid new unseated.back (length seats) out same unseated.many unseated.taken unseated.counted;
     left = unseated.are_so;
   }
 
@@ -68,11 +68,11 @@ module _ {L State : Type 0} (by : Answering State) (state : L → Option State)
       (seats : List (Seating L TurnPass)) (transcripts : List Transcript) (history : List Entry) → AreOpened (for_documents old.opening scenario.routes)
       (links_in seats)
       → mid.lent ≡ option_map (out_more (length seats)) old.lent → mid.faults ≡ old.faults
-      → AreUnseated state received faults mid.lent new.lent mid.faults new.faults seats
+      → AreUnseated told mid.lent new.lent mid.faults new.faults seats
       (λ olds news. IsPlayOver by scenario base olds news transcripts history)
-      → IsPlayOverLinks by state received faults old new scenario base transcripts history
+      → IsPlayOverLinks by told old new scenario base transcripts history
   played-over placed counted shown old mid new seats transcripts history opened out same unseated =
-      let took = took-all faults old mid new unseated.back (length seats) out same unseated.many unseated.taken
+      let took = took-all told old mid new unseated.back (length seats) out same unseated.many unseated.taken
       unseated.counted in
       record {
         made = links_in seats;
@@ -81,6 +81,6 @@ module _ {L State : Type 0} (by : Answering State) (state : L → Option State)
         took = took;
         play = unseated.are_so;
         told = told-faults by scenario base history placed counted shown unseated.are_so.runs;
-        counted = counted-faults by state received faults scenario base history placed counted shown old new (links_in seats)
+        counted = counted-faults by told scenario base history placed counted shown old new (links_in seats)
             unseated.back transcripts took unseated.are_so.runs;
       }

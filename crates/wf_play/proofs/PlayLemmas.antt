@@ -20,16 +20,18 @@ use Rattle.wf_print.specs.declared.events.Ending.TheVariants as ending
 use Rattle.wf_print.specs.declared.events.Event.{Event}
 use Rattle.wf_print.specs.declared.events.Transcript.{Transcript}
 use Rattle.wf_print.specs.Text.{HasText}
+use Rattle.wf_run.specs.Documents.{EachDocument}
+use Rattle.wf_run.proofs.DocumentLemmas.{each-after, each-seen, each-with}
 use Rattle.wf_run.specs.Play.{Play}
 use Rattle.wf_run.specs.Runs.{document_run}
-use Rattle.wf_script.specs.declared.types.Document.{Document}
-use Rattle.wf_script.specs.declared.types.KnownHost.{KnownHost}
-use Rattle.wf_script.specs.declared.types.Scenario.{Scenario}
+use Rattle.wf_scenario.specs.declared.document.Document.{Document}
+use Rattle.wf_scenario.specs.declared.hosts.KnownHost.{KnownHost}
+use Rattle.wf_scenario.specs.declared.scenario.Scenario.{Scenario}
 use Rattle.wf_wire.specs.Exchanges.{Answering}
-use Rattle.wf_drive.specs.Worlds.{Outside}
-use Rattle.wf_drive.proofs.AskLemmas.{outside-is}
+use Rattle.wf_player.specs.Worlds.{Outside}
+use Rattle.wf_player.proofs.AskLemmas.{outside-is}
 use Rattle.wf_player.specs.Playing.{Came, Ran}
-use Rattle.wf_player.specs.Seats.{ArePlayed, AreRefused, IsPlayed, Seat}
+use Rattle.wf_player.specs.Seats.{AreRefused, IsPlayed, Seat}
 use Rattle.wf_player.proofs.CallLemmas.{trace-calls}
 use Rattle.wf_player.specs.declared.seating.Seating.{Seating}
 use Rattle.wf_turn.specs.Counts.{times}
@@ -40,10 +42,11 @@ use Rattle.wf_turn.proofs.Whole.{whole_of}
 use Rattle.wf_play.proofs.PassLemmas.{times-range}
 use Rattle.wf_play.specs.Links.{way_of}
 use Rattle.wf_play.specs.Passes.{ArePasses, IsNew}
-use Rattle.wf_play.specs.Refused.{HasRun, HaveRun, NoneOrAllPlayed}
-use Rattle.wf_iso.specs.Plays.{AreTranscripts, HasTurnsFrom, IsPlayOver, IsTranscript, Way, opening_book, outside_on}
+use Rattle.wf_play.specs.Refused.{HasRun, NoneOrAllPlayed}
+use Rattle.wf_iso.specs.Plays.{HasTurnsFrom, IsPlayOver, IsTranscript, Way, opening_book, outside_on}
 use Rattle.wf_iso.specs.Plays.{with_hosts}
 use Rattle.wf_play.specs.Private.Seated.{links_in, passes_in, seat_seen}
+use Rattle.wf_link.specs.Links.{Told}
 
 -- ---- the book
 
@@ -134,35 +137,34 @@ record IsFresh {State : Type 0} (seat : Seat State) : Type 0 where
   pub own_is : seat.outside.own ≡ []
   pub left_is : seat.outside.left ≡ 4294967295
 
+abbrev HasOwn : {State : Type 0} → List Entry → Seat State → Type 0
+HasOwn history seat = entries_of seat.document history ≡ seat.outside.own
+
+-- it did not end for memory
+abbrev HasEnded : Transcript → Type 0
+HasEnded transcript = transcript.ending ≢ ending.Memory
+
 transcripts-of : {State : Type 0} (by : Answering State) (scenario : Scenario) (base : ℕ) (history : List Entry)
     {number : ℕ} {documents : List Document} {olds news : List (Seat State)} {transcripts : List Transcript}
-    → ArePlayed by scenario base number documents olds news transcripts → HasText transcripts → All IsFresh olds
-    → All (λ (seat : Seat State). entries_of seat.document history ≡ seat.outside.own) news
-    → AreTranscripts by scenario base history number documents (map seat_way olds) (map seat_way news) transcripts
-transcripts-of by scenario base history ArePlayed.none text fresh own = AreTranscripts.none
-transcripts-of {State} by scenario base history {number}
-    (ArePlayed.one_more {document = document} {old = old} {new = new} {transcript = transcript} {documents = documents} {olds = olds} {news = news} {transcripts = transcripts} is more) text fresh own =
-    let Told : Transcript → Type 0 = λ t. t.ending ≢ ending.Memory in
-    let Own : Seat State → Type 0 = λ seat. entries_of seat.document history ≡ seat.outside.own in
-    AreTranscripts.one_more
-    (transcript-of by scenario base history number document old new transcript (All-head Told transcript transcripts text) is
-    (All-head IsFresh old olds fresh).own_is
-    (subst (λ (d : ℕ). entries_of d history ≡ new.outside.own) is.document_is (All-head Own new news own)))
-    (transcripts-of by scenario base history more (All-tail Told transcript transcripts text) (All-tail IsFresh old olds fresh)
-    (All-tail Own new news own))
+    → EachDocument (IsPlayed by scenario base) number documents olds news transcripts → HasText transcripts
+    → All IsFresh olds → All (HasOwn history) news
+    → EachDocument (IsTranscript by scenario base history) number documents (map seat_way olds) (map seat_way news)
+    transcripts
+transcripts-of by scenario base history played text fresh own =
+    each-seen seat_way (λ number document old new transcript is.
+    transcript-of by scenario base history number document old new transcript is.3 is.0 is.1.own_is
+    (subst (λ (d : ℕ). entries_of d history ≡ new.outside.own) is.0.document_is is.2))
+    (each-with IsFresh (HasOwn history) HasEnded fresh own text played)
 
 -- the run of one document came, over the entries of the pass's own
 has-run : {State : Type 0} (by : Answering State) (scenario : Scenario) (base : ℕ) (history : List Entry)
     (number : ℕ) (document : Document) (old new : Seat State) (transcript : Transcript)
     → IsPlayed by scenario base number document old new transcript → old.outside.own ≡ []
     → entries_of number history ≡ new.outside.own
-    → HasRun by scenario base history number document (seat_way old) (seat_way new)
+    → HasRun by scenario base history number document (seat_way old) (seat_way new) transcript
 has-run {State} by scenario base history number document old new transcript is none own =
     let whole = document_run scenario.cookies base document in
     record {
-      events = transcript.events;
-      ending = transcript.ending;
-      clock = transcript.clock;
       before = old.outside.left;
       behind = new.outside.left;
       came = subst (λ (o : Outside State). Came by scenario.body_limit number whole
@@ -178,17 +180,14 @@ has-run {State} by scenario base history number document old new transcript is n
 
 have-run : {State : Type 0} (by : Answering State) (scenario : Scenario) (base : ℕ) (history : List Entry)
     {number : ℕ} {documents : List Document} {olds news : List (Seat State)} {transcripts : List Transcript}
-    → ArePlayed by scenario base number documents olds news transcripts → All IsFresh olds
-    → All (λ (seat : Seat State). entries_of seat.document history ≡ seat.outside.own) news
-    → HaveRun by scenario base history number documents (map seat_way olds) (map seat_way news)
-have-run by scenario base history ArePlayed.none fresh own = HaveRun.none
-have-run {State} by scenario base history {number}
-    (ArePlayed.one_more {document = document} {old = old} {new = new} {transcript = transcript} {documents = documents} {olds = olds} {news = news} {transcripts = transcripts} is more) fresh own =
-    let Own : Seat State → Type 0 = λ seat. entries_of seat.document history ≡ seat.outside.own in
-    HaveRun.one_more
-    (has-run by scenario base history number document old new transcript is (All-head IsFresh old olds fresh).own_is
-    (subst (λ (d : ℕ). entries_of d history ≡ new.outside.own) is.document_is (All-head Own new news own)))
-    (have-run by scenario base history more (All-tail IsFresh old olds fresh) (All-tail Own new news own))
+    → EachDocument (IsPlayed by scenario base) number documents olds news transcripts → All IsFresh olds
+    → All (HasOwn history) news
+    → EachDocument (HasRun by scenario base history) number documents (map seat_way olds) (map seat_way news) transcripts
+have-run by scenario base history {transcripts = transcripts} played fresh own =
+    each-seen seat_way (λ number document old new transcript is.
+    has-run by scenario base history number document old new transcript is.0 is.1.own_is
+    (subst (λ (d : ℕ). entries_of d history ≡ new.outside.own) is.0.document_is is.2))
+    (each-with IsFresh (HasOwn history) (λ transcript. Unit {0}) fresh own (λ k d within. tt) played)
 
 -- every seat's calls are its pass's own: as many were made as entries are there
 record HasCalled {State : Type 0} (seat : Seat State) : Type 0 where
@@ -197,28 +196,14 @@ record HasCalled {State : Type 0} (seat : Seat State) : Type 0 where
 
 called-of : {State : Type 0} (by : Answering State) (scenario : Scenario) (base : ℕ)
     {number : ℕ} {documents : List Document} {olds news : List (Seat State)} {transcripts : List Transcript}
-    → ArePlayed by scenario base number documents olds news transcripts → HasText transcripts → All IsFresh olds
-    → All HasCalled news
-called-of by scenario base ArePlayed.none text fresh = All-nil HasCalled
-called-of by scenario base {number}
-    (ArePlayed.one_more {document = document} {old = old} {new = new} {transcript = transcript} {documents = documents} {olds = olds} {news = news} {transcripts = transcripts} is more) text fresh =
-    let Told : Transcript → Type 0 = λ t. t.ending ≢ ending.Memory in
-    let f = All-head IsFresh old olds fresh in
-    let made = own-calls by scenario base number document old new transcript (All-head Told transcript transcripts text)
-    is f.own_is in
-    All-cons HasCalled new news (record { calls = omega (arith, made, f.left_is); few = omega (arith, is.few, f.left_is) })
-    (called-of by scenario base more (All-tail Told transcript transcripts text) (All-tail IsFresh old olds fresh))
-
--- the seats are those of the documents from a number on
-documents-of : {State : Type 0} (by : Answering State) (scenario : Scenario) (base : ℕ)
-    {number : ℕ} {documents : List Document} {olds news : List (Seat State)} {transcripts : List Transcript}
-    → ArePlayed by scenario base number documents olds news transcripts
-    → map (λ (seat : Seat State). seat.document) news ≡ range_with_len number (length documents)
-documents-of by scenario base ArePlayed.none = refl
-documents-of {State} by scenario base {number}
-    (ArePlayed.one_more {new = new} {documents = documents} {news = news} is more) =
-    ap (λ (d : ℕ). d ∷ map (λ (seat : Seat State). seat.document) news) is.document_is
-    ∙ ap (λ (l : List ℕ). number ∷ l) (documents-of by scenario base more)
+    → EachDocument (IsPlayed by scenario base) number documents olds news transcripts → HasText transcripts
+    → All IsFresh olds → All HasCalled news
+called-of by scenario base played text fresh =
+    each-after HasCalled (λ number document old new transcript is.
+    let made = own-calls by scenario base number document old new transcript is.3 is.0 is.1.own_is in
+    let few = is.0.few in
+    record { calls = omega (arith, made, is.1.left_is); few = omega (arith, few, is.1.left_is) })
+    (each-with IsFresh (λ seat. Unit {0}) HasEnded fresh (λ k d within. tt) text played)
 
 -- ---- turns
 
@@ -333,31 +318,30 @@ named-below count first back (e ∷ es) is documents named apart = (
 -- ---- the whole
 
 -- seats that were made with the book's passes, and their passes as they came back to a book that is closed
-module _ {L State : Type 0} (by : Answering State) (state : L → Option State)
-    (received : L → Option (List ℕ)) (faults : L → ℕ) (scenario : Scenario)
+module _ {L State : Type 0} (by : Answering State) (told : L → Told State) (scenario : Scenario)
     (base : ℕ) (id : TableId) (first : TurnPass) (made back : List (Seating L TurnPass)) (book : Book)
     (history : List Entry) (are : ArePasses id (opening_book scenario) (length scenario.documents) first (passes_in made))
     (documents : map (λ (p : TurnPass). p.document) (passes_in back) ≡ range_with_len 0 (length scenario.documents))
     (closed : IsOneHistory (first ∷ passes_in back) book history) where
   -- what is told of the links of seats
   ways-of : (seats : List (Seating L TurnPass))
-      → map seat_way (map (seat_seen state received faults) seats) ≡ map (way_of state received faults) (links_in seats)
+      → map seat_way (map (seat_seen told) seats) ≡ map (way_of told) (links_in seats)
   ways-of seats =
-      map-map (seat_seen state received faults) seat_way seats
-      ∙ sym (map-map (λ (s : Seating L TurnPass). s.link) (way_of state received faults) seats)
+      map-map (seat_seen told) seat_way seats
+      ∙ sym (map-map (λ (s : Seating L TurnPass). s.link) (way_of told) seats)
 
   -- no call was made on the seats at first
-  fresh-seats : All IsFresh (map (seat_seen state received faults) made)
-  fresh-seats = All-map IsFresh (seat_seen state received faults) made
+  fresh-seats : All IsFresh (map (seat_seen told) made)
+  fresh-seats = All-map IsFresh (seat_seen told) made
       (λ k d lt. let n = unmap (IsNew id (opening_book scenario)) (λ (s : Seating L TurnPass). s.pass) made are.new k d lt
       in record { own_is = n.own_is; left_is = n.left_is })
 
   -- the entries of each document are its pass's own
   own-entries : All (λ (s : Seat State). entries_of s.document history ≡ s.outside.own)
-      (map (seat_seen state received faults) back)
+      (map (seat_seen told) back)
   own-entries =
       let OwnOf : TurnPass → Type 0 = λ p. entries_of p.document history ≡ own_of p in
-      All-map (λ (s : Seat State). entries_of s.document history ≡ s.outside.own) (seat_seen state received faults) back
+      All-map (λ (s : Seat State). entries_of s.document history ≡ s.outside.own) (seat_seen told) back
       (unmap OwnOf (λ (s : Seating L TurnPass). s.pass) back (All-tail OwnOf first (passes_in back) closed.own))
 
   legal-history : Legal (opening_book scenario) history
@@ -377,12 +361,12 @@ module _ {L State : Type 0} (by : Answering State) (state : L → Option State)
 
   -- where no document ended for memory, each call has its entry, so the turns have no gap
   turns-of : (transcripts : List Transcript)
-      → ArePlayed by scenario base 0 scenario.documents (map (seat_seen state received faults) made)
-      (map (seat_seen state received faults) back) transcripts → HasText transcripts → HasTurnsFrom 0 history
+      → EachDocument (IsPlayed by scenario base) 0 scenario.documents (map (seat_seen told) made)
+      (map (seat_seen told) back) transcripts → HasText transcripts → HasTurnsFrom 0 history
   turns-of transcripts played text =
       let All_called : TurnPass → Type 0 = λ p. calls_of p ≡ length (own_of p) in
-      let called : All (λ (s : Seating L TurnPass). HasCalled (seat_seen state received faults s)) back =
-      unmap HasCalled (seat_seen state received faults) back (called-of by scenario base played text fresh-seats) in
+      let called : All (λ (s : Seating L TurnPass). HasCalled (seat_seen told s)) back =
+      unmap HasCalled (seat_seen told) back (called-of by scenario base played text fresh-seats) in
       let calls : All All_called (first ∷ passes_in back) = All-cons All_called first (passes_in back)
       (omega (arith, are.first_is.left_is, ap length are.first_is.own_is))
       (All-map All_called (λ (s : Seating L TurnPass). s.pass) back
@@ -400,9 +384,9 @@ module _ {L State : Type 0} (by : Answering State) (state : L → Option State)
 
   -- what was played on the seats, with the history of the closed book, is a play
   pub closed-play : (transcripts : List Transcript)
-      → ArePlayed by scenario base 0 scenario.documents (map (seat_seen state received faults) made)
-      (map (seat_seen state received faults) back) transcripts → HasText transcripts
-      → IsPlayOver by scenario base (map (way_of state received faults) (links_in made)) (map (way_of state received faults) (links_in back))
+      → EachDocument (IsPlayed by scenario base) 0 scenario.documents (map (seat_seen told) made)
+      (map (seat_seen told) back) transcripts → HasText transcripts
+      → IsPlayOver by scenario base (map (way_of told) (links_in made)) (map (way_of told) (links_in back))
       transcripts history
   closed-play transcripts played text = record {
     legal = legal-history;
@@ -414,21 +398,22 @@ module _ {L State : Type 0} (by : Answering State) (state : L → Option State)
 
   -- and where memory was refused, no document was played or each was
   pub closed-played : (transcripts : List Transcript)
-      → ArePlayed by scenario base 0 scenario.documents (map (seat_seen state received faults) made)
-      (map (seat_seen state received faults) back) transcripts
-      → NoneOrAllPlayed by scenario base (map (way_of state received faults) (links_in made))
-      (map (way_of state received faults) (links_in back))
+      → EachDocument (IsPlayed by scenario base) 0 scenario.documents (map (seat_seen told) made)
+      (map (seat_seen told) back) transcripts
+      → NoneOrAllPlayed by scenario base (map (way_of told) (links_in made))
+      (map (way_of told) (links_in back))
   closed-played transcripts played = inr (record {
     history = history;
     legal = legal-history;
     named = named-history;
+    transcripts = transcripts;
     runs = rw (← ways-of made, ← ways-of back)
         (have-run by scenario base history played fresh-seats own-entries);
   })
 
-  pub closed-refused : AreRefused by scenario base (map (seat_seen state received faults) made)
-      (map (seat_seen state received faults) back)
-      → NoneOrAllPlayed by scenario base (map (way_of state received faults) (links_in made))
-      (map (way_of state received faults) (links_in back))
+  pub closed-refused : AreRefused by scenario base (map (seat_seen told) made)
+      (map (seat_seen told) back)
+      → NoneOrAllPlayed by scenario base (map (way_of told) (links_in made))
+      (map (way_of told) (links_in back))
   closed-refused (inl same) = inl (sym (ways-of back) ∙ ap (map seat_way) same ∙ ways-of made)
   closed-refused (inr were) = closed-played were.transcripts were.played

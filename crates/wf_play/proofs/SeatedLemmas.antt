@@ -5,15 +5,16 @@ use Rattle.std.proofs.lemmas.List.{length-map}
 use Rattle.std.proofs.lemmas.List.Elements.{All-map}
 use Rattle.std.proofs.lemmas.List.FromFn.{length-range_with_len}
 use Rattle.atomic_table.specs.Seated.{TableId}
-use Rattle.wf_running.specs.Parts.{most_calls}
+use Rattle.wf_player.specs.Standings.{most_calls}
 use Rattle.wf_player.specs.Seats.{AreSeated, Seat}
 use Rattle.wf_player.specs.declared.seating.Seating.{Seating}
-use Rattle.wf_script.specs.declared.types.Scenario.{Scenario}
+use Rattle.wf_scenario.specs.declared.scenario.Scenario.{Scenario}
 use Rattle.wf_turn.specs.declared.pass.TurnPass.{TurnPass}
 use Rattle.wf_play.specs.Passes.{IsNew}
 use Rattle.wf_iso.specs.Plays.{opening_book}
 use Rattle.wf_play.specs.Private.Seated.{links_in, passes_in, seat_seen}
 use Rattle.wf_play.proofs.PlayLemmas.{map-map, unmap}
+use Rattle.wf_link.specs.Links.{Told}
 
 -- as many items as numbers
 pub as-many : {X : Type 0} (number : X → ℕ) (items : List X) (count : ℕ)
@@ -46,18 +47,17 @@ many-links {L} made back count first last =
     ∙ as-many (λ (s : Seating L TurnPass). s.pass.document) back count last
     ∙ sym (as-seated (passes_in made) made count refl first)
 
-module _ {L State : Type 0} (state : L → Option State)
-    (received : L → Option (List ℕ)) (faults : L → ℕ) (id : TableId) (scenario : Scenario)
+module _ {L State : Type 0} (told : L → Told State) (id : TableId) (scenario : Scenario)
     (passes : List TurnPass) (seats : List (Seating L TurnPass)) where
   -- seats of new passes are ready
   pub ready-seats : All (IsNew id (opening_book scenario)) passes
       → map (λ (p : TurnPass). p.document) passes ≡ range_with_len 0 (length scenario.documents)
-      → passes_in seats ≡ passes → AreSeated scenario.documents (map (seat_seen state received faults) seats)
+      → passes_in seats ≡ passes → AreSeated scenario.documents (map (seat_seen told) seats)
   ready-seats new documents are = record {
-    each = map-map (seat_seen state received faults) (λ (s : Seat State). s.document) seats
+    each = map-map (seat_seen told) (λ (s : Seat State). s.document) seats
         ∙ sym (map-map (λ (s : Seating L TurnPass). s.pass) (λ (p : TurnPass). p.document) seats)
         ∙ ap (map (λ (p : TurnPass). p.document)) are ∙ documents;
-    calls = All-map (λ (s : Seat State). most_calls ≤ s.outside.left) (seat_seen state received faults) seats
+    calls = All-map (λ (s : Seat State). most_calls ≤ s.outside.left) (seat_seen told) seats
         (λ k d lt. let n = unmap (IsNew id (opening_book scenario)) (λ (s : Seating L TurnPass). s.pass) seats
         (subst (All (IsNew id (opening_book scenario))) (sym are) new) k d lt in omega (arith, n.left_is));
   }

@@ -14,24 +14,25 @@ use Rattle.wf_print.specs.declared.events.Ending.{Ending}
 use Rattle.wf_print.specs.declared.events.Event.{Event}
 use Rattle.wf_print.specs.declared.events.Event.TheVariants as event
 use Rattle.wf_print.specs.declared.events.Transcript.{Transcript}
+use Rattle.wf_run.specs.Documents.{EachDocument}
 use Rattle.wf_run.specs.Play.{Play}
 use Rattle.wf_run.specs.Runs.{document_run}
 use Rattle.wf_run.specs.Traces.{PlayTrace, stop, shown, stepped}
 use Rattle.wf_run.proofs.PlayLemmas.{play-map}
-use Rattle.wf_script.specs.declared.types.Document.{Document}
-use Rattle.wf_script.specs.declared.types.Scenario.{Scenario}
-use Rattle.wf_script.specs.declared.types.Server.{Server}
+use Rattle.wf_scenario.specs.declared.document.Document.{Document}
+use Rattle.wf_scenario.specs.declared.scenario.Scenario.{Scenario}
+use Rattle.wf_scenario.specs.declared.servers.Server.{Server}
 use Rattle.wf_sim.specs.Sim.{SimState, answer_to, fault_count, told_counts}
 use Rattle.wf_sim.proofs.SimLemmas.{answers-by_parts}
 use Rattle.wf_wire.specs.Exchanges.{Answering, Exchange}
 use Rattle.wf_wire.specs.Wires.{over_link}
 use Rattle.wf_wire.proofs.LawLemmas.{exchange-alike}
 use Rattle.wf_player.specs.Playing.{Ran}
-use Rattle.wf_drive.specs.Worlds.{Answers, Outside, Settles, World}
+use Rattle.wf_player.specs.Worlds.{Answers, Outside, Settles, World}
 use Rattle.wf_link.specs.Links.{IsTold}
 use Rattle.wf_link.specs.declared.target.Route.{Route}
 use Rattle.wf_play.specs.Links.{IsPlayOverLinks, Maker, way_of}
-use Rattle.wf_iso.specs.Plays.{AreTranscripts, IsPlay, RunsOver, Way, by_rules, outside_on}
+use Rattle.wf_iso.specs.Plays.{IsPlay, IsTranscript, RunsOver, Way, by_rules, outside_on}
 
 -- the servers as a link has them
 abbrev pub by_bytes : Answering (List Server)
@@ -140,14 +141,14 @@ way-behind limit document old new entries whole events ending clock servers is q
 
 transcripts-by-rules : (scenario : Scenario) (base : ℕ) (history : List Entry) {number : ℕ}
     {documents : List Document} {olds news : List (Way (List Server))} {transcripts : List Transcript}
-    → AreTranscripts by_bytes scenario base history number documents olds news transcripts
+    → EachDocument (IsTranscript by_bytes scenario base history) number documents olds news transcripts
     → All (λ (w : Way (List Server)). w ≡ servers_way scenario) olds
     → All IsQuiet news
-    → AreTranscripts by_rules scenario base history number documents
+    → EachDocument (IsTranscript by_rules scenario base history) number documents
     (map (λ (d : Document). servers_way scenario) documents) (map (λ (d : Document). servers_way scenario) documents)
     transcripts
-transcripts-by-rules scenario base history AreTranscripts.none opened quiet = AreTranscripts.none
-transcripts-by-rules scenario base history {number} (AreTranscripts.one_more {document = document} {old = old}
+transcripts-by-rules scenario base history EachDocument.none opened quiet = EachDocument.none
+transcripts-by-rules scenario base history {number} (EachDocument.one_more {document = document} {old = old}
     {new = new} {transcript = transcript} {olds = olds} {news = news} is more) opened quiet =
     let Opened : Way (List Server) → Type 0 = λ w. w ≡ servers_way scenario in
     let whole = document_run scenario.cookies base document in
@@ -155,7 +156,7 @@ transcripts-by-rules scenario base history {number} (AreTranscripts.one_more {do
     let last = way-behind scenario.body_limit number old new (entries_of number history) whole transcript.events
     transcript.ending transcript.clock scenario.servers (ap (λ (w : Way (List Server)). w.state) first)
     (All-head IsQuiet new news quiet) is.run_is in
-    AreTranscripts.one_more (record {
+    EachDocument.one_more (record {
       document_is = is.document_is;
       key_is = is.key_is;
       run_is = record {

@@ -5,15 +5,16 @@ use Rattle.wf_act.specs.declared.act.Input.{Input}
 use Rattle.wf_book.specs.declared.entry.Entry.{Entry}
 use Rattle.wf_link.specs.Counts.{counted_on}
 use Rattle.wf_print.specs.declared.events.Transcript.{Transcript}
+use Rattle.wf_run.specs.Documents.{EachDocument}
 use Rattle.wf_run.specs.Play.{Play}
 use Rattle.wf_run.specs.Runs.{document_run}
-use Rattle.wf_script.specs.declared.types.Document.{Document}
-use Rattle.wf_script.specs.declared.types.Scenario.{Scenario}
+use Rattle.wf_scenario.specs.declared.document.Document.{Document}
+use Rattle.wf_scenario.specs.declared.scenario.Scenario.{Scenario}
 use Rattle.wf_wire.specs.Exchanges.{Answering}
 use Rattle.wf_faults.specs.Laws.{AreShown}
 use Rattle.wf_faults.specs.Numbers.{faults_of}
 use Rattle.wf_faults.specs.Places.{ShowsFailures}
-use Rattle.wf_iso.specs.Plays.{AreTranscripts, Way}
+use Rattle.wf_iso.specs.Plays.{IsTranscript, Way}
 
 -- Of a document's run over this tape, from one moment of its link to another: in each fetch and each load there is one
 -- fault at most, and the outcome shows it; so the outcomes show the faults of the tape; and the link's count rose by
@@ -29,15 +30,15 @@ module _ {State : Type 0} {by : Answering State} {scenario : Scenario} {base : �
   -- so it is of each document
   abbrev pub AllAreTold : {number : ℕ} {documents : List Document} {olds news : List (Way State)}
       {transcripts : List Transcript}
-      → AreTranscripts by scenario base history number documents olds news transcripts → Type 0
-  AllAreTold AreTranscripts.none = Unit {0}
-  AllAreTold (AreTranscripts.one_more {document = document} {old = old} {new = new} {transcript = transcript} is more) =
+      → EachDocument (IsTranscript by scenario base history) number documents olds news transcripts → Type 0
+  AllAreTold EachDocument.none = Unit {0}
+  AllAreTold (EachDocument.one_more {document = document} {old = old} {new = new} {transcript = transcript} is more) =
       AreTold (document_run scenario.cookies base document) is.run_is.ran.tape old new transcript × AllAreTold more
 
   -- how often the links failed in the runs of all
   abbrev pub all_faults : {number : ℕ} {documents : List Document} {olds news : List (Way State)}
       {transcripts : List Transcript}
-      → AreTranscripts by scenario base history number documents olds news transcripts → ℕ
-  all_faults AreTranscripts.none = 0
-  all_faults (AreTranscripts.one_more {document = document} is more) =
+      → EachDocument (IsTranscript by scenario base history) number documents olds news transcripts → ℕ
+  all_faults EachDocument.none = 0
+  all_faults (EachDocument.one_more {document = document} is more) =
       faults_of (document_run scenario.cookies base document) is.run_is.ran.tape + all_faults more

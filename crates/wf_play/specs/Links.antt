@@ -2,18 +2,19 @@
 use Rattle.std.specs.Prelude.{◌≡◌, ℕ, ◌≤◌, List, [], ◌∷◌, ◌++◌, length, map, slice_get, Option, Some, None}
 use Rattle.wf_book.specs.declared.entry.Entry.{Entry}
 use Rattle.wf_link.specs.Counts.{grown_by}
-use Rattle.wf_link.specs.Links.{IsTold, Lent}
+use Rattle.wf_link.specs.Links.{IsTold, Lent, Told, faults_told}
 use Rattle.wf_link.specs.declared.target.Route.{Route}
 use Rattle.wf_print.specs.declared.events.Transcript.{Transcript}
-use Rattle.wf_script.specs.declared.types.Scenario.{Scenario}
+use Rattle.wf_scenario.specs.declared.scenario.Scenario.{Scenario}
 use Rattle.wf_wire.specs.Exchanges.{Answering}
 use Rattle.wf_iso.specs.Plays.{IsPlayOver, Way}
 use Rattle.wf_play.specs.Faults.{AllAreTold, all_faults}
 use Rattle.wf_play.specs.Refused.{NoneOrAllPlayed}
 
 -- what is told of a link
-abbrev pub way_of : {L State : Type 0} → (L → Option State) → (L → Option (List ℕ)) → (L → ℕ) → L → Way State
-way_of state received faults link = record { state = state link; received = received link; faults = faults link }
+abbrev pub way_of : {L State : Type 0} → (L → Told State) → L → Way State
+way_of told link =
+    record { state = (told link).state; received = (told link).received; faults = (told link).faults }
 
 -- What is told of what makes the links: the link that the next make gives for a document's number and routes, at 0, the
 -- one after it, at 1, and so on; those that it took back, and how many more are out; and how often those had failed.
@@ -51,41 +52,39 @@ grown_by_all count [] = count
 grown_by_all count (more ∷ rest) = grown_by_all (grown_by count more) rest
 
 -- These links were made and taken back, in this order, and their faults were counted.
-pub record TookBack {L : Type 0} (faults : L → ℕ) (old new : Maker L) (links : List L) : Type 0 where
+pub record TookBack {L State : Type 0} (told : L → Told State) (old new : Maker L) (links : List L) : Type 0 where
   pub lent : AreBack old.lent new.lent links
-  pub counted : new.faults ≡ grown_by_all old.faults (map faults links)
+  pub counted : new.faults ≡ grown_by_all old.faults (map (faults_told told) links)
 
 -- Each link that was made was taken back.
-pub record HasTakenBack {L : Type 0} (faults : L → ℕ) (old new : Maker L) : Type 0 where
+pub record HasTakenBack {L State : Type 0} (told : L → Told State) (old new : Maker L) : Type 0 where
   pub back : List L
-  pub took : TookBack faults old new back
+  pub took : TookBack told old new back
 
 -- ---- the play
 
 -- A play over links as they were made for the documents, one for each, and as they were taken back. Each document's
 -- outcomes show the faults of its tape, and its link's count rose by just as many. The count of what made the links
 -- rose by as many as all tapes have, at least.
-pub record IsPlayOverLinks {L State : Type 0} (by : Answering State) (state : L → Option State)
-    (received : L → Option (List ℕ)) (faults : L → ℕ) (old new : Maker L) (scenario : Scenario) (base : ℕ)
+pub record IsPlayOverLinks {L State : Type 0} (by : Answering State) (told : L → Told State) (old new : Maker L) (scenario : Scenario) (base : ℕ)
     (transcripts : List Transcript) (history : List Entry) : Type 0 where
   pub made : List L
   pub back : List L
   pub opened : AreOpened (for_documents old.opening scenario.routes) made
-  pub took : TookBack faults old new back
-  pub play : IsPlayOver by scenario base (map (way_of state received faults) made)
-      (map (way_of state received faults) back) transcripts history
+  pub took : TookBack told old new back
+  pub play : IsPlayOver by scenario base (map (way_of told) made)
+      (map (way_of told) back) transcripts history
   pub told : AllAreTold play.runs
   pub counted : grown_by old.faults (all_faults play.runs) ≤ new.faults
 
 -- A play that was refused, over links as they were made for documents, at most one for each, and as they were taken
 -- back, in the same order: each link came back as it was made; or each document was played, over one legal history.
-pub record WasRefused {L State : Type 0} (by : Answering State) (state : L → Option State)
-    (received : L → Option (List ℕ)) (faults : L → ℕ) (old new : Maker L) (scenario : Scenario) (base : ℕ)
+pub record WasRefused {L State : Type 0} (by : Answering State) (told : L → Told State) (old new : Maker L) (scenario : Scenario) (base : ℕ)
     : Type 0 where
   pub made : List L
   pub back : List L
   pub opened : AreOpened (for_documents old.opening scenario.routes) made
   pub few : length made ≤ length scenario.documents
-  pub took : TookBack faults old new back
-  pub left : NoneOrAllPlayed by scenario base (map (way_of state received faults) made)
-      (map (way_of state received faults) back)
+  pub took : TookBack told old new back
+  pub left : NoneOrAllPlayed by scenario base (map (way_of told) made)
+      (map (way_of told) back)

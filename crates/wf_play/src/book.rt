@@ -3,13 +3,13 @@ ghost use Rattle.std.specs.Prelude.{◌≡◌, IfOk, OnOk};
 ghost use Rattle.std.specs.List.{All};
 ghost use Rattle.wf_book.specs.Book.{after, empty};
 ghost use Rattle.wf_book.specs.declared.op.Op.TheVariants.{Note};
-ghost use Rattle.wf_script.specs.Valid.{IsValidHost};
+ghost use Rattle.wf_scenario.specs.Valid.{IsValidHost};
 ghost use Rattle.wf_iso.specs.Plays.{with_hosts};
 
 use std::alloc::Global;
 use wf_book::{Book, Op};
 use wf_hsts::Sts;
-use wf_script::KnownHost;
+use wf_scenario::KnownHost;
 use wf_text::OutOfMemory;
 
 // Notes a host at the time 0.

@@ -1,7 +1,7 @@
 // A play: the book is opened, the documents are seated and played, and the book is closed.
 ghost use Rattle.std.specs.Prelude.{◌≤◌, ◌+◌, ◌^◌, vec_capacity, vec_len, IfOk, OnErr};
 ghost use Rattle.wf_print.specs.Text.{HasText};
-ghost use Rattle.wf_script.specs.Valid.{IsValid};
+ghost use Rattle.wf_scenario.specs.Valid.{IsValid};
 ghost use Rattle.wf_wire.specs.Wires.{over_link};
 ghost use Rattle.wf_play.specs.Links.{IsPlayOverLinks, WasRefused, maker_of};
 ghost use Rattle.wf_play.specs.Private.Seated.{AreReady, AreUnseated};
@@ -19,7 +19,7 @@ use wf_faults::{law_faults_counted, law_faults_shown};
 use wf_link::Links;
 use wf_player::{Seating, play_all};
 use wf_print::{Transcripts, has_text};
-use wf_script::Scenario;
+use wf_scenario::Scenario;
 use wf_sim::SimLinks;
 use wf_text::OutOfMemory;
 use wf_turn::{Closed, TurnBook, TurnPass};
@@ -46,12 +46,12 @@ fn play_seated<R: Threads + Wait + Sync, N: Links>(
     requires base { base ≤ 2 ^ 40 }
     requires ready { AreReady book.table.shared.table_id scenario.now passes.items seats.items }
     requires room { vec_len seats + vec_len passes ≤ vec_capacity passes }
-    ensures played { IfOk result (λ played. AreUnseated N.Link.state N.Link.received N.Link.faults (N.lent links.old)
-        (N.lent links.new) (N.faults links.old) (N.faults links.new) seats.items (λ olds news. IsPlayOver
-        (over_link N.Link.answer N.Link.next) scenario.entry.now base olds news played.transcripts played.history)) }
-    ensures refused { OnErr result (AreUnseated N.Link.state N.Link.received N.Link.faults (N.lent links.old)
-        (N.lent links.new) (N.faults links.old) (N.faults links.new) seats.items
-        (NoneOrAllPlayed (over_link N.Link.answer N.Link.next) scenario.entry.now base)) }
+    ensures played { IfOk result (λ played. AreUnseated N.Link.told (N.lent links.old)
+        (N.lent links.new) (N.told links.old).faults (N.told links.new).faults seats.items (λ olds news. IsPlayOver
+        (over_link N.Link.serves) scenario.entry.now base olds news played.transcripts played.history)) }
+    ensures refused { OnErr result (AreUnseated N.Link.told (N.lent links.old)
+        (N.lent links.new) (N.told links.old).faults (N.told links.new).faults seats.items
+        (NoneOrAllPlayed (over_link N.Link.serves) scenario.entry.now base)) }
     ensures has_text { IfOk result (λ played. HasText played.transcripts) }
 {
     let played = play_all(rt, alloc, scenario, base, &book, &mut seats);
@@ -85,11 +85,9 @@ pub fn play_over<R: Threads + Wait + Sync, N: Links>(
 ) -> Result<Played, OutOfMemory>
     requires valid { IsValid scenario.now }
     requires base { base ≤ 2 ^ 40 }
-    ensures played { IfOk result (λ played. IsPlayOverLinks (over_link N.Link.answer N.Link.next) N.Link.state
-        N.Link.received N.Link.faults (maker_of N.opening N.lent N.faults links.old)
-        (maker_of N.opening N.lent N.faults links.new) scenario.entry.now base played.transcripts played.history) }
-    ensures refused { OnErr result (WasRefused (over_link N.Link.answer N.Link.next) N.Link.state N.Link.received
-        N.Link.faults (maker_of N.opening N.lent N.faults links.old) (maker_of N.opening N.lent N.faults links.new)
+    ensures played { IfOk result (λ played. IsPlayOverLinks (over_link N.Link.serves) N.Link.told (maker_of N.opening N.lent (N.told links.old).faults)
+        (maker_of N.opening N.lent (N.told links.new).faults) scenario.entry.now base played.transcripts played.history) }
+    ensures refused { OnErr result (WasRefused (over_link N.Link.serves) N.Link.told (maker_of N.opening N.lent (N.told links.old).faults) (maker_of N.opening N.lent (N.told links.new).faults)
         scenario.entry.now base) }
     ensures has_text { IfOk result (λ played. HasText played.transcripts) }
 {

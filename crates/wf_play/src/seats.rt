@@ -26,7 +26,7 @@ pub(crate) fn seat_all<N: Links>(
         (map (λ s. s.link) seats.new.items) }
     ensures few { length seats.new.items ≤ vec_len passes }
     ensures out { N.lent links.new ≡ option_map (out_more (length seats.new.items)) (N.lent links.old) }
-    ensures faults { N.faults links.new ≡ N.faults links.old }
+    ensures faults { (N.told links.new).faults ≡ (N.told links.old).faults }
 {
     let mut number = 0u32;
     for pass in passes {
@@ -47,7 +47,7 @@ pub(crate) fn unseat<N: Links>(
     ensures passes { passes.new.items ≡ passes.old.items ++ map (λ s. s.pass) seats.items }
     ensures room { vec_capacity passes.new ≡ vec_capacity passes.old }
     ensures back { AreTaken (N.lent links.old) (N.lent links.new) (links_in seats.items) }
-    ensures faults { N.faults links.new ≡ grown_by_all (N.faults links.old) (map N.Link.faults (links_in seats.items)) }
+    ensures faults { (N.told links.new).faults ≡ grown_by_all (N.told links.old).faults (map (faults_told N.Link.told) (links_in seats.items)) }
 {
     for seating in seats {
         let Seating { pass, link } = seating;

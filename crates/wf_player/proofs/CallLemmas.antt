@@ -11,7 +11,7 @@ use Rattle.wf_print.specs.declared.events.Event.TheVariants as event
 use Rattle.wf_run.specs.Play.{Play}
 use Rattle.wf_run.specs.Traces.{PlayTrace, stop, shown, stepped}
 use Rattle.wf_wire.specs.Exchanges.{Answering}
-use Rattle.wf_drive.specs.Worlds.{Answers, Outside, Settles, World}
+use Rattle.wf_player.specs.Worlds.{Answers, Outside, Settles, World}
 
 -- Between two worlds these entries were added, each of them the document's, and the calls left fell by as many.
 pub record Calls {State : Type 0} (document : ℕ) (a b : World State) : Type 0 where

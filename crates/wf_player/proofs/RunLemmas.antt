@@ -1,123 +1,181 @@
 -- Whole runs.
 use Rattle.std.proofs.Common.{◌≡◌, ◌≢◌, ℕ, List, [], ◌++◌, Option, Some, None, refl, ap, sym, subst, ◌∙◌, arith, append_assoc}
-use Rattle.std.proofs.Common.{Result, OnErr}
+use Rattle.std.proofs.Common.{Result, Ok, Err}
 use Rattle.std.proofs.lemmas.List.{append-nil}
 use Rattle.wf_text.specs.declared.memory.OutOfMemory.{OutOfMemory}
 use Rattle.wf_act.specs.declared.act.Input.{Input}
 use Rattle.wf_commands.specs.Scripts.{Steps}
 use Rattle.wf_csp_text.specs.declared.policy.Policy.{Policy}
+use Rattle.wf_link.specs.Sources.{IsAtEnd}
 use Rattle.wf_print.specs.declared.events.Ending.{Ending}
 use Rattle.wf_print.specs.declared.events.Ending.TheVariants.{Commands, Fetches, Finished, Memory, Text}
 use Rattle.wf_print.specs.declared.events.Event.{Event}
 use Rattle.wf_run.specs.Play.{Play, PlayRun, over, run_play}
-use Rattle.wf_run.specs.Runs.{Next, Progress, Setting, beginning, document_client, document_run, finished, script_run}
-use Rattle.wf_run.specs.Runs.{setting}
+use Rattle.wf_run.specs.Runs.{Next, Progress, beginning, document_client, document_run, finished, script_run, setting}
 use Rattle.wf_run.specs.Traces.{stop}
 use Rattle.wf_run.proofs.PlayLemmas.{play-run}
-use Rattle.wf_script.specs.declared.types.Document.{Document}
+use Rattle.wf_scenario.specs.declared.document.Document.{Document}
 use Rattle.wf_types.specs.declared.client.Client.{Client}
 use Rattle.wf_types.specs.declared.client.Cookie.{Cookie}
 use Rattle.wf_wire.specs.Exchanges.{Answering, IsIdle}
-use Rattle.wf_drive.specs.Worlds.{Answers, Outside, Refuses, Settles, World, outside_of}
-use Rattle.wf_drive.proofs.AskLemmas.{on-err, refuses-none}
-use Rattle.wf_drive.proofs.FetchLemmas.{still}
-use Rattle.wf_running.specs.Parts.{Cut, CutShort, Played, PlaysOn, Standing, standing_of}
-use Rattle.wf_running.proofs.PartLemmas.{cut-inside, played-inside}
-use Rattle.wf_player.specs.Playing.{Began, Came, Ended, Ran, Stopped, ended_by}
+use Rattle.wf_player.specs.Parts.{CutShort, PlayedTo, Plays, PlaysOn, Rule}
+use Rattle.wf_player.specs.Playing.{Began, Came, Ran, ended_by}
+use Rattle.wf_player.specs.Standings.{Standing}
+use Rattle.wf_player.specs.Worlds.{Answers, Outside, Refuses, Settles, World, outside_of}
+use Rattle.wf_player.proofs.AskLemmas.{refuses-none}
+use Rattle.wf_player.proofs.FetchLemmas.{still}
+
+-- a run that did not end for memory
+came-ran : {State : Type 0} (by : Answering State) (limit document : ℕ) (whole : Play) (old : Outside State)
+    (events : List Event) (ending : Ending) (clock : ℕ) (new : Outside State) → ending ≢ Memory
+    → Ran by limit document whole old events ending clock new
+    → Came by limit document whole old events ending clock new
+came-ran by limit document whole old events Finished clock new told x = x
+came-ran by limit document whole old events Fetches clock new told x = x
+came-ran by limit document whole old events Commands clock new told x = x
+came-ran by limit document whole old events Text clock new told x = x
+came-ran by limit document whole old events Memory clock new told x = absurd (told refl)
 
 -- ---- a script as the whole run
 
--- no ending is want of memory
-pub ending-told : (ending : Option Ending) → ending ≢ Some Memory → ended_by ending ≢ Memory
-ending-told None told = λ bad. absurd (cc)
-ending-told (Some ending) told =
-    λ bad. told (ap (λ (e : Ending). let o : Option Ending = Some e in o) bad)
+module _ {State : Type 0} (by : Answering State) (script : Steps) (old now : Standing State) (from to : Outside State)
+    (idle : IsIdle old.world.exchange) (begins : outside_of old.world ≡ from) (ends : outside_of now.world ≡ to)
+    (none : old.progress.shown ≡ []) where
+  abbrev whole : Play
+  whole = script_run old.terms.lent script finished old.progress
 
-module _ {State : Type 0} (by : Answering State) (limit document : ℕ) (lent : Setting) (script : Steps) where
-  ended-as : (ending : Option Ending) (old now : Standing State)
-      → Played by limit document (script_run lent script) old ending now
-      → Ended by limit document (script_run lent script finished old.progress) old (ended_by ending) now
-  ended-as None old now x = played-inside by limit document
-      (λ (next : Next). script_run lent script next old.progress) (λ next. next now.progress) (λ (next : Next). finished)
-      old now x
-  ended-as (Some ending) old now x = played-inside by limit document
-      (λ (next : Next). script_run lent script next old.progress) (λ next. over ending now.progress.clock)
-      (λ (next : Next). finished) old now x
+  abbrev on : List Input → List Event → Play → World State → Type 0
+  on tape events place last =
+      PlaysOn by old.terms.limit old.terms.document whole old.world tape events place last
 
-  pub run-ended : (ending : Option Ending) (came : Ending) (old now : Standing State) → came ≡ ended_by ending
-      → Played by limit document (script_run lent script) old ending now
-      → Ended by limit document (script_run lent script finished old.progress) old came now
-  run-ended ending came old now is x =
-      subst (λ (e : Ending). Ended by limit document (script_run lent script finished old.progress) old e now) (sym is)
-      (ended-as ending old now x)
+  -- what was shown is what was added to nothing
+  shown-made : (made : List Event) → now.progress.shown ≡ old.progress.shown ++ made → now.progress.shown ≡ made
+  shown-made made added = added ∙ ap (λ (l : List Event). l ++ made) none
 
-  pub run-stopped : (old now : Standing State) → Cut by limit document (script_run lent script) old now
-      → Stopped by limit document (script_run lent script finished old.progress) old now
-  run-stopped old now x = cut-inside by limit document (λ (next : Next). script_run lent script next old.progress)
-      (λ (next : Next). finished) old now x
-
--- ---- whole runs
-
-module _ {State : Type 0} (by : Answering State) (limit document : ℕ) (whole : Play) (first : World State)
-    (old new : Outside State) where
-  pub run-whole : (base : Progress) (ending : Ending) (now : Standing State) → IsIdle first.exchange
-      → outside_of first ≡ old → outside_of now.world ≡ new → base.shown ≡ []
-      → Ended by limit document whole (standing_of first base) ending now
-      → Ran by limit document whole old now.progress.shown ending now.progress.clock new
-  run-whole base ending now idle from to none x =
-      let shows : now.progress.shown ≡ x.made = x.added ∙ ap (λ (l : List Event). l ++ x.made) none in
+  -- it came to an ending
+  ran : (ending : Ending) → PlayedTo by (λ (next : Next). whole) old (λ next. over ending now.progress.clock) now
+      → Ran by old.terms.limit old.terms.document whole from now.progress.shown ending now.progress.clock to
+  ran ending x =
+      let shows = shown-made x.made x.added in
       record {
-        first = first;
+        first = old.world;
         idle = idle;
-        from = from;
+        from = begins;
         tape = x.tape;
         last = now.world;
-        trace = subst (λ (l : List Event). PlaysOn by limit document whole first x.tape l
-            (over ending now.progress.clock) now.world) (sym shows) (x.trace finished);
-        to = to;
+        trace = subst (λ (l : List Event). on x.tape l (over ending now.progress.clock) now.world) (sym shows)
+            (x.trace finished);
+        to = ends;
         runs = ap (run_play whole) (sym (append-nil x.tape))
-            ∙ play-run (Answers by limit document) Settles (x.trace finished) []
+            ∙ play-run (Answers by old.terms.limit old.terms.document) Settles (x.trace finished) []
             ∙ ap (λ (l : List Event). let r : PlayRun = record {
               events = l;
               ending = Some (ending, now.progress.clock);
             } in r) (append-nil x.made ∙ sym shows);
       }
 
-  stopped : (base : Progress) (now : Standing State) → IsIdle first.exchange → outside_of first ≡ old
-      → outside_of now.world ≡ new → base.shown ≡ []
-      → CutShort by limit document (λ (next : Next). whole) (standing_of first base) now
-      → Began by limit document whole old now.progress.shown new
-  stopped base now idle from to none x =
-      let shows : now.progress.shown ≡ x.made = x.added ∙ ap (λ (l : List Event). l ++ x.made) none in
+  -- it was cut short
+  cut : CutShort by (λ (next : Next). script_run old.terms.lent script next old.progress) old now
+      → Began by old.terms.limit old.terms.document whole from now.progress.shown to
+  cut x =
+      let shows = shown-made x.made x.added in
       record {
-        first = first;
+        first = old.world;
         idle = idle;
-        from = from;
+        from = begins;
         tape = x.tape;
         missed = x.missed;
         few = x.few;
         place = x.place finished;
         last = x.last;
-        trace = subst (λ (l : List Event). PlaysOn by limit document whole first x.tape (l ++ x.missed)
-            (x.place finished) x.last) (sym shows) (x.trace finished);
-        left = subst (λ (o : Outside State). Refuses (outside_of x.last) o) to x.left;
+        trace = subst (λ (l : List Event). on x.tape (l ++ x.missed) (x.place finished) x.last) (sym shows)
+            (x.trace finished);
+        left = subst (λ (o : Outside State). Refuses (outside_of x.last) o) ends x.left;
         runs = ap (λ (t : List Input). (run_play whole t).events) (sym (append-nil x.tape))
-            ∙ ap (λ (r : PlayRun). r.events) (play-run (Answers by limit document) Settles (x.trace finished) [])
+            ∙ ap (λ (r : PlayRun). r.events)
+            (play-run (Answers by old.terms.limit old.terms.document) Settles (x.trace finished) [])
             ∙ append_assoc x.made x.missed (run_play (x.place finished) []).events
             ∙ ap (λ (l : List Event). l ++ (x.missed ++ (run_play (x.place finished) []).events)) (sym shows);
       }
 
-  pub run-cut : {T : Type 0} (base : Progress) (now : Standing State) (result : Result T OutOfMemory)
-      → IsIdle first.exchange → outside_of first ≡ old → outside_of now.world ≡ new → base.shown ≡ []
-      → CutShort by limit document (λ (next : Next). whole) (standing_of first base) now
-      → OnErr result (Began by limit document whole old now.progress.shown new)
-  run-cut base now result idle from to none x = on-err result (stopped base now idle from to none x)
+  -- what the script came to, the run did
+  pub run-came : (result : Result (Option Ending) OutOfMemory) → Plays by (λ lent. script_run lent script) old result now
+      → Came by old.terms.limit old.terms.document whole from now.progress.shown (ended_by result) now.progress.clock
+      to
+  unfolding ran cut
+  run-came (Ok None) x = ran Finished (given (λ next. next now.progress) x.played)
+    where
+      given : (rest : Next → Play) → PlayedTo by
+          (λ (next : Next). script_run old.terms.lent script next old.progress) old rest now
+          → PlayedTo by (λ (next : Next). whole) old (λ next. rest finished) now
+      given rest x = record {
+        same = x.same;
+        tape = x.tape;
+        made = x.made;
+        added = x.added;
+        trace = λ next. x.trace finished;
+      }
+  run-came (Ok (Some ending)) x = came-ran by old.terms.limit old.terms.document whole from now.progress.shown ending
+      now.progress.clock to (λ bad. x.told (ap (λ (e : Ending). let o : Option Ending = Some e in o) bad))
+      (ran ending (record {
+        same = x.played.same;
+        tape = x.played.tape;
+        made = x.played.made;
+        added = x.played.added;
+        trace = λ next. x.played.trace finished;
+      }))
+  run-came (Err refused) x = cut x
+
+-- nothing is to come where memory was not refused
+pub run-rests : {State : Type 0} (by : Answering State) (rule : Rule) (old now : Standing State)
+    (result : Result (Option Ending) OutOfMemory) → Plays by rule old result now → ended_by result ≢ Memory
+    → IsAtEnd now.world.exchange.left
+run-rests by rule old now (Ok ending) x told = x.rests
+run-rests by rule old now (Err refused) x told = absurd (told refl)
+
+-- a script in the setting of its document, from the beginning, is the document's run
+run-of : (document : Document) (client : Client) (policies : List Policy) (cookies : List Cookie) (base : ℕ)
+    (progress : Progress) → client ≡ document_client document → policies ≡ document.policies
+    → progress ≡ beginning base
+    → script_run (setting client policies cookies) document.script finished progress
+    ≡ document_run cookies base document
+run-of document client policies cookies base progress is all began =
+    ap (λ (c : Client). script_run (setting c policies cookies) document.script finished progress) is
+    ∙ ap (λ (l : List Policy). script_run (setting (document_client document) l cookies) document.script finished
+    progress) all
+    ∙ ap (λ (p : Progress). script_run (setting (document_client document) document.policies cookies) document.script
+    finished p) began
+
+-- what a document's script came to, its run did
+pub document-came : {State : Type 0} (by : Answering State) (document : Document) (client : Client)
+    (policies : List Policy) (cookies : List Cookie) (base limit number : ℕ) (first : World State) (running : Progress)
+    (from to : Outside State) (now : Standing State) (result : Result (Option Ending) OutOfMemory)
+    (events : List Event) (ending : Ending) (clock : ℕ) → client ≡ document_client document
+    → policies ≡ document.policies → running ≡ beginning base → IsIdle first.exchange → outside_of first ≡ from
+    → outside_of now.world ≡ to → events ≡ now.progress.shown → ending ≡ ended_by result
+    → clock ≡ now.progress.clock
+    → Plays by (λ lent. script_run lent document.script) (record {
+      terms = record { lent = setting client policies cookies; limit = limit; document = number };
+      world = first;
+      progress = running;
+    }) result now
+    → Came by limit number (document_run cookies base document) from events ending clock to
+document-came {State} by document client policies cookies base limit number first running from to now result events
+    ending clock is all began idle begins ends shown ended ticks x =
+    let old : Standing State = record {
+      terms = record { lent = setting client policies cookies; limit = limit; document = number };
+      world = first;
+      progress = running;
+    } in
+    rw (shown, ended, ticks)
+    (subst (λ (p : Play). Came by limit number p from now.progress.shown (ended_by result) now.progress.clock to)
+    (run-of document client policies cookies base running is all began)
+    (run-came by document.script old now from to idle begins ends (ap (λ (p : Progress). p.shown) began) result x))
 
 -- memory was refused before it began
-pub run-unbegun : {State T : Type 0} (by : Answering State) (limit document : ℕ) (whole : Play) (base : Progress)
-    (result : Result T OutOfMemory) (old new : Outside State) → new ≡ old → base.shown ≡ []
-    → OnErr result (Began by limit document whole old base.shown new)
-run-unbegun by limit document whole base result old new kept none = on-err result (rw (kept, none) (record {
+pub run-unbegun : {State : Type 0} (by : Answering State) (limit document : ℕ) (whole : Play) (old new : Outside State)
+    → new ≡ old → Began by limit document whole old [] new
+run-unbegun by limit document whole old new kept = rw kept (record {
   first = still old;
   idle = record { end = refl; framing_is = refl };
   from = refl;
@@ -129,28 +187,4 @@ run-unbegun by limit document whole base result old new kept none = on-err resul
   trace = stop;
   left = refuses-none old;
   runs = refl;
-}))
-
--- the link was hung up
--- a script in the setting of its document, from the beginning, is the document's run
-pub run-of : (document : Document) (client : Client) (policies : List Policy) (cookies : List Cookie)
-    (progress : Progress) → client ≡ document_client document → policies ≡ document.policies
-    → progress ≡ beginning progress.clock
-    → script_run (setting client policies cookies) document.script finished progress
-    ≡ document_run cookies progress.clock document
-run-of document client policies cookies progress is all began =
-    ap (λ (c : Client). script_run (setting c policies cookies) document.script finished progress) is
-    ∙ ap (λ (l : List Policy). script_run (setting (document_client document) l cookies) document.script finished
-    progress) all
-    ∙ ap (λ (p : Progress). script_run (setting (document_client document) document.policies cookies) document.script finished p) began
-
--- a run that did not end for memory
-pub came-ran : {State : Type 0} (by : Answering State) (limit document : ℕ) (whole : Play) (old : Outside State)
-    (events : List Event) (ending : Ending) (clock : ℕ) (new : Outside State) → ending ≢ Memory
-    → Ran by limit document whole old events ending clock new
-    → Came by limit document whole old events ending clock new
-came-ran by limit document whole old events Finished clock new told x = x
-came-ran by limit document whole old events Fetches clock new told x = x
-came-ran by limit document whole old events Commands clock new told x = x
-came-ran by limit document whole old events Text clock new told x = x
-came-ran by limit document whole old events Memory clock new told x = absurd (told refl)
+})

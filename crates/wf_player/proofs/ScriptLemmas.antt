@@ -1,9 +1,9 @@
 -- The commands of a script.
-use Rattle.std.proofs.Common.{◌≡◌, ℕ, zero, suc, ◌+◌, ◌-◌, ◌≤◌, ◌<◌, List, [], ◌∷◌, Option, Some, None, true, false}
+use Rattle.std.proofs.Common.{◌≡◌, ◌≢◌, ℕ, zero, suc, ◌+◌, ◌-◌, ◌≤◌, ◌<◌, List, [], ◌∷◌, Option, Some, None, true, false}
 use Rattle.std.proofs.Common.{refl, ap, sym, subst, ◌∙◌, arith, add-one, drop, drop-cons, cond, get_or, length, Bool}
-use Rattle.std.proofs.Common.{Result, Ok, Err, OnErr}
-use Rattle.std.specs.Prelude.{is_some, IfOk}
+use Rattle.std.proofs.Common.{Result, Ok, Err}
 use Rattle.std.proofs.lemmas.List.{append-nil, drop_all}
+use Rattle.std.specs.Prelude.{is_some, nat_le, nat_lt}
 use Rattle.wf_text.specs.declared.memory.OutOfMemory.{OutOfMemory}
 use Rattle.wf_commands.specs.declared.command.Command.{Command}
 use Rattle.wf_commands.specs.declared.command.Test.{Test}
@@ -12,30 +12,48 @@ use Rattle.wf_commands.specs.Depth.{step_size, steps_size}
 use Rattle.wf_commands.specs.Scripts.{Step, Steps}
 use Rattle.wf_commands.specs.Scripts as script
 use Rattle.wf_commands.specs.Valid.{AreValid, IsValidStep}
+use Rattle.wf_link.specs.Sources.{IsAtEnd}
 use Rattle.wf_print.specs.declared.events.Ending.{Ending}
+use Rattle.wf_print.specs.declared.events.Ending.TheVariants.{Commands, Fetches, Memory, Text}
 use Rattle.wf_run.specs.Play.{over}
-use Rattle.wf_run.specs.Runs.{Next, Progress, Setting, chosen, command_started, last_of, limit_before, repeated}
-use Rattle.wf_run.specs.Runs.{script_run, started, unless_limit, waited}
-use Rattle.wf_run.specs.Traces.{stop}
 use Rattle.wf_run.specs.Results.{holds}
+use Rattle.wf_run.specs.Runs.{Next, Progress, Setting, chosen, command_started, last_of, limit_before}
+use Rattle.wf_run.specs.Runs.{most_commands, most_fetches, most_printed, own_limit, repeated, script_run, started}
+use Rattle.wf_run.specs.Runs.{text_length, unless_limit, waited}
+use Rattle.wf_run.specs.Traces as traces
 use Rattle.wf_wire.specs.Exchanges.{Answering}
-use Rattle.wf_drive.specs.Worlds.{World}
-use Rattle.wf_drive.proofs.AskLemmas.{on-err}
-use Rattle.wf_running.specs.Parts.{Cut, CutShort, Played, PlayedTo, Standing, standing_of}
-use Rattle.wf_running.proofs.PartLemmas.{cut-inside, played-cut, played-inside, played-none, played-then}
+use Rattle.wf_player.specs.Parts.{CutShort, HasPlayed, PlayedTo, Plays, Rule, WasCut}
+use Rattle.wf_player.specs.Standings.{HasSpent, MayGoOn, Standing, Terms}
+use Rattle.wf_player.specs.Worlds.{World}
+use Rattle.wf_player.proofs.AskingLemmas.{no-memory}
+use Rattle.wf_player.proofs.PartLemmas.{cut-inside, played-cut, played-inside, played-none, played-then}
 
--- ---- answers
-
--- what follows from what holds of an answer
-pub if-ok-map : {T : Type 0} {P Q : T → Type 0} (result : Result T OutOfMemory) → ((x : T) → P x → Q x) → IfOk result P
-    → IfOk result Q
-if-ok-map (Ok x) f p = f x p
-if-ok-map (Err refused) f p = tt
-
--- there is no ending
+-- no ending
 pub no-ending : (ending : Option Ending) → is_some ending ≡ false → ending ≡ None
 no-ending None is = refl
 no-ending (Some ending) is = absurd (cc)
+
+-- no limit is want of memory
+no-limit : (one : Step) (progress : Progress) → limit_before one progress ≢ Some Memory
+no-limit one progress = by-test (nat_le most_commands progress.commands)
+  where
+    by-fetches : (test full : Bool) → cond test (Some Fetches) (cond full (Some Text) None) ≢ Some Memory
+    by-fetches true full = λ bad. absurd (cc)
+    by-fetches false true = λ bad. absurd (cc)
+    by-fetches false false = λ bad. absurd (cc)
+
+    own : (one : Step) → own_limit one progress ≢ Some Memory
+    own (script.fetch init) =
+        by-fetches (nat_le most_fetches progress.fetches) (nat_lt most_printed (text_length progress.shown))
+    own (script.load init) =
+        by-fetches (nat_le most_fetches progress.fetches) (nat_lt most_printed (text_length progress.shown))
+    own (script.wait seconds) = λ bad. absurd (cc)
+    own (script.repeat times part) = λ bad. absurd (cc)
+    own (script.choose test part other) = λ bad. absurd (cc)
+
+    by-test : (test : Bool) → cond test (Some Commands) (own_limit one progress) ≢ Some Memory
+    by-test true = λ bad. absurd (cc)
+    by-test false = own one
 
 -- ---- commands in memory
 
@@ -66,250 +84,278 @@ pub command-size : (items : List Command) (script : Steps) (index : ℕ) (one : 
 command-size items script index one same lt is =
     omega (arith, size-at items index one lt is, ap steps_size same)
 
-module _ {State : Type 0} (by : Answering State) (limit document : ℕ) (lent : Setting) where
+-- ---- standings
+
+-- the run inside is another
+pub stands-on : {State : Type 0} (a : Standing State) (p q : Progress) → p ≡ q
+    → record a { progress = p } ≡ record a { progress = q }
+stands-on {State} a p q is = ap (λ (r : Progress). let s : Standing State = record a { progress = r } in s) is
+
+-- nothing was spent
+pub spent-none : {State : Type 0} (a : Standing State) → MayGoOn a → HasSpent a a
+spent-none a goes = record { calls = omega arith; fetches = goes.fetches }
+
+-- what was spent, one after the other
+pub spent-then : {State : Type 0} (a b c : Standing State) → HasSpent a b → HasSpent b c → HasSpent a c
+spent-then a b c x y = record { calls = omega (arith, x.calls, y.calls); fetches = y.fetches }
+
+-- a run that has spent no more than it may goes on, where nothing is to come
+pub goes-on : {State : Type 0} (a b : Standing State) → MayGoOn a → HasSpent a b → IsAtEnd b.world.exchange.left
+    → MayGoOn b
+goes-on a b goes spent rests =
+    record { calls = omega (arith, goes.calls, spent.calls); fetches = spent.fetches; rests = rests }
+
+module _ {State : Type 0} (by : Answering State) where
+  -- ---- one part after another
+
+  -- a first part was played, and the rule in what follows it came to an ending
+  ended : (rule : Rule) (middle : Next → Next) (a b c : Standing State) (ending : Ending)
+      → PlayedTo by (λ (next : Next). rule a.terms.lent next a.progress) a (λ next. middle next b.progress) b
+      → PlayedTo by (λ (next : Next). middle next b.progress) b (λ next. over ending c.progress.clock) c
+      → PlayedTo by (λ (next : Next). rule a.terms.lent next a.progress) a (λ next. over ending c.progress.clock) c
+  ended rule middle a b c ending x y = played-then by (λ (next : Next). rule a.terms.lent next a.progress)
+      (λ next. middle next b.progress) (λ next. over ending c.progress.clock) a b c x y
+
   -- ---- scripts
 
   -- the commands so far were played, and the others follow
   abbrev pub IsAt : List Command → ℕ → Standing State → Standing State → Type 0
   IsAt items index old now =
-      PlayedTo by limit document (λ (next : Next). script_run lent (steps_of items) next old.progress) old
-      (λ next. script_run lent (steps_of (drop index items)) next now.progress) now
+      PlayedTo by (λ (next : Next). script_run old.terms.lent (steps_of items) next old.progress) old
+      (λ next. script_run now.terms.lent (steps_of (drop index items)) next now.progress) now
 
   pub script-start : (items : List Command) (a : Standing State) → IsAt items 0 a a
-  script-start items a =
-      played-none by limit document (λ (next : Next). script_run lent (steps_of items) next a.progress) a
+  script-start items a = played-none by (λ (next : Next). script_run a.terms.lent (steps_of items) next a.progress) a
 
-  -- the command at the index, and then the others
-  at-command : (items : List Command) (index : ℕ) (one : Command) (old now : Standing State)
-      → index < length items → one ≡ get_or items index one → IsAt items index old now
-      → PlayedTo by limit document (λ (next : Next). script_run lent (steps_of items) next old.progress) old
-      (λ next. unless_limit (limit_before (step_of one) now.progress) (command_started lent (step_of one)
-      (script_run lent (steps_of (drop (index + 1) items)) next)) now.progress) now
-  at-command items index one old now within is at =
-      subst (λ (l : List Command). PlayedTo by limit document
-      (λ (next : Next). script_run lent (steps_of items) next old.progress) old
-      (λ next. script_run lent (steps_of l) next now.progress) now) (drop-at items index one within is) at
+  module _ (script : Steps) (items : List Command) (index : ℕ) (one : Command) (reached : Option Ending)
+      (old now : Standing State) (all : steps_of items ≡ script) (within : index < length items)
+      (is : one ≡ get_or items index one) (limited : reached ≡ limit_before (step_of one) now.progress)
+      (at : IsAt items index old now) where
+    -- the commands behind it
+    abbrev others : Next → Next
+    others next = script_run now.terms.lent (steps_of (drop (index + 1) items)) next
 
-  -- a limit, or none
-  at-limit : (items : List Command) (index : ℕ) (one : Command) (reached : Option Ending) (old now : Standing State)
-      → index < length items → one ≡ get_or items index one → reached ≡ limit_before (step_of one) now.progress
-      → IsAt items index old now
-      → PlayedTo by limit document (λ (next : Next). script_run lent (steps_of items) next old.progress) old
-      (λ next. unless_limit reached (command_started lent (step_of one)
-      (script_run lent (steps_of (drop (index + 1) items)) next)) now.progress) now
-  at-limit items index one reached old now within is limited at =
-      subst (λ (e : Option Ending). PlayedTo by limit document
-      (λ (next : Next). script_run lent (steps_of items) next old.progress) old
-      (λ next. unless_limit e (command_started lent (step_of one)
-      (script_run lent (steps_of (drop (index + 1) items)) next)) now.progress) now) (sym limited)
-      (at-command items index one old now within is at)
+    -- a limit, or the command at the index, and then the others
+    at-command : PlayedTo by (λ (next : Next). script_run old.terms.lent (steps_of items) next old.progress) old
+        (λ next. unless_limit reached (command_started now.terms.lent (step_of one) (others next)) now.progress) now
+    at-command = subst (λ (e : Option Ending). PlayedTo by
+        (λ (next : Next). script_run old.terms.lent (steps_of items) next old.progress) old
+        (λ next. unless_limit e (command_started now.terms.lent (step_of one) (others next)) now.progress) now)
+        (sym limited)
+        (subst (λ (l : List Command). PlayedTo by
+        (λ (next : Next). script_run old.terms.lent (steps_of items) next old.progress) old
+        (λ next. script_run now.terms.lent (steps_of l) next now.progress) now) (drop-at items index one within is) at)
 
-  -- a limit ends the run before the command
-  limited-by : (items : List Command) (index : ℕ) (one : Command) (reached : Option Ending) (old now : Standing State)
-      → is_some reached ≡ true
-      → PlayedTo by limit document (λ (next : Next). script_run lent (steps_of items) next old.progress) old
-      (λ next. unless_limit reached (command_started lent (step_of one)
-      (script_run lent (steps_of (drop (index + 1) items)) next)) now.progress) now
-      → Played by limit document (script_run lent (steps_of items)) old reached now
-  limited-by items index one None old now some x = absurd (cc)
-  limited-by items index one (Some ending) old now some x = x
+    -- a limit ends the run before the command
+    pub script-limited : is_some reached ≡ true → IsAtEnd now.world.exchange.left
+        → HasPlayed by (λ lent. script_run lent script) old reached now
+    script-limited some rests = record {
+      played = subst (λ (s : Steps). PlayedTo by (λ (next : Next). script_run old.terms.lent s next old.progress) old
+          (λ next. unless_limit reached next now.progress) now) all (limited-by reached some at-command);
+      rests = rests;
+      told = subst (λ (e : Option Ending). e ≢ Some Memory) (sym limited) (no-limit (step_of one) now.progress);
+    }
+      where
+        limited-by : (e : Option Ending) → is_some e ≡ true
+            → PlayedTo by (λ (next : Next). script_run old.terms.lent (steps_of items) next old.progress) old
+            (λ next. unless_limit e (command_started now.terms.lent (step_of one) (others next)) now.progress) now
+            → PlayedTo by (λ (next : Next). script_run old.terms.lent (steps_of items) next old.progress) old
+            (λ next. unless_limit e next now.progress) now
+        limited-by None some x = absurd (cc)
+        limited-by (Some ending) some x = x
 
-  pub script-limited : (script : Steps) (items : List Command) (index : ℕ) (one : Command) (reached : Option Ending)
-      (old now : Standing State) → steps_of items ≡ script → index < length items
-      → one ≡ get_or items index one → reached ≡ limit_before (step_of one) now.progress → is_some reached ≡ true
-      → IsAt items index old now → Played by limit document (script_run lent script) old reached now
-  script-limited script items index one reached old now same within is limited some at =
-      subst (λ (s : Steps). Played by limit document (script_run lent s) old reached now) same
-      (limited-by items index one reached old now some (at-limit items index one reached old now within is limited at))
+    module _ (free : is_some reached ≡ false) where
+      -- the command before which there is none
+      at-free : PlayedTo by (λ (next : Next). script_run old.terms.lent (steps_of items) next old.progress) old
+          (λ next. command_started now.terms.lent (step_of one) (others next) now.progress) now
+      at-free = subst (λ (e : Option Ending). PlayedTo by
+          (λ (next : Next). script_run old.terms.lent (steps_of items) next old.progress) old
+          (λ next. unless_limit e (command_started now.terms.lent (step_of one) (others next)) now.progress) now)
+          (no-ending reached free) at-command
 
-  -- the command before which there is none
-  at-free : (items : List Command) (index : ℕ) (one : Command) (reached : Option Ending) (old now : Standing State)
-      → index < length items → one ≡ get_or items index one → reached ≡ limit_before (step_of one) now.progress
-      → is_some reached ≡ false → IsAt items index old now
-      → PlayedTo by limit document (λ (next : Next). script_run lent (steps_of items) next old.progress) old
-      (λ next. command_started lent (step_of one) (script_run lent (steps_of (drop (index + 1) items)) next)
-      now.progress) now
-  at-free items index one reached old now within is limited none at =
-      at-limit items index one None old now within is (sym (no-ending reached none) ∙ limited) at
+      -- the command was played
+      pub script-next : (ending : Option Ending) (later : Standing State) → is_some ending ≡ false
+          → HasPlayed by (λ lent. command_started lent (step_of one)) now ending later
+          → IsAt items (index + 1) old later
+      script-next ending later goes x = subst (λ (t : Terms). PlayedTo by
+          (λ (next : Next). script_run old.terms.lent (steps_of items) next old.progress) old
+          (λ next. script_run t.lent (steps_of (drop (index + 1) items)) next later.progress) later)
+          (sym x.played.same)
+          (played-then by (λ (next : Next). script_run old.terms.lent (steps_of items) next old.progress)
+          (λ next. command_started now.terms.lent (step_of one) (others next) now.progress)
+          (λ next. others next later.progress) old now later at-free
+          (played-inside by (λ (next : Next). command_started now.terms.lent (step_of one) next now.progress)
+          (λ next. next later.progress) others now later
+          (subst (λ (e : Option Ending). PlayedTo by
+          (λ (next : Next). command_started now.terms.lent (step_of one) next now.progress) now
+          (λ next. unless_limit e next later.progress) later) (no-ending ending goes) x.played)))
 
-  -- the command was played
-  pub script-next : (items : List Command) (index : ℕ) (one : Command) (reached ending : Option Ending)
-      (old now later : Standing State) → index < length items → one ≡ get_or items index one
-      → reached ≡ limit_before (step_of one) now.progress → is_some reached ≡ false → is_some ending ≡ false
-      → IsAt items index old now → Played by limit document (command_started lent (step_of one)) now ending later
-      → IsAt items (index + 1) old later
-  script-next items index one reached ending old now later within is limited none goes at x =
-      played-then by limit document (λ (next : Next). script_run lent (steps_of items) next old.progress)
-      (λ next. command_started lent (step_of one) (script_run lent (steps_of (drop (index + 1) items)) next) now.progress)
-      (λ next. script_run lent (steps_of (drop (index + 1) items)) next later.progress) old now later
-      (at-free items index one reached old now within is limited none at)
-      (played-inside by limit document (λ (next : Next). command_started lent (step_of one) next now.progress)
-      (λ next. next later.progress) (script_run lent (steps_of (drop (index + 1) items))) now later
-      (subst (λ (e : Option Ending). Played by limit document (command_started lent (step_of one)) now e later)
-      (no-ending ending goes) x))
+      -- it ended the run
+      pub script-ended : (ending : Option Ending) (later : Standing State) → is_some ending ≡ true
+          → HasPlayed by (λ lent. command_started lent (step_of one)) now ending later
+          → HasPlayed by (λ lent. script_run lent script) old ending later
+      script-ended None later some x = absurd (cc)
+      script-ended (Some ending) later some x = record {
+        played = subst (λ (s : Steps). PlayedTo by (λ (next : Next). script_run old.terms.lent s next old.progress)
+            old (λ next. over ending later.progress.clock) later) all
+            (ended (λ lent. script_run lent (steps_of items))
+            (λ next. command_started now.terms.lent (step_of one) (others next)) old now later ending at-free
+            (played-inside by (λ (next : Next). command_started now.terms.lent (step_of one) next now.progress)
+            (λ next. over ending later.progress.clock) others now later x.played));
+        rests = x.rests;
+        told = x.told;
+      }
 
-  -- it ended the run
-  ended-by : (items : List Command) (index : ℕ) (one : Command) (ending : Option Ending) (old now later : Standing State)
-      → is_some ending ≡ true
-      → PlayedTo by limit document (λ (next : Next). script_run lent (steps_of items) next old.progress) old
-      (λ next. command_started lent (step_of one) (script_run lent (steps_of (drop (index + 1) items)) next)
-      now.progress) now
-      → Played by limit document (command_started lent (step_of one)) now ending later
-      → Played by limit document (script_run lent (steps_of items)) old ending later
-  ended-by items index one None old now later some at x = absurd (cc)
-  ended-by items index one (Some ending) old now later some at x =
-      played-then by limit document (λ (next : Next). script_run lent (steps_of items) next old.progress)
-      (λ next. command_started lent (step_of one) (script_run lent (steps_of (drop (index + 1) items)) next) now.progress)
-      (λ next. over ending later.progress.clock) old now later at
-      (played-inside by limit document (λ (next : Next). command_started lent (step_of one) next now.progress)
-      (λ next. over ending later.progress.clock) (script_run lent (steps_of (drop (index + 1) items))) now later x)
+      -- memory was refused in it
+      pub script-cut : (later : Standing State) → WasCut by (λ lent. command_started lent (step_of one)) now later
+          → WasCut by (λ lent. script_run lent script) old later
+      script-cut later x = subst (λ (s : Steps). WasCut by (λ lent. script_run lent s) old later) all
+          (played-cut by (λ (next : Next). script_run old.terms.lent (steps_of items) next old.progress)
+          (λ next. command_started now.terms.lent (step_of one) (others next) now.progress) old now later at-free
+          (cut-inside by (λ (next : Next). command_started now.terms.lent (step_of one) next now.progress) others now
+          later x))
 
-  pub script-ended : (script : Steps) (items : List Command) (index : ℕ) (one : Command)
-      (reached ending : Option Ending) (old now later : Standing State) → steps_of items ≡ script
-      → index < length items → one ≡ get_or items index one → reached ≡ limit_before (step_of one) now.progress
-      → is_some reached ≡ false → is_some ending ≡ true → IsAt items index old now
-      → Played by limit document (command_started lent (step_of one)) now ending later
-      → Played by limit document (script_run lent script) old ending later
-  script-ended script items index one reached ending old now later same within is limited none some at x =
-      subst (λ (s : Steps). Played by limit document (script_run lent s) old ending later) same
-      (ended-by items index one ending old now later some
-      (at-free items index one reached old now within is limited none at) x)
-
-  -- memory was refused in it
-  pub script-cut : {T : Type 0} (script : Steps) (items : List Command) (index : ℕ) (one : Command)
-      (reached : Option Ending) (old now later : Standing State) (result : Result T OutOfMemory)
-      → steps_of items ≡ script → index < length items → one ≡ get_or items index one
-      → reached ≡ limit_before (step_of one) now.progress → is_some reached ≡ false → IsAt items index old now
-      → Cut by limit document (command_started lent (step_of one)) now later
-      → OnErr result (Cut by limit document (script_run lent script) old later)
-  script-cut script items index one reached old now later result same within is limited none at x =
-      on-err result (subst (λ (s : Steps). Cut by limit document (script_run lent s) old later) same
-      (played-cut by limit document (λ (next : Next). script_run lent (steps_of items) next old.progress)
-      (λ next. command_started lent (step_of one) (script_run lent (steps_of (drop (index + 1) items)) next) now.progress)
-      old now later (at-free items index one reached old now within is limited none at)
-      (cut-inside by limit document (λ (next : Next). command_started lent (step_of one) next now.progress)
-      (script_run lent (steps_of (drop (index + 1) items))) now later x)))
-
-  -- after the last command
+  -- all commands were played
   pub script-over : (script : Steps) (items : List Command) (index : ℕ) (old now : Standing State)
-      → steps_of items ≡ script → length items ≤ index → IsAt items index old now
-      → Played by limit document (script_run lent script) old None now
-  script-over script items index old now same past at =
-      subst (λ (s : Steps). Played by limit document (script_run lent s) old None now) same
-      (subst (λ (l : List Command). PlayedTo by limit document
-      (λ (next : Next). script_run lent (steps_of items) next old.progress) old
-      (λ next. script_run lent (steps_of l) next now.progress) now) (drop_all index items past) at)
+      → steps_of items ≡ script → length items ≤ index → IsAt items index old now → IsAtEnd now.world.exchange.left
+      → HasPlayed by (λ lent. script_run lent script) old None now
+  script-over script items index old now all past at rests = record {
+    played = subst (λ (s : Steps). PlayedTo by (λ (next : Next). script_run old.terms.lent s next old.progress) old
+        (λ next. next now.progress) now) all
+        (subst (λ (l : List Command). PlayedTo by
+        (λ (next : Next). script_run old.terms.lent (steps_of items) next old.progress) old
+        (λ next. script_run now.terms.lent (steps_of l) next now.progress) now) (drop_all index items past) at);
+    rests = rests;
+    told = no-memory;
+  }
 
-  -- ---- a part so many times
+  -- ---- a script so many times
 
-  -- it was played so often, and is repeated as often as is left
-  abbrev pub IsRound : ℕ → (Next → Next) → ℕ → Standing State → Standing State → Type 0
+  -- the rounds so far were played, and the others follow
+  abbrev pub IsRound : ℕ → Steps → ℕ → Standing State → Standing State → Type 0
   IsRound times part round old now =
-      PlayedTo by limit document (λ (next : Next). repeated times part next old.progress) old
-      (λ next. repeated (times - round) part next now.progress) now
+      PlayedTo by (λ (next : Next). repeated times (script_run old.terms.lent part) next old.progress) old
+      (λ next. repeated (times - round) (script_run now.terms.lent part) next now.progress) now
 
-  pub round-start : (times : ℕ) (part : Next → Next) (a : Standing State) → IsRound times part 0 a a
-  round-start times part a = subst (λ (n : ℕ). PlayedTo by limit document
-      (λ (next : Next). repeated times part next a.progress) a (λ next. repeated n part next a.progress) a)
+  pub round-start : (times : ℕ) (part : Steps) (a : Standing State) → IsRound times part 0 a a
+  round-start times part a = subst (λ (n : ℕ). PlayedTo by
+      (λ (next : Next). repeated times (script_run a.terms.lent part) next a.progress) a
+      (λ next. repeated n (script_run a.terms.lent part) next a.progress) a)
       (let e : times ≡ times - 0 = omega arith in e)
-      (played-none by limit document (λ (next : Next). repeated times part next a.progress) a)
+      (played-none by (λ (next : Next). repeated times (script_run a.terms.lent part) next a.progress) a)
 
-  -- once more, and then the others
-  at-round : (times : ℕ) (part : Next → Next) (round : ℕ) (old now : Standing State) → round < times
-      → IsRound times part round old now
-      → PlayedTo by limit document (λ (next : Next). repeated times part next old.progress) old
-      (λ next. part (repeated (times - (round + 1)) part next) now.progress) now
-  at-round times part round old now within at = subst (λ (n : ℕ). PlayedTo by limit document
-      (λ (next : Next). repeated times part next old.progress) old (λ next. repeated n part next now.progress) now)
-      (let e : times - round ≡ suc (times - (round + 1)) = omega (arith, within) in e) at
+  module _ (times : ℕ) (part : Steps) (round : ℕ) (old now : Standing State) (within : round < times)
+      (at : IsRound times part round old now) where
+    -- the rounds behind it
+    abbrev rounds : Next → Next
+    rounds next = repeated (times - (round + 1)) (script_run now.terms.lent part) next
 
-  pub round-next : (times : ℕ) (part : Next → Next) (round : ℕ) (ending : Option Ending)
-      (old now later : Standing State) → round < times → is_some ending ≡ false → IsRound times part round old now
-      → Played by limit document part now ending later → IsRound times part (round + 1) old later
-  round-next times part round ending old now later within goes at x =
-      played-then by limit document (λ (next : Next). repeated times part next old.progress)
-      (λ next. part (repeated (times - (round + 1)) part next) now.progress)
-      (λ next. repeated (times - (round + 1)) part next later.progress) old now later
-      (at-round times part round old now within at)
-      (played-inside by limit document (λ (next : Next). part next now.progress) (λ next. next later.progress)
-      (repeated (times - (round + 1)) part) now later
-      (subst (λ (e : Option Ending). Played by limit document part now e later) (no-ending ending goes) x))
+    at-round : PlayedTo by (λ (next : Next). repeated times (script_run old.terms.lent part) next old.progress) old
+        (λ next. script_run now.terms.lent part (rounds next) now.progress) now
+    at-round = subst (λ (n : ℕ). PlayedTo by
+        (λ (next : Next). repeated times (script_run old.terms.lent part) next old.progress) old
+        (λ next. repeated n (script_run now.terms.lent part) next now.progress) now)
+        (let e : times - round ≡ suc (times - (round + 1)) = omega (arith, within) in e) at
 
-  pub round-ended : (times : ℕ) (part : Next → Next) (round : ℕ) (ending : Option Ending)
-      (old now later : Standing State) → round < times → is_some ending ≡ true → IsRound times part round old now
-      → Played by limit document part now ending later
-      → Played by limit document (repeated times part) old ending later
-  round-ended times part round None old now later within some at x = absurd (cc)
-  round-ended times part round (Some ending) old now later within some at x =
-      played-then by limit document (λ (next : Next). repeated times part next old.progress)
-      (λ next. part (repeated (times - (round + 1)) part next) now.progress)
-      (λ next. over ending later.progress.clock) old now later (at-round times part round old now within at)
-      (played-inside by limit document (λ (next : Next). part next now.progress)
-      (λ next. over ending later.progress.clock) (repeated (times - (round + 1)) part) now later x)
+    pub round-next : (ending : Option Ending) (later : Standing State) → is_some ending ≡ false
+        → HasPlayed by (λ lent. script_run lent part) now ending later → IsRound times part (round + 1) old later
+    round-next ending later goes x = subst (λ (t : Terms). PlayedTo by
+        (λ (next : Next). repeated times (script_run old.terms.lent part) next old.progress) old
+        (λ next. repeated (times - (round + 1)) (script_run t.lent part) next later.progress) later) (sym x.played.same)
+        (played-then by (λ (next : Next). repeated times (script_run old.terms.lent part) next old.progress)
+        (λ next. script_run now.terms.lent part (rounds next) now.progress) (λ next. rounds next later.progress) old now
+        later at-round
+        (played-inside by (λ (next : Next). script_run now.terms.lent part next now.progress)
+        (λ next. next later.progress) rounds now later
+        (subst (λ (e : Option Ending). PlayedTo by
+        (λ (next : Next). script_run now.terms.lent part next now.progress) now
+        (λ next. unless_limit e next later.progress) later) (no-ending ending goes) x.played)))
 
-  pub round-cut : {T : Type 0} (times : ℕ) (part : Next → Next) (round : ℕ) (old now later : Standing State)
-      (result : Result T OutOfMemory) → round < times → IsRound times part round old now
-      → Cut by limit document part now later → OnErr result (Cut by limit document (repeated times part) old later)
-  round-cut times part round old now later result within at x =
-      on-err result (played-cut by limit document (λ (next : Next). repeated times part next old.progress)
-      (λ next. part (repeated (times - (round + 1)) part next) now.progress) old now later
-      (at-round times part round old now within at)
-      (cut-inside by limit document (λ (next : Next). part next now.progress)
-      (repeated (times - (round + 1)) part) now later x))
+    pub round-ended : (ending : Option Ending) (later : Standing State) → is_some ending ≡ true
+        → HasPlayed by (λ lent. script_run lent part) now ending later
+        → HasPlayed by (λ lent. repeated times (script_run lent part)) old ending later
+    round-ended None later some x = absurd (cc)
+    round-ended (Some ending) later some x = record {
+      played = ended (λ lent. repeated times (script_run lent part))
+          (λ next. script_run now.terms.lent part (rounds next)) old now later ending at-round
+          (played-inside by (λ (next : Next). script_run now.terms.lent part next now.progress)
+          (λ next. over ending later.progress.clock) rounds now later x.played);
+      rests = x.rests;
+      told = x.told;
+    }
 
-  pub round-over : (times : ℕ) (part : Next → Next) (round : ℕ) (old now : Standing State) → times ≤ round
-      → IsRound times part round old now → Played by limit document (repeated times part) old None now
-  round-over times part round old now past at = subst (λ (n : ℕ). PlayedTo by limit document
-      (λ (next : Next). repeated times part next old.progress) old (λ next. repeated n part next now.progress) now)
-      (let e : times - round ≡ 0 = omega (arith, past) in e) at
+    pub round-cut : (later : Standing State) → WasCut by (λ lent. script_run lent part) now later
+        → WasCut by (λ lent. repeated times (script_run lent part)) old later
+    round-cut later x = played-cut by
+        (λ (next : Next). repeated times (script_run old.terms.lent part) next old.progress)
+        (λ next. script_run now.terms.lent part (rounds next) now.progress) old now later at-round
+        (cut-inside by (λ (next : Next). script_run now.terms.lent part next now.progress) rounds now later x)
+
+  pub round-over : (times : ℕ) (part : Steps) (round : ℕ) (old now : Standing State) → times ≤ round
+      → IsRound times part round old now → IsAtEnd now.world.exchange.left
+      → HasPlayed by (λ lent. repeated times (script_run lent part)) old None now
+  round-over times part round old now past at rests = record {
+    played = subst (λ (n : ℕ). PlayedTo by
+        (λ (next : Next). repeated times (script_run old.terms.lent part) next old.progress) old
+        (λ next. repeated n (script_run now.terms.lent part) next now.progress) now)
+        (let e : times - round ≡ 0 = omega (arith, past) in e) at;
+    rests = rests;
+    told = no-memory;
+  }
 
   -- ---- one of two parts
 
-  -- the one that the condition chose
-  pub chosen-played : (test : Test) (part other : Next → Next) (ending : Option Ending) (old new : Standing State)
-      → holds test (last_of old.progress) ≡ true → Played by limit document part old ending new
-      → Played by limit document (chosen test part other) old ending new
-  chosen-played test part other ending old new is x = subst (λ (b : Bool). PlayedTo by limit document
-      (λ (next : Next). cond b (part next old.progress) (other next old.progress)) old
-      (λ next. unless_limit ending next new.progress) new) (sym is) x
-
-  pub other-played : (test : Test) (part other : Next → Next) (ending : Option Ending) (old new : Standing State)
-      → holds test (last_of old.progress) ≡ false → Played by limit document other old ending new
-      → Played by limit document (chosen test part other) old ending new
-  other-played test part other ending old new is x = subst (λ (b : Bool). PlayedTo by limit document
-      (λ (next : Next). cond b (part next old.progress) (other next old.progress)) old
-      (λ next. unless_limit ending next new.progress) new) (sym is) x
-
-  pub chosen-cut : (test : Test) (part other : Next → Next) (old new : Standing State)
-      → holds test (last_of old.progress) ≡ true → Cut by limit document part old new
-      → Cut by limit document (chosen test part other) old new
-  chosen-cut test part other old new is x = subst (λ (b : Bool). CutShort by limit document
-      (λ (next : Next). cond b (part next old.progress) (other next old.progress)) old new) (sym is) x
-
-  pub other-cut : (test : Test) (part other : Next → Next) (old new : Standing State)
-      → holds test (last_of old.progress) ≡ false → Cut by limit document other old new
-      → Cut by limit document (chosen test part other) old new
-  other-cut test part other old new is x = subst (λ (b : Bool). CutShort by limit document
-      (λ (next : Next). cond b (part next old.progress) (other next old.progress)) old new) (sym is) x
+  -- the one that the condition chose, or the other
+  pub chosen-came : (test : Test) (part other : Steps) (chose : Bool) (old new : Standing State)
+      (result : Result (Option Ending) OutOfMemory) → holds test (last_of old.progress) ≡ chose
+      → Plays by (λ lent. cond chose (script_run lent part) (script_run lent other)) old result new
+      → Plays by (λ lent. chosen test (script_run lent part) (script_run lent other)) old result new
+  chosen-came test part other true old new (Ok ending) is x = record {
+    played = subst (λ (b : Bool). PlayedTo by (λ (next : Next). cond b (script_run old.terms.lent part next old.progress)
+        (script_run old.terms.lent other next old.progress)) old (λ next. unless_limit ending next new.progress) new)
+        (sym is) x.played;
+    rests = x.rests;
+    told = x.told;
+  }
+  chosen-came test part other false old new (Ok ending) is x = record {
+    played = subst (λ (b : Bool). PlayedTo by (λ (next : Next). cond b (script_run old.terms.lent part next old.progress)
+        (script_run old.terms.lent other next old.progress)) old (λ next. unless_limit ending next new.progress) new)
+        (sym is) x.played;
+    rests = x.rests;
+    told = x.told;
+  }
+  chosen-came test part other true old new (Err refused) is x = subst (λ (b : Bool). CutShort by
+      (λ (next : Next). cond b (script_run old.terms.lent part next old.progress)
+      (script_run old.terms.lent other next old.progress)) old new) (sym is) x
+  chosen-came test part other false old new (Err refused) is x = subst (λ (b : Bool). CutShort by
+      (λ (next : Next). cond b (script_run old.terms.lent part next old.progress)
+      (script_run old.terms.lent other next old.progress)) old new) (sym is) x
 
   -- ---- commands
 
   -- one that has started, and then its part
-  pub started-played : (part : Next → Next) (ending : Option Ending) (a : World State) (old mid : Progress)
-      (new : Standing State) → mid ≡ started old → Played by limit document part (standing_of a mid) ending new
-      → Played by limit document (λ next progress. part next (started progress)) (standing_of a old) ending new
-  started-played part ending a old mid new is x =
-      let y : Played by limit document part (standing_of a (started old)) ending new =
-      subst (λ (p : Progress). Played by limit document part (standing_of a p) ending new) is x in
-      record { tape = y.tape; made = y.made; added = y.added; trace = y.trace }
-
-  pub started-cut : (part : Next → Next) (a : World State) (old mid : Progress) (new : Standing State)
-      → mid ≡ started old → Cut by limit document part (standing_of a mid) new
-      → Cut by limit document (λ next progress. part next (started progress)) (standing_of a old) new
-  started-cut part a old mid new is x =
-      let y : Cut by limit document part (standing_of a (started old)) new =
-      subst (λ (p : Progress). Cut by limit document part (standing_of a p) new) is x in
+  pub started-came : (rule : Rule) (old mid new : Standing State) (result : Result (Option Ending) OutOfMemory)
+      → mid ≡ record old { progress = started old.progress } → Plays by rule mid result new
+      → Plays by (λ lent next progress. rule lent next (started progress)) old result new
+  started-came rule old mid new (Ok ending) is x =
+      let P : Standing State → Type 0 = λ s. HasPlayed by rule s ending new in
+      let y : P (record old { progress = started old.progress }) = subst P is x in
       record {
+        played = record {
+          same = y.played.same;
+          tape = y.played.tape;
+          made = y.played.made;
+          added = y.played.added;
+          trace = y.played.trace;
+        };
+        rests = y.rests;
+        told = y.told;
+      }
+  started-came rule old mid new (Err refused) is x =
+      let P : Standing State → Type 0 = λ s. WasCut by rule s new in
+      let y : P (record old { progress = started old.progress }) = subst P is x in
+      record {
+        same = y.same;
         tape = y.tape;
         made = y.made;
         missed = y.missed;
@@ -322,8 +368,17 @@ module _ {State : Type 0} (by : Answering State) (limit document : ℕ) (lent : 
       }
 
   -- a wait
-  pub command-waited : (seconds : ℕ) (a : World State) (old new : Progress) → new ≡ waited seconds (started old)
-      → Played by limit document (command_started lent (script.wait seconds)) (standing_of a old) None
-      (standing_of a new)
-  command-waited seconds a old new is =
-      rw is (record { tape = []; made = []; added = sym (append-nil old.shown); trace = λ next. stop })
+  pub command-waited : (seconds : ℕ) (old new : Standing State)
+      → new ≡ record old { progress = waited seconds (started old.progress) } → IsAtEnd old.world.exchange.left
+      → HasPlayed by (λ lent. command_started lent (script.wait seconds)) old None new
+  command-waited seconds old new is rests = rw is (record {
+    played = record {
+      same = refl;
+      tape = [];
+      made = [];
+      added = sym (append-nil old.progress.shown);
+      trace = λ next. traces.stop;
+    };
+    rests = rests;
+    told = no-memory;
+  })

@@ -8,12 +8,14 @@ use Rattle.std.proofs.lemmas.List.Elements.{All-map}
 use Rattle.std.proofs.lemmas.List.FromFn.{length-range_with_len, get_or-range_with_len}
 use Rattle.std.proofs.Math.ListN.{drop_of_length-le}
 use Rattle.wf_print.specs.declared.events.Transcript.{Transcript}
-use Rattle.wf_script.specs.declared.types.Document.{Document}
-use Rattle.wf_script.specs.declared.types.Scenario.{Scenario}
+use Rattle.wf_run.specs.Documents.{EachDocument}
+use Rattle.wf_run.proofs.DocumentLemmas.{each-numbered}
+use Rattle.wf_scenario.specs.declared.document.Document.{Document}
+use Rattle.wf_scenario.specs.declared.scenario.Scenario.{Scenario}
 use Rattle.wf_wire.specs.Exchanges.{Answering}
-use Rattle.wf_running.specs.Parts.{most_calls}
+use Rattle.wf_player.specs.Standings.{most_calls}
 use Rattle.wf_player.specs.Private.Rows.{CanPlay, RowPlayed, seatings_of, transcripts_of}
-use Rattle.wf_player.specs.Seats.{ArePlayed, AreRefused, AreSeated, IsPlayed, Seat}
+use Rattle.wf_player.specs.Seats.{AreRefused, AreSeated, IsPlayed, Seat}
 use Rattle.wf_player.specs.declared.seating.Row.{Row}
 use Rattle.wf_player.specs.declared.seating.Seating.{Seating}
 
@@ -71,15 +73,15 @@ module _ {L P State : Type 0} (belongs : P → Type 0) (seen : Seating L P → S
       → ((i : ℕ) (one : Document) (a b : Row L P) → i < length olds → slice_get documents i ≡ Some one
       → IsPlayed by scenario base (number + i) one (seen (get_or olds i a).seating) (seen (get_or news i b).seating)
       (get_or news i b).transcript)
-      → ArePlayed by scenario base number documents (map seen (seatings_of olds)) (map seen (seatings_of news))
+      → EachDocument (IsPlayed by scenario base) number documents (map seen (seatings_of olds)) (map seen (seatings_of news))
       (transcripts_of news)
-  played-from by scenario base number [] [] [] many same each = ArePlayed.none
+  played-from by scenario base number [] [] [] many same each = EachDocument.none
   played-from by scenario base number [] [] (n ∷ ns) many same each = absurd (omega (arith, same))
   played-from by scenario base number [] (o ∷ os) news many same each = absurd (omega (arith, many))
   played-from by scenario base number (d ∷ ds) [] news many same each = absurd (omega (arith, many))
   played-from by scenario base number (d ∷ ds) (o ∷ os) [] many same each = absurd (omega (arith, same))
   played-from by scenario base number (d ∷ ds) (o ∷ os) (n ∷ ns) many same each =
-      ArePlayed.one_more (subst (λ (k : ℕ). IsPlayed by scenario base k d (seen o.seating) (seen n.seating) n.transcript)
+      EachDocument.one_more (subst (λ (k : ℕ). IsPlayed by scenario base k d (seen o.seating) (seen n.seating) n.transcript)
       (zero_behind number) (each zero d o n (omega arith) refl))
       (played-from by scenario base (number + 1) ds os ns (omega (arith, many)) (omega (arith, same))
       (λ i one a b within at. subst (λ (k : ℕ). IsPlayed by scenario base k one (seen (get_or os i a).seating)
@@ -98,7 +100,7 @@ module _ {L P State : Type 0} (belongs : P → Type 0) (seen : Seating L P → S
       → AreSeated scenario.documents (map seen before)
       → ((i : ℕ) (d : Row L P) → i < length olds
       → RowPlayed belongs seen by scenario base i (get_or olds i d) (get_or news i d))
-      → ArePlayed by scenario base 0 scenario.documents (map seen before) (map seen after) transcripts
+      → EachDocument (IsPlayed by scenario base) 0 scenario.documents (map seen before) (map seen after) transcripts
   played-back by scenario base olds news before after transcripts is_before is_after is_transcripts same seated each =
       let n = length scenario.documents in
       let counted : length (map (λ (s : Seat State). s.document) (map seen before)) ≡ n =
@@ -130,16 +132,6 @@ module _ {L P State : Type 0} (belongs : P → Type 0) (seen : Seating L P → S
       All-map (λ (s : Seating L P). belongs s.pass) (λ (r : Row L P). r.seating) news
       (λ i d within. (each i d (omega (arith, same))).belongs_to)
 
--- the documents of what was played are those from a number on
-documents-played : {State : Type 0} (by : Answering State) (scenario : Scenario) (base : ℕ) {number : ℕ}
-    {documents : List Document} {olds news : List (Seat State)} {transcripts : List Transcript}
-    → ArePlayed by scenario base number documents olds news transcripts
-    → map (λ (s : Seat State). s.document) news ≡ range_with_len number (length documents)
-documents-played by scenario base ArePlayed.none = refl
-documents-played {State} by scenario base {number} (ArePlayed.one_more {new = new} {documents = documents} {news = news} is more) =
-    ap (λ (d : ℕ). d ∷ map (λ (s : Seat State). s.document) news) is.document_is
-    ∙ ap (λ (l : List ℕ). number ∷ l) (documents-played by scenario base more)
-
 map-map : {X Y Z : Type 0} (f : X → Y) (g : Y → Z) (xs : List X) → map g (map f xs) ≡ map (λ x. g (f x)) xs
 map-map f g [] = refl
 map-map {Z = Z} f g (x ∷ xs) = ap (λ (l : List Z). g (f x) ∷ l) (map-map f g xs)
@@ -154,10 +146,11 @@ module _ {L P State : Type 0} (seen : Seating L P → Seat State) where
 
   pub documents-after : (by : Answering State) (scenario : Scenario) (base : ℕ) (before after : List (Seating L P))
       (transcripts : List Transcript)
-      → ArePlayed by scenario base 0 scenario.documents (map seen before) (map seen after) transcripts
+      → EachDocument (IsPlayed by scenario base) 0 scenario.documents (map seen before) (map seen after) transcripts
       → map (λ (s : Seating L P). (seen s).document) after ≡ range_with_len 0 (length scenario.documents)
   documents-after by scenario base before after transcripts played =
-      sym (map-map seen (λ (s : Seat State). s.document) after) ∙ documents-played by scenario base played
+      sym (map-map seen (λ (s : Seat State). s.document) after)
+      ∙ each-numbered (λ (s : Seat State). s.document) (λ number document old new transcript is. is.document_is) played
 
 -- where memory was refused and the seats are as they were, none was played
 pub none-played : {State : Type 0} (by : Answering State) (scenario : Scenario) (base : ℕ) (olds news : List (Seat State))

@@ -1,28 +1,20 @@
 -- What a document's run comes to in the document's world.
-use Rattle.std.specs.Prelude.{◌≡◌, ℕ, ◌≤◌, List, [], ◌++◌, length, Option, Some, None}
+use Rattle.std.specs.Prelude.{◌≡◌, ℕ, ◌≤◌, List, [], ◌++◌, length, Option, Some, None, Result, Ok, Err}
+use Rattle.wf_text.specs.declared.memory.OutOfMemory.{OutOfMemory}
 use Rattle.wf_act.specs.declared.act.Input.{Input}
 use Rattle.wf_print.specs.declared.events.Ending.{Ending}
 use Rattle.wf_print.specs.declared.events.Ending.TheVariants.{Finished, Memory}
 use Rattle.wf_print.specs.declared.events.Event.{Event}
 use Rattle.wf_run.specs.Play.{Play, over, run_play}
-use Rattle.wf_run.specs.Runs.{Next}
 use Rattle.wf_wire.specs.Exchanges.{Answering, IsIdle}
-use Rattle.wf_drive.specs.Worlds.{Outside, Refuses, World, outside_of}
-use Rattle.wf_running.specs.Parts.{CutShort, PlayedTo, PlaysOn, Standing}
+use Rattle.wf_player.specs.Worlds.{Outside, Refuses, World, outside_of}
+use Rattle.wf_player.specs.Parts.{PlaysOn}
 
--- how a run has ended, where its script has played to its end or to a limit
-abbrev pub ended_by : Option Ending → Ending
-ended_by None = Finished
-ended_by (Some ending) = ending
-
--- a whole run came to an ending
-abbrev pub Ended : {State : Type 0} → Answering State → ℕ → ℕ → Play → Standing State → Ending → Standing State → Type 0
-Ended by limit document whole old ending new =
-    PlayedTo by limit document (λ (next : Next). whole) old (λ next. over ending new.progress.clock) new
-
--- memory was refused in it
-abbrev pub Stopped : {State : Type 0} → Answering State → ℕ → ℕ → Play → Standing State → Standing State → Type 0
-Stopped by limit document whole old new = CutShort by limit document (λ (next : Next). whole) old new
+-- how a run has ended, whose script has played to its end or to a limit, or was refused memory
+abbrev pub ended_by : Result (Option Ending) OutOfMemory → Ending
+ended_by (Ok None) = Finished
+ended_by (Ok (Some ending)) = ending
+ended_by (Err refused) = Memory
 
 -- ---- whole runs
 

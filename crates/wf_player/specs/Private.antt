@@ -1,2 +1,3 @@
--- What the crate's private contracts alone cite: seats in rows, beside what their documents have shown.
+-- What the crate's private contracts alone cite: one act of a fetch, and seats in rows.
+pub mod Going
 pub mod Rows

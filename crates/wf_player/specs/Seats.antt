@@ -1,17 +1,19 @@
 -- What a play does to the seat of each document: its pass of the shared book, and its link (this project's own; each
 -- document fetches by itself, Fetch, section 4, and the book alone is shared).
-use Rattle.std.specs.Prelude.{◌≡◌, ◌≢◌, ◌⊎◌, ℕ, ◌+◌, ◌≤◌, List, [], ◌∷◌, length, map, Option}
+use Rattle.std.specs.Prelude.{◌≡◌, ◌≢◌, ◌⊎◌, ℕ, ◌+◌, ◌≤◌, List, length, map, Option}
 use Rattle.std.specs.List.{All, range_with_len}
+use Rattle.wf_book.specs.Accounts.{Account}
 use Rattle.wf_book.specs.declared.book.Book.{Book}
-use Rattle.wf_book.specs.declared.entry.Entry.{Entry}
+use Rattle.wf_link.specs.Links.{Told}
 use Rattle.wf_print.specs.declared.events.Ending.TheVariants.{Memory}
 use Rattle.wf_print.specs.declared.events.Transcript.{Transcript}
+use Rattle.wf_run.specs.Documents.{EachDocument}
 use Rattle.wf_run.specs.Runs.{document_client, document_run}
-use Rattle.wf_script.specs.declared.types.Document.{Document}
-use Rattle.wf_script.specs.declared.types.Scenario.{Scenario}
+use Rattle.wf_scenario.specs.declared.document.Document.{Document}
+use Rattle.wf_scenario.specs.declared.scenario.Scenario.{Scenario}
 use Rattle.wf_wire.specs.Exchanges.{Answering}
-use Rattle.wf_drive.specs.Worlds.{Outside, outside}
-use Rattle.wf_running.specs.Parts.{most_calls}
+use Rattle.wf_player.specs.Worlds.{Outside, outside}
+use Rattle.wf_player.specs.Standings.{most_calls}
 use Rattle.wf_player.specs.Playing.{Came}
 use Rattle.wf_player.specs.declared.seating.Seating.{Seating}
 
@@ -22,12 +24,11 @@ pub record Seat (State : Type 0) : Type 0 where
   pub opening : Book
   pub outside : Outside State
 
-abbrev pub seat_of : {P L State : Type 0} → (P → ℕ) → (P → Book) → (P → List Entry) → (P → ℕ) → (L → Option State)
-    → (L → Option (List ℕ)) → (L → ℕ) → Seating L P → Seat State
-seat_of document opening own calls state received faults seating = record {
-  document = document seating.pass;
-  opening = opening seating.pass;
-  outside = outside own calls state received faults seating.pass seating.link;
+abbrev pub seat_of : {P L State : Type 0} → (P → Account) → (L → Told State) → Seating L P → Seat State
+seat_of account told seating = record {
+  document = (account seating.pass).document;
+  opening = (account seating.pass).opening;
+  outside = outside account told seating.pass seating.link;
 }
 
 -- one seat for each document, in their order, each with calls enough for a whole script
@@ -47,22 +48,11 @@ pub record IsPlayed {State : Type 0} (by : Answering State) (scenario : Scenario
   pub document_is : new.document ≡ number
   pub opening_is : new.opening ≡ old.opening
 
--- each document was played on its seat, from this number on
-pub data ArePlayed {State : Type 0} (by : Answering State) (scenario : Scenario) (base : ℕ)
-    : ℕ → List Document → List (Seat State) → List (Seat State) → List Transcript → Type 0 where
-  none : {number : ℕ} → ArePlayed by scenario base number [] [] [] []
-  one_more : {number : ℕ} {document : Document} {old new : Seat State} {transcript : Transcript}
-      {documents : List Document} {olds news : List (Seat State)} {transcripts : List Transcript}
-      → IsPlayed by scenario base number document old new transcript
-      → ArePlayed by scenario base (number + 1) documents olds news transcripts
-      → ArePlayed by scenario base number (document ∷ documents) (old ∷ olds) (new ∷ news)
-      (transcript ∷ transcripts)
-
 -- Each document was played on its seat.
 pub record WerePlayed {State : Type 0} (by : Answering State) (scenario : Scenario) (base : ℕ)
     (olds news : List (Seat State)) : Type 0 where
   pub transcripts : List Transcript
-  pub played : ArePlayed by scenario base 0 scenario.documents olds news transcripts
+  pub played : EachDocument (IsPlayed by scenario base) 0 scenario.documents olds news transcripts
 
 -- Memory was refused to what surrounds the documents: none was played, and the seats are as they were; or each was, and
 -- there was no room for the list of their transcripts.

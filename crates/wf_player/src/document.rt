@@ -1,122 +1,104 @@
-ghost use Rattle.std.specs.Prelude.{◌≡◌, ◌≢◌, ◌≤◌, ◌<◌, ◌^◌, [], length, slice_get, Some, IfOk, OnOk, OnErr, ◌+◌};
-ghost use Rattle.wf_print.specs.declared.events.Ending.TheVariants.{Memory};
-ghost use Rattle.wf_script.specs.Valid.{IsValid, IsValidDocument};
-ghost use Rattle.wf_script.specs.declared.types.Document.{Document as OneDocument};
-ghost use Rattle.wf_run.specs.Runs.{beginning, document_client, document_run, finished, script_run, setting};
-ghost use Rattle.wf_commands.specs.Valid.{AreValid};
-ghost use Rattle.wf_types.specs.Requests.{IsClient};
+// One document, played.
+ghost use Rattle.std.specs.Prelude.{◌≡◌, ◌≢◌, ◌≤◌, ◌<◌, ◌^◌, ◌+◌, [], length, slice_get, Some, IfOk, OnErr};
 ghost use Rattle.wf_link.specs.Sources.{IsAtEnd};
+ghost use Rattle.wf_print.specs.declared.events.Ending.TheVariants.{Memory};
+ghost use Rattle.wf_run.specs.Runs.{document_client, document_run};
+ghost use Rattle.wf_scenario.specs.Valid.{IsValid, IsValidDocument};
+ghost use Rattle.wf_scenario.specs.declared.document.Document.{Document as OneDocument};
 ghost use Rattle.wf_wire.specs.Wires.{over_link};
-ghost use Rattle.wf_player.specs.Playing.{Began, Came, Ran};
 ghost use Rattle.wf_player.specs.Playing as spec;
-ghost use Rattle.wf_drive.specs.Worlds.{outside};
-ghost use Rattle.wf_running.specs.Parts.{most_calls};
+ghost use Rattle.wf_player.specs.Playing.{Came};
+ghost use Rattle.wf_player.specs.Standings.{KeepsPass, most_calls};
+ghost use Rattle.wf_player.specs.Worlds.{outside};
 
-use crate::script::run_script;
+use crate::lent::Lent;
+use crate::player::Player;
 use std::alloc::Global;
 use std::sync::Wait;
 use std::thread::Threads;
 use wf_book::Share;
-use wf_commands::Script;
 use wf_csp::Compiled;
-use wf_drive::Lent;
 use wf_link::Link;
-use wf_print::{Ending, Transcript};
-use wf_running::Running;
-use wf_script::{Document, Scenario};
+use wf_print::{Ending, Events, Transcript};
+use wf_run::Running;
+use wf_scenario::{Document, Scenario};
 use wf_text::{Bytes, OutOfMemory};
-use wf_types::{Client, Cookies};
+use wf_types::Client;
 use wf_wire::Wire;
 
-// How a run has ended, where its script has played to its end or to a limit.
-fn ended_by(ending: Option<Ending>) -> Ending
-    ensures { result ≡ spec.ended_by ending }
+// A run that was begun: the client's key, what it showed, its ending and its clock then.
+#[derive(Drop)]
+struct Ran {
+    key: Bytes,
+    events: Events,
+    ending: Ending,
+    clock: u64,
+}
+
+// How a run has ended, whose script has played to its end or to a limit, or was refused memory.
+fn ended_by(played: Result<Option<Ending>, OutOfMemory>) -> Ending
+    ensures { result ≡ spec.ended_by played }
 {
-    match ending {
-        None => Ending::Finished,
-        Some(ending) => ending,
+    match played {
+        Ok(None) => Ending::Finished,
+        Ok(Some(ending)) => ending,
+        Err(OutOfMemory) => Ending::Memory,
     }
 }
 
-// A script as a whole run, to its ending, with the client's key.
-fn run_whole<R: Threads + Wait + Sync, S: Share, L: Link>(
-    lent: &Lent<'_, R, S>,
-    pass: &mut S::Pass,
-    link: &mut L,
-    running: &mut Running,
-    script: &Script,
-) -> Result<(Ending, Bytes), OutOfMemory>
-    requires client { IsClient lent.now.client.now }
-    requires valid { AreValid script.now }
-    requires belongs { S.belongs lent.now.share.now pass.old }
-    requires left { most_calls ≤ S.left pass.old }
-    requires base { running.old ≡ beginning running.old.clock }
-    ensures ran { IfOk result (λ made. Ran (over_link L.answer L.next) lent.now.limit (S.document pass.old)
-        (script_run (setting lent.now.client.now lent.now.policies.now lent.now.cookies.now) script.now finished
-        running.old)
-        (outside S.own S.left L.state L.received L.faults pass.old link.old) running.new.shown made.0 running.new.clock
-        (outside S.own S.left L.state L.received L.faults pass.new link.new)) }
-    ensures began { OnErr result (Began (over_link L.answer L.next) lent.now.limit (S.document pass.old)
-        (script_run (setting lent.now.client.now lent.now.policies.now lent.now.cookies.now) script.now finished
-        running.old)
-        (outside S.own S.left L.state L.received L.faults pass.old link.old) running.new.shown
-        (outside S.own S.left L.state L.received L.faults pass.new link.new)) }
-    ensures few { S.left pass.old ≤ S.left pass.new + most_calls }
-    ensures hung_up { OnOk result (IsAtEnd (L.left link.new)) }
-    ensures has_text { IfOk result (λ made. made.0 ≢ Memory) }
-    ensures key { IfOk result (λ made. made.1 ≡ lent.now.client.now.key) }
-    ensures belongs { S.belongs lent.now.share.now pass.new }
-    ensures same { (S.document pass.new ≡ S.document pass.old) × (S.opening pass.new ≡ S.opening pass.old) }
-{
-    let key = lent.client.key.copy(lent.alloc)?;
-    let mut wire = Wire::new(lent.alloc, link)?;
-    let ending = run_script(lent, pass, link, &mut wire, running, script)?;
-    Ok((ended_by(ending), key))
-}
-
-// A document's run, to its ending, with the document's key.
+// A document's run, to its ending, where memory was not refused before it began.
 fn run_document<R: Threads + Wait + Sync, S: Share, L: Link>(
     rt: &R,
     alloc: Global,
-    limit: u32,
-    cookies: &Cookies,
+    scenario: &Scenario,
     document: &Document,
+    base: u64,
     share: &S,
     pass: &mut S::Pass,
     link: &mut L,
-    running: &mut Running,
-) -> Result<(Ending, Bytes), OutOfMemory>
+) -> Result<Ran, OutOfMemory>
     requires valid { IsValidDocument document.now }
-    requires belongs { S.belongs share.now pass.old }
-    requires left { most_calls ≤ S.left pass.old }
-    requires base { running.old ≡ beginning running.old.clock }
-    ensures ran { IfOk result (λ made. Ran (over_link L.answer L.next) limit (S.document pass.old)
-        (document_run cookies.now running.old.clock document.now)
-        (outside S.own S.left L.state L.received L.faults pass.old link.old) running.new.shown made.0 running.new.clock
-        (outside S.own S.left L.state L.received L.faults pass.new link.new)) }
-    ensures began { OnErr result (Began (over_link L.answer L.next) limit (S.document pass.old)
-        (document_run cookies.now running.old.clock document.now)
-        (outside S.own S.left L.state L.received L.faults pass.old link.old) running.new.shown
-        (outside S.own S.left L.state L.received L.faults pass.new link.new)) }
-    ensures few { S.left pass.old ≤ S.left pass.new + most_calls }
-    ensures hung_up { OnOk result (IsAtEnd (L.left link.new)) }
-    ensures has_text { IfOk result (λ made. made.0 ≢ Memory) }
-    ensures key { IfOk result (λ made. made.1 ≡ (document_client document.now).key) }
-    ensures belongs { S.belongs share.now pass.new }
-    ensures same { (S.document pass.new ≡ S.document pass.old) × (S.opening pass.new ≡ S.opening pass.old) }
+    requires base { base ≤ 2 ^ 40 }
+    requires pass { S.belongs share.now pass.old × (most_calls ≤ (S.account pass.old).left) }
+    ensures came { IfOk result (λ ran. Came (over_link L.serves) scenario.entry.now.body_limit
+        (S.account pass.old).document (document_run scenario.entry.now.cookies base document.now)
+        (outside S.account L.told pass.old link.old) ran.events ran.ending ran.clock
+        (outside S.account L.told pass.new link.new)) }
+    ensures unbegun { OnErr result (outside S.account L.told pass.new link.new
+        ≡ outside S.account L.told pass.old link.old) }
+    ensures rests { IfOk result (λ ran. ran.ending ≢ Memory → IsAtEnd (L.told link.new).left) }
+    ensures key { IfOk result (λ ran. ran.key ≡ (document_client document.now).key) }
+    ensures pass { KeepsPass S.account (S.belongs share.now) most_calls pass.old pass.new }
 {
     let client = Client::of(alloc, &document.url, &document.top, document.policy)?;
     let policies = Compiled::of(alloc, &document.policies)?;
+    let key = client.key.copy(alloc)?;
+    let wire = Wire::new(alloc, link)?;
     let lent = Lent {
         rt,
-        alloc,
+        alloc: &alloc,
         share,
         client: &client,
         policies: &policies,
-        cookies,
-        limit,
+        cookies: &scenario.cookies,
+        limit: scenario.body_limit,
     };
-    run_whole(&lent, pass, link, running, &document.script)
+    let mut player = Player {
+        lent: &lent,
+        pass,
+        link,
+        wire,
+        running: Running::new(alloc, base),
+    };
+    let ending = ended_by(player.script(&document.script));
+    let Player { running, .. } = player;
+    let clock = running.now();
+    Ok(Ran {
+        key,
+        events: running.into_events(),
+        ending,
+        clock,
+    })
 }
 
 /// Plays a document's script over a link and a share of the book, from a time in seconds on, which is at
@@ -138,48 +120,34 @@ pub fn drive<R: Threads + Wait + Sync, S: Share, L: Link>(
     pass: &mut S::Pass,
     link: &mut L,
 ) -> Transcript
-    requires scenario { IsValid scenario.now }
-    requires document { document < length scenario.now.documents }
+    requires scenario { IsValid scenario.now × (document < length scenario.now.documents) }
     requires base { base ≤ 2 ^ 40 }
-    requires belongs { S.belongs share.now pass.old }
-    requires left { most_calls ≤ S.left pass.old }
+    requires pass { S.belongs share.now pass.old × (most_calls ≤ (S.account pass.old).left) }
     ensures came { (one : OneDocument) → slice_get scenario.entry.now.documents document ≡ Some one
-        → Came (over_link L.answer L.next) scenario.entry.now.body_limit (S.document pass.old)
-        (document_run scenario.entry.now.cookies base one)
-        (outside S.own S.left L.state L.received L.faults pass.old link.old) result.events result.ending result.clock
-        (outside S.own S.left L.state L.received L.faults pass.new link.new) }
-    ensures few { S.left pass.old ≤ S.left pass.new + most_calls }
-    ensures hung_up { result.ending ≢ Memory → IsAtEnd (L.left link.new) }
+        → Came (over_link L.serves) scenario.entry.now.body_limit (S.account pass.old).document
+        (document_run scenario.entry.now.cookies base one) (outside S.account L.told pass.old link.old) result.events
+        result.ending result.clock (outside S.account L.told pass.new link.new) }
+    ensures hung_up { result.ending ≢ Memory → IsAtEnd (L.told link.new).left }
     ensures number { result.document ≡ document }
     ensures key { (one : OneDocument) → slice_get scenario.entry.now.documents document ≡ Some one
         → result.ending ≢ Memory → result.key ≡ (document_client one).key }
-    ensures belongs { S.belongs share.now pass.new }
-    ensures same { (S.document pass.new ≡ S.document pass.old) × (S.opening pass.new ≡ S.opening pass.old) }
+    ensures pass { KeepsPass S.account (S.belongs share.now) most_calls pass.old pass.new }
 {
-    let mut running = Running::new(alloc, base);
     let one = scenario.documents.at(document as usize);
-    let (limit, cookies) = (scenario.body_limit, &scenario.cookies);
-    let made = run_document(
-        rt,
-        alloc,
-        limit,
-        cookies,
-        one,
-        share,
-        pass,
-        link,
-        &mut running,
-    );
-    let (ending, key) = match made {
-        Ok(made) => made,
-        Err(OutOfMemory) => (Ending::Memory, Bytes::new(alloc)),
-    };
-    let clock = running.now();
-    Transcript {
-        document,
-        key,
-        events: running.into_events(),
-        ending,
-        clock,
+    match run_document(rt, alloc, scenario, one, base, share, pass, link) {
+        Ok(ran) => Transcript {
+            document,
+            key: ran.key,
+            events: ran.events,
+            ending: ran.ending,
+            clock: ran.clock,
+        },
+        Err(OutOfMemory) => Transcript {
+            document,
+            key: Bytes::new(alloc),
+            events: Events::new(alloc),
+            ending: Ending::Memory,
+            clock: base,
+        },
     }
 }

@@ -2,9 +2,10 @@
 ghost use Rattle.std.specs.Prelude.{◌≡◌, ℕ, ◌≤◌, ◌<◌, ◌^◌, [], length, map, slice_index_or};
 ghost use Rattle.std.specs.Prelude.{vec_capacity, vec_len, IfOk, OnErr};
 ghost use Rattle.std.specs.List.{All, range_with_len};
-ghost use Rattle.wf_script.specs.Valid.{IsValid};
+ghost use Rattle.wf_scenario.specs.Valid.{IsValid};
 ghost use Rattle.wf_wire.specs.Wires.{over_link};
-ghost use Rattle.wf_player.specs.Seats.{ArePlayed, AreRefused, AreSeated, seat_of};
+ghost use Rattle.wf_run.specs.Documents.{EachDocument};
+ghost use Rattle.wf_player.specs.Seats.{AreRefused, AreSeated, IsPlayed, seat_of};
 ghost use Rattle.wf_player.specs.Private.Rows.{CanPlay, RowPlayed, seatings_of, transcripts_of};
 
 use crate::document::drive;
@@ -16,7 +17,7 @@ use std::{mem, thread};
 use wf_book::Share;
 use wf_link::Link;
 use wf_print::{Ending, Transcript, Transcripts};
-use wf_script::Scenario;
+use wf_scenario::Scenario;
 use wf_text::{Bytes, Items, OutOfMemory};
 
 // A document, in its row.
@@ -31,10 +32,10 @@ fn play_row<R: Threads + Wait + Sync, S: Share, L: Link>(
 )
     requires scenario { IsValid scenario.now }
     requires base { base ≤ 2 ^ 40 }
-    requires row { CanPlay (S.belongs share.now) (seat_of S.document S.opening S.own S.left L.state L.received L.faults)
+    requires row { CanPlay (S.belongs share.now) (seat_of S.account L.told)
         scenario.now number row.old }
-    ensures { RowPlayed (S.belongs share.now) (seat_of S.document S.opening S.own S.left L.state L.received L.faults)
-        (over_link L.answer L.next) scenario.entry.now base number row.old row.new }
+    ensures { RowPlayed (S.belongs share.now) (seat_of S.account L.told)
+        (over_link L.serves) scenario.entry.now base number row.old row.new }
 {
     let seat = &mut row.seating;
     row.transcript = drive(
@@ -63,11 +64,11 @@ where
     requires scenario { IsValid scenario.now }
     requires base { base ≤ 2 ^ 40 }
     requires rows { (i : ℕ) (d : _) → i < length rows.old
-        → CanPlay (S.belongs share.now) (seat_of S.document S.opening S.own S.left L.state L.received L.faults)
+        → CanPlay (S.belongs share.now) (seat_of S.account L.told)
         scenario.now i (slice_index_or rows.old i d) }
     ensures { (i : ℕ) (d : _) → i < length rows.old
-        → RowPlayed (S.belongs share.now) (seat_of S.document S.opening S.own S.left L.state L.received L.faults)
-        (over_link L.answer L.next) scenario.entry.now base i (slice_index_or rows.old i d)
+        → RowPlayed (S.belongs share.now) (seat_of S.account L.told)
+        (over_link L.serves) scenario.entry.now base i (slice_index_or rows.old i d)
         (slice_index_or rows.new i d) }
 {
     let threads = rows.len();
@@ -80,10 +81,10 @@ where
         threads,
         &|number: usize, row: &mut Row<L, S::Pass>|
             requires { IsValid scenario.now × (base ≤ 2 ^ 40) × CanPlay (S.belongs share.now)
-                (seat_of S.document S.opening S.own S.left L.state L.received L.faults) scenario.now number row.now }
+                (seat_of S.account L.told) scenario.now number row.now }
             ensures { RowPlayed (S.belongs share.entry.now)
-                (seat_of S.document S.opening S.own S.left L.state L.received L.faults)
-                (over_link L.answer L.next) scenario.entry.now base number row.entry.now row.exit.now }
+                (seat_of S.account L.told)
+                (over_link L.serves) scenario.entry.now base number row.entry.now row.exit.now }
         { play_row(rt, alloc, scenario, number as u32, base, share, row) },
     );
 }
@@ -164,17 +165,17 @@ where
     requires scenario { IsValid scenario.now }
     requires base { base ≤ 2 ^ 40 }
     requires seats { AreSeated scenario.now.documents
-        (map (seat_of S.document S.opening S.own S.left L.state L.received L.faults) seats.old.items) }
+        (map (seat_of S.account L.told) seats.old.items) }
     requires belong { All (λ s. S.belongs share.now s.pass) seats.old.items }
-    ensures played { IfOk result (λ transcripts. ArePlayed (over_link L.answer L.next) scenario.entry.now base 0
-        scenario.entry.now.documents
-        (map (seat_of S.document S.opening S.own S.left L.state L.received L.faults) seats.old.items)
-        (map (seat_of S.document S.opening S.own S.left L.state L.received L.faults) seats.new.items) transcripts) }
-    ensures refused { OnErr result (AreRefused (over_link L.answer L.next) scenario.entry.now base
-        (map (seat_of S.document S.opening S.own S.left L.state L.received L.faults) seats.old.items)
-        (map (seat_of S.document S.opening S.own S.left L.state L.received L.faults) seats.new.items)) }
+    ensures played { IfOk result (λ transcripts.
+        EachDocument (IsPlayed (over_link L.serves) scenario.entry.now base) 0 scenario.entry.now.documents
+        (map (seat_of S.account L.told) seats.old.items)
+        (map (seat_of S.account L.told) seats.new.items) transcripts) }
+    ensures refused { OnErr result (AreRefused (over_link L.serves) scenario.entry.now base
+        (map (seat_of S.account L.told) seats.old.items)
+        (map (seat_of S.account L.told) seats.new.items)) }
     ensures belong { All (λ s. S.belongs share.now s.pass) seats.new.items }
-    ensures documents { map (λ s. S.document s.pass) seats.new.items
+    ensures documents { map (λ s. (S.account s.pass).document) seats.new.items
         ≡ range_with_len 0 (length scenario.entry.now.documents) }
 {
     let mut transcripts = Vec::with_capacity(alloc, seats.len())?;

@@ -4,7 +4,7 @@ use Rattle.std.proofs.Math.Seq.{take-length}
 use Rattle.std.proofs.lemmas.List.{append-nil}
 use Rattle.std.specs.Result.{IsErrAnd}
 use Rattle.wf_link.specs.Counts.{Rose}
-use Rattle.wf_link.specs.Sinks.{Took}
+use Rattle.wf_link.specs.Sinks.{SinkTold, Took}
 use Rattle.wf_link.proofs.SinkLemmas.{part-before, ok-after, err-after}
 use Rattle.wf_print.specs.declared.failure.Failure.{Failure}
 use Rattle.wf_print.specs.declared.failure.Failure.TheVariants.{OutOfMemory}
@@ -16,10 +16,9 @@ took-nothing None = tt
 took-nothing (Some text) = ap (λ (l : List ℕ). let r : Option (List ℕ) = Some l in r) (sym (append-nil text))
 
 -- it is written without a call
-pub writes-nothing : {K A : Type 0} {taken : K → Option (List ℕ)} {faults zeros : K
-    → ℕ} {sink : K} {a : A} → Writes taken faults zeros sink sink [] (Ok a)
-writes-nothing {taken = taken} {sink = sink} = record {
-  ok = took-nothing (taken sink);
+pub writes-nothing : {A : Type 0} {sink : SinkTold} {a : A} → Writes sink sink [] (Ok a)
+writes-nothing {sink = sink} = record {
+  ok = took-nothing sink.taken;
   err = tt;
   faults_stay = omega arith;
   zeros_stay = omega arith;
@@ -28,29 +27,27 @@ writes-nothing {taken = taken} {sink = sink} = record {
 }
 
 -- a text after one that was written whole
-pub writes-append : {K A B : Type 0} {taken : K → Option (List ℕ)} {faults zeros : K
-    → ℕ} {old mid new : K} {x y : List ℕ} {a : A} {result : Result B Failure}
-    → Writes taken faults zeros old mid x (Ok a) → Writes taken faults zeros mid new y result
-    → Writes taken faults zeros old new (x ++ y) result
-writes-append {taken = taken} {faults = faults} {zeros = zeros} {old = old} {mid = mid} {new = new} {x = x} {y =
+pub writes-append : {A B : Type 0} {old mid new : SinkTold} {x y : List ℕ} {a : A} {result : Result B Failure}
+    → Writes old mid x (Ok a) → Writes mid new y result
+    → Writes old new (x ++ y) result
+writes-append {old = old} {mid = mid} {new = new} {x = x} {y =
     y} {result = result} first second = record {
-      ok = ok-after result (taken old) (taken mid) (taken new) x y first.ok second.ok;
-      err = err-after result (taken old) (taken mid) (taken new) x y first.ok second.err;
+      ok = ok-after result old.taken mid.taken new.taken x y first.ok second.ok;
+      err = err-after result old.taken mid.taken new.taken x y first.ok second.err;
       faults_stay = omega (arith, first.faults_stay, second.faults_stay);
       zeros_stay = omega (arith, first.zeros_stay, second.zeros_stay);
-      fault = λ e. let rose : Rose (faults mid) (faults new) = second.fault e in omega (arith, first.faults_stay, rose);
+      fault = λ e. let rose : Rose mid.faults new.faults = second.fault e in omega (arith, first.faults_stay, rose);
       nothing = λ e.
-          let rose : Rose (zeros mid) (zeros new) = second.nothing e in omega (arith, first.zeros_stay, rose);
+          let rose : Rose mid.zeros new.zeros = second.nothing e in omega (arith, first.zeros_stay, rose);
     }
 
 -- more text after one that was not written whole
-pub writes-before : {K A : Type 0} {taken : K → Option (List ℕ)} {faults zeros : K
-    → ℕ} {old new : K} {x : List ℕ} {failure : Failure} (y : List ℕ)
-    → Writes {A = A} taken faults zeros old new x (Err failure)
-    → Writes {A = A} taken faults zeros old new (x ++ y) (Err failure)
-writes-before {taken = taken} {old = old} {new = new} {x = x} y first = record {
+pub writes-before : {A : Type 0} {old new : SinkTold} {x : List ℕ} {failure : Failure} (y : List ℕ)
+    → Writes {A = A} old new x (Err failure)
+    → Writes {A = A} old new (x ++ y) (Err failure)
+writes-before {old = old} {new = new} {x = x} y first = record {
   ok = tt;
-  err = part-before (taken old) (taken new) x y first.err;
+  err = part-before old.taken new.taken x y first.err;
   faults_stay = first.faults_stay;
   zeros_stay = first.zeros_stay;
   fault = first.fault;
@@ -58,10 +55,9 @@ writes-before {taken = taken} {old = old} {new = new} {x = x} y first = record {
 }
 
 -- the failure is passed on
-pub writes-failed : {K A : Type 0} {taken : K → Option (List ℕ)} {faults zeros : K
-    → ℕ} {old new : K} {x : List ℕ} {failure : Failure} (result : Result A Failure)
-    → IsErrAnd result (λ passed. passed ≡ failure) → Writes {A = A} taken faults zeros old new x (Err failure)
-    → Writes taken faults zeros old new x result
+pub writes-failed : {A : Type 0} {old new : SinkTold} {x : List ℕ} {failure : Failure} (result : Result A Failure)
+    → IsErrAnd result (λ passed. passed ≡ failure) → Writes {A = A} old new x (Err failure)
+    → Writes old new x result
 writes-failed (Ok b) e first = absurd e
 writes-failed {failure = failure} (Err passed) e first = record {
   ok = tt;
@@ -73,14 +69,13 @@ writes-failed {failure = failure} (Err passed) e first = record {
 }
 
 -- memory was refused after a text that was written whole
-pub writes-refused : {K A : Type 0} {taken : K → Option (List ℕ)} {faults zeros : K
-    → ℕ} {old new : K} {x : List ℕ} {a : A} (y : List ℕ) (result : Result A Failure)
-    → IsErrAnd result (λ failure. failure ≡ OutOfMemory) → Writes taken faults zeros old new x (Ok a)
-    → Writes taken faults zeros old new (x ++ y) result
+pub writes-refused : {A : Type 0} {old new : SinkTold} {x : List ℕ} {a : A} (y : List ℕ) (result : Result A Failure)
+    → IsErrAnd result (λ failure. failure ≡ OutOfMemory) → Writes old new x (Ok a)
+    → Writes old new (x ++ y) result
 writes-refused y (Ok b) e first = absurd e
-writes-refused {taken = taken} {old = old} {new = new} {x = x} y (Err failure) e first = record {
+writes-refused {old = old} {new = new} {x = x} y (Err failure) e first = record {
   ok = tt;
-  err = part-before (taken old) (taken new) x y (length x, rw (take-length x) first.ok);
+  err = part-before old.taken new.taken x y (length x, rw (take-length x) first.ok);
   faults_stay = first.faults_stay;
   zeros_stay = first.zeros_stay;
   fault = λ is. absurd cc;
@@ -88,7 +83,6 @@ writes-refused {taken = taken} {old = old} {new = new} {x = x} y (Err failure) e
 }
 
 -- whatever comes of writing the rest from here comes of writing the whole text
-abbrev pub Onward : {K : Type 0} → (K → Option (List ℕ)) → (K → ℕ) → (K → ℕ) → K → K → List ℕ → List ℕ → Type 0
-Onward {K = K} taken faults zeros old now rest whole =
-    (new : K) (result : Result (Unit {0}) Failure) → Writes taken faults zeros now new rest result
-    → Writes taken faults zeros old new whole result
+abbrev pub Onward : SinkTold → SinkTold → List ℕ → List ℕ → Type 0
+Onward old now rest whole =
+    (new : SinkTold) (result : Result (Unit {0}) Failure) → Writes now new rest result → Writes old new whole result

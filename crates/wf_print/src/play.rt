@@ -58,7 +58,7 @@ fn text_of(alloc: Global, transcript: &Transcript) -> Result<Bytes, OutOfMemory>
 
 // Writes a text whole.
 pub(crate) fn put<K: Sink>(sink: &mut K, text: &[u8]) -> Result<(), Failure>
-    ensures { Writes K.taken K.faults K.zeros sink.old sink.new text.now result }
+    ensures { Writes (K.takes sink.old) (K.takes sink.new) text.now result }
 {
     write_whole(sink, text)?;
     Ok(())
@@ -70,7 +70,7 @@ fn put_transcripts<K: Sink>(
     transcripts: &[Transcript],
     sink: &mut K,
 ) -> Result<(), Failure>
-    ensures { Writes K.taken K.faults K.zeros sink.old sink.new (flat_map spec.transcript_text transcripts.now) result }
+    ensures { Writes (K.takes sink.old) (K.takes sink.new) (flat_map spec.transcript_text transcripts.now) result }
 {
     for transcript in transcripts {
         let text = text_of(alloc, transcript)?;
@@ -81,7 +81,7 @@ fn put_transcripts<K: Sink>(
 
 // Writes the lines of the history, at most `TOGETHER` of them at a time.
 fn put_entries<K: Sink>(alloc: Global, entries: &[Entry], sink: &mut K) -> Result<(), Failure>
-    ensures { Writes K.taken K.faults K.zeros sink.old sink.new (flat_map spec.entry_line entries.now) result }
+    ensures { Writes (K.takes sink.old) (K.takes sink.new) (flat_map spec.entry_line entries.now) result }
 {
     let mut rest = entries;
     while !rest.is_empty() {
@@ -100,7 +100,7 @@ fn put_play<K: Sink>(
     history: &[Entry],
     sink: &mut K,
 ) -> Result<(), Failure>
-    ensures { Writes K.taken K.faults K.zeros sink.old sink.new (spec.play_text transcripts.now history.now) result }
+    ensures { Writes (K.takes sink.old) (K.takes sink.new) (spec.play_text transcripts.now history.now) result }
 {
     put(sink, b"fetchplay 1\n")?;
     put_transcripts(alloc, transcripts, sink)?;
@@ -131,15 +131,15 @@ pub fn write_play<K: Sink>(
     requires { spec.HasText transcripts.now }
 
     ensures ok { OnOk result
-        (Took (K.taken sink.old) (K.taken sink.new) (spec.play_text transcripts.now history.now)) }
+        (Took (K.takes sink.old).taken (K.takes sink.new).taken (spec.play_text transcripts.now history.now)) }
     ensures err { OnErr result
-        (TookPart (K.taken sink.old) (K.taken sink.new) (spec.play_text transcripts.now history.now)) }
+        (TookPart (K.takes sink.old).taken (K.takes sink.new).taken (spec.play_text transcripts.now history.now)) }
 
     // The counts of the sink never fall, and tell the cause of a failure.
-    ensures faults { K.faults sink.old ≤ K.faults sink.new }
-    ensures zeros { K.zeros sink.old ≤ K.zeros sink.new }
-    ensures fault { result ≡ Err Failure.Fault → Rose (K.faults sink.old) (K.faults sink.new) }
-    ensures nothing { result ≡ Err Failure.TookNothing → Rose (K.zeros sink.old) (K.zeros sink.new) }
+    ensures faults { (K.takes sink.old).faults ≤ (K.takes sink.new).faults }
+    ensures zeros { (K.takes sink.old).zeros ≤ (K.takes sink.new).zeros }
+    ensures fault { result ≡ Err Failure.Fault → Rose (K.takes sink.old).faults (K.takes sink.new).faults }
+    ensures nothing { result ≡ Err Failure.TookNothing → Rose (K.takes sink.old).zeros (K.takes sink.new).zeros }
 {
     put_play(alloc, transcripts.as_slice(), history.as_slice(), sink)
 }

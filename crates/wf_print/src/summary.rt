@@ -98,7 +98,7 @@ fn put_summary<K: Sink>(
     history: &[Entry],
     sink: &mut K,
 ) -> Result<(), Failure>
-    ensures { Writes K.taken K.faults K.zeros sink.old sink.new
+    ensures { Writes (K.takes sink.old) (K.takes sink.new)
         (spec.summary_text n transcripts.now history.now) result }
 {
     let text = text_of(alloc, n, transcripts, history)?;
@@ -123,15 +123,15 @@ pub fn write_summary<K: Sink>(
     requires { HasText transcripts.now }
 
     ensures ok { OnOk result
-        (Took (K.taken sink.old) (K.taken sink.new) (spec.summary_text n transcripts.now history.now)) }
+        (Took (K.takes sink.old).taken (K.takes sink.new).taken (spec.summary_text n transcripts.now history.now)) }
     ensures err { OnErr result
-        (TookPart (K.taken sink.old) (K.taken sink.new) (spec.summary_text n transcripts.now history.now)) }
+        (TookPart (K.takes sink.old).taken (K.takes sink.new).taken (spec.summary_text n transcripts.now history.now)) }
 
     // The counts of the sink never fall, and tell the cause of a failure.
-    ensures faults { K.faults sink.old ≤ K.faults sink.new }
-    ensures zeros { K.zeros sink.old ≤ K.zeros sink.new }
-    ensures fault { result ≡ Err Failure.Fault → Rose (K.faults sink.old) (K.faults sink.new) }
-    ensures nothing { result ≡ Err Failure.TookNothing → Rose (K.zeros sink.old) (K.zeros sink.new) }
+    ensures faults { (K.takes sink.old).faults ≤ (K.takes sink.new).faults }
+    ensures zeros { (K.takes sink.old).zeros ≤ (K.takes sink.new).zeros }
+    ensures fault { result ≡ Err Failure.Fault → Rose (K.takes sink.old).faults (K.takes sink.new).faults }
+    ensures nothing { result ≡ Err Failure.TookNothing → Rose (K.takes sink.old).zeros (K.takes sink.new).zeros }
 {
     put_summary(alloc, n, transcripts.as_slice(), history.as_slice(), sink)
 }

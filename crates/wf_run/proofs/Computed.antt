@@ -20,7 +20,7 @@ use Rattle.wf_types.specs.Lines.{appended_where, header}
 use Rattle.wf_send.specs.Making.{new_request}
 use Rattle.wf_commands.specs.Scripts as script
 use Rattle.wf_commands.specs.declared.command.Test.TheVariants.{BodyIs}
-use Rattle.wf_script.specs.declared.types.Document.{Document}
+use Rattle.wf_scenario.specs.declared.document.Document.{Document}
 use Rattle.wf_print.specs.declared.events.Ending.TheVariants.{Finished, Fetches, Commands}
 use Rattle.wf_print.specs.declared.events.Event.{Event}
 use Rattle.wf_print.specs.declared.events.Event.TheVariants as event

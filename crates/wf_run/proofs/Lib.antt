@@ -1,5 +1,8 @@
 pub mod Computed
+pub mod DocumentLemmas
 pub mod EmbedLemmas
 pub mod FillingLemmas
+pub mod LastLemmas
 pub mod PlayLemmas
+pub mod ScriptLemmas
 pub mod TrimLemmas

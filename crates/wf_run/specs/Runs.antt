@@ -22,7 +22,7 @@ use Rattle.wf_commands.specs.declared.command.Test.{Test}
 use Rattle.wf_commands.specs.Scripts.{Step, Steps}
 use Rattle.wf_commands.specs.Scripts as script
 use Rattle.wf_commands.specs.Templates.{filled}
-use Rattle.wf_script.specs.declared.types.Document.{Document}
+use Rattle.wf_scenario.specs.declared.document.Document.{Document}
 use Rattle.wf_print.specs.declared.events.Ending.{Ending}
 use Rattle.wf_print.specs.declared.events.Ending.TheVariants.{Finished, Fetches, Commands, Text}
 use Rattle.wf_print.specs.declared.events.Event.{Event}

@@ -3,6 +3,9 @@
 
 mod filling;
 mod results;
+mod running;
+mod shown;
 
 pub use filling::{filled_init, filled_load, is_plain};
 pub use results::{holds, is_result};
+pub use running::{Running, fault_event, outcome_event};

@@ -13,10 +13,10 @@ use Rattle.wf_types.specs.Urls.{url_of_text}
 use Rattle.wf_commands.specs.Valid.{IsValidInit, IsValidScript}
 use Rattle.wf_script.specs.Generated.{api_server, put_request, put_script, address_text, address, generated_document}
 use Rattle.wf_script.specs.Generated.{preflight_rule, other_rule, generated}
-use Rattle.wf_script.specs.declared.types.Document.{Document}
-use Rattle.wf_script.specs.Urls.{is_document_url}
-use Rattle.wf_script.specs.Valid.{IsValidCookie, IsValidHost, IsValidRoute, IsValidRule, IsValidServer}
-use Rattle.wf_script.specs.Valid.{IsValidDocument, IsValid}
+use Rattle.wf_scenario.specs.declared.document.Document.{Document}
+use Rattle.wf_scenario.specs.Urls.{is_document_url}
+use Rattle.wf_scenario.specs.Valid.{IsValidCookie, IsValidHost, IsValidRoute, IsValidRule, IsValidServer}
+use Rattle.wf_scenario.specs.Valid.{IsValidDocument, IsValid}
 
 -- ---- URLs
 

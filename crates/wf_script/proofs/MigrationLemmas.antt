@@ -14,8 +14,8 @@ use Rattle.wf_form.proofs.FollowsLemmas.{follows-optional, follows-list, follows
 use Rattle.wf_form.proofs.FollowsLemmas.{has_keys-more, known-put}
 use Rattle.wf_script.specs.declared.format.Format.{Format}
 use Rattle.wf_script.specs.declared.format.Format.TheVariants.{First, Second}
-use Rattle.wf_script.specs.declared.types.Scenario.{Scenario}
-use Rattle.wf_script.specs.declared.types.Place.{Place}
+use Rattle.wf_scenario.specs.declared.scenario.Scenario.{Scenario}
+use Rattle.wf_script.specs.declared.place.Place.{Place}
 use Rattle.wf_script.specs.Formats.{format_numbered, whole_number, format_of, later_keys, root_keys, body_limit_of}
 use Rattle.wf_script.specs.Formats.{most_documents, document_keys, top_of}
 use Rattle.wf_script.specs.Migration.{migrated, IsMigratedAlike}

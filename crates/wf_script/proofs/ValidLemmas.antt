@@ -27,18 +27,20 @@ use Rattle.wf_steps.specs.Scripts.{document_script_of}
 use Rattle.wf_steps.proofs.ValidLemmas.{keeps-document_script}
 use Rattle.wf_script.specs.declared.format.Format.{Format}
 use Rattle.wf_script.specs.declared.format.Format.TheVariants.{First, Second}
-use Rattle.wf_script.specs.declared.types.Document.{Document}
-use Rattle.wf_script.specs.declared.types.Scenario.{Scenario}
+use Rattle.wf_scenario.specs.declared.document.Document.{Document}
+use Rattle.wf_scenario.specs.declared.scenario.Scenario.{Scenario}
 use Rattle.wf_script.specs.Formats.{root_keys, body_limit_of, document_keys, top_of, most_documents}
-use Rattle.wf_script.specs.Hosts.{is_host_name}
-use Rattle.wf_script.specs.Texts.{is_cookie_value}
+use Rattle.wf_scenario.specs.Hosts.{is_host_name}
+use Rattle.wf_scenario.specs.Texts.{is_cookie_value}
 use Rattle.wf_types.specs.OriginTexts.{is_origin_text}
-use Rattle.wf_script.specs.Urls.{is_document_url, document_url_of}
+use Rattle.wf_scenario.specs.Urls.{is_document_url}
+use Rattle.wf_script.specs.Urls.{document_url_of}
 use Rattle.wf_script.specs.Headers.{listed, policies_of_headers, policy_or_default}
 use Rattle.wf_script.specs.Scenarios.{host_keys, host_of, cookie_of, route_of, plain_header_of, answer_of, rule_keys}
 use Rattle.wf_script.specs.Scenarios.{rule_of, server_keys, server_of, said_of, document_of, scenario_as}
-use Rattle.wf_script.specs.Valid.{IsValidHost, IsValidCookie, IsValidRoute, IsValidRule, IsValidServer, IsValidDocument}
-use Rattle.wf_script.specs.Valid.{IsValid}
+use Rattle.wf_scenario.specs.Valid.{IsValidHost, IsValidCookie, IsValidRoute, IsValidRule, IsValidServer}
+use Rattle.wf_scenario.specs.Valid.{IsValidDocument}
+use Rattle.wf_scenario.specs.Valid.{IsValid}
 
 -- the text passes a test
 abbrev That : (List ℕ → Bool) → List ℕ → Type 0

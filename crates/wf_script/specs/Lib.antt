@@ -1,10 +1,7 @@
+pub mod Answers
 pub mod Formats
 pub mod Generated
 pub mod Headers
-pub mod Hosts
 pub mod Migration
 pub mod Scenarios
-pub mod Servers
-pub mod Texts
 pub mod Urls
-pub mod Valid

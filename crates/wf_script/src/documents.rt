@@ -3,11 +3,11 @@ ghost use Rattle.wf_script.specs.Scenarios as spec;
 
 use crate::format::{Format, document_keys, top_url};
 use crate::headers::DocumentHeaders;
-use crate::types::Document;
 use crate::urls::DocumentUrl;
 use serde_json::Value;
 use std::alloc::Global;
 use wf_form::{Form, Refused, only_keys, optional, required};
+use wf_scenario::Document;
 use wf_steps::DocumentScript;
 use wf_text::Items;
 use wf_types::ReferrerPolicy;

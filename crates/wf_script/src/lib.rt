@@ -1,5 +1,4 @@
-// Scenarios: documents with their scripts, the hosts that are known, the cookies that are sent, the
-// servers that answer, and where servers listen.
+// Scenarios, read from bytes, and the generated one.
 #![tactic(auto)]
 
 mod answers;
@@ -10,16 +9,14 @@ mod generated;
 mod headers;
 mod hosts;
 mod laws;
+mod place;
 mod read;
 mod routes;
 mod servers;
 mod texts;
-mod types;
 mod urls;
 
 pub use generated::generate;
 pub use laws::{law_addresses, law_migrated};
-pub use types::{
-    Document, Documents, Hosts, KnownHost, Place, Rule, Rules, Scenario, Server, Servers,
-};
-pub use wf_commands::{Command, Script, Test};
+pub use place::Place;
+pub use read::read_scenario;

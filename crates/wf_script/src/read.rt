@@ -3,18 +3,19 @@ ghost use Rattle.std.specs.Prelude.{◌≡◌, IfOk, option_map};
 ghost use Rattle.serde_json.specs.View.{view};
 ghost use Rattle.wf_script.specs.Formats as formats;
 ghost use Rattle.wf_script.specs.Scenarios as spec;
-ghost use Rattle.wf_script.specs.Valid.{IsValid};
+ghost use Rattle.wf_scenario.specs.Valid.{IsValid};
 
 use crate::cookies::CookiePair;
 use crate::documents::DocumentTable;
 use crate::format::{Format, body_limit, format_number, format_of, most_documents, root_keys};
 use crate::hosts::HostTable;
+use crate::place::Place;
 use crate::routes::RoutePair;
 use crate::servers::ServerTable;
-use crate::types::{Place, Scenario, Servers};
 use serde_json::Value;
 use std::alloc::Global;
 use wf_form::{Form, ItemsOf, ListOf, Number, Refused, only_keys, optional, required};
+use wf_scenario::{Scenario, Servers};
 use wf_text::{Bytes, Items, OutOfMemory};
 use wf_types::utf8_text;
 
@@ -110,32 +111,30 @@ fn told(alloc: Global, place: Bytes) -> Result<Place, OutOfMemory>
     Ok(Place { text })
 }
 
-impl Scenario {
-    /// Reads a scenario of format 1 or 2 from the JSON tree (RFC 8259) of a text, or answers the
-    /// place at which the text is refused: `json` exactly where it is no tree, since it is not UTF-8
-    /// or not JSON, and else the first place, in the order in which the tables are walked, depth
-    /// first. The tables of format 2 hold exactly where the root is an object whose `format` is the
-    /// number 2. An object that is none, or has a key that its table lacks, is refused at its own
-    /// place, a required key that is missing and a value that is not taken at the key, an item of a
-    /// list at its number, as in `/documents/0/script/0/fetch/headers/0/1`; a `repeat` inside eight
-    /// others and an `if` inside 16 others at that key. The place of the root is `/`. What is read
-    /// is valid: its counts and values keep the format's bounds. `OutOfMemory` tells want of memory
-    /// alone.
-    pub fn read(alloc: Global, text: &[u8]) -> Result<Result<Scenario, Place>, OutOfMemory>
-        ensures value { IfOk result (λ read. read ≡ spec.scenario_of text.now) }
-        ensures valid { IfOk result (λ read. IfOk read IsValid) }
-    {
-        let Some(tree) = tree_of(alloc, text)? else {
-            let text = Bytes::of(alloc, b"json")?;
-            return Ok(Err(Place { text }));
-        };
-        let table = ScenarioTable {
-            format: format_of(&tree),
-        };
-        match table.read(alloc, &tree) {
-            Ok(scenario) => Ok(Ok(scenario)),
-            Err(Refused::Memory) => Err(OutOfMemory),
-            Err(Refused::At(place)) => Ok(Err(told(alloc, place)?)),
-        }
+/// Reads a scenario of format 1 or 2 from the JSON tree (RFC 8259) of a text, or answers the
+/// place at which the text is refused: `json` exactly where it is no tree, since it is not UTF-8
+/// or not JSON, and else the first place, in the order in which the tables are walked, depth
+/// first. The tables of format 2 hold exactly where the root is an object whose `format` is the
+/// number 2. An object that is none, or has a key that its table lacks, is refused at its own
+/// place, a required key that is missing and a value that is not taken at the key, an item of a
+/// list at its number, as in `/documents/0/script/0/fetch/headers/0/1`; a `repeat` inside eight
+/// others and an `if` inside 16 others at that key. The place of the root is `/`. What is read
+/// is valid: its counts and values keep the format's bounds. `OutOfMemory` tells want of memory
+/// alone.
+pub fn read_scenario(alloc: Global, text: &[u8]) -> Result<Result<Scenario, Place>, OutOfMemory>
+    ensures value { IfOk result (λ read. read ≡ spec.scenario_of text.now) }
+    ensures valid { IfOk result (λ read. IfOk read IsValid) }
+{
+    let Some(tree) = tree_of(alloc, text)? else {
+        let text = Bytes::of(alloc, b"json")?;
+        return Ok(Err(Place { text }));
+    };
+    let table = ScenarioTable {
+        format: format_of(&tree),
+    };
+    match table.read(alloc, &tree) {
+        Ok(scenario) => Ok(Ok(scenario)),
+        Err(Refused::Memory) => Err(OutOfMemory),
+        Err(Refused::At(place)) => Ok(Err(told(alloc, place)?)),
     }
 }

@@ -7,12 +7,12 @@ ghost use Rattle.wf_form.specs.Gives.{Gives};
 use crate::answers::answer_bytes;
 use crate::headers::PlainHeader;
 use crate::texts::OriginText;
-use crate::types::{Rule, Server};
 use serde_json::Value;
 use std::alloc::Global;
 use wf_form::{
     AnyText, Form, Given, ItemsOf, Number, Refused, TextThat, Token, only_keys, optional, required,
 };
+use wf_scenario::{Rule, Server};
 use wf_text::{Bytes, Items};
 
 // The keys of a rule whose answer is given by its bytes.

@@ -1,5 +1,5 @@
 // What a text of a scenario has to be.
-ghost use Rattle.wf_script.specs.Texts as spec;
+ghost use Rattle.wf_scenario.specs.Texts as spec;
 ghost use Rattle.wf_types.specs.OriginTexts.{is_origin_text};
 
 use std::alloc::Global;

@@ -1,5 +1,6 @@
 // The URLs that documents, and the pages at their top, may have.
 ghost use Rattle.std.specs.Prelude.{◌≡◌};
+ghost use Rattle.wf_scenario.specs.Urls.{is_document_url};
 ghost use Rattle.wf_script.specs.Urls as spec;
 
 use serde_json::Value;
@@ -11,7 +12,7 @@ use wf_types::{has_credentials, is_short_url, url_alone};
 
 // Whether it is an http or https URL without credentials, of at most 8,192 bytes.
 fn is_document_url(url: &Url) -> bool
-    ensures { result ≡ spec.is_document_url url.now }
+    ensures { result ≡ is_document_url url.now }
 {
     is_http_url(url) && !has_credentials(url) && is_short_url(url)
 }

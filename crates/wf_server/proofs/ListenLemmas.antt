@@ -10,7 +10,7 @@ use Rattle.std.specs.List.{list_any}
 use Rattle.httparse.specs.Grammar.{print_request, RequestHead}
 use Rattle.wf_link.specs.Counts.{Rose}
 use Rattle.wf_link.specs.Sinks.{SinkTold}
-use Rattle.wf_link.specs.Sources.{Gave}
+use Rattle.wf_link.specs.Sources.{Gave, SourceTold}
 use Rattle.wf_http1.proofs.RequestLemmas.{request-shortest}
 use Rattle.wf_http1.specs.Blocks.{is_block, is_line_byte}
 use Rattle.wf_http1.specs.RequestHeads.{BeginsRequest, IsRead}
@@ -50,26 +50,24 @@ gives-same a b c xs before left sink = record {
 }
 
 -- By what a peer tells:
-module _ {P : Type 0} (left : P → Option (List ℕ)) (read_faults : P → ℕ) (taken : P → Option (List ℕ))
-    (write_faults zeros : P → ℕ) (beside : P → SinkTold)
-    (law : (peer : P) → beside peer
-    ≡ record { taken = taken peer; faults = write_faults peer; zeros = zeros peer }) where
+module _ {P : Type 0} (gives : P → SourceTold) (takes : P → SinkTold) (beside : P → SinkTold)
+    (law : (peer : P) → beside peer ≡ takes peer) where
   abbrev told : P → PeerTold
-  told peer = peer_told left read_faults taken write_faults zeros peer
+  told peer = peer_told gives takes peer
 
   sink-kept : (old new : P) → beside new ≡ beside old → (told new).sink ≡ (told old).sink
   sink-kept old new same = sym (law new) ∙ same ∙ law old
 
   -- a read that gave these bytes
   pub read-more : (first old new : P) (bytes piece : List ℕ) → Gives (told first) (told old) bytes
-      → Gave (left old) (left new) piece → beside new ≡ beside old → Gives (told first) (told new) (bytes ++ piece)
+      → Gave (gives old).left (gives new).left piece → beside new ≡ beside old → Gives (told first) (told new) (bytes ++ piece)
   read-more first old new bytes piece before gave same =
       gives-both (told first) (told old) (told new) bytes piece before
       (record { gave = gave; sink = sink-kept old new same })
 
   -- where it found room, the bytes are no more than are read at most
   pub grown : (first old new : P) (bytes buffer : List ℕ) (count : ℕ) → Gives (told first) (told old) bytes
-      → Gave (left old) (left new) (take count buffer) → beside new ≡ beside old
+      → Gave (gives old).left (gives new).left (take count buffer) → beside new ≡ beside old
       → length bytes + length buffer ≤ most_read
       → Gives (told first) (told new) (bytes ++ take count buffer)
       × (length (bytes ++ take count buffer) ≤ most_read)

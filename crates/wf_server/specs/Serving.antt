@@ -19,12 +19,8 @@ pub record PeerTold : Type 0 where
   pub source : SourceTold
   pub sink : SinkTold
 
-abbrev pub peer_told : {P : Type 0} → (P → Option (List ℕ)) → (P → ℕ) → (P → Option (List ℕ)) → (P → ℕ) → (P → ℕ) → P
-    → PeerTold
-peer_told left read_faults taken write_faults zeros peer = record {
-  source = record { left = left peer; faults = read_faults peer };
-  sink = record { taken = taken peer; faults = write_faults peer; zeros = zeros peer };
-}
+abbrev pub peer_told : {P : Type 0} → (P → SourceTold) → (P → SinkTold) → P → PeerTold
+peer_told gives takes peer = record { source = gives peer; sink = takes peer }
 
 -- a sink failed, or took nothing of a piece that is not empty
 abbrev pub Failed : SinkTold → SinkTold → Type 0

@@ -64,10 +64,10 @@ impl Search {
 // ended. Only what it reads is searched for it.
 fn read_block<P: Peer>(peer: &mut P, bytes: &mut Vec<u8>) -> Result<bool, Served>
     requires { bytes.old.items ≡ [] }
-    ensures came { IfOk result (HasCome (peer_told P.left P.Source.faults P.taken P.Sink.faults P.zeros peer.old)
-        (peer_told P.left P.Source.faults P.taken P.Sink.faults P.zeros peer.new) bytes.new.items) }
-    ensures stopped { IfErr result (Stopped (peer_told P.left P.Source.faults P.taken P.Sink.faults P.zeros peer.old)
-        (peer_told P.left P.Source.faults P.taken P.Sink.faults P.zeros peer.new)) }
+    ensures came { IfOk result (HasCome (peer_told P.gives P.takes peer.old)
+        (peer_told P.gives P.takes peer.new) bytes.new.items) }
+    ensures stopped { IfErr result (Stopped (peer_told P.gives P.takes peer.old)
+        (peer_told P.gives P.takes peer.new)) }
 {
     let mut buffer = [0u8; PIECE];
     let mut search = Search {
@@ -95,10 +95,10 @@ fn read_block<P: Peer>(peer: &mut P, bytes: &mut Vec<u8>) -> Result<bool, Served
 // Reads on after so many bytes, until no more come or as many came as are read at most.
 fn read_rest<P: Peer>(peer: &mut P, before: usize) -> Result<(), Failed>
     requires { before ≤ most_read }
-    ensures ended { OnOk result (HasEnded (peer_told P.left P.Source.faults P.taken P.Sink.faults P.zeros peer.old)
-        (peer_told P.left P.Source.faults P.taken P.Sink.faults P.zeros peer.new) before) }
-    ensures failed { OnErr result (HasFailed (peer_told P.left P.Source.faults P.taken P.Sink.faults P.zeros peer.old)
-        (peer_told P.left P.Source.faults P.taken P.Sink.faults P.zeros peer.new) before) }
+    ensures ended { OnOk result (HasEnded (peer_told P.gives P.takes peer.old)
+        (peer_told P.gives P.takes peer.new) before) }
+    ensures failed { OnErr result (HasFailed (peer_told P.gives P.takes peer.old)
+        (peer_told P.gives P.takes peer.new) before) }
 {
     let mut buffer = [0u8; PIECE];
     let mut room = MOST_READ - before;
@@ -115,10 +115,10 @@ fn read_rest<P: Peer>(peer: &mut P, before: usize) -> Result<(), Failed>
 // Reads of a peer until the bytes have a request head, no more come, or as many came as are read at most; and
 // reads the head. Where a block has ended that is no head, no head can come any more.
 pub(crate) fn hear<P: Peer>(alloc: Global, peer: &mut P) -> Result<Option<Asked>, Served>
-    ensures heard { IfOk result (HasHeard (peer_told P.left P.Source.faults P.taken P.Sink.faults P.zeros peer.old)
-        (peer_told P.left P.Source.faults P.taken P.Sink.faults P.zeros peer.new)) }
-    ensures stopped { IfErr result (Stopped (peer_told P.left P.Source.faults P.taken P.Sink.faults P.zeros peer.old)
-        (peer_told P.left P.Source.faults P.taken P.Sink.faults P.zeros peer.new)) }
+    ensures heard { IfOk result (HasHeard (peer_told P.gives P.takes peer.old)
+        (peer_told P.gives P.takes peer.new)) }
+    ensures stopped { IfErr result (Stopped (peer_told P.gives P.takes peer.old)
+        (peer_told P.gives P.takes peer.new)) }
 {
     let Ok(mut bytes) = Vec::with_capacity(alloc, FEW_BYTES) else {
         return Err(Served::OutOfMemory);

@@ -22,8 +22,8 @@ pub enum Served {
 /// Serves one peer by the table. It reads until the bytes have a request head, no more come, or 65,536 bytes
 /// came, and then writes the answer to them.
 pub fn serve<P: Peer>(alloc: Global, table: &AllowTable, peer: &mut P) -> Served
-    ensures { IsServing table.now (peer_told P.left P.Source.faults P.taken P.Sink.faults P.zeros peer.old)
-        (peer_told P.left P.Source.faults P.taken P.Sink.faults P.zeros peer.new) result }
+    ensures { IsServing table.now (peer_told P.gives P.takes peer.old)
+        (peer_told P.gives P.takes peer.new) result }
 {
     let asked = match hear(alloc, peer) {
         Ok(asked) => asked,

@@ -12,13 +12,6 @@ use Rattle.wf_server.specs.declared.table.Row.{Row}
 use Rattle.wf_serving.specs.declared.status.ServeStatus.{ServeStatus}
 use Rattle.wf_serving.specs.declared.status.ServeStatus.TheVariants as status
 
--- what is told of a source and of a sink
-abbrev pub source_told : {S : Type 0} → (S → Option (List ℕ)) → (S → ℕ) → S → SourceTold
-source_told left faults stream = record { left = left stream; faults = faults stream }
-
-abbrev pub sink_told : {K : Type 0} → (K → Option (List ℕ)) → (K → ℕ) → (K → ℕ) → K → SinkTold
-sink_told taken faults zeros stream = record { taken = taken stream; faults = faults stream; zeros = zeros stream }
-
 -- what is told of what accepts connections
 pub record AcceptsTold (End : Type 0) : Type 0 where
   pub opened : Option (Option (List ℕ))

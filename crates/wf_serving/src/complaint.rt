@@ -1,7 +1,6 @@
 ghost use Rattle.std.specs.Prelude.{◌≡◌, OnErr, OnOk};
 ghost use Rattle.wf_link.specs.Sinks.{Took, TookPart};
 ghost use Rattle.wf_server.specs.Serving.{Failed};
-ghost use Rattle.wf_serving.specs.Connections.{sink_told};
 ghost use Rattle.wf_serving.specs.Program.{IsTold};
 ghost use Rattle.wf_serving.specs.Statuses.{complaint};
 
@@ -11,10 +10,10 @@ use wf_link::{Sink, WriteFault};
 
 // Writes the line of a verdict.
 fn write_complaint<E: Sink>(complaints: &mut E, verdict: ServeStatus) -> Result<(), WriteFault>
-    ensures ok { OnOk result (Took (E.taken complaints.old) (E.taken complaints.new) (complaint verdict)) }
-    ensures err { OnErr result (TookPart (E.taken complaints.old) (E.taken complaints.new) (complaint verdict)) }
-    ensures failed { OnErr result (Failed (sink_told E.taken E.faults E.zeros complaints.old)
-        (sink_told E.taken E.faults E.zeros complaints.new)) }
+    ensures ok { OnOk result (Took (E.takes complaints.old).taken (E.takes complaints.new).taken (complaint verdict)) }
+    ensures err { OnErr result (TookPart (E.takes complaints.old).taken (E.takes complaints.new).taken (complaint verdict)) }
+    ensures failed { OnErr result (Failed (E.takes complaints.old)
+        (E.takes complaints.new)) }
 {
     match verdict {
         ServeStatus::Ok => write_text(complaints, b""),
@@ -33,8 +32,8 @@ fn write_complaint<E: Sink>(complaints: &mut E, verdict: ServeStatus) -> Result<
 // Tells a verdict other than Ok to the complaints, by its line. It answers the verdict, or
 // `WriteFault` where the line could not be written.
 pub(crate) fn tell<E: Sink>(verdict: ServeStatus, complaints: &mut E) -> ServeStatus
-    ensures { IsTold (sink_told E.taken E.faults E.zeros complaints.old)
-        (sink_told E.taken E.faults E.zeros complaints.new) verdict result }
+    ensures { IsTold (E.takes complaints.old)
+        (E.takes complaints.new) verdict result }
 {
     if matches!(verdict, ServeStatus::Ok) {
         return verdict;

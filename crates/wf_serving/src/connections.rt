@@ -1,6 +1,6 @@
 ghost use Rattle.std.specs.Prelude.{◌≡◌, IfOk, OnErr};
 ghost use Rattle.wf_server.specs.Serving.{peer_told};
-ghost use Rattle.wf_serving.specs.Connections.{Serves, accepts_told, sink_told};
+ghost use Rattle.wf_serving.specs.Connections.{Serves, accepts_told};
 ghost use Rattle.wf_serving.specs.Private.Nexts.{HasNoNext, HasServedNext};
 ghost use Rattle.wf_serving.specs.Private.Notes.{IsNoted, written_status};
 
@@ -23,8 +23,8 @@ fn status_of(written: Result<(), WriteFault>) -> ServeStatus
 
 // Writes the line of a connection, which has none where memory was refused.
 fn note<K: Sink>(output: &mut K, served: Served) -> ServeStatus
-    ensures { IsNoted (sink_told K.taken K.faults K.zeros output.old)
-        (sink_told K.taken K.faults K.zeros output.new) served result }
+    ensures { IsNoted (K.takes output.old)
+        (K.takes output.new) served result }
 {
     match served {
         Served::Answered(status) => {
@@ -42,8 +42,7 @@ fn serve_next<A: Accepts>(
     table: &AllowTable,
     accepts: &mut A,
 ) -> Result<Served, Failed>
-    ensures ok { IfOk result (HasServedNext (peer_told A.End.left A.End.Source.faults A.End.taken A.End.Sink.faults
-        A.End.zeros) table.now (accepts_told A.opened A.coming A.lent A.faults accepts.old)
+    ensures ok { IfOk result (HasServedNext (peer_told A.End.gives A.End.takes) table.now (accepts_told A.opened A.coming A.lent A.faults accepts.old)
         (accepts_told A.opened A.coming A.lent A.faults accepts.new)) }
     ensures err { OnErr result (HasNoNext (accepts_told A.opened A.coming A.lent A.faults accepts.old)
         (accepts_told A.opened A.coming A.lent A.faults accepts.new)) }
@@ -61,10 +60,10 @@ fn serve_and_note<K: Sink, A: Accepts>(
     output: &mut K,
     accepts: &mut A,
 ) -> ServeStatus
-    ensures { Serves (peer_told A.End.left A.End.Source.faults A.End.taken A.End.Sink.faults A.End.zeros) table.now 1
+    ensures { Serves (peer_told A.End.gives A.End.takes) table.now 1
         (accepts_told A.opened A.coming A.lent A.faults accepts.old)
         (accepts_told A.opened A.coming A.lent A.faults accepts.new)
-        (sink_told K.taken K.faults K.zeros output.old) (sink_told K.taken K.faults K.zeros output.new) result }
+        (K.takes output.old) (K.takes output.new) result }
 {
     match serve_next(alloc, table, accepts) {
         Ok(served) => note(output, served),
@@ -80,11 +79,11 @@ pub(crate) fn serve_each<K: Sink, A: Accepts>(
     output: &mut K,
     accepts: &mut A,
 ) -> ServeStatus
-    ensures { Serves (peer_told A.End.left A.End.Source.faults A.End.taken A.End.Sink.faults A.End.zeros) table.now
+    ensures { Serves (peer_told A.End.gives A.End.takes) table.now
         count
         (accepts_told A.opened A.coming A.lent A.faults accepts.old)
         (accepts_told A.opened A.coming A.lent A.faults accepts.new)
-        (sink_told K.taken K.faults K.zeros output.old) (sink_told K.taken K.faults K.zeros output.new) result }
+        (K.takes output.old) (K.takes output.new) result }
 {
     let mut number = 0;
     while number < count {

@@ -1,19 +1,18 @@
 ghost use Rattle.std.specs.Prelude.{◌≡◌, ◌≤◌, ◌++◌, OnErr, OnOk, codes, decimal};
 ghost use Rattle.wf_link.specs.Sinks.{Took, TookPart};
 ghost use Rattle.wf_server.specs.Serving.{Failed};
-ghost use Rattle.wf_serving.specs.Connections.{sink_told};
 
 use itoa::Buffer;
 use wf_link::{Sink, WriteFault, write_whole};
 
 // Writes a text whole.
 pub(crate) fn write_text<K: Sink>(sink: &mut K, text: &[u8]) -> Result<(), WriteFault>
-    ensures ok { OnOk result (Took (K.taken sink.old) (K.taken sink.new) text.now) }
-    ensures err { OnErr result (TookPart (K.taken sink.old) (K.taken sink.new) text.now) }
-    ensures faults { K.faults sink.old ≤ K.faults sink.new }
-    ensures zeros { K.zeros sink.old ≤ K.zeros sink.new }
-    ensures failed { OnErr result (Failed (sink_told K.taken K.faults K.zeros sink.old)
-        (sink_told K.taken K.faults K.zeros sink.new)) }
+    ensures ok { OnOk result (Took (K.takes sink.old).taken (K.takes sink.new).taken text.now) }
+    ensures err { OnErr result (TookPart (K.takes sink.old).taken (K.takes sink.new).taken text.now) }
+    ensures faults { (K.takes sink.old).faults ≤ (K.takes sink.new).faults }
+    ensures zeros { (K.takes sink.old).zeros ≤ (K.takes sink.new).zeros }
+    ensures failed { OnErr result (Failed (K.takes sink.old)
+        (K.takes sink.new)) }
 {
     match write_whole(sink, text) {
         Ok(()) => Ok(()),
@@ -24,12 +23,12 @@ pub(crate) fn write_text<K: Sink>(sink: &mut K, text: &[u8]) -> Result<(), Write
 
 // Writes two texts whole, one after the other.
 fn write_two<K: Sink>(sink: &mut K, first: &[u8], second: &[u8]) -> Result<(), WriteFault>
-    ensures ok { OnOk result (Took (K.taken sink.old) (K.taken sink.new) (first.now ++ second.now)) }
-    ensures err { OnErr result (TookPart (K.taken sink.old) (K.taken sink.new) (first.now ++ second.now)) }
-    ensures faults { K.faults sink.old ≤ K.faults sink.new }
-    ensures zeros { K.zeros sink.old ≤ K.zeros sink.new }
-    ensures failed { OnErr result (Failed (sink_told K.taken K.faults K.zeros sink.old)
-        (sink_told K.taken K.faults K.zeros sink.new)) }
+    ensures ok { OnOk result (Took (K.takes sink.old).taken (K.takes sink.new).taken (first.now ++ second.now)) }
+    ensures err { OnErr result (TookPart (K.takes sink.old).taken (K.takes sink.new).taken (first.now ++ second.now)) }
+    ensures faults { (K.takes sink.old).faults ≤ (K.takes sink.new).faults }
+    ensures zeros { (K.takes sink.old).zeros ≤ (K.takes sink.new).zeros }
+    ensures failed { OnErr result (Failed (K.takes sink.old)
+        (K.takes sink.new)) }
 {
     if let Err(fault) = write_text(sink, first) {
         return Err(fault);
@@ -43,14 +42,14 @@ pub(crate) fn write_numbered<K: Sink>(
     text: &[u8],
     number: u32,
 ) -> Result<(), WriteFault>
-    ensures ok { OnOk result (Took (K.taken sink.old) (K.taken sink.new)
+    ensures ok { OnOk result (Took (K.takes sink.old).taken (K.takes sink.new).taken
         (text.now ++ (decimal number ++ codes "\n"))) }
-    ensures err { OnErr result (TookPart (K.taken sink.old) (K.taken sink.new)
+    ensures err { OnErr result (TookPart (K.takes sink.old).taken (K.takes sink.new).taken
         (text.now ++ (decimal number ++ codes "\n"))) }
-    ensures faults { K.faults sink.old ≤ K.faults sink.new }
-    ensures zeros { K.zeros sink.old ≤ K.zeros sink.new }
-    ensures failed { OnErr result (Failed (sink_told K.taken K.faults K.zeros sink.old)
-        (sink_told K.taken K.faults K.zeros sink.new)) }
+    ensures faults { (K.takes sink.old).faults ≤ (K.takes sink.new).faults }
+    ensures zeros { (K.takes sink.old).zeros ≤ (K.takes sink.new).zeros }
+    ensures failed { OnErr result (Failed (K.takes sink.old)
+        (K.takes sink.new)) }
 {
     if let Err(fault) = write_text(sink, text) {
         return Err(fault);

@@ -1,7 +1,7 @@
 ghost use Rattle.std.specs.Prelude.{◌≡◌, false, IfErr, IfOk};
 ghost use Rattle.wf_server.specs.Serving.{peer_told};
 ghost use Rattle.wf_words.specs.Words.{are_texts, task_of, texts};
-ghost use Rattle.wf_serving.specs.Connections.{accepts_told, sink_told, source_told};
+ghost use Rattle.wf_serving.specs.Connections.{accepts_told};
 ghost use Rattle.wf_serving.specs.Private.Steps.{IsRead, IsUnread};
 ghost use Rattle.wf_serving.specs.Program.{Answers, IsDone, IsServed, IsVerdict};
 ghost use Rattle.wf_serving.specs.declared.status.ServeStatus.TheVariants as status;
@@ -37,13 +37,13 @@ pub fn corsserve<S: Source, K: Sink, E: Sink, A: Accepts>(
     complaints: &mut E,
     accepts: &mut A,
 ) -> ServeStatus
-    ensures { Answers (peer_told A.End.left A.End.Source.faults A.End.taken A.End.Sink.faults A.End.zeros)
+    ensures { Answers (peer_told A.End.gives A.End.takes)
         (texts words.now)
-        (source_told S.left S.faults input.old) (source_told S.left S.faults input.new)
+        (S.gives input.old) (S.gives input.new)
         (accepts_told A.opened A.coming A.lent A.faults accepts.old)
         (accepts_told A.opened A.coming A.lent A.faults accepts.new)
-        (sink_told K.taken K.faults K.zeros output.old) (sink_told K.taken K.faults K.zeros output.new)
-        (sink_told E.taken E.faults E.zeros complaints.old) (sink_told E.taken E.faults E.zeros complaints.new)
+        (K.takes output.old) (K.takes output.new)
+        (E.takes complaints.old) (E.takes complaints.new)
         result }
 {
     let verdict = verdict(alloc, words, input, output, accepts);
@@ -59,12 +59,12 @@ fn verdict<S: Source, K: Sink, A: Accepts>(
     accepts: &mut A,
 ) -> ServeStatus
     ensures first { are_texts (texts words.now) ≡ false → result ≡ status.Usage }
-    ensures verdict { IsVerdict (peer_told A.End.left A.End.Source.faults A.End.taken A.End.Sink.faults A.End.zeros)
+    ensures verdict { IsVerdict (peer_told A.End.gives A.End.takes)
         (task_of (texts words.now))
-        (source_told S.left S.faults input.old) (source_told S.left S.faults input.new)
+        (S.gives input.old) (S.gives input.new)
         (accepts_told A.opened A.coming A.lent A.faults accepts.old)
         (accepts_told A.opened A.coming A.lent A.faults accepts.new)
-        (sink_told K.taken K.faults K.zeros output.old) (sink_told K.taken K.faults K.zeros output.new) result }
+        (K.takes output.old) (K.takes output.new) result }
 {
     match task_of(alloc, words) {
         Err(OutOfMemory) => ServeStatus::OutOfMemory,
@@ -75,10 +75,10 @@ fn verdict<S: Source, K: Sink, A: Accepts>(
 
 // The table that the whole input is, or else the verdict on the input.
 fn table_in<S: Source>(alloc: Global, input: &mut S) -> Result<AllowTable, ServeStatus>
-    ensures read { IfOk result (λ table. IsRead (source_told S.left S.faults input.old)
-        (source_told S.left S.faults input.new) table) }
-    ensures unread { IfErr result (IsUnread (source_told S.left S.faults input.old)
-        (source_told S.left S.faults input.new)) }
+    ensures read { IfOk result (λ table. IsRead (S.gives input.old)
+        (S.gives input.new) table) }
+    ensures unread { IfErr result (IsUnread (S.gives input.old)
+        (S.gives input.new)) }
 {
     let text = match read_whole(alloc, input, MOST_INPUT) {
         Err(ReadStop::Fault) => return Err(ServeStatus::ReadFault),
@@ -101,11 +101,11 @@ fn serve_input<S: Source, K: Sink, A: Accepts>(
     output: &mut K,
     accepts: &mut A,
 ) -> ServeStatus
-    ensures { IsDone (peer_told A.End.left A.End.Source.faults A.End.taken A.End.Sink.faults A.End.zeros)
-        (source_told S.left S.faults input.old) (source_told S.left S.faults input.new) task.now
+    ensures { IsDone (peer_told A.End.gives A.End.takes)
+        (S.gives input.old) (S.gives input.new) task.now
         (accepts_told A.opened A.coming A.lent A.faults accepts.old)
         (accepts_told A.opened A.coming A.lent A.faults accepts.new)
-        (sink_told K.taken K.faults K.zeros output.old) (sink_told K.taken K.faults K.zeros output.new) result }
+        (K.takes output.old) (K.takes output.new) result }
 {
     match table_in(alloc, input) {
         Err(verdict) => verdict,
@@ -121,11 +121,11 @@ fn serve_table<K: Sink, A: Accepts>(
     output: &mut K,
     accepts: &mut A,
 ) -> ServeStatus
-    ensures { IsServed (peer_told A.End.left A.End.Source.faults A.End.taken A.End.Sink.faults A.End.zeros) table.now
+    ensures { IsServed (peer_told A.End.gives A.End.takes) table.now
         task.now
         (accepts_told A.opened A.coming A.lent A.faults accepts.old)
         (accepts_told A.opened A.coming A.lent A.faults accepts.new)
-        (sink_told K.taken K.faults K.zeros output.old) (sink_told K.taken K.faults K.zeros output.new) result }
+        (K.takes output.old) (K.takes output.new) result }
 {
     match accepts.listen(task.address.as_slice()) {
         Err(Failed) => ServeStatus::AcceptFault,

@@ -4,14 +4,14 @@ ghost use Rattle.std.specs.Io.{ReadsAtMost};
 ghost use Rattle.wf_link.specs.Counts.{HasCause};
 ghost use Rattle.wf_link.specs.Links.{Asked, Awaits, MayHaveAsked, Received};
 ghost use Rattle.wf_link.specs.Sources.{Gave, IsAtEnd};
-ghost use Rattle.wf_script.specs.Valid.{IsValid};
-ghost use Rattle.wf_script.specs.declared.types.Server.{Server};
+ghost use Rattle.wf_scenario.specs.Valid.{IsValid};
+ghost use Rattle.wf_scenario.specs.declared.servers.Server.{Server};
 ghost use Rattle.wf_sim.specs.Sim.{after_receive, answer_to, fault_count, received, told_asks, told_counts};
 
 use crate::request::{method_of, target_of};
 use std::marker::Model;
 use wf_link::{Failed, Link, Target};
-use wf_script::{Scenario, Servers};
+use wf_scenario::{Scenario, Servers};
 
 /// A link to the scripted servers of a scenario. It never fails, takes no memory, and tells neither
 /// what it was asked nor how much of each answer was received.
@@ -60,19 +60,15 @@ impl<'a> SimLink<'a> {
 impl<'a> Link for SimLink<'a> {
     ghost State = { List Server };
 
-    ghost state = { λ link. Some link.servers };
+    ghost serves = { record { answer = answer_to; next = λ servers _ _. servers } };
 
-    ghost left = { λ link. Some link.left };
-
-    ghost answer = { answer_to };
-
-    ghost next = { λ servers _ _. servers };
-
-    ghost asks = { λ _. told_asks };
-
-    ghost received = { λ _. told_counts };
-
-    ghost faults = { λ _. fault_count };
+    ghost told = { λ link. record {
+      state = Some link.servers;
+      left = Some link.left;
+      asks = told_asks;
+      received = told_counts;
+      faults = fault_count;
+    } };
 
     /// Asks the scripted server of the target's origin. The answer is then to come: that of the
     /// first rule for the request's method and target, which its first line gives. It never fails.

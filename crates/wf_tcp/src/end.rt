@@ -73,9 +73,7 @@ impl<R: Net> Peer for TcpEnd<R> {
 }
 
 impl<R: Net> Source for TcpEnd<R> {
-    ghost left = { λ _. None };
-
-    ghost faults = { λ end. end.read_faults };
+    ghost gives = { as_source };
 
     ghost beside = { as_sink };
 
@@ -94,11 +92,7 @@ impl<R: Net> Source for TcpEnd<R> {
 }
 
 impl<R: Net> Sink for TcpEnd<R> {
-    ghost taken = { λ _. None };
-
-    ghost faults = { λ end. end.write_faults };
-
-    ghost zeros = { λ end. end.zeros };
+    ghost takes = { as_sink };
 
     ghost beside = { as_source };
 

@@ -98,19 +98,9 @@ impl<R: Net> TcpLink<R> {
 impl<R: Net> Link for TcpLink<R> {
     ghost State = { Unit {0} };
 
-    ghost state = { λ _. None };
+    ghost serves = { record { answer = λ _ _ _. []; next = λ state _ _. state } };
 
-    ghost left = { λ _. None };
-
-    ghost answer = { λ _ _ _. [] };
-
-    ghost next = { λ state _ _. state };
-
-    ghost asks = { λ _. None };
-
-    ghost received = { λ _. None };
-
-    ghost faults = { λ link. link.faults };
+    ghost told = { λ link. record { state = None; left = None; asks = None; received = None; faults = link.faults } };
 
     /// Closes the connection of the ask before it, opens one to the address of the first route of the
     /// target's origin, and writes the request. It fails where the origin has no route, and then no

@@ -4,10 +4,10 @@ use Rattle.std.proofs.Common.{Option, Some, None, Result, Ok, Err, refl, ap, sym
 use Rattle.std.specs.Prelude.{OnErr, OnOk}
 use Rattle.std.proofs.lemmas.List.{append-nil}
 use Rattle.wf_link.specs.Counts.{Rose}
-use Rattle.wf_link.specs.Sinks.{Took, TookPart}
-use Rattle.wf_link.specs.Sources.{Gave, IsAtEnd}
-use Rattle.wf_script.specs.declared.types.Place.{Place}
-use Rattle.wf_script.specs.declared.types.Scenario.{Scenario}
+use Rattle.wf_link.specs.Sinks.{SinkTold, Took, TookPart}
+use Rattle.wf_link.specs.Sources.{Gave, IsAtEnd, SourceTold}
+use Rattle.wf_script.specs.declared.place.Place.{Place}
+use Rattle.wf_scenario.specs.declared.scenario.Scenario.{Scenario}
 use Rattle.wf_script.specs.Scenarios.{scenario_of}
 use Rattle.wf_book.specs.declared.entry.Entry.{Entry}
 use Rattle.wf_print.specs.declared.events.Transcript.{Transcript}
@@ -24,17 +24,18 @@ use Rattle.wf_top.specs.Program.{AreLeft, HasPlayed, IsPlayedOver, IsAnswer, IsE
 use Rattle.wf_top.specs.Program.{IsBase, WritesSummary}
 use Rattle.wf_top.specs.Program.{GeneratedPlay, PlayOf, WritesSummaryPart, GaveFor, AnswersInput, AnswersCount, Answers}
 use Rattle.wf_top.specs.Statuses.{complaint, written_status}
-use Rattle.wf_top.specs.Streams.{Source, Sink, Net, Failed}
+use Rattle.wf_top.specs.Streams.{Net, Failed}
 use Rattle.wf_top.specs.Words.{subcommand_of}
 use Rattle.wf_top.specs.declared.status.Status.{Status}
 use Rattle.wf_top.specs.declared.status.Status.TheVariants as status
 use Rattle.wf_top.specs.declared.words.Subcommand.{Subcommand}
 use Rattle.wf_top.specs.declared.words.Subcommand.TheVariants.{Gen, Net as Over, Play}
+use Rattle.wf_link.specs.Links.{Told}
 
 -- ---- what was told
 
 -- the answer is the verdict, or the complaints failed
-told-answer : (c c' : Sink) (verdict answer : Status) → IsTold c c' verdict answer → (answer ≡ verdict)
+told-answer : (c c' : SinkTold) (verdict answer : Status) → IsTold c c' verdict answer → (answer ≡ verdict)
     ⊎ ((answer ≡ status.WriteFault) × Failed c c')
 told-answer c c' status.Ok answer t = inl t.0
 told-answer c c' status.Usage answer t = elim t [ inl x ↦ inl x.0 | inr x ↦ inr (x.0, x.2) ]
@@ -44,7 +45,7 @@ told-answer c c' status.WriteFault answer t = elim t [ inl x ↦ inl x.0 | inr x
 told-answer c c' status.OutOfMemory answer t = elim t [ inl x ↦ inl x.0 | inr x ↦ inr (x.0, x.2) ]
 told-answer c c' status.InputTooLong answer t = elim t [ inl x ↦ inl x.0 | inr x ↦ inr (x.0, x.2) ]
 
-complained-line : (c c' : Sink) (verdict answer : Status) → IsComplained c c' verdict answer
+complained-line : (c c' : SinkTold) (verdict answer : Status) → IsComplained c c' verdict answer
     → answer ≢ status.WriteFault → Took c.taken c'.taken (complaint answer)
 complained-line c c' verdict answer t other = elim t [
   | inl x ↦ subst (λ (v : Status). Took c.taken c'.taken (complaint v)) (sym x.0) x.1
@@ -52,7 +53,7 @@ complained-line c c' verdict answer t other = elim t [
 ]
 
 -- another answer is told by its line
-told-line : (c c' : Sink) (verdict answer : Status) → IsTold c c' verdict answer → answer ≢ status.Ok
+told-line : (c c' : SinkTold) (verdict answer : Status) → IsTold c c' verdict answer → answer ≢ status.Ok
     → answer ≢ status.WriteFault → Took c.taken c'.taken (complaint answer)
 told-line c c' status.Ok answer t not_ok other = absurd (not_ok t.0)
 told-line c c' status.Usage answer t not_ok other = complained-line c c' status.Usage answer t other
@@ -64,13 +65,13 @@ told-line c c' status.OutOfMemory answer t not_ok other = complained-line c c' s
 told-line c c' status.InputTooLong answer t not_ok other = complained-line c c' status.InputTooLong answer t other
 
 -- an answer other than WriteFault is the verdict
-told-same : (c c' : Sink) (verdict answer : Status) → IsTold c c' verdict answer → answer ≢ status.WriteFault
+told-same : (c c' : SinkTold) (verdict answer : Status) → IsTold c c' verdict answer → answer ≢ status.WriteFault
     → verdict ≡ answer
 told-same c c' verdict answer t other =
     elim (told-answer c c' verdict answer t) [ inl e ↦ sym e | inr x ↦ absurd (other x.0) ]
 
 -- of Ok nothing is told
-told-nothing : (c c' : Sink) (verdict : Status) → IsTold c c' verdict status.Ok → verdict ≡ status.Ok → c' ≡ c
+told-nothing : (c c' : SinkTold) (verdict : Status) → IsTold c c' verdict status.Ok → verdict ≡ status.Ok → c' ≡ c
 told-nothing c c' verdict t e = let u = subst (λ (v : Status). IsTold c c' v status.Ok) e t in u.1
 
 -- ---- what the input gave
@@ -104,7 +105,7 @@ same_place a b read x y = cc
 
 module _ (Plays : Scenario → List Transcript → List Entry → Type 0) where
   -- what was read has this cause
-  cause-at : (input input' : Source) (output output' : Sink) (verdict answer : Status)
+  cause-at : (input input' : SourceTold) (output output' : SinkTold) (verdict answer : Status)
       → IsPlayed Plays input input' output output' verdict → verdict ≡ answer
       → GaveFor input input' (λ bytes. IsCause Plays bytes input input' output output' answer)
   cause-at input input' output output' verdict answer p e = record {
@@ -113,7 +114,7 @@ module _ (Plays : Scenario → List Transcript → List Entry → Type 0) where
     reason_is = subst (λ (v : Status). IsCause Plays p.bytes input input' output output' v) e p.cause;
   }
 
-  bound-at : (input input' : Source) (output output' : Sink) (bytes : List ℕ) (verdict : Status)
+  bound-at : (input input' : SourceTold) (output output' : SinkTold) (bytes : List ℕ) (verdict : Status)
       → IsCause Plays bytes input input' output output' verdict → length bytes ≤ most_input + 1
   bound-at input input' output output' bytes status.Ok c = omega (arith, c.0.short)
   bound-at input input' output output' bytes status.Usage c = absurd c.1
@@ -124,7 +125,7 @@ module _ (Plays : Scenario → List Transcript → List Entry → Type 0) where
   bound-at input input' output output' bytes status.InputTooLong c = omega (arith, c.0)
 
   -- an input of which no scenario was read
-  pub unread-played : (input input' : Source) (output : Sink) (verdict : Status) → IsUnread input input' verdict
+  pub unread-played : (input input' : SourceTold) (output : SinkTold) (verdict : Status) → IsUnread input input' verdict
       → IsPlayed Plays input input' output output verdict
   unread-played input input' output verdict u =
       record { bytes = u.bytes; gave = u.gave; cause = cause verdict u.why }
@@ -139,13 +140,13 @@ module _ (Plays : Scenario → List Transcript → List Entry → Type 0) where
       cause status.InputTooLong why = (why, refl)
 
   -- a scenario that could not be played
-  pub refused-played : (input input' : Source) (output : Sink) (scenario : Scenario) → IsRead input input' scenario
+  pub refused-played : (input input' : SourceTold) (output : SinkTold) (scenario : Scenario) → IsRead input input' scenario
       → IsPlayed Plays input input' output output status.OutOfMemory
   refused-played input input' output scenario r =
       record { bytes = r.bytes; gave = r.gave; cause = (r.whole.short, inl refl) }
 
   -- a scenario that was played, and the text of its play written
-  pub written-played : (input input' : Source) (output output' : Sink) (scenario : Scenario)
+  pub written-played : (input input' : SourceTold) (output output' : SinkTold) (scenario : Scenario)
       (transcripts : List Transcript) (history : List Entry) (verdict : Status) → IsRead input input' scenario
       → Plays scenario transcripts history → IsWritten transcripts history output output' verdict
       → IsPlayed Plays input input' output output' verdict
@@ -174,7 +175,7 @@ module _ (Plays : Scenario → List Transcript → List Entry → Type 0) where
   -- ---- exactly where
 
   -- the bytes are refused, or longer, or a scenario: the verdict is this one, but for the excuses
-  no_scenario-at : (input input' : Source) (output output' c c' : Sink) (bytes : List ℕ) (place : Place)
+  no_scenario-at : (input input' : SourceTold) (output output' c c' : SinkTold) (bytes : List ℕ) (place : Place)
       (verdict answer : Status) → IsPlayed Plays input input' output output' verdict → answer ≡ verdict → input.left
       ≡ Some bytes → length bytes ≤ most_input → scenario_of bytes ≡ Err place → (answer ≡ status.Scenario place)
       ⊎ IsExcusedRead input input' output output' c c' answer
@@ -199,7 +200,7 @@ module _ (Plays : Scenario → List Transcript → List Entry → Type 0) where
   no_scenario-at input input' output output' c c' bytes place status.InputTooLong answer p e tells short is =
       absurd (omega (arith, p.cause.0, given-short bytes p.bytes input.left input'.left tells p.gave))
 
-  longer-at : (input input' : Source) (output output' c c' : Sink) (bytes : List ℕ) (verdict answer : Status)
+  longer-at : (input input' : SourceTold) (output output' c c' : SinkTold) (bytes : List ℕ) (verdict answer : Status)
       → IsPlayed Plays input input' output output' verdict → answer ≡ verdict → input.left ≡ Some bytes
       → most_input < length bytes → (answer ≡ status.InputTooLong) ⊎ IsExcusedRead input input' output output' c c' answer
   longer-at input input' output output' c c' bytes status.Ok answer p e tells long =
@@ -221,7 +222,7 @@ module _ (Plays : Scenario → List Transcript → List Entry → Type 0) where
   longer-at input input' output output' c c' bytes status.OutOfMemory answer p e tells long = inr (inr (inl e))
   longer-at input input' output output' c c' bytes status.InputTooLong answer p e tells long = inl e
 
-  complete-at : (input input' : Source) (output output' c c' : Sink) (bytes : List ℕ) (scenario : Scenario)
+  complete-at : (input input' : SourceTold) (output output' c c' : SinkTold) (bytes : List ℕ) (scenario : Scenario)
       (verdict answer : Status) → IsPlayed Plays input input' output output' verdict → answer ≡ verdict → input.left
       ≡ Some bytes → length bytes ≤ most_input → scenario_of bytes ≡ Ok scenario → (answer ≡ status.Ok)
       ⊎ IsExcusedRead input input' output output' c c' answer
@@ -244,7 +245,7 @@ module _ (Plays : Scenario → List Transcript → List Entry → Type 0) where
 
   -- ---- what the account of an answer to an input says
 
-  input-answers : (input input' : Source) (output output' c c' : Sink) (verdict answer : Status)
+  input-answers : (input input' : SourceTold) (output output' c c' : SinkTold) (verdict answer : Status)
       → IsPlayed Plays input input' output output' verdict → IsTold c c' verdict answer
       → AnswersInput Plays input input' output output' c c' answer
   input-answers input input' output output' c c' verdict answer p t =
@@ -308,12 +309,12 @@ module _ (Plays : Scenario → List Transcript → List Entry → Type 0) where
           }
 
   -- a verdict of WriteFault has its cause
-  input-write : (input input' : Source) (output output' : Sink) (verdict : Status)
+  input-write : (input input' : SourceTold) (output output' : SinkTold) (verdict : Status)
       → IsPlayed Plays input input' output output' verdict → verdict ≡ status.WriteFault → Failed output output'
   input-write input input' output output' verdict p is =
       (cause-at input input' output output' verdict status.WriteFault p is).reason_is.1.1
 
-  input-usage : (input input' : Source) (output output' : Sink) (verdict : Status)
+  input-usage : (input input' : SourceTold) (output output' : SinkTold) (verdict : Status)
       → IsPlayed Plays input input' output output' verdict → verdict ≡ status.Usage → ⊥
   input-usage input input' output output' verdict p is =
       (cause-at input input' output output' verdict status.Usage p is).reason_is.1
@@ -321,25 +322,25 @@ module _ (Plays : Scenario → List Transcript → List Entry → Type 0) where
 -- ---- a generated scenario
 
 module _ (count : ℕ) where
-  summed-ok : (output output' : Sink) (verdict : Status) → IsSummed count output output' verdict
+  summed-ok : (output output' : SinkTold) (verdict : Status) → IsSummed count output output' verdict
       → verdict ≡ status.Ok → WritesSummary count output output'
   summed-ok output output' verdict s is = subst (λ (v : Status). IsSummed count output output' v) is s
 
-  summed-memory : (output output' : Sink) (verdict : Status) → IsSummed count output output' verdict
+  summed-memory : (output output' : SinkTold) (verdict : Status) → IsSummed count output output' verdict
       → verdict ≡ status.OutOfMemory → (output' ≡ output) ⊎ WritesSummaryPart count output output'
   summed-memory output output' verdict s is = subst (λ (v : Status). IsSummed count output output' v) is s
 
-  summed-write : (output output' : Sink) (verdict : Status) → IsSummed count output output' verdict
+  summed-write : (output output' : SinkTold) (verdict : Status) → IsSummed count output output' verdict
       → verdict ≡ status.WriteFault → Failed output output'
   summed-write output output' verdict s is =
       let w : WritesSummaryPart count output output' × Failed output output' =
       subst (λ (v : Status). IsSummed count output output' v) is s in w.1
 
-  summed-usage : (output output' : Sink) (verdict : Status) → IsSummed count output output' verdict
+  summed-usage : (output output' : SinkTold) (verdict : Status) → IsSummed count output output' verdict
       → verdict ≡ status.Usage → ⊥
   summed-usage output output' verdict s is = subst (λ (v : Status). IsSummed count output output' v) is s
 
-  summed-complete : (output output' c c' : Sink) (verdict answer : Status) → IsSummed count output output' verdict
+  summed-complete : (output output' c c' : SinkTold) (verdict answer : Status) → IsSummed count output output' verdict
       → answer ≡ verdict → (answer ≡ status.Ok) ⊎ IsExcused output output' c c' answer
   summed-complete output output' c c' status.Ok answer s e = inl e
   summed-complete output output' c c' status.Usage answer s e = absurd s
@@ -349,7 +350,7 @@ module _ (count : ℕ) where
   summed-complete output output' c c' status.OutOfMemory answer s e = inr (inl e)
   summed-complete output output' c c' status.InputTooLong answer s e = absurd s
 
-  count-answers : (input input' : Source) (output output' c c' : Sink) (verdict answer : Status) → input' ≡ input
+  count-answers : (input input' : SourceTold) (output output' c c' : SinkTold) (verdict answer : Status) → input' ≡ input
       → IsSummed count output output' verdict → IsTold c c' verdict answer
       → AnswersCount count input input' output output' c c' answer
   count-answers input input' output output' c c' verdict answer unread s t = record {
@@ -377,7 +378,7 @@ module _ (count : ℕ) where
 -- ---- what was written
 
 -- the verdict by what came of writing the text of a play
-pub text-written : (transcripts : List Transcript) (history : List Entry) (output output' : Sink)
+pub text-written : (transcripts : List Transcript) (history : List Entry) (output output' : SinkTold)
     (written : Result (Unit {0}) Failure)
     → OnOk written (Took output.taken output'.taken (play_text transcripts history))
     → OnErr written (TookPart output.taken output'.taken (play_text transcripts history))
@@ -391,7 +392,7 @@ text-written transcripts history output output' (Err failure.TookNothing) took p
     (part, inr (nothing refl))
 
 -- the verdict by what came of writing a summary
-pub summary-outcome : (count : ℕ) (of : GeneratedPlay count) (output output' : Sink)
+pub summary-outcome : (count : ℕ) (of : GeneratedPlay count) (output output' : SinkTold)
     (written : Result (Unit {0}) Failure)
     → OnOk written (Took output.taken output'.taken (summary_text count of.transcripts of.history))
     → OnErr written (TookPart output.taken output'.taken (summary_text count of.transcripts of.history))
@@ -408,18 +409,18 @@ summary-outcome count of output output' (Err failure.TookNothing) took part faul
 
 -- ---- links and clock
 
-module _ {L State : Type 0} (by : Answering State) (state : L → Option State) (received : L → Option (List ℕ)) (faults : L → ℕ) where
+module _ {L State : Type 0} (by : Answering State) (told : L → Told State) where
   -- where no scenario was read they are as they were
-  pub over-unread : (net : Net L) (input input' : Source) (output : Sink) (verdict : Status)
+  pub over-unread : (net : Net L) (input input' : SourceTold) (output : SinkTold) (verdict : Status)
       → IsUnread input input' verdict
-      → IsPlayedOver by state received faults net net input input' output output verdict
+      → IsPlayedOver by told net net input input' output output verdict
   unfolding unread-played
   over-unread net input input' output verdict u = record {
-    played = unread-played (IsLinked by state received faults net net) input input' output verdict u;
+    played = unread-played (IsLinked by told net net) input input' output verdict u;
     left = left verdict u.why;
   }
     where
-      left : (v : Status) → IsWhyNone u.bytes input input' v → AreLeft by state received faults net net u.bytes input' v
+      left : (v : Status) → IsWhyNone u.bytes input input' v → AreLeft by told net net u.bytes input' v
       left status.Ok why = absurd why
       left status.Usage why = absurd why
       left (status.Scenario place) why = refl
@@ -430,13 +431,13 @@ module _ {L State : Type 0} (by : Answering State) (state : L → Option State) 
 
   module _ (net net' : Net L) where
     -- a play over them was refused
-    pub over-refused : (input input' : Source) (output : Sink) (scenario : Scenario) (base : ℕ)
+    pub over-refused : (input input' : SourceTold) (output : SinkTold) (scenario : Scenario) (base : ℕ)
         → IsRead input input' scenario → IsBase net.time base
-        → WasRefused by state received faults net.links net'.links scenario base
-        → IsPlayedOver by state received faults net net' input input' output output status.OutOfMemory
+        → WasRefused by told net.links net'.links scenario base
+        → IsPlayedOver by told net net' input input' output output status.OutOfMemory
     unfolding refused-played
     over-refused input input' output scenario base r base_is refused = record {
-      played = refused-played (IsLinked by state received faults net net') input input' output scenario r;
+      played = refused-played (IsLinked by told net net') input input' output scenario r;
       left = inr (inl (record {
         whole = r.whole;
         scenario = scenario;
@@ -448,19 +449,19 @@ module _ {L State : Type 0} (by : Answering State) (state : L → Option State) 
     }
 
     -- they were played over
-    pub over-written : (input input' : Source) (output output' : Sink) (scenario : Scenario)
+    pub over-written : (input input' : SourceTold) (output output' : SinkTold) (scenario : Scenario)
         (transcripts : List Transcript) (history : List Entry) (verdict : Status) → IsRead input input' scenario
-        → IsLinked by state received faults net net' scenario transcripts history
+        → IsLinked by told net net' scenario transcripts history
         → IsWritten transcripts history output output' verdict
-        → IsPlayedOver by state received faults net net' input input' output output' verdict
+        → IsPlayedOver by told net net' input input' output output' verdict
     unfolding written-played
     over-written input input' output output' scenario transcripts history verdict r linked w = record {
-      played = written-played (IsLinked by state received faults net net') input input' output output' scenario transcripts
+      played = written-played (IsLinked by told net net') input input' output output' scenario transcripts
           history verdict r linked w;
       left = left verdict w;
     }
       where
-        played : HasPlayed by state received faults net net' r.bytes input'
+        played : HasPlayed by told net net' r.bytes input'
         played = (
           r.whole,
           record {
@@ -473,7 +474,7 @@ module _ {L State : Type 0} (by : Answering State) (state : L → Option State) 
         )
 
         left : (v : Status) → IsWritten transcripts history output output' v
-            → AreLeft by state received faults net net' r.bytes input' v
+            → AreLeft by told net net' r.bytes input' v
         left status.Ok w = played
         left status.Usage w = absurd w
         left (status.Scenario place) w = absurd w
@@ -483,18 +484,18 @@ module _ {L State : Type 0} (by : Answering State) (state : L → Option State) 
         left status.InputTooLong w = absurd w
 
     -- each link that was made was taken back
-    left-back : (bytes : List ℕ) (input' : Source) (verdict : Status)
-        → AreLeft by state received faults net net' bytes input' verdict → HasTakenBack faults net.links net'.links
+    left-back : (bytes : List ℕ) (input' : SourceTold) (verdict : Status)
+        → AreLeft by told net net' bytes input' verdict → HasTakenBack told net.links net'.links
     left-back bytes input' verdict left = back verdict left
       where
-        same : net' ≡ net → HasTakenBack faults net.links net'.links
-        same is = subst (λ (n : Net L). HasTakenBack faults net.links n.links) (sym is) (none-taken faults net.links)
+        same : net' ≡ net → HasTakenBack told net.links net'.links
+        same is = subst (λ (n : Net L). HasTakenBack told net.links n.links) (sym is) (none-taken told net.links)
 
-        played : HasPlayed by state received faults net net' bytes input' → HasTakenBack faults net.links net'.links
+        played : HasPlayed by told net net' bytes input' → HasTakenBack told net.links net'.links
         played p = record { back = p.1.play.over.back; took = p.1.play.over.took }
 
-        back : (v : Status) → AreLeft by state received faults net net' bytes input' v
-            → HasTakenBack faults net.links net'.links
+        back : (v : Status) → AreLeft by told net net' bytes input' v
+            → HasTakenBack told net.links net'.links
         back status.Ok left = played left
         back status.WriteFault left = played left
         back status.OutOfMemory left = elim left [
@@ -511,34 +512,33 @@ module _ {L State : Type 0} (by : Answering State) (state : L → Option State) 
 
 -- ---- the verdict
 
-module _ {L State : Type 0} (by : Answering State) (state : L → Option State)
-    (received : L → Option (List ℕ)) (faults : L → ℕ) (net net' : Net L) where
+module _ {L State : Type 0} (by : Answering State) (told : L → Told State) (net net' : Net L) where
   -- the verdict by other words that are equal
-  verdict-at : (asked other : Option Subcommand) (input input' : Source) (output output' : Sink) (verdict : Status)
-      → asked ≡ other → IsVerdict by state received faults net net' asked input input' output output' verdict
-      → IsVerdict by state received faults net net' other input input' output output' verdict
+  verdict-at : (asked other : Option Subcommand) (input input' : SourceTold) (output output' : SinkTold) (verdict : Status)
+      → asked ≡ other → IsVerdict by told net net' asked input input' output output' verdict
+      → IsVerdict by told net net' other input input' output output' verdict
   verdict-at asked other input input' output output' verdict is v =
-      subst (λ (a : Option Subcommand). IsVerdict by state received faults net net' a input input' output output' verdict) is v
+      subst (λ (a : Option Subcommand). IsVerdict by told net net' a input input' output output' verdict) is v
 
-  usage-of : (asked : Option Subcommand) (input input' : Source) (output output' : Sink) (verdict : Status)
-      → asked ≡ None → IsVerdict by state received faults net net' asked input input' output output' verdict
+  usage-of : (asked : Option Subcommand) (input input' : SourceTold) (output output' : SinkTold) (verdict : Status)
+      → asked ≡ None → IsVerdict by told net net' asked input input' output output' verdict
       → verdict ≡ status.Usage
   usage-of asked input input' output output' verdict is v =
       (verdict-at asked None input input' output output' verdict is v).0
 
-  not_accepted-of : (asked : Option Subcommand) (input input' : Source) (output output' : Sink) (verdict : Status)
-      → verdict ≡ status.Usage → IsVerdict by state received faults net net' asked input input' output output' verdict
+  not_accepted-of : (asked : Option Subcommand) (input input' : SourceTold) (output output' : SinkTold) (verdict : Status)
+      → verdict ≡ status.Usage → IsVerdict by told net net' asked input input' output output' verdict
       → asked ≡ None
   not_accepted-of None input input' output output' verdict is v = refl
   not_accepted-of (Some Play) input input' output output' verdict is v =
       absurd (input-usage IsScripted input input' output output' verdict v.0 is)
   not_accepted-of (Some Over) input input' output output' verdict is v =
-      absurd (input-usage (IsLinked by state received faults net net') input input' output output' verdict v.played is)
+      absurd (input-usage (IsLinked by told net net') input input' output output' verdict v.played is)
   not_accepted-of (Some (Gen count)) input input' output output' verdict is v =
       absurd (summed-usage count output output' verdict v.0 is)
 
-  verdict-write : (asked : Option Subcommand) (input input' : Source) (output output' : Sink) (verdict : Status)
-      → verdict ≡ status.WriteFault → IsVerdict by state received faults net net' asked input input' output output' verdict
+  verdict-write : (asked : Option Subcommand) (input input' : SourceTold) (output output' : SinkTold) (verdict : Status)
+      → verdict ≡ status.WriteFault → IsVerdict by told net net' asked input input' output output' verdict
       → Failed output output'
   verdict-write None input input' output output' verdict is v = absurd (other (sym v.0 ∙ is))
     where
@@ -547,12 +547,12 @@ module _ {L State : Type 0} (by : Answering State) (state : L → Option State)
   verdict-write (Some Play) input input' output output' verdict is v =
       input-write IsScripted input input' output output' verdict v.0 is
   verdict-write (Some Over) input input' output output' verdict is v =
-      input-write (IsLinked by state received faults net net') input input' output output' verdict v.played is
+      input-write (IsLinked by told net net') input input' output output' verdict v.played is
   verdict-write (Some (Gen count)) input input' output output' verdict is v =
       summed-write count output output' verdict v.0 is
 
-  kept-of : (asked : Option Subcommand) (input input' : Source) (output output' : Sink) (verdict : Status)
-      → IsVerdict by state received faults net net' asked input input' output output' verdict → asked ≢ Some Over → net' ≡ net
+  kept-of : (asked : Option Subcommand) (input input' : SourceTold) (output output' : SinkTold) (verdict : Status)
+      → IsVerdict by told net net' asked input input' output output' verdict → asked ≢ Some Over → net' ≡ net
   kept-of None input input' output output' verdict v other = v.3
   kept-of (Some Play) input input' output output' verdict v other = v.1
   kept-of (Some Over) input input' output output' verdict v other = absurd (other refl)
@@ -561,43 +561,42 @@ module _ {L State : Type 0} (by : Answering State) (state : L → Option State)
 -- ---- the whole
 
 -- the account of an answer says what the program promises
-pub answers : {L State : Type 0} (by : Answering State) (state : L → Option State)
-    (received : L → Option (List ℕ)) (faults : L → ℕ)
-    (words : List (List ℕ)) (input input' : Source) (output output' c c' : Sink) (net net' : Net L) (answer : Status)
-    → IsAnswer by state received faults words input input' output output' c c' net net' answer
-    → Answers by state received faults words input input' output output' c c' net net' answer
-answers by state received faults words input input' output output' c c' net net' answer a =
+pub answers : {L State : Type 0} (by : Answering State) (told : L → Told State)
+    (words : List (List ℕ)) (input input' : SourceTold) (output output' c c' : SinkTold) (net net' : Net L) (answer : Status)
+    → IsAnswer by told words input input' output output' c c' net net' answer
+    → Answers by told words input input' output output' c c' net net' answer
+answers by told words input input' output output' c c' net net' answer a =
     let asked = subcommand_of words in
     let told = told-answer c c' a.verdict answer a.is_told in
     record {
       is_answer = a;
-      usage = λ is. not_accepted-of by state received faults net net' asked input input' output output' a.verdict
+      usage = λ is. not_accepted-of by told net net' asked input input' output output' a.verdict
           (told-same c c' a.verdict answer a.is_told (λ h. usage_write (sym is ∙ h)) ∙ is) a.is_verdict;
       not_accepted = λ no_words. elim told [
-        | inl e ↦ inl (e ∙ usage-of by state received faults net net' asked input input' output output' a.verdict no_words
+        | inl e ↦ inl (e ∙ usage-of by told net net' asked input input' output output' a.verdict no_words
             a.is_verdict)
         | inr x ↦ inr x
       ];
       play = λ is.
-          let v = verdict-at by state received faults net net' asked (Some Play) input input' output output' a.verdict is
+          let v = verdict-at by told net net' asked (Some Play) input input' output output' a.verdict is
           a.is_verdict in
           input-answers IsScripted input input' output output' c c' a.verdict answer v.0 a.is_told;
       net = λ is.
-          let v = verdict-at by state received faults net net' asked (Some Over) input input' output output' a.verdict is
+          let v = verdict-at by told net net' asked (Some Over) input input' output output' a.verdict is
           a.is_verdict in
-          input-answers (IsLinked by state received faults net net') input input' output output' c c' a.verdict answer v.played
+          input-answers (IsLinked by told net net') input input' output output' c c' a.verdict answer v.played
           a.is_told;
       gen = λ count is.
-          let v = verdict-at by state received faults net net' asked (Some (Gen count)) input input' output output' a.verdict is
+          let v = verdict-at by told net net' asked (Some (Gen count)) input input' output output' a.verdict is
           a.is_verdict in
           count-answers count input input' output output' c c' a.verdict answer v.1 v.0 a.is_told;
-      kept = kept-of by state received faults net net' asked input input' output output' a.verdict a.is_verdict;
+      kept = kept-of by told net net' asked input input' output output' a.verdict a.is_verdict;
       back = λ is.
-          let v = verdict-at by state received faults net net' asked (Some Over) input input' output output' a.verdict is
+          let v = verdict-at by told net net' asked (Some Over) input input' output output' a.verdict is
           a.is_verdict in
-          left-back by state received faults net net' v.played.bytes input' a.verdict v.left;
+          left-back by told net net' v.played.bytes input' a.verdict v.left;
       write_fault = λ is. elim told [
-        | inl e ↦ inl (verdict-write by state received faults net net' asked input input' output output' a.verdict (sym e ∙ is)
+        | inl e ↦ inl (verdict-write by told net net' asked input input' output output' a.verdict (sym e ∙ is)
             a.is_verdict)
         | inr x ↦ inr x.1
       ];

@@ -4,33 +4,35 @@
 use Rattle.std.specs.Prelude.{◌≡◌, ◌≢◌, ℕ, ◌+◌, ◌≤◌, ◌<◌, ◌⊎◌, min, List, length, map, Option, Some, None, Ok, Err}
 use Rattle.wf_book.specs.declared.entry.Entry.{Entry}
 use Rattle.wf_link.specs.Counts.{Rose}
-use Rattle.wf_link.specs.Sinks.{Took, TookPart}
-use Rattle.wf_link.specs.Sources.{Gave, IsAtEnd}
+use Rattle.wf_link.specs.Sinks.{SinkTold, Took, TookPart}
+use Rattle.wf_link.specs.Sources.{Gave, IsAtEnd, SourceTold}
 use Rattle.wf_print.specs.declared.events.Transcript.{Transcript}
 use Rattle.wf_print.specs.Summary.{summary_text}
 use Rattle.wf_print.specs.Text.{play_text}
-use Rattle.wf_script.specs.declared.types.Place.{Place}
-use Rattle.wf_script.specs.declared.types.Scenario.{Scenario}
+use Rattle.wf_script.specs.declared.place.Place.{Place}
+use Rattle.wf_scenario.specs.declared.scenario.Scenario.{Scenario}
+use Rattle.wf_run.specs.Documents.{EachDocument}
 use Rattle.wf_script.specs.Generated.{generated}
 use Rattle.wf_script.specs.Scenarios.{scenario_of}
 use Rattle.wf_wire.specs.Exchanges.{Answering}
-use Rattle.wf_iso.specs.Isolated.{AreAlone, IsIsolated}
+use Rattle.wf_iso.specs.Isolated.{IsAlone, IsIsolated}
 use Rattle.wf_iso.specs.Plays.{IsPlay, by_rules, ways_to_servers}
 use Rattle.wf_play.specs.Links.{HasTakenBack, IsPlayOverLinks, WasRefused, way_of}
 use Rattle.wf_top.specs.Statuses.{complaint}
-use Rattle.wf_top.specs.Streams.{Source, Sink, Net, Failed}
+use Rattle.wf_top.specs.Streams.{Net, Failed}
 use Rattle.wf_top.specs.Words.{subcommand_of}
 use Rattle.wf_top.specs.declared.status.Status.{Status}
 use Rattle.wf_top.specs.declared.status.Status.TheVariants as status
 use Rattle.wf_top.specs.declared.words.Subcommand.{Subcommand}
 use Rattle.wf_top.specs.declared.words.Subcommand.TheVariants.{Gen, Net as Over, Play}
+use Rattle.wf_link.specs.Links.{Told}
 
 -- the longest input, in bytes
 abbrev pub most_input : ℕ
 most_input = 4194304
 
 -- the input was read to its end, and is not too long
-pub record IsWhole (bytes : List ℕ) (new : Source) : Type 0 where
+pub record IsWhole (bytes : List ℕ) (new : SourceTold) : Type 0 where
   pub end : IsAtEnd new.left
   pub short : length bytes ≤ most_input
 
@@ -51,25 +53,24 @@ IsBase None base = base ≤ most_base
 IsBase (Some time) base = base ≡ min time most_base
 
 -- Over links:
-module _ {L State : Type 0} (by : Answering State) (state : L → Option State)
-    (received : L → Option (List ℕ)) (faults : L → ℕ) (old new : Net L) where
+module _ {L State : Type 0} (by : Answering State) (told : L → Told State) (old new : Net L) where
   -- A play of the scenario over the links that are made for its documents, from the clock's time on, in which what each
   -- document sends and sees is what it would alone.
   pub record IsLinked (scenario : Scenario) (transcripts : List Transcript) (history : List Entry) : Type 0 where
     pub base : ℕ
     pub base_is : IsBase old.time base
-    pub over : IsPlayOverLinks by state received faults old.links new.links scenario base transcripts history
-    pub alone : AreAlone by scenario base history 0 scenario.documents (map (way_of state received faults) over.made)
-        (map (way_of state received faults) over.back) transcripts
+    pub over : IsPlayOverLinks by told old.links new.links scenario base transcripts history
+    pub alone : EachDocument (IsAlone by scenario base history) 0 scenario.documents
+        (map (way_of told) over.made) (map (way_of told) over.back) transcripts
 
   -- A play of the scenario that the bytes of a whole input are was refused for want of memory.
-  pub record HasRefused (bytes : List ℕ) (input' : Source) : Type 0 where
+  pub record HasRefused (bytes : List ℕ) (input' : SourceTold) : Type 0 where
     pub whole : IsWhole bytes input'
     pub scenario : Scenario
     pub read : scenario_of bytes ≡ Ok scenario
     pub base : ℕ
     pub base_is : IsBase old.time base
-    pub refused : WasRefused by state received faults old.links new.links scenario base
+    pub refused : WasRefused by told old.links new.links scenario base
 
 -- ---- a scenario that is read
 
@@ -84,17 +85,17 @@ module _ (Plays : Scenario → List Transcript → List Entry → Type 0) where
     pub play : Plays scenario transcripts history
 
   -- the output has taken the text of a play of what the bytes say, and nothing else
-  pub record WritesPlay (bytes : List ℕ) (old new : Sink) : Type 0 where
+  pub record WritesPlay (bytes : List ℕ) (old new : SinkTold) : Type 0 where
     pub of : PlayOf bytes
     pub took : Took old.taken new.taken (play_text of.transcripts of.history)
 
   -- it has taken nothing, or a prefix of such a text
-  pub record WritesPart (bytes : List ℕ) (old new : Sink) : Type 0 where
+  pub record WritesPart (bytes : List ℕ) (old new : SinkTold) : Type 0 where
     pub of : PlayOf bytes
     pub took : TookPart old.taken new.taken (play_text of.transcripts of.history)
 
   -- what the bytes of a whole input come to, and what the output has taken then
-  abbrev pub IsOutcome : List ℕ → Sink → Sink → Status → Type 0
+  abbrev pub IsOutcome : List ℕ → SinkTold → SinkTold → Status → Type 0
   IsOutcome bytes output output' status.Ok = WritesPlay bytes output output'
   IsOutcome bytes output output' (status.Scenario place) = (scenario_of bytes ≡ Err place) × (output' ≡ output)
   IsOutcome bytes output output' status.WriteFault = WritesPart bytes output output' × Failed output output'
@@ -105,7 +106,7 @@ module _ (Plays : Scenario → List Transcript → List Entry → Type 0) where
 
   -- Why the program comes to a verdict on the bytes that the input gave. Where memory was refused and the output
   -- has taken something, the input was read to its end.
-  abbrev pub IsCause : List ℕ → Source → Source → Sink → Sink → Status → Type 0
+  abbrev pub IsCause : List ℕ → SourceTold → SourceTold → SinkTold → SinkTold → Status → Type 0
   IsCause bytes input input' output output' status.ReadFault =
       (length bytes ≤ most_input) × Rose input.faults input'.faults × (output' ≡ output)
   IsCause bytes input input' output output' status.InputTooLong =
@@ -115,7 +116,7 @@ module _ (Plays : Scenario → List Transcript → List Entry → Type 0) where
   IsCause bytes input input' output output' verdict = IsWhole bytes input' × IsOutcome bytes output output' verdict
 
   -- the verdict on an input
-  pub record IsPlayed (input input' : Source) (output output' : Sink) (verdict : Status) : Type 0 where
+  pub record IsPlayed (input input' : SourceTold) (output output' : SinkTold) (verdict : Status) : Type 0 where
     -- the bytes that the input gave
     pub bytes : List ℕ
     pub gave : Gave input.left input'.left bytes
@@ -123,24 +124,23 @@ module _ (Plays : Scenario → List Transcript → List Entry → Type 0) where
 
 -- ---- what is left of links and clock
 
-module _ {L State : Type 0} (by : Answering State) (state : L → Option State)
-    (received : L → Option (List ℕ)) (faults : L → ℕ) (old new : Net L) where
+module _ {L State : Type 0} (by : Answering State) (told : L → Told State) (old new : Net L) where
   -- the scenario that the bytes of a whole input are was played over the links
-  abbrev pub HasPlayed : List ℕ → Source → Type 0
-  HasPlayed bytes input' = IsWhole bytes input' × PlayOf (IsLinked by state received faults old new) bytes
+  abbrev pub HasPlayed : List ℕ → SourceTold → Type 0
+  HasPlayed bytes input' = IsWhole bytes input' × PlayOf (IsLinked by told old new) bytes
 
   -- What is left of them where the input gave these bytes: as they were, where nothing was played; else the links were
   -- taken back.
-  abbrev pub AreLeft : List ℕ → Source → Status → Type 0
+  abbrev pub AreLeft : List ℕ → SourceTold → Status → Type 0
   AreLeft bytes input' status.Ok = HasPlayed bytes input'
   AreLeft bytes input' status.WriteFault = HasPlayed bytes input'
   AreLeft bytes input' status.OutOfMemory =
-      (new ≡ old) ⊎ HasRefused by state received faults old new bytes input' ⊎ HasPlayed bytes input'
+      (new ≡ old) ⊎ HasRefused by told old new bytes input' ⊎ HasPlayed bytes input'
   AreLeft bytes input' verdict = new ≡ old
 
   -- the verdict on an input that is played over links, and what is left of them
-  pub record IsPlayedOver (input input' : Source) (output output' : Sink) (verdict : Status) : Type 0 where
-    pub played : IsPlayed (IsLinked by state received faults old new) input input' output output' verdict
+  pub record IsPlayedOver (input input' : SourceTold) (output output' : SinkTold) (verdict : Status) : Type 0 where
+    pub played : IsPlayed (IsLinked by told old new) input input' output output' verdict
     pub left : AreLeft played.bytes input' verdict
 
 -- ---- a generated scenario
@@ -152,17 +152,17 @@ pub record GeneratedPlay (count : ℕ) : Type 0 where
   pub play : IsPlay (generated count) transcripts history
 
 -- the output has taken the summary of such a play, and nothing else
-pub record WritesSummary (count : ℕ) (old new : Sink) : Type 0 where
+pub record WritesSummary (count : ℕ) (old new : SinkTold) : Type 0 where
   pub of : GeneratedPlay count
   pub took : Took old.taken new.taken (summary_text count of.transcripts of.history)
 
 -- it has taken nothing, or a prefix of such a summary
-pub record WritesSummaryPart (count : ℕ) (old new : Sink) : Type 0 where
+pub record WritesSummaryPart (count : ℕ) (old new : SinkTold) : Type 0 where
   pub of : GeneratedPlay count
   pub took : TookPart old.taken new.taken (summary_text count of.transcripts of.history)
 
 -- the verdict on a generated scenario
-abbrev pub IsSummed : ℕ → Sink → Sink → Status → Type 0
+abbrev pub IsSummed : ℕ → SinkTold → SinkTold → Status → Type 0
 IsSummed count output output' status.Ok = WritesSummary count output output'
 IsSummed count output output' status.WriteFault = WritesSummaryPart count output output' × Failed output output'
 IsSummed count output output' status.OutOfMemory = (output' ≡ output) ⊎ WritesSummaryPart count output output'
@@ -174,63 +174,61 @@ IsSummed count output output' status.InputTooLong = ⊥
 -- ---- the whole
 
 -- By what answers over the links, what a link tells of itself, and the links and the clock at first and at last:
-module _ {L State : Type 0} (by : Answering State) (state : L → Option State)
-    (received : L → Option (List ℕ)) (faults : L → ℕ) (net net' : Net L) where
+module _ {L State : Type 0} (by : Answering State) (told : L → Told State) (net net' : Net L) where
   -- The verdict, by what the words ask for: Usage exactly where they are not accepted, and then nothing was read or
   -- written; with `gen` nothing was read. With `net` alone links and the clock are used.
-  abbrev pub IsVerdict : Option Subcommand → Source → Source → Sink → Sink → Status → Type 0
+  abbrev pub IsVerdict : Option Subcommand → SourceTold → SourceTold → SinkTold → SinkTold → Status → Type 0
   IsVerdict None input input' output output' verdict =
       (verdict ≡ status.Usage) × (input' ≡ input) × (output' ≡ output) × (net' ≡ net)
   IsVerdict (Some Play) input input' output output' verdict =
       IsPlayed IsScripted input input' output output' verdict × (net' ≡ net)
   IsVerdict (Some Over) input input' output output' verdict =
-      IsPlayedOver by state received faults net net' input input' output output' verdict
+      IsPlayedOver by told net net' input input' output output' verdict
   IsVerdict (Some (Gen count)) input input' output output' verdict =
       IsSummed count output output' verdict × (input' ≡ input) × (net' ≡ net)
 
 -- the complaints have taken the verdict's line and the program answers it; or a part of the line, since
 -- they failed, and it answers WriteFault
-abbrev pub IsComplained : Sink → Sink → Status → Status → Type 0
+abbrev pub IsComplained : SinkTold → SinkTold → Status → Status → Type 0
 IsComplained old new verdict answer =
     ((answer ≡ verdict) × Took old.taken new.taken (complaint verdict))
     ⊎ ((answer ≡ status.WriteFault) × TookPart old.taken new.taken (complaint verdict) × Failed old new)
 
 -- nothing is told of Ok
-abbrev pub IsTold : Sink → Sink → Status → Status → Type 0
+abbrev pub IsTold : SinkTold → SinkTold → Status → Status → Type 0
 IsTold old new status.Ok answer = (answer ≡ status.Ok) × (new ≡ old)
 IsTold old new verdict answer = IsComplained old new verdict answer
 
 -- How the program came to its answer: it came to a verdict first, and told it then.
-pub record IsAnswer {L State : Type 0} (by : Answering State) (state : L → Option State)
-    (received : L → Option (List ℕ)) (faults : L → ℕ)
-    (words : List (List ℕ)) (input input' : Source) (output output' complaints complaints' : Sink) (net net' : Net L)
+pub record IsAnswer {L State : Type 0} (by : Answering State) (told : L → Told State)
+    (words : List (List ℕ)) (input input' : SourceTold) (output output' complaints complaints' : SinkTold) (net net' : Net L)
     (answer : Status) : Type 0 where
   pub verdict : Status
-  pub is_verdict : IsVerdict by state received faults net net' (subcommand_of words) input input' output output' verdict
+  pub is_verdict : IsVerdict by told net net' (subcommand_of words) input input' output output' verdict
   pub is_told : IsTold complaints complaints' verdict answer
 
 -- the other answers that a play without a fault of its scenario can have: memory was refused, or the complaints or
 -- the output failed
-abbrev pub IsExcused : Sink → Sink → Sink → Sink → Status → Type 0
+abbrev pub IsExcused : SinkTold → SinkTold → SinkTold → SinkTold → Status → Type 0
 IsExcused output output' complaints complaints' answer =
     (answer ≡ status.OutOfMemory)
     ⊎ ((answer ≡ status.WriteFault) × (Failed output output' ⊎ Failed complaints complaints'))
 
 -- where an input was read, it may have failed too
-abbrev pub IsExcusedRead : Source → Source → Sink → Sink → Sink → Sink → Status → Type 0
+abbrev pub IsExcusedRead : SourceTold → SourceTold → SinkTold → SinkTold → SinkTold → SinkTold → Status → Type 0
 IsExcusedRead input input' output output' complaints complaints' answer =
     ((answer ≡ status.ReadFault) × Rose input.faults input'.faults)
     ⊎ IsExcused output output' complaints complaints' answer
 
 -- the bytes that the input gave, and why they have this answer
-pub record GaveFor (input input' : Source) (reason : List ℕ → Type 0) : Type 0 where
+pub record GaveFor (input input' : SourceTold) (reason : List ℕ → Type 0) : Type 0 where
   pub bytes : List ℕ
   pub gave : Gave input.left input'.left bytes
   pub reason_is : reason bytes
 
 -- What the program promises of its answer to an input, by what a play of a scenario is.
-pub record AnswersInput (Plays : Scenario → List Transcript → List Entry → Type 0) (input input' : Source)
-    (output output' complaints complaints' : Sink) (answer : Status) : Type 0 where
+pub record AnswersInput (Plays : Scenario → List Transcript → List Entry → Type 0) (input input' : SourceTold)
+    (output output' complaints complaints' : SinkTold) (answer : Status) : Type 0 where
   -- Ok only where the whole input is a scenario, whose play the output has taken, and the complaints nothing
   pub ok : answer ≡ status.Ok → GaveFor input input' (λ bytes.
       IsWhole bytes input' × WritesPlay Plays bytes output output' × (complaints' ≡ complaints))
@@ -259,7 +257,7 @@ pub record AnswersInput (Plays : Scenario → List Transcript → List Entry →
   pub bound : GaveFor input input' (λ bytes. length bytes ≤ most_input + 1)
 
 -- What the program promises of its answer to `gen`.
-pub record AnswersCount (count : ℕ) (input input' : Source) (output output' complaints complaints' : Sink)
+pub record AnswersCount (count : ℕ) (input input' : SourceTold) (output output' complaints complaints' : SinkTold)
     (answer : Status) : Type 0 where
   -- the input is left unread
   pub unread : input' ≡ input
@@ -272,11 +270,10 @@ pub record AnswersCount (count : ℕ) (input input' : Source) (output output' co
 
 -- What the program promises of its answer. The first field says all; the others are what it says of each
 -- status.
-pub record Answers {L State : Type 0} (by : Answering State) (state : L → Option State)
-    (received : L → Option (List ℕ)) (faults : L → ℕ)
-    (words : List (List ℕ)) (input input' : Source) (output output' complaints complaints' : Sink)
+pub record Answers {L State : Type 0} (by : Answering State) (told : L → Told State)
+    (words : List (List ℕ)) (input input' : SourceTold) (output output' complaints complaints' : SinkTold)
     (outer outer' : Net L) (answer : Status) : Type 0 where
-  pub is_answer : IsAnswer by state received faults words input input' output output' complaints complaints' outer
+  pub is_answer : IsAnswer by told words input input' output output' complaints complaints' outer
       outer' answer
   -- Usage only where the words are not accepted, and there always, unless the complaints failed
   pub usage : answer ≡ status.Usage → subcommand_of words ≡ None
@@ -286,14 +283,14 @@ pub record Answers {L State : Type 0} (by : Answering State) (state : L → Opti
   pub play : subcommand_of words ≡ Some Play
       → AnswersInput IsScripted input input' output output' complaints complaints' answer
   pub net : subcommand_of words ≡ Some Over
-      → AnswersInput (IsLinked by state received faults outer outer') input input' output output' complaints complaints'
+      → AnswersInput (IsLinked by told outer outer') input input' output output' complaints complaints'
       answer
   pub gen : (count : ℕ) → subcommand_of words ≡ Some (Gen count)
       → AnswersCount count input input' output output' complaints complaints' answer
   -- with other words than `net` links and clock are left as they were, and with `net` each link that was made was
   -- taken back
   pub kept : subcommand_of words ≢ Some Over → outer' ≡ outer
-  pub back : subcommand_of words ≡ Some Over → HasTakenBack faults outer.links outer'.links
+  pub back : subcommand_of words ≡ Some Over → HasTakenBack told outer.links outer'.links
   -- WriteFault only where a sink failed or took nothing
   pub write_fault : answer ≡ status.WriteFault → Failed output output' ⊎ Failed complaints complaints'
   -- another answer than Ok and WriteFault is told by its whole line

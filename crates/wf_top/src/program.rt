@@ -3,12 +3,12 @@ ghost use Rattle.wf_iso.specs.Plays.{IsPlay};
 ghost use Rattle.wf_play.specs.Links.{maker_of};
 ghost use Rattle.wf_print.specs.Text.{HasText};
 ghost use Rattle.wf_script.specs.Generated.{generated};
-ghost use Rattle.wf_script.specs.Valid.{IsValid};
+ghost use Rattle.wf_scenario.specs.Valid.{IsValid};
 ghost use Rattle.wf_wire.specs.Wires.{over_link};
 ghost use Rattle.wf_top.specs.Private.Steps.{IsRead, IsUnread, IsWritten};
 ghost use Rattle.wf_top.specs.Program.{Answers, IsBase, IsPlayed, IsPlayedOver, IsScripted, IsSummed, IsVerdict};
 ghost use Rattle.wf_top.specs.Statuses.{written_status};
-ghost use Rattle.wf_top.specs.Streams.{net_of, source_of, sink_of};
+ghost use Rattle.wf_top.specs.Streams.{net_of};
 ghost use Rattle.wf_top.specs.Words as spec;
 ghost use Rattle.wf_top.specs.Words.{texts};
 
@@ -22,7 +22,8 @@ use wf_iso::law_isolated;
 use wf_link::{Clock, Links, ReadStop, Sink, Source, read_whole};
 use wf_play::{Played, play_over, play_scripted};
 use wf_print::{Failure, write_play, write_summary};
-use wf_script::{Scenario, generate};
+use wf_scenario::Scenario;
+use wf_script::{generate, read_scenario};
 use wf_sim::SimLink;
 use wf_text::OutOfMemory;
 
@@ -57,10 +58,10 @@ pub fn fetchplay<R: Threads + Wait + Sync, S: Source, K: Sink, E: Sink, N: Links
     links: &mut N,
     clock: &mut C,
 ) -> Status
-    ensures { Answers (over_link N.Link.answer N.Link.next) N.Link.state N.Link.received N.Link.faults (texts words.now)
-        (source_of S.left S.faults input.old) (source_of S.left S.faults input.new)
-        (sink_of K.taken K.faults K.zeros output.old) (sink_of K.taken K.faults K.zeros output.new)
-        (sink_of E.taken E.faults E.zeros complaints.old) (sink_of E.taken E.faults E.zeros complaints.new)
+    ensures { Answers (over_link N.Link.serves) N.Link.told (texts words.now)
+        (S.gives input.old) (S.gives input.new)
+        (K.takes output.old) (K.takes output.new)
+        (E.takes complaints.old) (E.takes complaints.new)
         (net_of (maker_of N.opening N.lent N.faults links.old) C.next clock.old)
         (net_of (maker_of N.opening N.lent N.faults links.new) C.next clock.new) result }
 {
@@ -78,12 +79,12 @@ fn verdict<R: Threads + Wait + Sync, S: Source, K: Sink, N: Links, C: Clock>(
     links: &mut N,
     clock: &mut C,
 ) -> Status
-    ensures { IsVerdict (over_link N.Link.answer N.Link.next) N.Link.state N.Link.received N.Link.faults
+    ensures { IsVerdict (over_link N.Link.serves) N.Link.told
         (net_of (maker_of N.opening N.lent N.faults links.old) C.next clock.old)
         (net_of (maker_of N.opening N.lent N.faults links.new) C.next clock.new)
         (spec.subcommand_of (texts words.now))
-        (source_of S.left S.faults input.old) (source_of S.left S.faults input.new)
-        (sink_of K.taken K.faults K.zeros output.old) (sink_of K.taken K.faults K.zeros output.new) result }
+        (S.gives input.old) (S.gives input.new)
+        (K.takes output.old) (K.takes output.new) result }
 {
     match subcommand_of(words) {
         None => Status::Usage,
@@ -96,10 +97,10 @@ fn verdict<R: Threads + Wait + Sync, S: Source, K: Sink, N: Links, C: Clock>(
 // The scenario that the whole input is, or else the verdict on the input.
 fn scenario_in<S: Source>(alloc: Global, input: &mut S) -> Result<Scenario, Status>
     ensures valid { IfOk result IsValid }
-    ensures read { IfOk result (λ scenario. IsRead (source_of S.left S.faults input.old)
-        (source_of S.left S.faults input.new) scenario) }
-    ensures unread { IfErr result (IsUnread (source_of S.left S.faults input.old)
-        (source_of S.left S.faults input.new)) }
+    ensures read { IfOk result (λ scenario. IsRead (S.gives input.old)
+        (S.gives input.new) scenario) }
+    ensures unread { IfErr result (IsUnread (S.gives input.old)
+        (S.gives input.new)) }
 {
     let text = match read_whole(alloc, input, MOST_INPUT) {
         Err(ReadStop::Fault) => return Err(Status::ReadFault),
@@ -107,7 +108,7 @@ fn scenario_in<S: Source>(alloc: Global, input: &mut S) -> Result<Scenario, Stat
         Err(ReadStop::OutOfMemory) => return Err(Status::OutOfMemory),
         Ok(text) => text,
     };
-    match Scenario::read(alloc, text.as_slice()) {
+    match read_scenario(alloc, text.as_slice()) {
         Err(OutOfMemory) => Err(Status::OutOfMemory),
         Ok(Err(place)) => Err(Status::Scenario(place)),
         Ok(Ok(scenario)) => Ok(scenario),
@@ -121,8 +122,8 @@ fn play_scenario<R: Threads + Wait + Sync, S: Source, K: Sink>(
     input: &mut S,
     output: &mut K,
 ) -> Status
-    ensures { IsPlayed IsScripted (source_of S.left S.faults input.old) (source_of S.left S.faults input.new)
-        (sink_of K.taken K.faults K.zeros output.old) (sink_of K.taken K.faults K.zeros output.new) result }
+    ensures { IsPlayed IsScripted (S.gives input.old) (S.gives input.new)
+        (K.takes output.old) (K.takes output.new) result }
 {
     law_isolated::<SimLink>();
     let scenario = match scenario_in(alloc, input) {
@@ -152,11 +153,11 @@ fn play_linked<R: Threads + Wait + Sync, S: Source, K: Sink, N: Links, C: Clock>
     links: &mut N,
     clock: &mut C,
 ) -> Status
-    ensures { IsPlayedOver (over_link N.Link.answer N.Link.next) N.Link.state N.Link.received N.Link.faults
+    ensures { IsPlayedOver (over_link N.Link.serves) N.Link.told
         (net_of (maker_of N.opening N.lent N.faults links.old) C.next clock.old)
         (net_of (maker_of N.opening N.lent N.faults links.new) C.next clock.new)
-        (source_of S.left S.faults input.old) (source_of S.left S.faults input.new)
-        (sink_of K.taken K.faults K.zeros output.old) (sink_of K.taken K.faults K.zeros output.new) result }
+        (S.gives input.old) (S.gives input.new)
+        (K.takes output.old) (K.takes output.new) result }
 {
     law_isolated::<N::Link>();
     let scenario = match scenario_in(alloc, input) {
@@ -185,8 +186,8 @@ fn status_of(written: Result<(), Failure>) -> Status
 // Writes the text of a play.
 fn write_text<K: Sink>(alloc: Global, played: &Played, output: &mut K) -> Status
     requires { HasText played.now.transcripts }
-    ensures { IsWritten played.now.transcripts played.now.history (sink_of K.taken K.faults K.zeros output.old)
-        (sink_of K.taken K.faults K.zeros output.new) result }
+    ensures { IsWritten played.now.transcripts played.now.history (K.takes output.old)
+        (K.takes output.new) result }
 {
     let written = write_play(alloc, &played.transcripts, &played.history, output);
     status_of(written)
@@ -214,8 +215,8 @@ fn play_generated<R: Threads + Wait + Sync, K: Sink>(
     output: &mut K,
 ) -> Status
     requires { (1 ≤ count) × (count ≤ 64) }
-    ensures { IsSummed count (sink_of K.taken K.faults K.zeros output.old)
-        (sink_of K.taken K.faults K.zeros output.new) result }
+    ensures { IsSummed count (K.takes output.old)
+        (K.takes output.new) result }
 {
     let played = match generated_play(rt, alloc, count) {
         Err(OutOfMemory) => return Status::OutOfMemory,

@@ -2,6 +2,7 @@
 use Rattle.std.specs.Prelude.{◌≡◌, ℕ, ◌-◌, ◌<◌, ◌≤◌, Bool, List, ◌==◌}
 use Rattle.std.specs.List.{All, count_by, sum_by}
 use Rattle.atomic_table.specs.Seated.{TableId}
+use Rattle.wf_book.specs.Accounts.{Account}
 use Rattle.wf_book.specs.declared.book.Book.{Book}
 use Rattle.wf_book.specs.declared.entry.Entry.{Entry}
 use Rattle.wf_book.specs.Entries.{book_after, Legal, entries_of, StartsWith}
@@ -29,6 +30,16 @@ calls_of pass = pass.seat.me.0.draws
 
 abbrev pub left_of : TurnPass → ℕ
 left_of pass = 4294967295 - calls_of pass
+
+-- what a pass keeps account of
+abbrev pub account_of : TurnPass → Account
+account_of pass = record {
+  document = pass.document;
+  opening = opening_of pass;
+  own = own_of pass;
+  seen = seen_of pass;
+  left = left_of pass;
+}
 
 -- the pass is of this document
 abbrev pub is_of : ℕ → TurnPass → Bool

@@ -90,19 +90,11 @@ impl Share for TurnBook {
     type Pass = TurnPass;
 
     ghost use Rattle.std.specs.Prelude.{◌≡◌};
-    ghost use Rattle.wf_turn.specs.Passes.{left_of, opening_of, own_of, seen_of};
+    ghost use Rattle.wf_turn.specs.Passes.{account_of};
 
     ghost belongs = { λ b p. p.seat.table_id ≡ b.table.shared.table_id };
 
-    ghost document = { λ p. p.document };
-
-    ghost opening = { λ p. opening_of p };
-
-    ghost own = { λ p. own_of p };
-
-    ghost seen = { λ p. seen_of p };
-
-    ghost left = { λ p. left_of p };
+    ghost account = { account_of };
 
     /// Does an operation, as any share does: it waits for its turn, works on the book and passes the turn.
     /// The documents that the pass has made passes for stay as well.

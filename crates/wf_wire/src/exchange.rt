@@ -75,14 +75,14 @@ impl Wire {
         alloc: Global,
         hop: &Hop,
     ) -> Result<Input, OutOfMemory>
-        ensures sent { IfOk result (λ input. IsSent (over_link L.answer L.next)
-            (exchange_of L.state L.left L.received L.faults link.old self.old) hop.now input
-            (exchange_of L.state L.left L.received L.faults link.new self.new)) }
+        ensures sent { IfOk result (λ input. IsSent (over_link L.serves)
+            (exchange_of L.told link.old self.old) hop.now input
+            (exchange_of L.told link.new self.new)) }
         ensures fits { IfOk result (λ input. IsTrue (fits (Act.Send hop.now) input)) }
-        ensures refused { OnErr result (Refuses (exchange_of L.state L.left L.received L.faults link.old self.old)
-            (exchange_of L.state L.left L.received L.faults link.new self.new)) }
-        ensures kept { OnErr result (exchange_of L.state L.left L.received L.faults link.new self.new
-            ≡ exchange_of L.state L.left L.received L.faults link.old self.old) }
+        ensures refused { OnErr result (Refuses (exchange_of L.told link.old self.old)
+            (exchange_of L.told link.new self.new)) }
+        ensures kept { OnErr result (exchange_of L.told link.new self.new
+            ≡ exchange_of L.told link.old self.old) }
     {
         let request = write_request(alloc, hop)?;
         let target = Target {
@@ -94,10 +94,10 @@ impl Wire {
     // Asks for the answer to the bytes of a request, and for nothing that was to come before.
     #[tactic(auto, using(crate::proofs::WireLemmas::onto_nothing))]
     fn ask<L: Link>(&mut self, link: &mut L, target: &Target, request: &[u8]) -> Input
-        ensures { IsAsked (λ state. L.answer state target.now.origin request.now)
-            (λ state. L.next state target.now.origin request.now)
-            (exchange_of L.state L.left L.received L.faults link.old self.old)
-            result (exchange_of L.state L.left L.received L.faults link.new self.new) }
+        ensures { IsAsked (λ state. L.serves.answer state target.now.origin request.now)
+            (λ state. L.serves.next state target.now.origin request.now)
+            (exchange_of L.told link.old self.old)
+            result (exchange_of L.told link.new self.new) }
     {
         self.hang_up(link);
         match link.ask(target, request) {
@@ -117,11 +117,11 @@ impl Wire {
     #[tactic(auto, using(crate::proofs::WireLemmas::onto_nothing))]
     pub fn read_head<L: Link>(&mut self, link: &mut L, alloc: Global) -> Result<Input, OutOfMemory>
         ensures read { IfOk result (λ input. IsHeadRead
-            (exchange_of L.state L.left L.received L.faults link.old self.old) input
-            (exchange_of L.state L.left L.received L.faults link.new self.new)) }
+            (exchange_of L.told link.old self.old) input
+            (exchange_of L.told link.new self.new)) }
         ensures fits { IfOk result (λ input. IsTrue (fits Act.ReadHead input)) }
-        ensures refused { OnErr result (Refuses (exchange_of L.state L.left L.received L.faults link.old self.old)
-            (exchange_of L.state L.left L.received L.faults link.new self.new)) }
+        ensures refused { OnErr result (Refuses (exchange_of L.told link.old self.old)
+            (exchange_of L.told link.new self.new)) }
     {
         match self.find_head(link, alloc)? {
             Found::Head(head, count) => {
@@ -147,14 +147,14 @@ impl Wire {
     // Finds the final head in what was received, and receives as much more as that needs, but no byte
     // after the one that makes the head too long.
     fn find_head<L: Link>(&mut self, link: &mut L, alloc: Global) -> Result<Found, OutOfMemory>
-        ensures found { IfOk result (λ found. Finds (coming_of L.left link.old self.old) found (window_of self.new)
-            (L.left link.new)) }
-        ensures state { L.state link.new ≡ L.state link.old }
-        ensures later { L.faults link.old ≤ L.faults link.new }
-        ensures faults { IfOk result (λ found. L.faults link.new ≡ faults_found found (L.faults link.old)) }
-        ensures refused { OnErr result (L.faults link.new ≡ L.faults link.old) }
-        ensures few { GivesAtMost IsUnfinished (coming_of L.left link.old self.old) (L.left link.old)
-            (L.left link.new) (L.received link.old) (L.received link.new) (most_bytes + 1) }
+        ensures found { IfOk result (λ found. Finds (coming_of (L.told link.old).left self.old) found (window_of self.new)
+            (L.told link.new).left) }
+        ensures state { (L.told link.new).state ≡ (L.told link.old).state }
+        ensures later { (L.told link.old).faults ≤ (L.told link.new).faults }
+        ensures faults { IfOk result (λ found. (L.told link.new).faults ≡ faults_found found (L.told link.old).faults) }
+        ensures refused { OnErr result ((L.told link.new).faults ≡ (L.told link.old).faults) }
+        ensures few { GivesAtMost IsUnfinished (coming_of (L.told link.old).left self.old) (L.told link.old).left
+            (L.told link.new).left (L.told link.old).received (L.told link.new).received (most_bytes + 1) }
     {
         let mut reader = HeadReader::new(alloc)?;
         loop {
@@ -186,11 +186,11 @@ impl Wire {
         limit: u32,
     ) -> Result<Input, OutOfMemory>
         ensures read { IfOk result (λ input. IsBodyRead limit
-            (exchange_of L.state L.left L.received L.faults link.old self.old)
-            input (exchange_of L.state L.left L.received L.faults link.new self.new)) }
+            (exchange_of L.told link.old self.old)
+            input (exchange_of L.told link.new self.new)) }
         ensures fits { IfOk result (λ input. IsTrue (fits Act.ReadBody input)) }
-        ensures refused { OnErr result (Refuses (exchange_of L.state L.left L.received L.faults link.old self.old)
-            (exchange_of L.state L.left L.received L.faults link.new self.new)) }
+        ensures refused { OnErr result (Refuses (exchange_of L.told link.old self.old)
+            (exchange_of L.told link.new self.new)) }
     {
         match self.find_end(link, alloc, limit)? {
             Ended::Body(end) => {
@@ -211,14 +211,14 @@ impl Wire {
         alloc: Global,
         limit: u32,
     ) -> Result<Ended, OutOfMemory>
-        ensures ended { IfOk result (λ ended. Reads self.old.framing limit (coming_of L.left link.old self.old)
-            ended (L.left link.new)) }
-        ensures state { L.state link.new ≡ L.state link.old }
-        ensures later { L.faults link.old ≤ L.faults link.new }
-        ensures faults { IfOk result (λ ended. L.faults link.new ≡ faults_ended ended (L.faults link.old)) }
-        ensures refused { OnErr result (L.faults link.new ≡ L.faults link.old) }
-        ensures gives { GivesSome (IsOpen self.old.framing limit) (coming_of L.left link.old self.old)
-            (L.left link.old) (L.left link.new) (L.received link.old) (L.received link.new) }
+        ensures ended { IfOk result (λ ended. Reads self.old.framing limit (coming_of (L.told link.old).left self.old)
+            ended (L.told link.new).left) }
+        ensures state { (L.told link.new).state ≡ (L.told link.old).state }
+        ensures later { (L.told link.old).faults ≤ (L.told link.new).faults }
+        ensures faults { IfOk result (λ ended. (L.told link.new).faults ≡ faults_ended ended (L.told link.old).faults) }
+        ensures refused { OnErr result ((L.told link.new).faults ≡ (L.told link.old).faults) }
+        ensures gives { GivesSome (IsOpen self.old.framing limit) (coming_of (L.told link.old).left self.old)
+            (L.told link.old).left (L.told link.new).left (L.told link.old).received (L.told link.new).received }
     {
         let mut reader = BodyReader::framed(alloc, self.framing, limit)?;
         loop {

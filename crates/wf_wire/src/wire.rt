@@ -29,16 +29,16 @@ pub struct Wire {
 fn receive<L: Link>(link: &mut L, buffer: &mut [u8], most: usize) -> Result<usize, Failed>
     requires some { 0 < most }
     requires room { 0 < length buffer.old }
-    ensures state { L.state link.new ≡ L.state link.old }
+    ensures state { (L.told link.new).state ≡ (L.told link.old).state }
     ensures length { length buffer.new ≡ length buffer.old }
     ensures within { IfOk result (λ count. count ≤ length buffer.new) }
     ensures few { IfOk result (λ count. count ≤ most) }
-    ensures gave { IfOk result (λ count. Gave (L.left link.old) (L.left link.new) (take count buffer.new)) }
-    ensures end { result ≡ Ok 0 → IsAtEnd (L.left link.new) }
-    ensures failed { OnErr result (L.left link.new ≡ L.left link.old) }
-    ensures received { IfOk result (λ count. Received count (L.received link.old) (L.received link.new)) }
-    ensures unreceived { OnErr result (L.received link.new ≡ L.received link.old) }
-    ensures cause { HasCause (L.faults link.old) (L.faults link.new) result }
+    ensures gave { IfOk result (λ count. Gave (L.told link.old).left (L.told link.new).left (take count buffer.new)) }
+    ensures end { result ≡ Ok 0 → IsAtEnd (L.told link.new).left }
+    ensures failed { OnErr result ((L.told link.new).left ≡ (L.told link.old).left) }
+    ensures received { IfOk result (λ count. Received count (L.told link.old).received (L.told link.new).received) }
+    ensures unreceived { OnErr result ((L.told link.new).received ≡ (L.told link.old).received) }
+    ensures cause { HasCause (L.told link.old).faults (L.told link.new).faults result }
 {
     let room = buffer.len().min(most);
     link.recv(&mut buffer[..room])
@@ -47,17 +47,17 @@ fn receive<L: Link>(link: &mut L, buffer: &mut [u8], most: usize) -> Result<usiz
 // Receives bytes into the buffer after its first `behind` bytes, which stay as they are, and answers how many came.
 fn receive_behind<L: Link>(link: &mut L, buffer: &mut [u8], behind: usize) -> Result<usize, Failed>
     requires { behind < length buffer.old }
-    ensures state { L.state link.new ≡ L.state link.old }
+    ensures state { (L.told link.new).state ≡ (L.told link.old).state }
     ensures length { length buffer.new ≡ length buffer.old }
     ensures within { IfOk result (λ count. behind + count ≤ length buffer.new) }
     ensures kept { take behind buffer.new ≡ take behind buffer.old }
-    ensures gave { IfOk result (λ count. Gave (L.left link.old) (L.left link.new)
+    ensures gave { IfOk result (λ count. Gave (L.told link.old).left (L.told link.new).left
         (take count (drop behind buffer.new))) }
-    ensures end { result ≡ Ok 0 → IsAtEnd (L.left link.new) }
-    ensures failed { OnErr result (L.left link.new ≡ L.left link.old) }
-    ensures received { IfOk result (λ count. Received count (L.received link.old) (L.received link.new)) }
-    ensures unreceived { OnErr result (L.received link.new ≡ L.received link.old) }
-    ensures cause { HasCause (L.faults link.old) (L.faults link.new) result }
+    ensures end { result ≡ Ok 0 → IsAtEnd (L.told link.new).left }
+    ensures failed { OnErr result ((L.told link.new).left ≡ (L.told link.old).left) }
+    ensures received { IfOk result (λ count. Received count (L.told link.old).received (L.told link.new).received) }
+    ensures unreceived { OnErr result ((L.told link.new).received ≡ (L.told link.old).received) }
+    ensures cause { HasCause (L.told link.old).faults (L.told link.new).faults result }
 {
     link.recv(&mut buffer[behind..])
 }
@@ -69,10 +69,10 @@ impl Wire {
 
     /// A wire over a link, with a buffer of 4,096 bytes. Nothing is to come: the link is hung up.
     pub fn new<L: Link>(alloc: Global, link: &mut L) -> Result<Wire, OutOfMemory>
-        ensures idle { IfOk result (λ wire. IsIdle (exchange_of L.state L.left L.received L.faults link.new wire)) }
-        ensures state { L.state link.new ≡ L.state link.old }
-        ensures received { L.received link.new ≡ L.received link.old }
-        ensures faults { L.faults link.new ≡ L.faults link.old }
+        ensures idle { IfOk result (λ wire. IsIdle (exchange_of L.told link.new wire)) }
+        ensures state { (L.told link.new).state ≡ (L.told link.old).state }
+        ensures received { (L.told link.new).received ≡ (L.told link.old).received }
+        ensures faults { (L.told link.new).faults ≡ (L.told link.old).faults }
     {
         let mut wire = Wire {
             buffer: vec![in alloc; 0u8; RECEIVED]?,
@@ -87,13 +87,13 @@ impl Wire {
     /// Hangs up: nothing is to come any more.
     #[tactic(auto, using(crate::proofs::WireLemmas::onto_nothing))]
     pub fn close<L: Link>(&mut self, link: &mut L)
-        ensures idle { IsIdle (exchange_of L.state L.left L.received L.faults link.new self.new) }
-        ensures state { (exchange_of L.state L.left L.received L.faults link.new self.new).state
-            ≡ (exchange_of L.state L.left L.received L.faults link.old self.old).state }
-        ensures received { (exchange_of L.state L.left L.received L.faults link.new self.new).received
-            ≡ (exchange_of L.state L.left L.received L.faults link.old self.old).received }
-        ensures faults { (exchange_of L.state L.left L.received L.faults link.new self.new).faults
-            ≡ (exchange_of L.state L.left L.received L.faults link.old self.old).faults }
+        ensures idle { IsIdle (exchange_of L.told link.new self.new) }
+        ensures state { (exchange_of L.told link.new self.new).state
+            ≡ (exchange_of L.told link.old self.old).state }
+        ensures received { (exchange_of L.told link.new self.new).received
+            ≡ (exchange_of L.told link.old self.old).received }
+        ensures faults { (exchange_of L.told link.new self.new).faults
+            ≡ (exchange_of L.told link.old self.old).faults }
     {
         self.hang_up(link);
     }
@@ -101,11 +101,11 @@ impl Wire {
     // Hangs up, and empties the window.
     pub(crate) fn hang_up<L: Link>(&mut self, link: &mut L)
         ensures window { window_of self.new ≡ [] }
-        ensures end { IsAtEnd (L.left link.new) }
+        ensures end { IsAtEnd (L.told link.new).left }
         ensures framing { self.new.framing ≡ Framing.Nothing }
-        ensures state { L.state link.new ≡ L.state link.old }
-        ensures received { L.received link.new ≡ L.received link.old }
-        ensures faults { L.faults link.new ≡ L.faults link.old }
+        ensures state { (L.told link.new).state ≡ (L.told link.old).state }
+        ensures received { (L.told link.new).received ≡ (L.told link.old).received }
+        ensures faults { (L.told link.new).faults ≡ (L.told link.old).faults }
     {
         link.hang_up();
         self.break_off();
@@ -132,18 +132,18 @@ impl Wire {
     // there were any.
     pub(crate) fn refill<L: Link>(&mut self, link: &mut L, most: usize) -> Result<bool, Failed>
         requires { 0 < most }
-        ensures state { L.state link.new ≡ L.state link.old }
+        ensures state { (L.told link.new).state ≡ (L.told link.old).state }
         ensures framing { self.new.framing ≡ self.old.framing }
-        ensures gave { OnOk result (Gave (L.left link.old) (L.left link.new) (window_of self.new)) }
+        ensures gave { OnOk result (Gave (L.told link.old).left (L.told link.new).left (window_of self.new)) }
         ensures few { OnOk result (length (window_of self.new) ≤ most) }
         ensures some { IfOk result (λ more. more ≡ true → 0 < length (window_of self.new)) }
         ensures none { IfOk result (λ more. more ≡ false → window_of self.new ≡ []) }
-        ensures end { IfOk result (λ more. more ≡ false → IsAtEnd (L.left link.new)) }
-        ensures failed { OnErr result (L.left link.new ≡ L.left link.old) }
-        ensures received { OnOk result (Received (length (window_of self.new)) (L.received link.old)
-            (L.received link.new)) }
-        ensures unreceived { OnErr result (L.received link.new ≡ L.received link.old) }
-        ensures cause { HasCause (L.faults link.old) (L.faults link.new) result }
+        ensures end { IfOk result (λ more. more ≡ false → IsAtEnd (L.told link.new).left) }
+        ensures failed { OnErr result ((L.told link.new).left ≡ (L.told link.old).left) }
+        ensures received { OnOk result (Received (length (window_of self.new)) (L.told link.old).received
+            (L.told link.new).received) }
+        ensures unreceived { OnErr result ((L.told link.new).received ≡ (L.told link.old).received) }
+        ensures cause { HasCause (L.told link.old).faults (L.told link.new).faults result }
     {
         let count = receive(link, self.buffer.as_mut_slice(), most)?;
         self.from = 0;
@@ -155,15 +155,15 @@ impl Wire {
     // Answers whether more may come: no where the answer ended. What came before that end, or before the link failed,
     // is in the window.
     pub(crate) fn gather<L: Link>(&mut self, link: &mut L, fewest: usize) -> Result<bool, Failed>
-        ensures state { L.state link.new ≡ L.state link.old }
+        ensures state { (L.told link.new).state ≡ (L.told link.old).state }
         ensures framing { self.new.framing ≡ self.old.framing }
-        ensures gave { Gave (L.left link.old) (L.left link.new) (window_of self.new) }
+        ensures gave { Gave (L.told link.old).left (L.told link.new).left (window_of self.new) }
         ensures some { IfOk result (λ more. more ≡ true → 0 < length (window_of self.new)) }
-        ensures end { IfOk result (λ more. more ≡ false → IsAtEnd (L.left link.new)) }
+        ensures end { IfOk result (λ more. more ≡ false → IsAtEnd (L.told link.new).left) }
         ensures few { OnErr result (0 < length (window_of self.new) → length (window_of self.new) < fewest) }
-        ensures before { Gathers fewest (L.left link.old) (window_of self.new) }
-        ensures received { Received (length (window_of self.new)) (L.received link.old) (L.received link.new) }
-        ensures cause { HasCause (L.faults link.old) (L.faults link.new) result }
+        ensures before { Gathers fewest (L.told link.old).left (window_of self.new) }
+        ensures received { Received (length (window_of self.new)) (L.told link.old).received (L.told link.new).received }
+        ensures cause { HasCause (L.told link.old).faults (L.told link.new).faults result }
     {
         self.from = 0;
         self.to = 0;

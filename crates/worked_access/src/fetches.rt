@@ -15,8 +15,8 @@ use std::thread::Threads;
 use wf_book::{Book, Share, SoloBook};
 use wf_csp::Compiled;
 use wf_csp_text::Policies;
-use wf_drive::{FetchRun, drive_fetch};
 use wf_link::MemoryLink;
+use wf_player::{FetchRun, drive_fetch};
 use wf_print::Event;
 use wf_rows::{Failed, Held, Row, Shown, client_at};
 use wf_server::{AllowTable, answer};
@@ -64,7 +64,7 @@ fn fetch_by<R: Threads + Wait + Sync, S: Share>(
 ) -> Result<FetchRun, Failed>
     requires client { IsClient client.now }
     requires belongs { S.belongs share.now pass.old }
-    requires left { 126 ≤ S.left pass.old }
+    requires left { 126 ≤ (S.account pass.old).left }
 {
     let policies = Held {
         value: Compiled::of(alloc, &Policies::new(alloc))?,

@@ -8,7 +8,7 @@
 // each other, up to an empty line, are played one after another over one book. Of each is shown how often its link was
 // asked and how often it failed, and then the text of all of them, with the book's history.
 ghost use Rattle.std.specs.Prelude.{◌≤◌, ◌<◌, ◌+◌, ◌*◌, length, IfOk};
-ghost use Rattle.wf_script.specs.Valid.{IsValid};
+ghost use Rattle.wf_scenario.specs.Valid.{IsValid};
 
 use crate::streams::numbers_of;
 use std::alloc::Global;
@@ -19,7 +19,8 @@ use wf_link::{MemoryLink, MemorySink};
 use wf_player::drive;
 use wf_print::{Transcripts, has_text, write_play};
 use wf_rows::{Failed, Held, Row, Shown, texts_between};
-use wf_script::Scenario;
+use wf_scenario::Scenario;
+use wf_script::read_scenario;
 use wf_text::{BytesList, after_byte, before_byte};
 
 /// How many rows are played over one book at most.
@@ -58,7 +59,7 @@ pub(crate) fn link_in(alloc: Global, line: &str) -> Result<MemoryLink, Failed> {
 pub(crate) fn scenario_in(alloc: Global, text: &[u8]) -> Result<Held<Scenario>, Failed>
     ensures { IfOk result (λ held. IsValid held.value) }
 {
-    match Scenario::read(alloc, text)? {
+    match read_scenario(alloc, text)? {
         Ok(scenario) => Ok(Held { value: scenario }),
         Err(_) => Err(Failed),
     }
@@ -100,9 +101,9 @@ fn play_row<R: Threads + Wait + Sync, S: Share>(
     shown: &mut Shown,
 ) -> Result<(), Failed>
     requires belongs { S.belongs share.now pass.old }
-    requires left { 129024 ≤ S.left pass.old }
+    requires left { 129024 ≤ (S.account pass.old).left }
     ensures belongs { S.belongs share.now pass.new }
-    ensures few { S.left pass.old ≤ S.left pass.new + 129024 }
+    ensures few { (S.account pass.old).left ≤ (S.account pass.new).left + 129024 }
 {
     let mut link = Held {
         value: link_in(alloc, line)?,
@@ -127,7 +128,7 @@ fn play_each<R: Threads + Wait + Sync, S: Share>(
     shown: &mut Shown,
 ) -> Result<(), Failed>
     requires belongs { S.belongs share.now pass.old }
-    requires left { 129024 * length rows.now ≤ S.left pass.old }
+    requires left { 129024 * length rows.now ≤ (S.account pass.old).left }
 {
     for row in rows {
         play_row(rt, alloc, row, share, pass, transcripts, shown)?;

@@ -57,7 +57,7 @@ fn fetched<R: Threads + Wait + Sync, S: Share>(
 ) -> Result<FetchRun, Failed>
     requires client { IsClient client.now }
     requires belongs { S.belongs share.now pass.old }
-    requires left { 126 ≤ S.left pass.old }
+    requires left { 126 ≤ (S.account pass.old).left }
 {
     let policies = Held {
         value: Compiled::of(alloc, &Policies::new(alloc))?,
@@ -90,7 +90,7 @@ fn played<R: Threads + Wait + Sync, S: Share>(
     transcripts: &mut Transcripts,
 ) -> Result<(), Failed>
     requires belongs { S.belongs share.now pass.old }
-    requires left { 126 ≤ S.left pass.old }
+    requires left { 126 ≤ (S.account pass.old).left }
 {
     let text = before_byte(line, b'\t');
     let limit = limit_of(before_byte(after_byte(line, b'\t'), b'\t'))?;

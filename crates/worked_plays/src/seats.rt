@@ -3,7 +3,7 @@
 // events it has shown.
 ghost use Rattle.std.specs.Prelude.{◌≡◌, [], ◌∷◌, length, map, IfOk};
 ghost use Rattle.std.specs.List.{All};
-ghost use Rattle.wf_script.specs.Valid.{IsValid};
+ghost use Rattle.wf_scenario.specs.Valid.{IsValid};
 ghost use Rattle.wf_turn.specs.Passes.{left_of, made_of};
 
 use crate::gates::{SCENARIO, waiting_for};
@@ -16,7 +16,7 @@ use wf_book::Book;
 use wf_player::{Seating, play_all};
 use wf_print::{Ending, Transcript};
 use wf_rows::{Failed, Shown};
-use wf_script::Scenario;
+use wf_scenario::Scenario;
 use wf_text::OutOfMemory;
 use wf_turn::{TurnBook, TurnPass};
 

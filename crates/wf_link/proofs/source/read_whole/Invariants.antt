@@ -4,8 +4,8 @@ use Rattle.wf_link.proofs.source.read_whole.Given as goal
 
 abbrev pub invariant-loop-text : goal.invariant-loop-text
 invariant-loop-text g l =
-    Reading (vec_len l.buffer) (g.S.Source.left l.fn.source) (g.S.Source.left l.source) l.text l.most
-    (g.S.Source.faults l.fn.source) (g.S.Source.faults l.source)
+    Reading (vec_len l.buffer) (g.S.Source.gives l.fn.source).left (g.S.Source.gives l.source).left l.text l.most
+    (g.S.Source.gives l.fn.source).faults (g.S.Source.gives l.source).faults
 
 abbrev pub decreases-loop-text : goal.decreases-loop-text
 decreases-loop-text g l = l.most - length l.text

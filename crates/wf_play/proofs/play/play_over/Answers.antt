@@ -1,11 +1,11 @@
 use Rattle.std.proofs.Common.{◌≤◌, ℕ, ◌∙◌, List, [], ◌∷◌, ◌++◌, ap, arith, length, subst, sym}
 use Rattle.wf_book.specs.declared.book.Book.{Book}
 use Rattle.wf_book.specs.Book.{empty}
-use Rattle.wf_script.specs.declared.types.KnownHost.{KnownHost}
+use Rattle.wf_scenario.specs.declared.hosts.KnownHost.{KnownHost}
 use Rattle.wf_turn.specs.Passes.{opening_of}
 use Rattle.wf_turn.specs.declared.pass.TurnPass.{TurnPass}
 use Rattle.wf_wire.specs.Wires.{over_link}
-use Rattle.wf_drive.proofs.AskLemmas.{on-err, on-err-map}
+use Rattle.wf_player.proofs.AskLemmas.{on-err, on-err-map}
 use Rattle.wf_iso.specs.Plays.{IsPlayOver, opening_book, with_hosts}
 use Rattle.wf_play.specs.Links.{IsPlayOverLinks, maker_of}
 use Rattle.wf_play.specs.Passes.{ArePasses}
@@ -18,32 +18,32 @@ use Rattle.wf_play.proofs.play.play_over.Goals as goal
 
 pub returns-in_err-opening-clause-refused : goal.returns-in_err-opening-clause-refused
 returns-in_err-opening-clause-refused g c =
-    on-err c.from_residual.result (none-refused (over_link g.N.Link.Link.answer g.N.Link.Link.next)
-    g.N.Link.Link.state g.N.Link.Link.received g.N.Link.Link.faults c.args.scenario.now c.args.base
+    on-err c.from_residual.result (none-refused (over_link g.N.Link.Link.serves)
+    g.N.Link.Link.told c.args.scenario.now c.args.base
     (maker_of g.N.Links.opening g.N.Links.lent g.N.Links.faults c.args.links.now))
 
 pub returns-in_err-book-clause-refused : goal.returns-in_err-book-clause-refused
 returns-in_err-book-clause-refused g c =
-    on-err c.from_residual-in_err-book.result (none-refused (over_link g.N.Link.Link.answer g.N.Link.Link.next)
-    g.N.Link.Link.state g.N.Link.Link.received g.N.Link.Link.faults c.args.scenario.now c.args.base
+    on-err c.from_residual-in_err-book.result (none-refused (over_link g.N.Link.Link.serves)
+    g.N.Link.Link.told c.args.scenario.now c.args.base
     (maker_of g.N.Links.opening g.N.Links.lent g.N.Links.faults c.args.links.now))
 
 pub returns-in_err-passes-clause-refused : goal.returns-in_err-passes-clause-refused
 returns-in_err-passes-clause-refused g c =
-    on-err c.from_residual-in_err-passes.result (none-refused (over_link g.N.Link.Link.answer g.N.Link.Link.next)
-    g.N.Link.Link.state g.N.Link.Link.received g.N.Link.Link.faults c.args.scenario.now c.args.base
+    on-err c.from_residual-in_err-passes.result (none-refused (over_link g.N.Link.Link.serves)
+    g.N.Link.Link.told c.args.scenario.now c.args.base
     (maker_of g.N.Links.opening g.N.Links.lent g.N.Links.faults c.args.links.now))
 
 pub returns-in_err-seats-clause-refused : goal.returns-in_err-seats-clause-refused
 returns-in_err-seats-clause-refused g c =
-    on-err c.from_residual-in_err-seats.result (none-refused (over_link g.N.Link.Link.answer g.N.Link.Link.next)
-    g.N.Link.Link.state g.N.Link.Link.received g.N.Link.Link.faults c.args.scenario.now c.args.base
+    on-err c.from_residual-in_err-seats.result (none-refused (over_link g.N.Link.Link.serves)
+    g.N.Link.Link.told c.args.scenario.now c.args.base
     (maker_of g.N.Links.opening g.N.Links.lent g.N.Links.faults c.args.links.now))
 
 pub returns-in_err-back-clause-refused : goal.returns-in_err-back-clause-refused
 returns-in_err-back-clause-refused g c =
-    on-err c.from_residual-in_err-back.result (none-refused (over_link g.N.Link.Link.answer g.N.Link.Link.next)
-    g.N.Link.Link.state g.N.Link.Link.received g.N.Link.Link.faults c.args.scenario.now c.args.base
+    on-err c.from_residual-in_err-back.result (none-refused (over_link g.N.Link.Link.serves)
+    g.N.Link.Link.told c.args.scenario.now c.args.base
     (maker_of g.N.Links.opening g.N.Links.lent g.N.Links.faults c.args.links.now))
 
 -- as many passes as documents
@@ -119,23 +119,21 @@ unseat-requires-clause-room g c κs within =
 pub returns-in-Ok-clause-played : goal.returns-in-Ok-clause-played
 returns-in-Ok-clause-played g c =
     let scenario = c.args.scenario.now in
-    let state = g.N.Link.Link.state in
-    let received = g.N.Link.Link.received in
-    let faults = g.N.Link.Link.faults in
-    let by = over_link g.N.Link.Link.answer g.N.Link.Link.next in
+    let told = g.N.Link.Link.told in
+    let by = over_link g.N.Link.Link.serves in
     let lent = g.N.Links.lent in
     let count = g.N.Links.faults in
-    let told = maker_of g.N.Links.opening lent count in
+    let maker = maker_of g.N.Links.opening lent count in
     let seats = c.seat_all.new.seats.items in
     let mid = c.seat_all.new.links in
     let last = c.play_seated.new.links in
     if-ok-map
-    (λ (p : Played). AreUnseated state received faults (lent mid) (lent last) (count mid) (count last) seats
+    (λ (p : Played). AreUnseated told (lent mid) (lent last) (count mid) (count last) seats
     (λ olds news. IsPlayOver by scenario c.args.base olds news p.transcripts p.history))
-    (λ (p : Played). IsPlayOverLinks by state received faults (told c.args.links.now) (told last) scenario c.args.base p.transcripts
+    (λ (p : Played). IsPlayOverLinks by told (maker c.args.links.now) (maker last) scenario c.args.base p.transcripts
     p.history) c.play_seated.result
-    (λ p x. played-over by state received faults scenario c.args.base c.law_faults_shown.ensures.placed c.law_faults_counted.ensures.ran
-    c.law_faults_counted.ensures.shown (told c.args.links.now) (told mid) (told last) seats
+    (λ p x. played-over by told scenario c.args.base c.law_faults_shown.ensures.placed c.law_faults_counted.ensures.ran
+    c.law_faults_counted.ensures.shown (maker c.args.links.now) (maker mid) (maker last) seats
     p.transcripts p.history c.in-Ok.ensures.opened c.in-Ok.ensures.out c.in-Ok.ensures.faults x)
     c.play_seated.ensures.played
 
@@ -152,7 +150,7 @@ returns-in-Ok-clause-refused g c =
       c.in-Ok.ensures.few,
     ) in
     on-err-map c.play_seated.result
-    (λ x. played-refused (over_link g.N.Link.Link.answer g.N.Link.Link.next) g.N.Link.Link.state g.N.Link.Link.received g.N.Link.Link.faults scenario
+    (λ x. played-refused (over_link g.N.Link.Link.serves) g.N.Link.Link.told scenario
     c.args.base (told c.args.links.now) (told c.seat_all.new.links) (told c.play_seated.new.links)
     c.seat_all.new.seats.items c.in-Ok.ensures.opened few c.in-Ok.ensures.out c.in-Ok.ensures.faults x)
     c.play_seated.ensures.refused
@@ -161,7 +159,7 @@ pub returns-in-Err-clause-refused : goal.returns-in-Err-clause-refused
 returns-in-Err-clause-refused g c =
     let scenario = c.args.scenario.now in
     let told = maker_of g.N.Links.opening g.N.Links.lent g.N.Links.faults in
-    seats-refused (over_link g.N.Link.Link.answer g.N.Link.Link.next) g.N.Link.Link.state g.N.Link.Link.received g.N.Link.Link.faults scenario
+    seats-refused (over_link g.N.Link.Link.serves) g.N.Link.Link.told scenario
     c.args.base (told c.args.links.now) (told c.seat_all.new.links) (told c.unseat.new.links)
     c.seat_all.new.seats.items c.in-Err.ensures.opened
     (omega (

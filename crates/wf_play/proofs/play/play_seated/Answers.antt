@@ -1,7 +1,7 @@
 use Rattle.std.proofs.Common.{◌∙◌, List, ◌++◌, ap, length, refl, subst, sym}
 use Rattle.wf_turn.specs.Passes.{IsOneHistory, IsWhole}
 use Rattle.wf_turn.specs.declared.pass.TurnPass.{TurnPass}
-use Rattle.wf_drive.proofs.AskLemmas.{on-err}
+use Rattle.wf_player.proofs.AskLemmas.{on-err}
 use Rattle.wf_iso.specs.Plays.{opening_book}
 use Rattle.wf_wire.specs.Wires.{over_link}
 use Rattle.wf_play.specs.Private.Seated.{links_in, passes_in}
@@ -12,7 +12,7 @@ use Rattle.wf_play.proofs.play.play_seated.Goals as goal
 pub play_all-played-requires-clause-seats : goal.play_all-played-requires-clause-seats
 play_all-played-requires-clause-seats g c κs within =
     let seats = c.args.seats.items in
-    ready-seats g.N.Link.Link.state g.N.Link.Link.received g.N.Link.Link.faults c.args.book.table.shared.table_id c.args.scenario.now
+    ready-seats g.N.Link.Link.told c.args.book.table.shared.table_id c.args.scenario.now
     (passes_in seats) seats c.requires.ready.made.new c.requires.ready.made.documents refl
 
 pub play_all-played-requires-clause-belong : goal.play_all-played-requires-clause-belong
@@ -46,7 +46,7 @@ returns-in_err-transcripts-clause-refused g c =
       many = many-links made back (length scenario.documents) ready.made.documents c.play_all-played.ensures.documents;
       taken = c.unseat.ensures.back;
       counted = c.unseat.ensures.faults;
-      are_so = closed-refused (over_link g.N.Link.Link.answer g.N.Link.Link.next) g.N.Link.Link.state g.N.Link.Link.received g.N.Link.Link.faults
+      are_so = closed-refused (over_link g.N.Link.Link.serves) g.N.Link.Link.told
           scenario c.args.base id ready.first made back book history ready.made
           (documents-in back (length scenario.documents) c.play_all-played.ensures.documents)
           (subst (λ (l : List TurnPass). IsOneHistory l book history) same c.close-history.ensures)
@@ -68,7 +68,7 @@ returns-then-has_text-clause-played g c =
       many = many-links made back (length scenario.documents) ready.made.documents c.play_all-played.ensures.documents;
       taken = c.unseat.ensures.back;
       counted = c.unseat.ensures.faults;
-      are_so = closed-play (over_link g.N.Link.Link.answer g.N.Link.Link.next) g.N.Link.Link.state g.N.Link.Link.received g.N.Link.Link.faults
+      are_so = closed-play (over_link g.N.Link.Link.serves) g.N.Link.Link.told
           scenario c.args.base id ready.first made back book history ready.made
           (documents-in back (length scenario.documents) c.play_all-played.ensures.documents)
           (subst (λ (l : List TurnPass). IsOneHistory l book history) same c.close-history.ensures)
@@ -90,7 +90,7 @@ returns-else-has_text-clause-refused g c =
       many = many-links made back (length scenario.documents) ready.made.documents c.play_all-played.ensures.documents;
       taken = c.unseat.ensures.back;
       counted = c.unseat.ensures.faults;
-      are_so = closed-played (over_link g.N.Link.Link.answer g.N.Link.Link.next) g.N.Link.Link.state g.N.Link.Link.received g.N.Link.Link.faults
+      are_so = closed-played (over_link g.N.Link.Link.serves) g.N.Link.Link.told
           scenario c.args.base id ready.first made back book history ready.made
           (documents-in back (length scenario.documents) c.play_all-played.ensures.documents)
           (subst (λ (l : List TurnPass). IsOneHistory l book history) same c.close-history.ensures)

@@ -4,6 +4,7 @@ use Rattle.wf_turn.specs.declared.pass.TurnPass.{TurnPass}
 use Rattle.wf_play.specs.Private.Seated.{links_in}
 use Rattle.wf_play.proofs.LinkLemmas.{faults_one, taken_none, taken_one}
 use Rattle.wf_play.proofs.seats.unseat.Goals as goal
+use Rattle.wf_link.specs.Links.{faults_told}
 
 pub loop-seating-init : goal.loop-seating-init
 loop-seating-init g c =
@@ -34,6 +35,6 @@ loop-seating-preserved g c =
           (taken_one (g.N.Links.lent c.args.links.now) (g.N.Links.lent c.loop-seating.links)
           (g.N.Links.lent c.take_back.new.self) (links_in yielded) seating.link i.back c.take_back.ensures.took);
       faults = rw (map_push (λ s. s.link) yielded seating)
-          (faults_one g.N.Link.Link.faults (g.N.Links.faults c.args.links.now) (g.N.Links.faults c.loop-seating.links)
+          (faults_one (faults_told g.N.Link.Link.told) (g.N.Links.faults c.args.links.now) (g.N.Links.faults c.loop-seating.links)
           (g.N.Links.faults c.take_back.new.self) (links_in yielded) seating.link i.faults c.take_back.ensures.faults);
     }

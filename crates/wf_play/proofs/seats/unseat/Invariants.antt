@@ -4,6 +4,7 @@ use Rattle.wf_play.specs.Links.{grown_by_all}
 use Rattle.wf_play.specs.Private.Lendings.{AreTaken}
 use Rattle.wf_play.specs.Private.Seated.{links_in}
 use Rattle.wf_play.proofs.seats.unseat.Given as goal
+use Rattle.wf_link.specs.Links.{faults_told}
 
 -- the passes and the links of the seats so far are back
 abbrev pub invariant-loop-seating : goal.invariant-loop-seating
@@ -14,5 +15,5 @@ invariant-loop-seating g l = record {
   same : vec_capacity l.passes ≡ vec_capacity l.initial.passes;
   back : AreTaken (g.N.Links.lent l.initial.links) (g.N.Links.lent l.links) (links_in l.yielded);
   faults : g.N.Links.faults l.links
-      ≡ grown_by_all (g.N.Links.faults l.initial.links) (map g.N.Link.Link.faults (links_in l.yielded));
+      ≡ grown_by_all (g.N.Links.faults l.initial.links) (map (faults_told g.N.Link.Link.told) (links_in l.yielded));
 }

@@ -1,8 +1,9 @@
 use Rattle.std.proofs.Common.{◌≡◌, ◌∙◌, List, ap, inr, length, map, refl, sym}
 use Rattle.wf_print.specs.declared.events.Transcript.{Transcript}
+use Rattle.wf_run.specs.Documents.{EachDocument}
 use Rattle.wf_player.specs.Private.Rows.{seatings_of, transcripts_of}
-use Rattle.wf_drive.proofs.AskLemmas.{on-err}
-use Rattle.wf_player.specs.Seats.{ArePlayed, seat_of}
+use Rattle.wf_player.proofs.AskLemmas.{on-err}
+use Rattle.wf_player.specs.Seats.{IsPlayed, seat_of}
 use Rattle.wf_wire.specs.Wires.{over_link}
 use Rattle.wf_player.proofs.SeatLemmas.{belong-back, documents-after, documents-before, made-list, played-back, ready}
 use Rattle.wf_player.proofs.SeatLemmas.{none-played, written}
@@ -10,32 +11,32 @@ use Rattle.wf_player.proofs.threads.play_all.Goals as goal
 
 pub returns-in_err-transcripts-clause-documents : goal.returns-in_err-transcripts-clause-documents
 returns-in_err-transcripts-clause-documents g c =
-    documents-before (seat_of g.S.Share.document g.S.Share.opening g.S.Share.own g.S.Share.left g.L.Link.state g.L.Link.received g.L.Link.faults)
+    documents-before (seat_of g.S.Share.account g.L.Link.told)
     c.args.scenario.now c.args.seats.now.items c.requires.seats
 
 pub returns-in_err-rows-clause-documents : goal.returns-in_err-rows-clause-documents
 returns-in_err-rows-clause-documents g c =
     rw c.in_err-rows.ensures.err (documents-before
-    (seat_of g.S.Share.document g.S.Share.opening g.S.Share.own g.S.Share.left g.L.Link.state g.L.Link.received g.L.Link.faults)
+    (seat_of g.S.Share.account g.L.Link.told)
     c.args.scenario.now c.args.seats.now.items c.requires.seats)
 
 pub play_rows-requires-clause-rows : goal.play_rows-requires-clause-rows
 play_rows-requires-clause-rows g c κs within =
-    let seen = seat_of g.S.Share.document g.S.Share.opening g.S.Share.own g.S.Share.left g.L.Link.state g.L.Link.received g.L.Link.faults in
+    let seen = seat_of g.S.Share.account g.L.Link.told in
     rw c.as_mut_slice.ensures.value (ready (g.S.Share.belongs c.args.share.now) seen c.args.scenario.now
     c.in_ok-rows.rows.items c.args.seats.now.items c.in_ok-rows.ensures.ok.0 c.requires.seats c.requires.belong)
 
 pub returns-clause-played : goal.returns-clause-played
 returns-clause-played g c =
-    let seen = seat_of g.S.Share.document g.S.Share.opening g.S.Share.own g.S.Share.left g.L.Link.state g.L.Link.received g.L.Link.faults in
+    let seen = seat_of g.S.Share.account g.L.Link.told in
     let belongs = g.S.Share.belongs c.args.share.now in
-    let by = over_link g.L.Link.answer g.L.Link.next in
+    let by = over_link g.L.Link.serves in
     let w = c.as_mut_slice.ensures in let f = c.from_rows.ensures in
     let long = ap length (sym w.value) ∙ w.len in
     let kept : length c.play_rows.new.rows ≡ length c.in_ok-rows.rows.items = c.play_rows.auto.rows ∙ ap length w.value in
     let same = written c.in_ok-rows.rows.len c.play_rows.new.rows c.in_ok-rows.rows.items kept long in
-    made-list (λ (l : List Transcript). ArePlayed by c.args.scenario.now c.args.base 0 c.args.scenario.now.documents
-    (map seen c.args.seats.now.items) (map seen c.from_rows.new.seats.items) l) c.listed.result
+    made-list (λ (l : List Transcript). EachDocument (IsPlayed by c.args.scenario.now c.args.base) 0
+    c.args.scenario.now.documents (map seen c.args.seats.now.items) (map seen c.from_rows.new.seats.items) l) c.listed.result
     c.from_rows.new.transcripts.items c.listed.ensures
     (played-back belongs seen by c.args.scenario.now c.args.base c.in_ok-rows.rows.items c.play_rows.new.rows
     c.args.seats.now.items c.from_rows.new.seats.items c.from_rows.new.transcripts.items c.in_ok-rows.ensures.ok.0
@@ -44,22 +45,22 @@ returns-clause-played g c =
 
 pub returns-in_err-rows-clause-refused : goal.returns-in_err-rows-clause-refused
 returns-in_err-rows-clause-refused g c =
-    let seen = seat_of g.S.Share.document g.S.Share.opening g.S.Share.own g.S.Share.left g.L.Link.state g.L.Link.received g.L.Link.faults in
-    on-err c.from_residual-in_err-rows.result (none-played (over_link g.L.Link.answer g.L.Link.next) c.args.scenario.now
+    let seen = seat_of g.S.Share.account g.L.Link.told in
+    on-err c.from_residual-in_err-rows.result (none-played (over_link g.L.Link.serves) c.args.scenario.now
     c.args.base (map seen c.args.seats.now.items) (map seen c.to_rows.new.seats.items)
     (ap (map seen) c.in_err-rows.ensures.err))
 
 pub returns-in_err-transcripts-clause-refused : goal.returns-in_err-transcripts-clause-refused
 returns-in_err-transcripts-clause-refused g c =
-    let seen = seat_of g.S.Share.document g.S.Share.opening g.S.Share.own g.S.Share.left g.L.Link.state g.L.Link.received g.L.Link.faults in
-    on-err c.from_residual.result (none-played (over_link g.L.Link.answer g.L.Link.next) c.args.scenario.now c.args.base
+    let seen = seat_of g.S.Share.account g.L.Link.told in
+    on-err c.from_residual.result (none-played (over_link g.L.Link.serves) c.args.scenario.now c.args.base
     (map seen c.args.seats.now.items) (map seen c.args.seats.now.items) refl)
 
 pub returns-clause-refused : goal.returns-clause-refused
 returns-clause-refused g c =
-    let seen = seat_of g.S.Share.document g.S.Share.opening g.S.Share.own g.S.Share.left g.L.Link.state g.L.Link.received g.L.Link.faults in
+    let seen = seat_of g.S.Share.account g.L.Link.told in
     let belongs = g.S.Share.belongs c.args.share.now in
-    let by = over_link g.L.Link.answer g.L.Link.next in
+    let by = over_link g.L.Link.serves in
     let w = c.as_mut_slice.ensures in let f = c.from_rows.ensures in
     let long = ap length (sym w.value) ∙ w.len in
     let kept : length c.play_rows.new.rows ≡ length c.in_ok-rows.rows.items = c.play_rows.auto.rows ∙ ap length w.value in
@@ -74,9 +75,9 @@ returns-clause-refused g c =
 
 pub returns-clause-belong : goal.returns-clause-belong
 returns-clause-belong g c =
-    let seen = seat_of g.S.Share.document g.S.Share.opening g.S.Share.own g.S.Share.left g.L.Link.state g.L.Link.received g.L.Link.faults in
+    let seen = seat_of g.S.Share.account g.L.Link.told in
     let belongs = g.S.Share.belongs c.args.share.now in
-    let by = over_link g.L.Link.answer g.L.Link.next in
+    let by = over_link g.L.Link.serves in
     let w = c.as_mut_slice.ensures in let f = c.from_rows.ensures in
     let long = ap length (sym w.value) ∙ w.len in
     let kept : length c.play_rows.new.rows ≡ length c.in_ok-rows.rows.items = c.play_rows.auto.rows ∙ ap length w.value in
@@ -86,9 +87,9 @@ returns-clause-belong g c =
 
 pub returns-clause-documents : goal.returns-clause-documents
 returns-clause-documents g c =
-    let seen = seat_of g.S.Share.document g.S.Share.opening g.S.Share.own g.S.Share.left g.L.Link.state g.L.Link.received g.L.Link.faults in
+    let seen = seat_of g.S.Share.account g.L.Link.told in
     let belongs = g.S.Share.belongs c.args.share.now in
-    let by = over_link g.L.Link.answer g.L.Link.next in
+    let by = over_link g.L.Link.serves in
     let w = c.as_mut_slice.ensures in let f = c.from_rows.ensures in
     let long = ap length (sym w.value) ∙ w.len in
     let kept : length c.play_rows.new.rows ≡ length c.in_ok-rows.rows.items = c.play_rows.auto.rows ∙ ap length w.value in

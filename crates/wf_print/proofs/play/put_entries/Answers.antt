@@ -16,7 +16,7 @@ returns-in_err-text g c =
 
 pub returns-in_err-put : goal.returns-in_err-put
 returns-in_err-put g c =
-    c.loop-rest.invariant c.put.new.sink c.from_residual-in_err-put.result
+    c.loop-rest.invariant (g.K.Sink.takes c.put.new.sink) c.from_residual-in_err-put.result
     (writes-failed c.from_residual-in_err-put.result c.from_residual-in_err-put.ensures.1
     (rw (flat_map-cut spec.entry_line c.loop-rest.rest.now c.split_at.result.0.now c.split_at.result.1.now
     c.as_slice.result.now c.split_at.ensures.by_index.0 (c.as_slice.ensures ∙ c.in_ok-text.ensures))

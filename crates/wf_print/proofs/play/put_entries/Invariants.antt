@@ -6,7 +6,7 @@ use Rattle.wf_print.proofs.play.put_entries.Given as goal
 
 abbrev pub invariant-loop-rest : goal.invariant-loop-rest
 invariant-loop-rest g l =
-    Onward g.K.Sink.taken g.K.Sink.faults g.K.Sink.zeros l.fn.sink l.sink (flat_map spec.entry_line l.rest)
+    Onward (g.K.Sink.takes l.fn.sink) (g.K.Sink.takes l.sink) (flat_map spec.entry_line l.rest)
     (flat_map spec.entry_line l.entries)
 
 abbrev pub decreases-loop-rest : goal.decreases-loop-rest

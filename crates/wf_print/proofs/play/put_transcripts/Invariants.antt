@@ -8,5 +8,5 @@ use Rattle.wf_print.proofs.play.put_transcripts.Given as goal
 abbrev pub invariant-loop-transcript : goal.invariant-loop-transcript
 invariant-loop-transcript g l =
     let done : Result (Unit {0}) Failure = Ok tt in
-    Writes g.K.Sink.taken g.K.Sink.faults g.K.Sink.zeros l.fn.sink l.sink
+    Writes (g.K.Sink.takes l.fn.sink) (g.K.Sink.takes l.sink)
     (flat_map spec.transcript_text (take l.transcript-index l.transcripts)) done

@@ -1,6 +1,6 @@
 use Rattle.std.proofs.Common.{◌∙◌, ◌++◌, ℕ, List, ap, codes}
 use Rattle.std.specs.List.{flat_map}
-use Rattle.wf_script.specs.Servers.{header_line}
+use Rattle.wf_script.specs.Answers.{header_line}
 use Rattle.wf_script.proofs.AnswerLemmas.{added-four}
 use Rattle.wf_script.proofs.answers.answer_bytes.Goals as goal
 

@@ -1,6 +1,6 @@
 use Rattle.std.proofs.Common.{◌≡◌, ◌++◌, drop}
 use Rattle.std.specs.List.{flat_map}
-use Rattle.wf_script.specs.Servers.{header_line}
+use Rattle.wf_script.specs.Answers.{header_line}
 use Rattle.wf_script.proofs.answers.put_headers.Given as goal
 
 abbrev pub invariant-loop-header : goal.invariant-loop-header

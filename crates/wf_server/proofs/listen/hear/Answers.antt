@@ -10,11 +10,11 @@ use Rattle.wf_server.proofs.listen.hear.Goals.{else-found-via-then-found+else-is
 
 pub returns-then-is_none-clause-heard : goal.returns-then-is_none-clause-heard
 returns-then-is_none-clause-heard g c =
-    let first = peer_told g.P.Source.left g.P.Source.faults g.P.Sink.taken g.P.Sink.faults g.P.Sink.zeros
+    let first = peer_told g.P.Source.gives g.P.Sink.takes
     c.args.peer.now in
-    let mid = peer_told g.P.Source.left g.P.Source.faults g.P.Sink.taken g.P.Sink.faults g.P.Sink.zeros
+    let mid = peer_told g.P.Source.gives g.P.Sink.takes
     c.read_block.new.peer in
-    let last = peer_told g.P.Source.left g.P.Source.faults g.P.Sink.taken g.P.Sink.faults g.P.Sink.zeros
+    let last = peer_told g.P.Source.gives g.P.Sink.takes
     c.read_rest.new.peer in
     elim c.match-read_rest.branch [
       | in-Ok-read_rest w ↦
@@ -31,11 +31,11 @@ returns-then-is_none-clause-heard g c =
 
 pub returns-then-is_none-clause-stopped : goal.returns-then-is_none-clause-stopped
 returns-then-is_none-clause-stopped g c =
-    let first = peer_told g.P.Source.left g.P.Source.faults g.P.Sink.taken g.P.Sink.faults g.P.Sink.zeros
+    let first = peer_told g.P.Source.gives g.P.Sink.takes
     c.args.peer.now in
-    let mid = peer_told g.P.Source.left g.P.Source.faults g.P.Sink.taken g.P.Sink.faults g.P.Sink.zeros
+    let mid = peer_told g.P.Source.gives g.P.Sink.takes
     c.read_block.new.peer in
-    let last = peer_told g.P.Source.left g.P.Source.faults g.P.Sink.taken g.P.Sink.faults g.P.Sink.zeros
+    let last = peer_told g.P.Source.gives g.P.Sink.takes
     c.read_rest.new.peer in
     elim c.match-read_rest.branch [
       | in-Ok-read_rest w ↦ subst (λ r. IfErr r (Stopped first last)) (sym w.result-is) tt
@@ -50,8 +50,8 @@ returns-then-is_none-clause-stopped g c =
 pub returns-clause-heard : goal.returns-clause-heard
 returns-clause-heard g c =
     heard-now
-    (peer_told g.P.Source.left g.P.Source.faults g.P.Sink.taken g.P.Sink.faults g.P.Sink.zeros c.args.peer.now)
-    (peer_told g.P.Source.left g.P.Source.faults g.P.Sink.taken g.P.Sink.faults g.P.Sink.zeros c.read_block.new.peer)
+    (peer_told g.P.Source.gives g.P.Sink.takes c.args.peer.now)
+    (peer_told g.P.Source.gives g.P.Sink.takes c.read_block.new.peer)
     c.read_block.new.bytes.items c.in_ok-found.found c.in-Ok-read_request.asked c.in_ok-found.ensures.came
     (subst (λ (l : List ℕ). IsRead l c.in-Ok-read_request.asked) c.as_slice.ensures.value
     c.in-Ok-read_request.ensures)

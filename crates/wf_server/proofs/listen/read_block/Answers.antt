@@ -9,7 +9,7 @@ pub returns-in_default-clause-stopped : goal.returns-in_default-clause-stopped
 returns-in_default-clause-stopped g c =
     let is = c.loop-buffer.invariant in
     let bytes : List ℕ = c.loop-buffer.bytes.items in
-    let grew = grown g.P.Source.left g.P.Source.faults g.P.Sink.taken g.P.Sink.faults g.P.Sink.zeros g.P.Source.beside
+    let grew = grown g.P.Source.gives g.P.Sink.takes g.P.Source.beside
     g.met.P.Peer.reads_beside c.args.peer.now c.loop-buffer.peer c.read.new.self bytes c.read.new.buf c.in-Ok.count
     is.gives c.in-Ok.ensures.gave c.in-Ok.ensures.beside (omega (
       arith,
@@ -30,7 +30,7 @@ pub returns-then-finds_block-clause-came : goal.returns-then-finds_block-clause-
 returns-then-finds_block-clause-came g c =
     let is = c.loop-buffer.invariant in
     let bytes : List ℕ = c.loop-buffer.bytes.items in
-    let grew = grown g.P.Source.left g.P.Source.faults g.P.Sink.taken g.P.Sink.faults g.P.Sink.zeros g.P.Source.beside
+    let grew = grown g.P.Source.gives g.P.Sink.takes g.P.Source.beside
     g.met.P.Peer.reads_beside c.args.peer.now c.loop-buffer.peer c.read.new.self bytes c.read.new.buf c.in-Ok.count
     is.gives c.in-Ok.ensures.gave c.in-Ok.ensures.beside (omega (
       arith,
@@ -42,8 +42,8 @@ returns-then-finds_block-clause-came g c =
     )) in
     record {
       gives = subst (λ (l : List ℕ). Gives
-          (peer_told g.P.Source.left g.P.Source.faults g.P.Sink.taken g.P.Sink.faults g.P.Sink.zeros c.args.peer.now)
-          (peer_told g.P.Source.left g.P.Source.faults g.P.Sink.taken g.P.Sink.faults g.P.Sink.zeros c.read.new.self) l)
+          (peer_told g.P.Source.gives g.P.Sink.takes c.args.peer.now)
+          (peer_told g.P.Source.gives g.P.Sink.takes c.read.new.self) l)
           (sym c.in-Ok-extend_from_slice.ensures.items) grew.0;
       few = subst (λ (l : List ℕ). length l ≤ most_read) (sym c.in-Ok-extend_from_slice.ensures.items) grew.1;
       quiet = c.in-Ok.ensures.cause.quiet ∙ is.quiet;
@@ -55,7 +55,7 @@ pub loop-buffer-preserved : goal.loop-buffer-preserved
 loop-buffer-preserved g c =
     let is = c.loop-buffer.invariant in
     let bytes : List ℕ = c.loop-buffer.bytes.items in
-    let grew = grown g.P.Source.left g.P.Source.faults g.P.Sink.taken g.P.Sink.faults g.P.Sink.zeros g.P.Source.beside
+    let grew = grown g.P.Source.gives g.P.Sink.takes g.P.Source.beside
     g.met.P.Peer.reads_beside c.args.peer.now c.loop-buffer.peer c.read.new.self bytes c.read.new.buf c.in-Ok.count
     is.gives c.in-Ok.ensures.gave c.in-Ok.ensures.beside (omega (
       arith,
@@ -67,8 +67,8 @@ loop-buffer-preserved g c =
     )) in
     record {
       gives = subst (λ (l : List ℕ). Gives
-          (peer_told g.P.Source.left g.P.Source.faults g.P.Sink.taken g.P.Sink.faults g.P.Sink.zeros c.args.peer.now)
-          (peer_told g.P.Source.left g.P.Source.faults g.P.Sink.taken g.P.Sink.faults g.P.Sink.zeros c.read.new.self) l)
+          (peer_told g.P.Source.gives g.P.Sink.takes c.args.peer.now)
+          (peer_told g.P.Source.gives g.P.Sink.takes c.read.new.self) l)
           (sym c.in-Ok-extend_from_slice.ensures.items) grew.0;
       few = subst (λ (l : List ℕ). length l ≤ most_read) (sym c.in-Ok-extend_from_slice.ensures.items) grew.1;
       searched = subst (λ (l : List ℕ). IsSearched c.finds_block.new.self l) c.as_slice.ensures.value

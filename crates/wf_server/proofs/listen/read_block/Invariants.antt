@@ -7,12 +7,12 @@ use Rattle.wf_server.proofs.listen.read_block.Given as goal
 abbrev pub invariant-loop-buffer : goal.invariant-loop-buffer
 invariant-loop-buffer g l = record {
   gives : Gives
-      (peer_told g.P.Source.left g.P.Source.faults g.P.Sink.taken g.P.Sink.faults g.P.Sink.zeros l.fn.peer)
-      (peer_told g.P.Source.left g.P.Source.faults g.P.Sink.taken g.P.Sink.faults g.P.Sink.zeros l.peer)
+      (peer_told g.P.Source.gives g.P.Sink.takes l.fn.peer)
+      (peer_told g.P.Source.gives g.P.Sink.takes l.peer)
       l.bytes.items;
   few : length l.bytes.items ≤ most_read;
   searched : IsSearched l.search l.bytes.items;
-  quiet : g.P.Source.faults l.peer ≡ g.P.Source.faults l.fn.peer;
+  quiet : (g.P.Source.gives l.peer).faults ≡ (g.P.Source.gives l.fn.peer).faults;
   all : l.search.searched ≡ length l.bytes.items;
 }
 

@@ -9,7 +9,7 @@ loop-room-preserved g c =
     let piece : List ℕ = take c.in-Ok.count c.read.new.buf in
     record {
       rest = is.rest ++ piece;
-      gives = read-more g.P.Source.left g.P.Source.faults g.P.Sink.taken g.P.Sink.faults g.P.Sink.zeros
+      gives = read-more g.P.Source.gives g.P.Sink.takes
           g.P.Source.beside g.met.P.Peer.reads_beside c.args.peer.now c.loop-room.peer c.read.new.self is.rest piece
           is.gives c.in-Ok.ensures.gave c.in-Ok.ensures.beside;
       all = omega (

@@ -5,8 +5,8 @@ use Rattle.wf_server.proofs.listen.read_rest.Given as goal
 abbrev pub invariant-loop-room : goal.invariant-loop-room
 invariant-loop-room g l =
     HasComeOn
-    (peer_told g.P.Source.left g.P.Source.faults g.P.Sink.taken g.P.Sink.faults g.P.Sink.zeros l.fn.peer)
-    (peer_told g.P.Source.left g.P.Source.faults g.P.Sink.taken g.P.Sink.faults g.P.Sink.zeros l.peer)
+    (peer_told g.P.Source.gives g.P.Sink.takes l.fn.peer)
+    (peer_told g.P.Source.gives g.P.Sink.takes l.peer)
     l.before l.room
 
 abbrev pub decreases-loop-room : goal.decreases-loop-room

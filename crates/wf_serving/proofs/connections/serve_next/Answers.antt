@@ -6,7 +6,7 @@ use Rattle.wf_serving.proofs.connections.serve_next.Goals as goal
 pub returns-clause-ok : goal.returns-clause-ok
 returns-clause-ok g c =
     served-next
-    (peer_told g.A.End.Source.left g.A.End.Source.faults g.A.End.Sink.taken g.A.End.Sink.faults g.A.End.Sink.zeros)
+    (peer_told g.A.End.Source.gives g.A.End.Sink.takes)
     c.args.table.now
     (accepts_told g.A.Accepts.opened g.A.Accepts.coming g.A.Accepts.lent g.A.Accepts.faults c.args.accepts.now)
     (accepts_told g.A.Accepts.opened g.A.Accepts.coming g.A.Accepts.lent g.A.Accepts.faults c.next.new.self)

@@ -6,14 +6,14 @@ use Rattle.wf_serving.proofs.pieces.write_numbered.Goals as goal
 
 pub returns-in-Err-clause-err : goal.returns-in-Err-clause-err
 returns-in-Err-clause-err g c =
-    part-before (g.K.Sink.taken c.args.sink.now) (g.K.Sink.taken c.write_text.new.sink) c.args.text.now
+    part-before (g.K.Sink.takes c.args.sink.now).taken (g.K.Sink.takes c.write_text.new.sink).taken c.args.text.now
     (decimal c.args.number ++ codes "\n") c.in-Err.ensures.err
 
 pub returns-clause-err : goal.returns-clause-err
 returns-clause-err g c =
-    subst (λ (digits : List ℕ). OnErr c.write_two.result (TookPart (g.K.Sink.taken c.args.sink.now)
-    (g.K.Sink.taken c.write_two.new.sink) (c.args.text.now ++ (digits ++ codes "\n"))))
+    subst (λ (digits : List ℕ). OnErr c.write_two.result (TookPart (g.K.Sink.takes c.args.sink.now).taken
+    (g.K.Sink.takes c.write_two.new.sink).taken (c.args.text.now ++ (digits ++ codes "\n"))))
     (c.as_bytes.ensures.value ∙ c.format.ensures.text)
-    (err-after c.write_two.result (g.K.Sink.taken c.args.sink.now) (g.K.Sink.taken c.write_text.new.sink)
-    (g.K.Sink.taken c.write_two.new.sink) c.args.text.now (c.as_bytes.result.now ++ codes "\n")
+    (err-after c.write_two.result (g.K.Sink.takes c.args.sink.now).taken (g.K.Sink.takes c.write_text.new.sink).taken
+    (g.K.Sink.takes c.write_two.new.sink).taken c.args.text.now (c.as_bytes.result.now ++ codes "\n")
     c.in_default.ensures.ok c.write_two.ensures.err)

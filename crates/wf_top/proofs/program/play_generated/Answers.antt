@@ -1,4 +1,3 @@
-use Rattle.wf_top.specs.Streams.{sink_of}
 use Rattle.wf_top.proofs.ProgramLemmas.{summary-outcome}
 use Rattle.wf_top.proofs.program.play_generated.Goals as goal
 
@@ -7,7 +6,7 @@ returns g c = rw c.status_of.ensures (summary-outcome c.args.count (record {
   transcripts = c.in-Ok.played.transcripts;
   history = c.in-Ok.played.history;
   play = c.in-Ok.ensures.played;
-}) (sink_of g.K.Sink.taken g.K.Sink.faults g.K.Sink.zeros c.args.output.now)
-    (sink_of g.K.Sink.taken g.K.Sink.faults g.K.Sink.zeros c.write_summary-written.new.sink)
+}) (g.K.Sink.takes c.args.output.now)
+    (g.K.Sink.takes c.write_summary-written.new.sink)
     c.write_summary-written.result c.write_summary-written.ensures.ok c.write_summary-written.ensures.err
     c.write_summary-written.ensures.fault c.write_summary-written.ensures.nothing)

@@ -8,14 +8,14 @@ use Rattle.wf_wire.proofs.wire.Wire.find_end.Given as goal
 -- what was received was read or is in the window
 abbrev pub invariant-loop-end : goal.invariant-loop-end
 invariant-loop-end g l = record {
-  received : Receives (window_of l.fn.self) (g.L.Link.left l.fn.link) l.reader.bytes (window_of l.self)
-      (g.L.Link.left l.link);
-  counts : Counts (IsOpen l.fn.self.framing l.limit) (window_of l.fn.self) (g.L.Link.left l.fn.link)
-      (g.L.Link.received l.fn.link) l.reader.bytes (window_of l.self) (g.L.Link.received l.link);
+  received : Receives (window_of l.fn.self) (g.L.Link.told l.fn.link).left l.reader.bytes (window_of l.self)
+      (g.L.Link.told l.link).left;
+  counts : Counts (IsOpen l.fn.self.framing l.limit) (window_of l.fn.self) (g.L.Link.told l.fn.link).left
+      (g.L.Link.told l.fn.link).received l.reader.bytes (window_of l.self) (g.L.Link.told l.link).received;
   framing : l.reader.framing ≡ l.fn.self.framing;
   limit : l.reader.limit ≡ l.limit;
-  state : g.L.Link.state l.link ≡ g.L.Link.state l.fn.link;
-  faults : g.L.Link.faults l.link ≡ g.L.Link.faults l.fn.link;
+  state : (g.L.Link.told l.link).state ≡ (g.L.Link.told l.fn.link).state;
+  faults : (g.L.Link.told l.link).faults ≡ (g.L.Link.told l.fn.link).faults;
 }
 
 -- each receive takes a byte, and bytes that leave a body open are so many at most

@@ -8,14 +8,14 @@ use Rattle.wf_wire.proofs.wire.Wire.find_head.Given as goal
 -- what was received was read or is in the window, and the link has given 65,537 bytes at most
 abbrev pub invariant-loop-head : goal.invariant-loop-head
 invariant-loop-head g l = record {
-  received : Receives (window_of l.fn.self) (g.L.Link.left l.fn.link) l.reader (window_of l.self)
-      (g.L.Link.left l.link);
-  counts : Counts IsUnfinished (window_of l.fn.self) (g.L.Link.left l.fn.link) (g.L.Link.received l.fn.link) l.reader
-      (window_of l.self) (g.L.Link.received l.link);
-  few : GivesAtMost IsUnfinished (coming_of g.L.Link.left l.fn.link l.fn.self) (g.L.Link.left l.fn.link)
-      (g.L.Link.left l.link) (g.L.Link.received l.fn.link) (g.L.Link.received l.link) (most_bytes + 1);
-  state : g.L.Link.state l.link ≡ g.L.Link.state l.fn.link;
-  faults : g.L.Link.faults l.link ≡ g.L.Link.faults l.fn.link;
+  received : Receives (window_of l.fn.self) (g.L.Link.told l.fn.link).left l.reader (window_of l.self)
+      (g.L.Link.told l.link).left;
+  counts : Counts IsUnfinished (window_of l.fn.self) (g.L.Link.told l.fn.link).left (g.L.Link.told l.fn.link).received l.reader
+      (window_of l.self) (g.L.Link.told l.link).received;
+  few : GivesAtMost IsUnfinished (coming_of (g.L.Link.told l.fn.link).left l.fn.self) (g.L.Link.told l.fn.link).left
+      (g.L.Link.told l.link).left (g.L.Link.told l.fn.link).received (g.L.Link.told l.link).received (most_bytes + 1);
+  state : (g.L.Link.told l.link).state ≡ (g.L.Link.told l.fn.link).state;
+  faults : (g.L.Link.told l.link).faults ≡ (g.L.Link.told l.fn.link).faults;
 }
 
 -- each receive takes a byte, and bytes that leave a head open are 65,536 at most

@@ -10,8 +10,8 @@ returns-then-count-eq0-clause-gave g c =
     let came = c.in_ok-count.ensures in
     let now = with_items_is c.loop-count.self.buffer c.receive_behind.new.buffer
     (omega (arith, came.length, ap length c.as_mut_slice.ensures.value, c.loop-count.self.buffer.ok.0)) in
-    gathered-more (g.L.Link.left c.args.link.now) (g.L.Link.left c.loop-count.link)
-    (g.L.Link.left c.receive_behind.new.link) c.loop-count.self.buffer.items c.as_mut_slice.result.now
+    gathered-more (g.L.Link.told c.args.link.now).left (g.L.Link.told c.loop-count.link).left
+    (g.L.Link.told c.receive_behind.new.link).left c.loop-count.self.buffer.items c.as_mut_slice.result.now
     c.receive_behind.new.buffer _ c.loop-count.self.from c.loop-count.self.to c.in_ok-count.count is.front is.gave
     c.as_mut_slice.ensures.value came.kept came.gave now
 
@@ -22,12 +22,12 @@ loop-count-preserved g c =
     let now = with_items_is c.loop-count.self.buffer c.receive_behind.new.buffer
     (omega (arith, came.length, ap length c.as_mut_slice.ensures.value, c.loop-count.self.buffer.ok.0)) in
     record {
-      gave = gathered-more (g.L.Link.left c.args.link.now) (g.L.Link.left c.loop-count.link)
-          (g.L.Link.left c.receive_behind.new.link) c.loop-count.self.buffer.items c.as_mut_slice.result.now
+      gave = gathered-more (g.L.Link.told c.args.link.now).left (g.L.Link.told c.loop-count.link).left
+          (g.L.Link.told c.receive_behind.new.link).left c.loop-count.self.buffer.items c.as_mut_slice.result.now
           c.receive_behind.new.buffer _ c.loop-count.self.from c.loop-count.self.to c.in_ok-count.count is.front is.gave
           c.as_mut_slice.ensures.value came.kept came.gave now;
-      received = gathered-counted (g.L.Link.received c.args.link.now) (g.L.Link.received c.loop-count.link)
-          (g.L.Link.received c.receive_behind.new.link) c.loop-count.self.buffer.items _ c.loop-count.self.from
+      received = gathered-counted (g.L.Link.told c.args.link.now).received (g.L.Link.told c.loop-count.link).received
+          (g.L.Link.told c.receive_behind.new.link).received c.loop-count.self.buffer.items _ c.loop-count.self.from
           c.loop-count.self.to c.in_ok-count.count is.front (omega (arith, is.some_room))
           (omega (arith, ap length now, came.within)) is.received came.received;
       front = is.front;
@@ -44,15 +44,15 @@ returns-then-count-eq0-clause-received g c =
     let came = c.in_ok-count.ensures in
     let now = with_items_is c.loop-count.self.buffer c.receive_behind.new.buffer
     (omega (arith, came.length, ap length c.as_mut_slice.ensures.value, c.loop-count.self.buffer.ok.0)) in
-    gathered-counted (g.L.Link.received c.args.link.now) (g.L.Link.received c.loop-count.link)
-    (g.L.Link.received c.receive_behind.new.link) c.loop-count.self.buffer.items _ c.loop-count.self.from
+    gathered-counted (g.L.Link.told c.args.link.now).received (g.L.Link.told c.loop-count.link).received
+    (g.L.Link.told c.receive_behind.new.link).received c.loop-count.self.buffer.items _ c.loop-count.self.from
     c.loop-count.self.to c.in_ok-count.count is.front (omega (arith, is.some_room))
     (omega (arith, ap length now, came.within)) is.received came.received
 
 pub loop-count-init : goal.loop-count-init
 loop-count-init g c = record {
-  gave = gave-nothing (g.L.Link.left c.args.link.now);
-  received = received-none (g.L.Link.received c.args.link.now);
+  gave = gave-nothing (g.L.Link.told c.args.link.now).left;
+  received = received-none (g.L.Link.told c.args.link.now).received;
   front = refl;
   few = λ some. omega (arith, some);
   some_room = omega (arith, c.args.self.now.size);
@@ -67,7 +67,7 @@ returns-then-count-eq0-clause-before g c =
     let came = c.in_ok-count.ensures in
     let now = with_items_is c.loop-count.self.buffer c.receive_behind.new.buffer
     (omega (arith, came.length, ap length c.as_mut_slice.ensures.value, c.loop-count.self.buffer.ok.0)) in
-    gathers (g.L.Link.left c.args.link.now) (g.L.Link.left c.loop-count.link) c.loop-count.self.buffer.items _
+    gathers (g.L.Link.told c.args.link.now).left (g.L.Link.told c.loop-count.link).left c.loop-count.self.buffer.items _
     c.loop-count.self.from c.loop-count.self.to c.in_ok-count.count c.args.fewest is.front
     (omega (arith, is.some_room)) (omega (arith, ap length now, came.within))
     (omega (arith, ap length now, came.length, ap length c.as_mut_slice.ensures.value, c.loop-count.self.size)) is.gave
@@ -79,7 +79,7 @@ returns-in_err-count-clause-before g c =
     let came = c.in_err-count.ensures in
     let now = with_items_is c.loop-count.self.buffer c.receive_behind.new.buffer
     (omega (arith, came.length, ap length c.as_mut_slice.ensures.value, c.loop-count.self.buffer.ok.0)) in
-    gathers-same (g.L.Link.left c.args.link.now) (g.L.Link.left c.loop-count.link) c.loop-count.self.buffer.items
+    gathers-same (g.L.Link.told c.args.link.now).left (g.L.Link.told c.loop-count.link).left c.loop-count.self.buffer.items
     c.as_mut_slice.result.now c.receive_behind.new.buffer _ c.loop-count.self.from c.loop-count.self.to c.args.fewest
     is.front
     (omega (arith, ap length now, came.length, ap length c.as_mut_slice.ensures.value, is.some_room)) is.gave is.few

@@ -7,14 +7,14 @@ use Rattle.wf_wire.proofs.wire.Wire.gather.Given as goal
 -- what was received is in the window, at the front of the buffer, and there is room
 abbrev pub invariant-loop-count : goal.invariant-loop-count
 invariant-loop-count g l = record {
-  gave : Gave (g.L.Link.left l.fn.link) (g.L.Link.left l.link) (window_of l.self);
-  received : Received (length (window_of l.self)) (g.L.Link.received l.fn.link) (g.L.Link.received l.link);
+  gave : Gave (g.L.Link.told l.fn.link).left (g.L.Link.told l.link).left (window_of l.self);
+  received : Received (length (window_of l.self)) (g.L.Link.told l.fn.link).received (g.L.Link.told l.link).received;
   front : l.self.from ≡ 0;
   few : 0 < l.self.to → l.self.to < l.fewest;
   some_room : l.self.to < length l.self.buffer.items;
   framing : l.self.framing ≡ l.fn.self.framing;
-  state : g.L.Link.state l.link ≡ g.L.Link.state l.fn.link;
-  faults : g.L.Link.faults l.link ≡ g.L.Link.faults l.fn.link;
+  state : (g.L.Link.told l.link).state ≡ (g.L.Link.told l.fn.link).state;
+  faults : (g.L.Link.told l.link).faults ≡ (g.L.Link.told l.fn.link).faults;
 }
 
 -- each receive takes a byte

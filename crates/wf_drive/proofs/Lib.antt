@@ -1,3 +1,0 @@
-pub mod AskLemmas
-pub mod FetchLemmas
-pub mod LastLemmas

@@ -1,4 +1,0 @@
-pub mod Asking
-pub mod Driving
-pub mod Private
-pub mod Worlds

@@ -1,0 +1,159 @@
+-- Parts of a run, one after another.
+use Rattle.std.proofs.Common.{ℕ, List, [], ◌∷◌, ◌++◌, Option, Some, None, refl, ap, sym, subst, ◌∙◌, ◌≡◌, ◌≢◌, arith}
+use Rattle.std.proofs.Common.{append_assoc, Result, Ok, Err}
+use Rattle.std.proofs.lemmas.List.{append-nil}
+use Rattle.wf_act.specs.Process.{Process}
+use Rattle.wf_print.specs.declared.events.Ending.{Ending}
+use Rattle.wf_print.specs.declared.events.Event.{Event}
+use Rattle.wf_run.specs.Play.{Play}
+use Rattle.wf_run.specs.Runs.{Next, Progress, after_events, embed, showing, started}
+use Rattle.wf_run.specs.Traces.{shown}
+use Rattle.wf_run.specs.Traces as traces
+use Rattle.wf_run.proofs.EmbedLemmas.{embedded}
+use Rattle.wf_run.proofs.PlayLemmas.{play-append}
+use Rattle.wf_text.specs.declared.memory.OutOfMemory.{OutOfMemory}
+use Rattle.wf_types.specs.declared.response.Outcome.{Outcome}
+use Rattle.wf_wire.specs.Exchanges.{Answering}
+use Rattle.wf_player.specs.Driving.{FetchCut, FetchedTo}
+use Rattle.wf_player.specs.Parts.{CutShort, HasPlayed, PlayedTo, Plays, PlaysOn, Rule, WasCut}
+use Rattle.wf_player.specs.Standings.{Standing, Terms}
+use Rattle.wf_player.specs.Worlds.{Answers, Settles, World, outside_of}
+use Rattle.wf_player.proofs.AskLemmas.{refuses-none}
+
+module _ {State : Type 0} (by : Answering State) where
+  -- ---- parts that were played
+
+  -- nothing
+  pub played-none : {N : Type 0} (part : N → Play) (a : Standing State) → PlayedTo by part a part a
+  played-none part a = record {
+    same = refl;
+    tape = [];
+    made = [];
+    added = sym (append-nil a.progress.shown);
+    trace = λ next. traces.stop;
+  }
+
+  -- one part, and then the next
+  pub played-then : {N : Type 0} (part middle last : N → Play) (a b c : Standing State)
+      → PlayedTo by part a middle b → PlayedTo by middle b last c → PlayedTo by part a last c
+  played-then part middle last a b c x y = record {
+    same = y.same ∙ x.same;
+    tape = x.tape ++ y.tape;
+    made = x.made ++ y.made;
+    added = y.added ∙ ap (λ (l : List Event). l ++ y.made) x.added ∙ append_assoc a.progress.shown x.made y.made;
+    trace = λ next. play-append (Answers by a.terms.limit a.terms.document) Settles (x.trace next)
+        (subst (λ (t : Terms). PlaysOn by t.limit t.document (middle next) b.world y.tape y.made (last next) c.world)
+        x.same (y.trace next));
+  }
+
+  -- inside a larger one
+  pub played-inside : {N M : Type 0} (part last : N → Play) (f : M → N) (a b : Standing State)
+      → PlayedTo by part a last b → PlayedTo by (λ m. part (f m)) a (λ m. last (f m)) b
+  played-inside part last f a b x =
+      record { same = x.same; tape = x.tape; made = x.made; added = x.added; trace = λ m. x.trace (f m) }
+
+  -- an event, and what the world comes to with it
+  pub played-event : (event : Event) (a b : Standing State) → b.terms ≡ a.terms
+      → b.progress ≡ after_events (event ∷ []) a.progress → Settles event a.world b.world
+      → PlayedTo by (λ (next : Next). showing event next a.progress) a (λ next. next b.progress) b
+  played-event event a b same noted settled = record {
+    same = same;
+    tape = [];
+    made = event ∷ [];
+    added = ap (λ (p : Progress). p.shown) noted;
+    trace = λ next. subst (λ (p : Progress). PlaysOn by a.terms.limit a.terms.document (showing event next a.progress)
+        a.world [] (event ∷ []) (next p) b.world) (sym noted) (shown event settled traces.stop);
+  }
+
+  -- a fetch
+  pub played-fetch : (whole : Process) (a b : Standing State) (outcome : Outcome) → FetchedTo by whole a outcome b
+      → PlayedTo by (λ (next : Outcome → Next). embed whole next a.progress) a (λ next. next outcome b.progress) b
+  played-fetch whole a b outcome x = record {
+    same = x.same;
+    tape = x.tape;
+    made = x.made;
+    added = ap (λ (p : Progress). p.shown) x.added;
+    trace = λ next. subst (λ (p : Progress). PlaysOn by a.terms.limit a.terms.document (embed whole next a.progress)
+        a.world x.tape x.made (next outcome p) b.world) (sym x.added)
+        (embedded (Answers by a.terms.limit a.terms.document) Settles x.trace next a.progress);
+  }
+
+  -- ---- parts that were cut short
+
+  pub cut-here : {N : Type 0} (part : N → Play) (a : Standing State) → CutShort by part a a
+  cut-here part a = record {
+    same = refl;
+    tape = [];
+    made = [];
+    missed = [];
+    few = omega arith;
+    place = part;
+    last = a.world;
+    added = sym (append-nil a.progress.shown);
+    trace = λ next. traces.stop;
+    left = refuses-none (outside_of a.world);
+  }
+
+  pub played-cut : {N : Type 0} (part middle : N → Play) (a b c : Standing State) → PlayedTo by part a middle b
+      → CutShort by middle b c → CutShort by part a c
+  played-cut part middle a b c x y = record {
+    same = y.same ∙ x.same;
+    tape = x.tape ++ y.tape;
+    made = x.made ++ y.made;
+    missed = y.missed;
+    few = y.few;
+    place = y.place;
+    last = y.last;
+    added = y.added ∙ ap (λ (l : List Event). l ++ y.made) x.added ∙ append_assoc a.progress.shown x.made y.made;
+    trace = λ next. subst (λ (l : List Event). PlaysOn by a.terms.limit a.terms.document (part next) a.world
+        (x.tape ++ y.tape) l (y.place next) y.last) (sym (append_assoc x.made y.made y.missed))
+        (play-append (Answers by a.terms.limit a.terms.document) Settles (x.trace next)
+        (subst (λ (t : Terms). PlaysOn by t.limit t.document (middle next) b.world y.tape (y.made ++ y.missed)
+        (y.place next) y.last) x.same (y.trace next)));
+    left = y.left;
+  }
+
+  pub cut-inside : {N M : Type 0} (part : N → Play) (f : M → N) (a b : Standing State) → CutShort by part a b
+      → CutShort by (λ m. part (f m)) a b
+  cut-inside part f a b x = record {
+    same = x.same;
+    tape = x.tape;
+    made = x.made;
+    missed = x.missed;
+    few = x.few;
+    place = λ m. x.place (f m);
+    last = x.last;
+    added = x.added;
+    trace = λ m. x.trace (f m);
+    left = x.left;
+  }
+
+  -- a fetch
+  pub cut-fetch : (whole : Process) (a b : Standing State) → FetchCut by whole a b
+      → CutShort by (λ (next : Outcome → Next). embed whole next a.progress) a b
+  cut-fetch whole a b x = record {
+    same = x.same;
+    tape = x.tape;
+    made = x.made;
+    missed = x.missed;
+    few = x.few;
+    place = λ next. embed x.place next (after_events (x.made ++ x.missed) a.progress);
+    last = x.last;
+    added = ap (λ (p : Progress). p.shown) x.added;
+    trace = λ next. embedded (Answers by a.terms.limit a.terms.document) Settles x.trace next a.progress;
+    left = x.left;
+  }
+
+  -- ---- rules
+
+  -- memory was refused before the rule began
+  pub rule-unbegun : (rule : Rule) (a b : Standing State) → b ≡ a → WasCut by rule a b
+  rule-unbegun rule a b kept =
+      subst (λ (s : Standing State). WasCut by rule a s) (sym kept)
+      (cut-here (λ (next : Next). rule a.terms.lent next a.progress) a)
+
+  -- a first part of the rule was played, and then memory was refused in the rest of it
+  pub rule-cut : (rule : Rule) (middle : Next → Play) (a b c : Standing State)
+      → PlayedTo by (λ next. rule a.terms.lent next a.progress) a middle b → CutShort by middle b c
+      → WasCut by rule a c
+  rule-cut rule middle a b c x y = played-cut (λ (next : Next). rule a.terms.lent next a.progress) middle a b c x y

@@ -1,0 +1,21 @@
+use Rattle.std.proofs.Common.{◌-◌}
+use Rattle.wf_act.specs.Within.{acts}
+use Rattle.wf_laws.specs.Prices.{fetch_price}
+use Rattle.wf_run.specs.Runs.{at_time}
+use Rattle.wf_wire.specs.Wires.{over_link}
+use Rattle.wf_player.specs.Standings.{Keeps, setting_of, standing}
+use Rattle.wf_player.proofs.FetchLemmas.{IsFetching}
+use Rattle.wf_player.proofs.player.Player.fetch.Given as goal
+
+-- the fetch is at this step, and has shown what was added to the events; what plays is as every call leaves it
+abbrev pub invariant-loop-step : goal.invariant-loop-step
+invariant-loop-step g l = record {
+  fetching : IsFetching (over_link g.L.Link.serves) (standing g.S.Share.account g.L.Link.told l.fn.self) l.fn.now
+      l.fn.request l.acts (standing g.S.Share.account g.L.Link.told l.self) l.step;
+  kept : Keeps g.S.Share.account g.S.Share.belongs l.fn.self l.self;
+}
+
+-- each act takes one of the fetch's acts
+abbrev pub decreases-loop-step : goal.decreases-loop-step
+decreases-loop-step g l =
+    fetch_price acts (at_time (setting_of l.fn.self.lent.now) l.fn.now) l.fn.request - l.acts

@@ -1,0 +1,80 @@
+-- What a fetch comes to in a document's world.
+use Rattle.std.specs.Prelude.{◌≡◌, ℕ, ◌≤◌, List, ◌++◌, length, Result, Ok, Err}
+use Rattle.wf_text.specs.declared.memory.OutOfMemory.{OutOfMemory}
+use Rattle.wf_act.specs.declared.act.Input.{Input}
+use Rattle.wf_act.specs.Process.{Process, ended}
+use Rattle.wf_act.specs.Traces.{Driven, Trace, with_events}
+use Rattle.wf_print.specs.declared.events.Event.{Event}
+use Rattle.wf_run.specs.Play.{events_of}
+use Rattle.wf_run.specs.Runs.{after_events}
+use Rattle.wf_types.specs.declared.response.Outcome.{Outcome}
+use Rattle.wf_wire.specs.Exchanges.{Answering, IsIdle}
+use Rattle.wf_player.specs.declared.fetch.FetchRun.{FetchRun}
+use Rattle.wf_player.specs.Standings.{Standing}
+use Rattle.wf_player.specs.Worlds.{Answers, Outside, Refuses, World, outside_of}
+
+-- with these items of a tape a process shows these events in the world of a document, and goes on
+abbrev pub LeadsOn : {State : Type 0} → Answering State → ℕ → ℕ → Process → World State → List Input → List Event
+    → Process → World State → Type 0
+LeadsOn by limit document = Trace (with_events (Answers by limit document) events_of)
+
+-- The fetch came to its outcome: for some tape of the world's answers it has shown what was added to the events.
+pub record FetchedTo {State : Type 0} (by : Answering State) (whole : Process) (old : Standing State)
+    (outcome : Outcome) (new : Standing State) : Type 0 where
+  pub same : new.terms ≡ old.terms
+  pub tape : List Input
+  pub made : List Event
+  pub added : new.progress ≡ after_events made old.progress
+  pub trace : LeadsOn by old.terms.limit old.terms.document whole old.world tape made (ended outcome) new.world
+
+-- Memory was refused: the fetch came to some place, and what was added to the events begins what it showed on the way;
+-- what is missed there, one event at most, came about and was not noted.
+pub record FetchCut {State : Type 0} (by : Answering State) (whole : Process) (old new : Standing State) : Type 0 where
+  pub same : new.terms ≡ old.terms
+  pub tape : List Input
+  pub made : List Event
+  pub missed : List Event
+  pub few : length missed ≤ 1
+  pub place : Process
+  pub last : World State
+  pub added : new.progress ≡ after_events made old.progress
+  pub trace : LeadsOn by old.terms.limit old.terms.document whole old.world tape (made ++ missed) place last
+  pub left : Refuses (outside_of last) (outside_of new.world)
+
+-- what a fetch came to, with an outcome or for want of memory
+abbrev pub Fetches : {State : Type 0} → Answering State → Process → Standing State → Result Outcome OutOfMemory
+    → Standing State → Type 0
+Fetches by whole old (Ok outcome) new = FetchedTo by whole old outcome new
+Fetches by whole old (Err refused) new = FetchCut by whole old new
+
+-- ---- a fetch by itself
+
+-- From a world in which nothing is to come, for some tape each item is the world's answer, what was shown is what the
+-- fetch shows over that tape, and its outcome is the fetch's.
+pub record Drove {State : Type 0} (by : Answering State) (limit document : ℕ) (whole : Process) (old : Outside State)
+    (events : List Event) (outcome : Outcome) (new : Outside State) : Type 0 where
+  pub first : World State
+  pub idle : IsIdle first.exchange
+  pub from : outside_of first ≡ old
+  pub last : World State
+  pub driven : Driven (Answers by limit document) events_of whole first events outcome last
+  pub to : outside_of last ≡ new
+
+-- Memory was refused: the fetch came to some place, and the calls that were made are those on the way.
+pub record IsBegun {State : Type 0} (by : Answering State) (limit document : ℕ) (whole : Process)
+    (old new : Outside State) : Type 0 where
+  pub first : World State
+  pub idle : IsIdle first.exchange
+  pub from : outside_of first ≡ old
+  pub tape : List Input
+  pub events : List Event
+  pub place : Process
+  pub last : World State
+  pub trace : LeadsOn by limit document whole first tape events place last
+  pub left : Refuses (outside_of last) new
+
+-- what a fetch by itself came to
+abbrev pub Drives : {State : Type 0} → Answering State → ℕ → ℕ → Process → Outside State
+    → Result FetchRun OutOfMemory → Outside State → Type 0
+Drives by limit document whole old (Ok run) new = Drove by limit document whole old run.events run.outcome new
+Drives by limit document whole old (Err refused) new = IsBegun by limit document whole old new

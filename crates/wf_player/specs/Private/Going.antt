@@ -1,0 +1,44 @@
+-- One act of a fetch.
+use Rattle.std.specs.Prelude.{◌≡◌, List, ◌++◌, IsTrue, Result, Ok, Err}
+use Rattle.wf_text.specs.declared.memory.OutOfMemory.{OutOfMemory}
+use Rattle.wf_act.specs.declared.act.Act.{Act}
+use Rattle.wf_act.specs.declared.act.Input.{Input}
+use Rattle.wf_act.specs.Process.{Process, act, fits}
+use Rattle.wf_fetch.specs.declared.place.Fetching.{Fetching}
+use Rattle.wf_fetch.specs.declared.place.Step.{Step}
+use Rattle.wf_fetch.specs.Machine.{Does, rest}
+use Rattle.wf_fetch.specs.Then.{Context}
+use Rattle.wf_print.specs.declared.events.Event.{Event}
+use Rattle.wf_run.specs.Play.{events_of}
+use Rattle.wf_run.specs.Runs.{Progress, after_events}
+use Rattle.wf_wire.specs.Exchanges.{Answering}
+use Rattle.wf_player.specs.Driving.{FetchCut}
+use Rattle.wf_player.specs.Standings.{Standing}
+use Rattle.wf_player.specs.Worlds.{Answers}
+
+-- a fetch, from the act on that it waits for
+abbrev pub from_act : Context → Fetching → Act → Process
+from_act context fetching first = act fetching.level.request.value first (rest context fetching)
+
+-- The input of the act came, what it shows was added to the events, and the fetch is at its next step.
+pub record WentOn {State : Type 0} (by : Answering State) (context : Context) (fetching : Fetching) (first : Act)
+    (old : Standing State) (at : Step) (new : Standing State) : Type 0 where
+  pub same : new.terms ≡ old.terms
+  pub input : Input
+  pub fit : IsTrue (fits first input)
+  pub came : Answers by old.terms.limit old.terms.document old.world first input new.world
+  pub noted : new.progress ≡ after_events (events_of first input) old.progress
+  pub does : Does context at (rest context fetching input)
+
+-- what an act came to: the next step, or want of memory
+abbrev pub GoesOn : {State : Type 0} → Answering State → Context → Fetching → Act → Standing State
+    → Result Step OutOfMemory → Standing State → Type 0
+GoesOn by context fetching first old (Ok at) new = WentOn by context fetching first old at new
+GoesOn by context fetching first old (Err refused) new = FetchCut by (from_act context fetching first) old new
+
+-- A first part of what an act shows was added to the events.
+pub record PartNoted (first : Act) (input : Input) (old new : Progress) : Type 0 where
+  pub made : List Event
+  pub missed : List Event
+  pub parts : events_of first input ≡ made ++ missed
+  pub added : new ≡ after_events made old

@@ -1,0 +1,86 @@
+-- Where a run stands: what it goes by, the world outside of it, and how far it has come inside (this project's own).
+use Rattle.std.specs.Prelude.{◌≡◌, ℕ, ◌+◌, ◌*◌, ◌≤◌}
+use Rattle.wf_book.specs.Accounts.{Account}
+use Rattle.wf_laws.specs.Laws.{most_asks}
+use Rattle.wf_link.specs.Links.{Told}
+use Rattle.wf_link.specs.Sources.{IsAtEnd}
+use Rattle.wf_run.specs.Runs.{Progress, Setting, most_fetches, setting}
+use Rattle.wf_types.specs.Requests.{IsClient}
+use Rattle.wf_player.specs.Worlds.{World, world_of}
+use Rattle.wf_player.specs.declared.lent.Lent.{Lent}
+use Rattle.wf_player.specs.declared.player.Player.{Player}
+
+-- What a run goes by: what its fetches have in common, how many bytes a body may have, and the document's number.
+pub record Terms : Type 0 where
+  pub lent : Setting
+  pub limit : ℕ
+  pub document : ℕ
+
+-- These, the world outside, and the run inside.
+pub record Standing (State : Type 0) : Type 0 where
+  pub terms : Terms
+  pub world : World State
+  pub progress : Progress
+
+-- how many calls of the shared book the fetches and loads of a document make at most
+abbrev pub most_calls : ℕ
+most_calls = most_fetches * most_asks
+
+-- No more fetches and loads have started than may, the calls that are left suffice for those that may still start, and
+-- nothing is to come over the link.
+pub record MayGoOn {State : Type 0} (old : Standing State) : Type 0 where
+  pub calls : most_calls ≤ old.world.left + old.progress.fetches * most_asks
+  pub fetches : old.progress.fetches ≤ most_fetches
+  pub rests : IsAtEnd old.world.exchange.left
+
+-- Each fetch or load that has started between two moments has made no more calls than one may.
+pub record HasSpent {State : Type 0} (old new : Standing State) : Type 0 where
+  pub calls : old.world.left + old.progress.fetches * most_asks ≤ new.world.left + new.progress.fetches * most_asks
+  pub fetches : new.progress.fetches ≤ most_fetches
+
+-- ---- one value that plays
+
+-- what its fetches have in common
+abbrev pub setting_of : {R S : Type 0} → Lent R S → Setting
+setting_of lent = setting lent.client.now lent.policies.now lent.cookies.now
+
+-- what it goes by
+abbrev pub terms_of : {R S L P : Type 0} → (P → Account) → Player R S L P → Terms
+terms_of account player = record {
+  lent = setting_of player.lent.now;
+  limit = player.lent.now.limit;
+  document = (account player.pass.now).document;
+}
+
+module _ {R S L P State : Type 0} (account : P → Account) (told : L → Told State) (player : Player R S L P) where
+  -- the world outside
+  abbrev pub world : World State
+  world = world_of account told player.pass.now player.link.now player.wire
+
+  -- where it stands
+  abbrev pub standing : Standing State
+  standing = record { terms = terms_of account player; world = world; progress = player.running }
+
+-- The client is valid, and the pass is the share's.
+pub record IsReady {R S L P : Type 0} (belongs : S → P → Type 0) (player : Player R S L P) : Type 0 where
+  pub client : IsClient player.lent.now.client.now
+  pub belongs_to : belongs player.lent.now.share.now player.pass.now
+
+-- What every call leaves as it was: what is lent, which pass and which link it is, the document and the opening book of
+-- the pass. The value is ready still.
+pub record Keeps {R S L P : Type 0} (account : P → Account) (belongs : S → P → Type 0) (old new : Player R S L P)
+    : Type 0 where
+  pub lent : new.lent ≡ old.lent
+  pub pass : new.pass.ghost_name ≡ old.pass.ghost_name
+  pub link : new.link.ghost_name ≡ old.link.ghost_name
+  pub document : (account new.pass.now).document ≡ (account old.pass.now).document
+  pub opening : (account new.pass.now).opening ≡ (account old.pass.now).opening
+  pub ready : IsReady belongs new
+
+-- What a call that was lent a pass leaves of it: it is the share's still, its document and its opening book are as they
+-- were, and so many calls more were made on it at most.
+pub record KeepsPass {P : Type 0} (account : P → Account) (belongs : P → Type 0) (most : ℕ) (old new : P) : Type 0 where
+  pub belongs_to : belongs new
+  pub document : (account new).document ≡ (account old).document
+  pub opening : (account new).opening ≡ (account old).opening
+  pub few : (account old).left ≤ (account new).left + most

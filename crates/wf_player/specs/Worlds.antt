@@ -1,0 +1,124 @@
+-- The world of a document's run: its link and its pass of the shared book, and what comes of each act there (this
+-- project's own; Fetch, section 4, where the algorithm waits for the network or the preflight cache).
+use Rattle.std.specs.Prelude.{◌≡◌, ℕ, ◌+◌, ◌<◌, ◌≤◌, List, [], ◌∷◌, ◌++◌, Option}
+use Rattle.wf_act.specs.declared.act.Act.{Act}
+use Rattle.wf_act.specs.declared.act.Act.TheVariants.{Ask, Send, Tell}
+use Rattle.wf_act.specs.declared.act.Input.{Input}
+use Rattle.wf_act.specs.declared.act.Input.TheVariants.{Replied, Told}
+use Rattle.wf_book.specs.Accounts.{Account}
+use Rattle.wf_book.specs.declared.entry.Entry.{Entry}
+use Rattle.wf_book.specs.Ops.{InRange}
+use Rattle.wf_book.specs.declared.op.Op.{Op}
+use Rattle.wf_link.specs.Links.{Received}
+use Rattle.wf_link.specs.Links as links
+use Rattle.wf_print.specs.declared.events.Event.{Event}
+use Rattle.wf_print.specs.declared.events.Event.TheVariants.{Result, LoadFailed}
+use Rattle.wf_types.specs.Targets.{IsSendable}
+use Rattle.wf_wire.specs.declared.wire.Wire.{Wire}
+use Rattle.wf_wire.specs.Exchanges.{Answering, Exchange, Exchanges, IsIdle}
+use Rattle.wf_wire.specs.Wires.{exchange_of}
+
+-- What a document's run meets and changes: the exchange over its link; the entries of the calls of the book that the
+-- document has made; and how many more calls it may make.
+pub record World (State : Type 0) : Type 0 where
+  pub exchange : Exchange State
+  pub own : List Entry
+  pub left : ℕ
+
+-- a wire over a link, and a pass, as a world
+abbrev pub world_of : {P L State : Type 0} → (P → Account) → (L → links.Told State) → P → L → Wire → World State
+world_of account told pass link wire =
+    record { exchange = exchange_of told link wire; own = (account pass).own; left = (account pass).left }
+
+-- What of it outlives the run: the link's state, how many bytes of each answer were received, where told, its count of
+-- faults, and the pass.
+pub record Outside (State : Type 0) : Type 0 where
+  pub state : Option State
+  pub received : Option (List ℕ)
+  pub faults : ℕ
+  pub own : List Entry
+  pub left : ℕ
+
+-- what outlives the run, of a world
+abbrev pub outside_of : {State : Type 0} → World State → Outside State
+outside_of world = record {
+  state = world.exchange.state;
+  received = world.exchange.received;
+  faults = world.exchange.faults;
+  own = world.own;
+  left = world.left;
+}
+
+-- the same, of a link and a pass
+abbrev pub outside : {P L State : Type 0} → (P → Account) → (L → links.Told State) → P → L → Outside State
+outside account told pass link = record {
+  state = (told link).state;
+  received = (told link).received;
+  faults = (told link).faults;
+  own = (account pass).own;
+  left = (account pass).left;
+}
+
+-- ---- what comes of an act
+
+-- a call of the book is in range, and one may be made; a request has no space in its method and its target
+abbrev pub CanAnswer : Act → ℕ → Type 0
+CanAnswer (Ask op) left = InRange op × (0 < left)
+CanAnswer (Send hop) left = IsSendable hop
+CanAnswer _ left = Unit {0}
+
+-- The document has made one call more: its entry is the last of the document's own, and the input is its reply.
+pub record IsAsked (document : ℕ) (op : Op) (input : Input) (own own' : List Entry) (left left' : ℕ) : Type 0 where
+  pub entry : Entry
+  pub document_is : entry.document ≡ document
+  pub op_is : entry.op ≡ op
+  pub input_is : input ≡ Replied entry.reply
+  pub own_is : own' ≡ own ++ entry ∷ []
+  pub left_is : left ≡ left' + 1
+
+-- Memory was refused: no call was made.
+pub record IsRefusedCall (own own' : List Entry) (left left' : ℕ) : Type 0 where
+  pub own_is : own' ≡ own
+  pub fewer : left' ≤ left
+
+-- The document has made a call of the book. The exchange is as it was.
+pub record IsCalled {State : Type 0} (document : ℕ) (old : World State) (op : Op) (input : Input) (new : World State)
+    : Type 0 where
+  pub asked : IsAsked document op input old.own new.own old.left new.left
+  pub exchange_is : new.exchange ≡ old.exchange
+
+-- What the link answers to an act. The pass is as it was.
+pub record IsExchanged {State : Type 0} (by : Answering State) (limit : ℕ) (old : World State) (first : Act)
+    (input : Input) (new : World State) : Type 0 where
+  pub exchanged : Exchanges by limit old.exchange first input new.exchange
+  pub own_is : new.own ≡ old.own
+  pub left_is : new.left ≡ old.left
+
+-- what comes of an act in a document's world, with bodies of so many bytes at most: a call of the book, a request
+-- whose method and target have no space, what is read of its answer, or that the document is told
+abbrev pub Answers : {State : Type 0} → Answering State → ℕ → ℕ → World State → Act → Input → World State → Type 0
+Answers by limit document old (Ask op) input new = IsCalled document old op input new
+Answers by limit document old (Send hop) input new = IsSendable hop × IsExchanged by limit old (Send hop) input new
+Answers by limit document old (Tell violation) input new = (input ≡ Told) × (new ≡ old)
+Answers by limit document old first input new = IsExchanged by limit old first input new
+
+-- Nothing more of the answer is to come.
+pub record IsHungUp {State : Type 0} (old new : World State) : Type 0 where
+  pub idle : IsIdle new.exchange
+  pub outside_is : outside_of new ≡ outside_of old
+
+-- what the world comes to with an event: the rest of an answer goes with the result of its fetch or load
+abbrev pub Settles : {State : Type 0} → Event → World State → World State → Type 0
+Settles (Result outcome) old new = IsHungUp old new
+Settles (LoadFailed error) old new = IsHungUp old new
+Settles _ old new = new ≡ old
+
+-- Memory was refused: the document has made no call more, the link's state and its count of faults are as they were,
+-- and some bytes more may have been received.
+pub record Refuses {State : Type 0} (old new : Outside State) : Type 0 where
+  pub state_is : new.state ≡ old.state
+  pub count : ℕ
+  pub counted : Received count old.received new.received
+  pub faults_are : new.faults ≡ old.faults
+  pub own_is : new.own ≡ old.own
+  pub fewer : new.left ≤ old.left

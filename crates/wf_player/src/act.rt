@@ -1,0 +1,69 @@
+// One act of a fetch.
+ghost use Rattle.std.specs.Prelude.{◌≡◌, ◌<◌, ◌≤◌, ◌+◌, IfOk, OnErr, IsTrue};
+ghost use Rattle.wf_act.specs.Process.{fits};
+ghost use Rattle.wf_act.specs.Within.{asks, price_of};
+ghost use Rattle.wf_act.specs.declared.act.Act.TheVariants.{Ask};
+ghost use Rattle.wf_book.specs.Ops.{InRange};
+ghost use Rattle.wf_wire.specs.Wires.{over_link};
+ghost use Rattle.wf_player.specs.Standings.{IsReady, Keeps, standing, world};
+ghost use Rattle.wf_player.specs.Worlds.{Answers, CanAnswer, IsAsked, IsRefusedCall, Refuses, outside_of};
+
+use crate::lent::Lent;
+use crate::player::Player;
+use std::sync::Wait;
+use std::thread::Threads;
+use wf_act::{Act, Input};
+use wf_book::{Op, Share};
+use wf_link::Link;
+use wf_text::OutOfMemory;
+
+// Makes one call of the book, and answers its reply.
+fn ask<R: Threads + Wait + Sync, S: Share>(
+    lent: &Lent<'_, R, S>,
+    pass: &mut S::Pass,
+    op: &Op,
+) -> Result<Input, OutOfMemory>
+    requires belongs { S.belongs lent.now.share.now pass.old }
+    requires range { InRange op.now }
+    requires left { 0 < (S.account pass.old).left }
+    ensures asked { IfOk result (λ input. IsAsked (S.account pass.old).document op.now input (S.account pass.old).own
+        (S.account pass.new).own (S.account pass.old).left (S.account pass.new).left) }
+    ensures fits { IfOk result (λ input. IsTrue (fits (Ask op.now) input)) }
+    ensures refused { OnErr result (IsRefusedCall (S.account pass.old).own (S.account pass.new).own
+        (S.account pass.old).left (S.account pass.new).left) }
+    ensures few { (S.account pass.old).left ≤ (S.account pass.new).left + 1 }
+    ensures belongs { S.belongs lent.now.share.now pass.new }
+    ensures same { ((S.account pass.new).document ≡ (S.account pass.old).document)
+        × ((S.account pass.new).opening ≡ (S.account pass.old).opening) }
+{
+    let op = op.copy(*lent.alloc)?;
+    let reply = lent.share.call(lent.rt, *lent.alloc, pass, op)?;
+    Ok(Input::Replied(reply))
+}
+
+impl<R: Threads + Wait + Sync, S: Share, L: Link> Player<'_, '_, '_, R, S, L> {
+    // Does an act: a call of the book, what the link does for a request, or a word to the document.
+    pub(crate) fn answer(&mut self, act: &Act) -> Result<Input, OutOfMemory>
+        requires ready { IsReady S.belongs self.old }
+        requires can { CanAnswer act.now (world S.account L.told self.old).left }
+        ensures came { IfOk result (λ input. Answers (over_link L.serves) self.old.lent.now.limit
+            (S.account self.old.pass.now).document (world S.account L.told self.old) act.now input
+            (world S.account L.told self.new)) }
+        ensures fits { IfOk result (λ input. IsTrue (fits act.now input)) }
+        ensures refused { OnErr result (Refuses (outside_of (world S.account L.told self.old))
+            (outside_of (world S.account L.told self.new))) }
+        ensures few { (world S.account L.told self.old).left
+            ≤ (world S.account L.told self.new).left + price_of asks act.now }
+        ensures run { self.new.running ≡ self.old.running }
+        ensures kept { Keeps S.account S.belongs self.old self.new }
+    {
+        let lent = self.lent;
+        match act {
+            Act::Ask(op) => ask(lent, self.pass, op),
+            Act::Send(hop) => self.wire.send(self.link, *lent.alloc, hop),
+            Act::ReadHead => self.wire.read_head(self.link, *lent.alloc),
+            Act::ReadBody => self.wire.read_body(self.link, *lent.alloc, lent.limit),
+            Act::Tell(_) => Ok(Input::Told),
+        }
+    }
+}

@@ -1,0 +1,174 @@
+// One fetch, played over a link and a share of the book.
+ghost use Rattle.std.specs.Prelude.{◌≡◌, ◌<◌, ◌≤◌, ◌+◌, ◌^◌, [], IfOk, IsTrue, OnErr, OnOk};
+ghost use Rattle.wf_act.specs.Process.{fits};
+ghost use Rattle.wf_act.specs.Within.{asks, price_of};
+ghost use Rattle.wf_fetch.specs.Fetch.{fetch};
+ghost use Rattle.wf_fetch.specs.Machine.{Leads, rest};
+ghost use Rattle.wf_fetch.specs.Then.{context_of};
+ghost use Rattle.wf_laws.specs.Laws.{most_asks};
+ghost use Rattle.wf_link.specs.Sources.{IsAtEnd};
+ghost use Rattle.wf_run.specs.Play.{events_of};
+ghost use Rattle.wf_run.specs.Runs.{after_events, at_time};
+ghost use Rattle.wf_types.specs.Requests.{IsClient, IsRequest};
+ghost use Rattle.wf_wire.specs.Wires.{over_link};
+ghost use Rattle.wf_player.specs.Driving.{Drives, Fetches};
+ghost use Rattle.wf_player.specs.Private.Going.{GoesOn, PartNoted};
+ghost use Rattle.wf_player.specs.Standings.{IsReady, Keeps, KeepsPass, setting_of, standing, world};
+ghost use Rattle.wf_player.specs.Worlds.{CanAnswer, outside};
+
+use crate::held::Held;
+use crate::lent::Lent;
+use crate::player::Player;
+use std::alloc::Global;
+use std::sync::Wait;
+use std::thread::Threads;
+use wf_act::{Act, Input};
+use wf_book::Share;
+use wf_csp::Compiled;
+use wf_fetch::{Fetching, Step};
+use wf_link::Link;
+use wf_print::Events;
+use wf_run::Running;
+use wf_text::OutOfMemory;
+use wf_types::{Client, Cookies, Outcome, Request};
+use wf_wire::Wire;
+
+/// What one fetch has shown, and what it came to.
+#[derive(Drop)]
+pub struct FetchRun {
+    pub events: Events,
+    pub outcome: Outcome,
+}
+
+// Shows what came of an act, and takes the fetch on from its input.
+#[inline(always)]
+fn take_on<R: Threads + Wait + Sync, S: Share>(
+    lent: &Lent<'_, R, S>,
+    running: &mut Running,
+    fetching: Fetching,
+    act: Act,
+    input: Input,
+) -> Result<Step, OutOfMemory>
+    requires client { IsClient lent.now.client.now }
+    requires fits { IsTrue (fits fetching.last.value input) }
+    ensures process { Leads (at_time (setting_of lent.now) fetching.level.now) result
+        (rest (at_time (setting_of lent.now) fetching.level.now) fetching input) }
+    ensures noted { OnOk result (running.new ≡ after_events (events_of act input) running.old) }
+    ensures cut { OnErr result (PartNoted act input running.old running.new) }
+{
+    running.show_act(act, &input)?;
+    let step = fetching.resume(*lent.alloc, lent.client, lent.policies, lent.cookies, input)?;
+    Ok(step)
+}
+
+impl<R: Threads + Wait + Sync, S: Share, L: Link> Player<'_, '_, '_, R, S, L> {
+    // Does the act that a fetch waits for, shows it, and takes the fetch to its next step.
+    fn go_on(&mut self, fetching: Fetching, act: Act) -> Result<Step, OutOfMemory>
+        requires ready { IsReady S.belongs self.old }
+        requires waits { fetching.last.value ≡ act }
+        requires can { CanAnswer act (world S.account L.told self.old).left }
+        ensures went { GoesOn (over_link L.serves) (at_time (setting_of self.old.lent.now) fetching.level.now) fetching
+            act (standing S.account L.told self.old) result (standing S.account L.told self.new) }
+        ensures few { (world S.account L.told self.old).left
+            ≤ (world S.account L.told self.new).left + price_of asks act }
+        ensures kept { Keeps S.account S.belongs self.old self.new }
+    {
+        let waiting = Held { value: fetching };
+        let asked = Held { value: act };
+        let input = self.answer(&asked.value)?;
+        let fetching = waiting.into_inner();
+        let act = asked.into_inner();
+        let step = take_on(self.lent, &mut self.running, fetching, act, input)?;
+        Ok(step)
+    }
+
+    // Plays one fetch of a request, to its outcome, at a time in seconds (Fetch, section 4.1), over the wire as it is,
+    // which the caller hangs up. It makes 126 calls of the book at most.
+    pub(crate) fn fetch(&mut self, request: Request, now: u64) -> Result<Outcome, OutOfMemory>
+        requires ready { IsReady S.belongs self.old }
+        requires request { IsRequest request }
+        requires timely { now < 2 ^ 48 }
+        requires left { most_asks ≤ (world S.account L.told self.old).left }
+        ensures came { Fetches (over_link L.serves) (fetch (at_time (setting_of self.old.lent.now) now) request)
+            (standing S.account L.told self.old) result (standing S.account L.told self.new) }
+        ensures few { (world S.account L.told self.old).left ≤ (world S.account L.told self.new).left + most_asks }
+        ensures kept { Keeps S.account S.belongs self.old self.new }
+    {
+        // how many acts were answered, so that the loop ends
+        let mut acts: u128 = 0;
+        let lent = self.lent;
+        let _policies = lent.policies.len();
+        let mut step = Fetching::start(
+            *lent.alloc,
+            request,
+            lent.client,
+            lent.policies,
+            lent.cookies,
+            now,
+        )?;
+        loop {
+            match step {
+                Step::Over(outcome) => return Ok(outcome),
+                Step::Going(fetching, act) => {
+                    acts += 1;
+                    step = self.go_on(fetching, act)?;
+                }
+            }
+        }
+    }
+}
+
+/// Plays one fetch of a request over a link and a share of the book: for a client, with its policies and a
+/// table of cookies, at a time in seconds, which is below 2^48, with bodies of so many bytes at most
+/// (Fetch, section 4.1). It makes 126 calls of the book at most, which the pass has left.
+///
+/// Its events and its outcome are those of the fetch over a tape of what the world answers: the reply to a
+/// call of the book is that of the entry which the call added to the pass's own; heads and bodies are those of
+/// the link's answers, where it tells them, and its count of faults rises by one with each fault of the tape.
+/// At the end the link is hung up. Where memory was refused the calls that were made by then stay made.
+pub fn drive_fetch<R: Threads + Wait + Sync, S: Share, L: Link>(
+    rt: &R,
+    alloc: Global,
+    request: Request,
+    client: &Client,
+    policies: &Compiled,
+    cookies: &Cookies,
+    now: u64,
+    body_limit: u32,
+    share: &S,
+    pass: &mut S::Pass,
+    link: &mut L,
+) -> Result<FetchRun, OutOfMemory>
+    requires asked { IsRequest request × IsClient client.now × (now < 2 ^ 48) }
+    requires pass { S.belongs share.now pass.old × (most_asks ≤ (S.account pass.old).left) }
+    ensures came { Drives (over_link L.serves) body_limit (S.account pass.old).document
+        (fetch (context_of client.now policies.now cookies.now now) request)
+        (outside S.account L.told pass.old link.old) result (outside S.account L.told pass.new link.new) }
+    ensures hung_up { IfOk result (λ _. IsAtEnd (L.told link.new).left) }
+    ensures pass { KeepsPass S.account (S.belongs share.now) most_asks pass.old pass.new }
+{
+    let wire = Wire::new(alloc, link)?;
+    let lent = Lent {
+        rt,
+        alloc: &alloc,
+        share,
+        client,
+        policies,
+        cookies,
+        limit: body_limit,
+    };
+    let mut player = Player {
+        lent: &lent,
+        pass,
+        link,
+        wire,
+        running: Running::new(alloc, 0),
+    };
+    let outcome = player.fetch(request, now)?;
+    player.wire.close(player.link);
+    let Player { running, .. } = player;
+    Ok(FetchRun {
+        events: running.into_events(),
+        outcome,
+    })
+}

@@ -1,0 +1,5 @@
+pub mod Hosts
+pub mod Servers
+pub mod Texts
+pub mod Urls
+pub mod Valid

@@ -1,0 +1,13 @@
+// Scenarios as values: documents with their scripts, the hosts that are known, the cookies that are sent, the
+// servers that answer, and where servers listen.
+#![tactic(auto)]
+
+mod document;
+mod hosts;
+mod scenario;
+mod servers;
+
+pub use document::{Document, Documents};
+pub use hosts::{Hosts, KnownHost};
+pub use scenario::Scenario;
+pub use servers::{Rule, Rules, Server, Servers};
