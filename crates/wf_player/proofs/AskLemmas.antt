@@ -20,6 +20,7 @@ use Rattle.wf_link.proofs.ReceivedLemmas.{received-none}
 use Rattle.wf_wire.specs.Exchanges as wire
 use Rattle.wf_wire.specs.Exchanges.{Exchange}
 use Rattle.wf_wire.specs.Wires.{onto_left}
+use Rattle.wf_run.specs.Runs.{Progress}
 use Rattle.wf_player.specs.Standings.{IsReady, Keeps, KeepsPass, Terms, terms_of}
 use Rattle.wf_player.specs.declared.lent.Lent.{Lent}
 use Rattle.wf_player.specs.declared.player.Player.{Player}
@@ -130,14 +131,24 @@ module _ {R S L P : Type 0} (account : P → Account) (belongs : S → P → Typ
     lent = y.lent ∙ x.lent;
     pass = y.pass ∙ x.pass;
     link = y.link ∙ x.link;
+    wire = y.wire ∙ x.wire;
+    running = y.running ∙ x.running;
     document = y.document ∙ x.document;
     opening = y.opening ∙ x.opening;
     ready = y.ready;
   }
 
   pub keeps-none : (a : Player R S L P) → IsReady belongs a → Keeps account belongs a a
-  keeps-none a ready =
-      record { lent = refl; pass = refl; link = refl; document = refl; opening = refl; ready = ready }
+  keeps-none a ready = record {
+    lent = refl;
+    pass = refl;
+    link = refl;
+    wire = refl;
+    running = refl;
+    document = refl;
+    opening = refl;
+    ready = ready;
+  }
 
   -- so a run goes by the same still
   pub same-terms : (a b : Player R S L P) → Keeps account belongs a b → terms_of account b ≡ terms_of account a
@@ -153,6 +164,12 @@ module _ {R S L P : Type 0} (account : P → Account) (belongs : S → P → Typ
     opening = x.opening;
     few = few;
   }
+
+-- ---- what plays
+
+-- the value that plays, its run at another place
+abbrev pub run-to : {R S L P : Type 0} → Player R S L P → Progress → Player R S L P
+run-to player progress = record player { running = record player.running { now = progress } }
 
 -- ---- what was lent and has come back
 

@@ -133,44 +133,29 @@ pub run-rests : {State : Type 0} (by : Answering State) (rule : Rule) (old now :
 run-rests by rule old now (Ok ending) x told = x.rests
 run-rests by rule old now (Err refused) x told = absurd (told refl)
 
--- a script in the setting of its document, from the beginning, is the document's run
-run-of : (document : Document) (client : Client) (policies : List Policy) (cookies : List Cookie) (base : ℕ)
-    (progress : Progress) → client ≡ document_client document → policies ≡ document.policies
-    → progress ≡ beginning base
-    → script_run (setting client policies cookies) document.script finished progress
-    ≡ document_run cookies base document
-run-of document client policies cookies base progress is all began =
-    ap (λ (c : Client). script_run (setting c policies cookies) document.script finished progress) is
-    ∙ ap (λ (l : List Policy). script_run (setting (document_client document) l cookies) document.script finished
-    progress) all
-    ∙ ap (λ (p : Progress). script_run (setting (document_client document) document.policies cookies) document.script
-    finished p) began
-
--- what a document's script came to, its run did
-pub document-came : {State : Type 0} (by : Answering State) (document : Document) (client : Client)
-    (policies : List Policy) (cookies : List Cookie) (base limit number : ℕ) (first : World State) (running : Progress)
-    (from to : Outside State) (now : Standing State) (result : Result (Option Ending) OutOfMemory)
-    (events : List Event) (ending : Ending) (clock : ℕ) → client ≡ document_client document
-    → policies ≡ document.policies → running ≡ beginning base → IsIdle first.exchange → outside_of first ≡ from
+-- what a script came to from the beginning, its run did
+pub script-came : {State : Type 0} (by : Answering State) (script : Steps) (base : ℕ) (old now : Standing State)
+    (from to : Outside State) (result : Result (Option Ending) OutOfMemory) (events : List Event) (ending : Ending)
+    (clock : ℕ) → old.progress ≡ beginning base → IsIdle old.world.exchange → outside_of old.world ≡ from
     → outside_of now.world ≡ to → events ≡ now.progress.shown → ending ≡ ended_by result
-    → clock ≡ now.progress.clock
-    → Plays by (λ lent. script_run lent document.script) (record {
-      terms = record { lent = setting client policies cookies; limit = limit; document = number };
-      world = first;
-      progress = running;
-    }) result now
-    → Came by limit number (document_run cookies base document) from events ending clock to
-document-came {State} by document client policies cookies base limit number first running from to now result events
-    ending clock is all began idle begins ends shown ended ticks x =
-    let old : Standing State = record {
-      terms = record { lent = setting client policies cookies; limit = limit; document = number };
-      world = first;
-      progress = running;
-    } in
+    → clock ≡ now.progress.clock → Plays by (λ lent. script_run lent script) old result now
+    → Came by old.terms.limit old.terms.document (script_run old.terms.lent script finished (beginning base)) from
+    events ending clock to
+script-came by script base old now from to result events ending clock began idle begins ends shown ended ticks x =
     rw (shown, ended, ticks)
-    (subst (λ (p : Play). Came by limit number p from now.progress.shown (ended_by result) now.progress.clock to)
-    (run-of document client policies cookies base running is all began)
-    (run-came by document.script old now from to idle begins ends (ap (λ (p : Progress). p.shown) began) result x))
+    (subst (λ (p : Progress). Came by old.terms.limit old.terms.document
+    (script_run old.terms.lent script finished p) from now.progress.shown (ended_by result) now.progress.clock to)
+    began (run-came by script old now from to idle begins ends (ap (λ (p : Progress). p.shown) began) result x))
+
+-- a script in the setting of its document is the document's run
+pub run-of : (document : Document) (client : Client) (policies : List Policy) (cookies : List Cookie) (base : ℕ)
+    → client ≡ document_client document → policies ≡ document.policies
+    → script_run (setting client policies cookies) document.script finished (beginning base)
+    ≡ document_run cookies base document
+run-of document client policies cookies base is all =
+    ap (λ (c : Client). script_run (setting c policies cookies) document.script finished (beginning base)) is
+    ∙ ap (λ (l : List Policy). script_run (setting (document_client document) l cookies) document.script finished
+    (beginning base)) all
 
 -- memory was refused before it began
 pub run-unbegun : {State : Type 0} (by : Answering State) (limit document : ℕ) (whole : Play) (old new : Outside State)

@@ -55,24 +55,26 @@ terms_of account player = record {
 module _ {R S L P State : Type 0} (account : P → Account) (told : L → Told State) (player : Player R S L P) where
   -- the world outside
   abbrev pub world : World State
-  world = world_of account told player.pass.now player.link.now player.wire
+  world = world_of account told player.pass.now player.link.now player.wire.now
 
   -- where it stands
   abbrev pub standing : Standing State
-  standing = record { terms = terms_of account player; world = world; progress = player.running }
+  standing = record { terms = terms_of account player; world = world; progress = player.running.now }
 
 -- The client is valid, and the pass is the share's.
 pub record IsReady {R S L P : Type 0} (belongs : S → P → Type 0) (player : Player R S L P) : Type 0 where
   pub client : IsClient player.lent.now.client.now
   pub belongs_to : belongs player.lent.now.share.now player.pass.now
 
--- What every call leaves as it was: what is lent, which pass and which link it is, the document and the opening book of
--- the pass. The value is ready still.
+-- What every call leaves as it was: what is lent, which pass, link, wire and run it is, the document and the opening
+-- book of the pass. The value is ready still.
 pub record Keeps {R S L P : Type 0} (account : P → Account) (belongs : S → P → Type 0) (old new : Player R S L P)
     : Type 0 where
   pub lent : new.lent ≡ old.lent
   pub pass : new.pass.ghost_name ≡ old.pass.ghost_name
   pub link : new.link.ghost_name ≡ old.link.ghost_name
+  pub wire : new.wire.ghost_name ≡ old.wire.ghost_name
+  pub running : new.running.ghost_name ≡ old.running.ghost_name
   pub document : (account new.pass.now).document ≡ (account old.pass.now).document
   pub opening : (account new.pass.now).opening ≡ (account old.pass.now).opening
   pub ready : IsReady belongs new

@@ -41,7 +41,7 @@ fn ask<R: Threads + Wait + Sync, S: Share>(
     Ok(Input::Replied(reply))
 }
 
-impl<R: Threads + Wait + Sync, S: Share, L: Link> Player<'_, '_, '_, R, S, L> {
+impl<R: Threads + Wait + Sync, S: Share, L: Link> Player<'_, '_, '_, '_, '_, R, S, L> {
     // Does an act: a call of the book, what the link does for a request, or a word to the document.
     pub(crate) fn answer(&mut self, act: &Act) -> Result<Input, OutOfMemory>
         requires ready { IsReady S.belongs self.old }
@@ -54,7 +54,7 @@ impl<R: Threads + Wait + Sync, S: Share, L: Link> Player<'_, '_, '_, R, S, L> {
             (outside_of (world S.account L.told self.new))) }
         ensures few { (world S.account L.told self.old).left
             ≤ (world S.account L.told self.new).left + price_of asks act.now }
-        ensures run { self.new.running ≡ self.old.running }
+        ensures run { self.new.running.now ≡ self.old.running.now }
         ensures kept { Keeps S.account S.belongs self.old self.new }
     {
         let lent = self.lent;

@@ -67,11 +67,11 @@ fn requested_load<R, S>(
     new_load(*lent.alloc, &filled, lent.client)
 }
 
-impl<R: Threads + Wait + Sync, S: Share, L: Link> Player<'_, '_, '_, R, S, L> {
+impl<R: Threads + Wait + Sync, S: Share, L: Link> Player<'_, '_, '_, '_, '_, R, S, L> {
     // Shows what a fetch or a load came to. Nothing more of its answer is wanted then.
     fn end_fetch(&mut self, event: Event) -> Result<(), OutOfMemory>
         requires ready { IsReady S.belongs self.old }
-        ensures ended { OnOk result ((self.new.running ≡ after_events (event ∷ []) self.old.running)
+        ensures ended { OnOk result ((self.new.running.now ≡ after_events (event ∷ []) self.old.running.now)
             × IsIdle (world S.account L.told self.new).exchange) }
         ensures unshown { OnErr result (standing S.account L.told self.new ≡ standing S.account L.told self.old) }
         ensures outside { outside_of (world S.account L.told self.new) ≡ outside_of (world S.account L.told self.old) }
@@ -95,7 +95,7 @@ impl<R: Threads + Wait + Sync, S: Share, L: Link> Player<'_, '_, '_, R, S, L> {
         ensures came { PlaysUnended (over_link L.serves) (λ lent. fetched lent kind made)
             (standing S.account L.told self.old) result (standing S.account L.told self.new) }
         ensures few { (world S.account L.told self.old).left ≤ (world S.account L.told self.new).left + most_asks }
-        ensures fetches { self.new.running.fetches ≡ self.old.running.fetches }
+        ensures fetches { self.new.running.now.fetches ≡ self.old.running.now.fetches }
         ensures kept { Keeps S.account S.belongs self.old self.new }
     {
         match made {
@@ -117,7 +117,7 @@ impl<R: Threads + Wait + Sync, S: Share, L: Link> Player<'_, '_, '_, R, S, L> {
     ) -> Result<(), OutOfMemory>
         requires ready { IsReady S.belongs self.old }
         requires made { IfOk made IsRequest }
-        requires limits { (self.old.running.commands < most_commands) × (self.old.running.fetches < most_fetches) }
+        requires limits { (self.old.running.now.commands < most_commands) × (self.old.running.now.fetches < most_fetches) }
         requires goes { MayGoOn (standing S.account L.told self.old) }
         ensures came { PlaysUnended (over_link L.serves)
             (λ lent next progress. asks_for lent kind made next (started progress))
@@ -135,7 +135,7 @@ impl<R: Threads + Wait + Sync, S: Share, L: Link> Player<'_, '_, '_, R, S, L> {
     pub(crate) fn fetch_command(&mut self, init: &Init) -> Result<(), OutOfMemory>
         requires ready { IsReady S.belongs self.old }
         requires valid { IsValidInit init.now }
-        requires limit { limit_before (fetch_step init.now) self.old.running ≡ None }
+        requires limit { limit_before (fetch_step init.now) self.old.running.now ≡ None }
         requires goes { MayGoOn (standing S.account L.told self.old) }
         ensures came { PlaysUnended (over_link L.serves) (λ lent. command_started lent (fetch_step init.now))
             (standing S.account L.told self.old) result (standing S.account L.told self.new) }
@@ -151,7 +151,7 @@ impl<R: Threads + Wait + Sync, S: Share, L: Link> Player<'_, '_, '_, R, S, L> {
     pub(crate) fn load_command(&mut self, init: &LoadInit) -> Result<(), OutOfMemory>
         requires ready { IsReady S.belongs self.old }
         requires valid { IsValidLoad init.now }
-        requires limit { limit_before (load_step init.now) self.old.running ≡ None }
+        requires limit { limit_before (load_step init.now) self.old.running.now ≡ None }
         requires goes { MayGoOn (standing S.account L.told self.old) }
         ensures came { PlaysUnended (over_link L.serves) (λ lent. command_started lent (load_step init.now))
             (standing S.account L.told self.old) result (standing S.account L.told self.new) }

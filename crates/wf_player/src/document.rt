@@ -1,14 +1,17 @@
 // One document, played.
 ghost use Rattle.std.specs.Prelude.{◌≡◌, ◌≢◌, ◌≤◌, ◌<◌, ◌^◌, ◌+◌, [], length, slice_get, Some, IfOk, OnErr};
+ghost use Rattle.wf_commands.specs.Valid.{AreValid};
 ghost use Rattle.wf_link.specs.Sources.{IsAtEnd};
 ghost use Rattle.wf_print.specs.declared.events.Ending.TheVariants.{Memory};
-ghost use Rattle.wf_run.specs.Runs.{document_client, document_run};
+ghost use Rattle.wf_run.specs.Runs.{beginning, document_client, document_run, finished, script_run};
 ghost use Rattle.wf_scenario.specs.Valid.{IsValid, IsValidDocument};
 ghost use Rattle.wf_scenario.specs.declared.document.Document.{Document as OneDocument};
-ghost use Rattle.wf_wire.specs.Wires.{over_link};
+ghost use Rattle.wf_types.specs.Requests.{IsClient};
+ghost use Rattle.wf_wire.specs.Exchanges.{IsIdle};
+ghost use Rattle.wf_wire.specs.Wires.{exchange_of, over_link};
 ghost use Rattle.wf_player.specs.Playing as spec;
 ghost use Rattle.wf_player.specs.Playing.{Came};
-ghost use Rattle.wf_player.specs.Standings.{KeepsPass, most_calls};
+ghost use Rattle.wf_player.specs.Standings.{KeepsPass, most_calls, setting_of};
 ghost use Rattle.wf_player.specs.Worlds.{outside};
 
 use crate::lent::Lent;
@@ -17,6 +20,7 @@ use std::alloc::Global;
 use std::sync::Wait;
 use std::thread::Threads;
 use wf_book::Share;
+use wf_commands::Script;
 use wf_csp::Compiled;
 use wf_link::Link;
 use wf_print::{Ending, Events, Transcript};
@@ -26,10 +30,9 @@ use wf_text::{Bytes, OutOfMemory};
 use wf_types::Client;
 use wf_wire::Wire;
 
-// A run that was begun: the client's key, what it showed, its ending and its clock then.
+// A script that has been played: what it showed, its ending and its clock then.
 #[derive(Drop)]
-struct Ran {
-    key: Bytes,
+struct Played {
     events: Events,
     ending: Ending,
     clock: u64,
@@ -46,6 +49,44 @@ fn ended_by(played: Result<Option<Ending>, OutOfMemory>) -> Ending
     }
 }
 
+// A script from the beginning to its ending, over a wire on which nothing is to come.
+fn play_script<R: Threads + Wait + Sync, S: Share, L: Link>(
+    lent: &Lent<'_, R, S>,
+    script: &Script,
+    base: u64,
+    wire: &mut Wire,
+    pass: &mut S::Pass,
+    link: &mut L,
+) -> Played
+    requires client { IsClient lent.now.client.now }
+    requires script { AreValid script.now }
+    requires base { base ≤ 2 ^ 40 }
+    requires pass { S.belongs lent.now.share.now pass.old × (most_calls ≤ (S.account pass.old).left) }
+    requires idle { IsIdle (exchange_of L.told link.old wire.old) }
+    ensures came { Came (over_link L.serves) lent.now.limit (S.account pass.old).document
+        (script_run (setting_of lent.now) script.now finished (beginning base))
+        (outside S.account L.told pass.old link.old) result.events result.ending result.clock
+        (outside S.account L.told pass.new link.new) }
+    ensures rests { result.ending ≢ Memory → IsAtEnd (L.told link.new).left }
+    ensures pass { KeepsPass S.account (S.belongs lent.now.share.now) most_calls pass.old pass.new }
+{
+    let mut running = Running::new(*lent.alloc, base);
+    let mut player = Player {
+        lent,
+        pass,
+        link,
+        wire,
+        running: &mut running,
+    };
+    let ending = ended_by(player.script(script));
+    let clock = running.now();
+    Played {
+        events: running.into_events(),
+        ending,
+        clock,
+    }
+}
+
 // A document's run, to its ending, where memory was not refused before it began.
 fn run_document<R: Threads + Wait + Sync, S: Share, L: Link>(
     rt: &R,
@@ -56,24 +97,24 @@ fn run_document<R: Threads + Wait + Sync, S: Share, L: Link>(
     share: &S,
     pass: &mut S::Pass,
     link: &mut L,
-) -> Result<Ran, OutOfMemory>
+) -> Result<(Bytes, Played), OutOfMemory>
     requires valid { IsValidDocument document.now }
     requires base { base ≤ 2 ^ 40 }
     requires pass { S.belongs share.now pass.old × (most_calls ≤ (S.account pass.old).left) }
     ensures came { IfOk result (λ ran. Came (over_link L.serves) scenario.entry.now.body_limit
         (S.account pass.old).document (document_run scenario.entry.now.cookies base document.now)
-        (outside S.account L.told pass.old link.old) ran.events ran.ending ran.clock
+        (outside S.account L.told pass.old link.old) ran.1.events ran.1.ending ran.1.clock
         (outside S.account L.told pass.new link.new)) }
     ensures unbegun { OnErr result (outside S.account L.told pass.new link.new
         ≡ outside S.account L.told pass.old link.old) }
-    ensures rests { IfOk result (λ ran. ran.ending ≢ Memory → IsAtEnd (L.told link.new).left) }
-    ensures key { IfOk result (λ ran. ran.key ≡ (document_client document.now).key) }
+    ensures rests { IfOk result (λ ran. ran.1.ending ≢ Memory → IsAtEnd (L.told link.new).left) }
+    ensures key { IfOk result (λ ran. ran.0 ≡ (document_client document.now).key) }
     ensures pass { KeepsPass S.account (S.belongs share.now) most_calls pass.old pass.new }
 {
     let client = Client::of(alloc, &document.url, &document.top, document.policy)?;
     let policies = Compiled::of(alloc, &document.policies)?;
     let key = client.key.copy(alloc)?;
-    let wire = Wire::new(alloc, link)?;
+    let mut wire = Wire::new(alloc, link)?;
     let lent = Lent {
         rt,
         alloc: &alloc,
@@ -83,22 +124,8 @@ fn run_document<R: Threads + Wait + Sync, S: Share, L: Link>(
         cookies: &scenario.cookies,
         limit: scenario.body_limit,
     };
-    let mut player = Player {
-        lent: &lent,
-        pass,
-        link,
-        wire,
-        running: Running::new(alloc, base),
-    };
-    let ending = ended_by(player.script(&document.script));
-    let Player { running, .. } = player;
-    let clock = running.now();
-    Ok(Ran {
-        key,
-        events: running.into_events(),
-        ending,
-        clock,
-    })
+    let played = play_script(&lent, &document.script, base, &mut wire, pass, link);
+    Ok((key, played))
 }
 
 /// Plays a document's script over a link and a share of the book, from a time in seconds on, which is at
@@ -135,12 +162,12 @@ pub fn drive<R: Threads + Wait + Sync, S: Share, L: Link>(
 {
     let one = scenario.documents.at(document as usize);
     match run_document(rt, alloc, scenario, one, base, share, pass, link) {
-        Ok(ran) => Transcript {
+        Ok((key, played)) => Transcript {
             document,
-            key: ran.key,
-            events: ran.events,
-            ending: ran.ending,
-            clock: ran.clock,
+            key,
+            events: played.events,
+            ending: played.ending,
+            clock: played.clock,
         },
         Err(OutOfMemory) => Transcript {
             document,

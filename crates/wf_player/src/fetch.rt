@@ -61,7 +61,7 @@ fn take_on<R: Threads + Wait + Sync, S: Share>(
     Ok(step)
 }
 
-impl<R: Threads + Wait + Sync, S: Share, L: Link> Player<'_, '_, '_, R, S, L> {
+impl<R: Threads + Wait + Sync, S: Share, L: Link> Player<'_, '_, '_, '_, '_, R, S, L> {
     // Does the act that a fetch waits for, shows it, and takes the fetch to its next step.
     fn go_on(&mut self, fetching: Fetching, act: Act) -> Result<Step, OutOfMemory>
         requires ready { IsReady S.belongs self.old }
@@ -78,7 +78,7 @@ impl<R: Threads + Wait + Sync, S: Share, L: Link> Player<'_, '_, '_, R, S, L> {
         let input = self.answer(&asked.value)?;
         let fetching = waiting.into_inner();
         let act = asked.into_inner();
-        let step = take_on(self.lent, &mut self.running, fetching, act, input)?;
+        let step = take_on(self.lent, self.running, fetching, act, input)?;
         Ok(step)
     }
 
@@ -147,7 +147,8 @@ pub fn drive_fetch<R: Threads + Wait + Sync, S: Share, L: Link>(
     ensures hung_up { IfOk result (λ _. IsAtEnd (L.told link.new).left) }
     ensures pass { KeepsPass S.account (S.belongs share.now) most_asks pass.old pass.new }
 {
-    let wire = Wire::new(alloc, link)?;
+    let mut wire = Wire::new(alloc, link)?;
+    let mut running = Running::new(alloc, 0);
     let lent = Lent {
         rt,
         alloc: &alloc,
@@ -161,12 +162,11 @@ pub fn drive_fetch<R: Threads + Wait + Sync, S: Share, L: Link>(
         lent: &lent,
         pass,
         link,
-        wire,
-        running: Running::new(alloc, 0),
+        wire: &mut wire,
+        running: &mut running,
     };
     let outcome = player.fetch(request, now)?;
-    player.wire.close(player.link);
-    let Player { running, .. } = player;
+    wire.close(link);
     Ok(FetchRun {
         events: running.into_events(),
         outcome,

@@ -5,12 +5,13 @@ use wf_run::Running;
 use wf_wire::Wire;
 
 /// The one value that plays: what the document is lent, its pass of the shared book, its link with the wire over
-/// it, and how far its run has come. Contracts see where it stands (`standing`).
+/// it, and how far its run has come. Contracts see where it stands (`standing`). It owns none of them, so that who makes
+/// one knows what it has left of each.
 #[derive(Drop)]
-pub(crate) struct Player<'a, 'p, 'l, R, S: Share, L: Link> {
+pub(crate) struct Player<'a, 'p, 'l, 'w, 'r, R, S: Share, L: Link> {
     pub(crate) lent: &'a Lent<'a, R, S>,
     pub(crate) pass: &'p mut S::Pass,
     pub(crate) link: &'l mut L,
-    pub(crate) wire: Wire,
-    pub(crate) running: Running,
+    pub(crate) wire: &'w mut Wire,
+    pub(crate) running: &'r mut Running,
 }

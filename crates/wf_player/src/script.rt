@@ -17,7 +17,7 @@ use wf_print::Ending;
 use wf_run::holds;
 use wf_text::OutOfMemory;
 
-impl<R: Threads + Wait + Sync, S: Share, L: Link> Player<'_, '_, '_, R, S, L> {
+impl<R: Threads + Wait + Sync, S: Share, L: Link> Player<'_, '_, '_, '_, '_, R, S, L> {
     // One of two scripts, by a condition on the last result.
     #[cycle(script)]
     fn choice(
@@ -67,7 +67,7 @@ impl<R: Threads + Wait + Sync, S: Share, L: Link> Player<'_, '_, '_, R, S, L> {
     fn command(&mut self, command: &Command) -> Result<Option<Ending>, OutOfMemory>
         requires ready { IsReady S.belongs self.old }
         requires valid { IsValidStep (step_of command.now) }
-        requires limit { limit_before (step_of command.now) self.old.running ≡ None }
+        requires limit { limit_before (step_of command.now) self.old.running.now ≡ None }
         requires goes { MayGoOn (standing S.account L.told self.old) }
         ensures came { Plays (over_link L.serves) (λ lent. command_started lent (step_of command.now))
             (standing S.account L.told self.old) result (standing S.account L.told self.new) }

@@ -77,8 +77,8 @@ module _ {P : Type 0} (gives : P → SourceTold) (takes : P → SinkTold) (besid
   )
 
   -- one that failed
-  pub read-none : (first old new : P) (bytes : List ℕ) → Gives (told first) (told old) bytes → left new ≡ left old
-      → beside new ≡ beside old → Gives (told first) (told new) bytes
+  pub read-none : (first old new : P) (bytes : List ℕ) → Gives (told first) (told old) bytes
+      → (gives new).left ≡ (gives old).left → beside new ≡ beside old → Gives (told first) (told new) bytes
   read-none first old new bytes before same other =
       gives-same (told first) (told old) (told new) bytes before same (sink-kept old new other)
 

@@ -5,7 +5,7 @@ use Rattle.wf_run.specs.Runs.{chosen, command_started, repeated, script_run, sta
 use Rattle.wf_wire.specs.Wires.{over_link}
 use Rattle.wf_player.specs.Parts.{Plays}
 use Rattle.wf_player.specs.Standings.{standing}
-use Rattle.wf_player.proofs.AskLemmas.{keeps-none, keeps-then, refused}
+use Rattle.wf_player.proofs.AskLemmas.{keeps-none, keeps-then, refused, run-to}
 use Rattle.wf_player.proofs.ScriptLemmas.{chosen-came, command-size, command-waited, goes-on, no-ending, round-cut, round-ended, round-next}
 use Rattle.wf_player.proofs.ScriptLemmas.{round-over, round-start, script-cut, script-ended, script-limited, script-next}
 use Rattle.wf_player.proofs.ScriptLemmas.{script-over, script-start, spent-none, spent-then, stands-on, started-came}
@@ -60,8 +60,8 @@ command-returns-in-Wait-clause-came g t c =
     let me = c.args.self.now in
     let seen = standing {R = g.row.R.Denot} {S = g.row.S.Denot} g.S.Share.account g.L.Link.told in
     rw c.in-Wait.is (command-waited (over_link g.L.Link.serves) c.in-Wait.seconds (seen me)
-    (seen (record me { running = c.wait.new.self }))
-    (stands-on (seen me) c.wait.new.self (waited c.in-Wait.seconds (started me.running)) c.wait.ensures)
+    (seen (run-to me c.wait.new.self))
+    (stands-on (seen me) c.wait.new.self (waited c.in-Wait.seconds (started me.running.now)) c.wait.ensures)
     c.requires.goes.rests)
 
 pub command-returns-in-Repeat-clause-came : goal.command-returns-in-Repeat-clause-came
@@ -70,8 +70,8 @@ command-returns-in-Repeat-clause-came g t c =
     let seen = standing {R = g.row.R.Denot} {S = g.row.S.Denot} g.S.Share.account g.L.Link.told in
     rw c.in-Repeat.is (started-came (over_link g.L.Link.serves)
     (λ lent. repeated c.in-Repeat.times (script_run lent c.in-Repeat.part)) (seen me)
-    (seen (record me { running = c.start.new.self })) (seen c.repeat.new.self) c.repeat.result
-    (stands-on (seen me) c.start.new.self (started me.running) c.start.ensures) c.repeat.ensures.came)
+    (seen (run-to me c.start.new.self)) (seen c.repeat.new.self) c.repeat.result
+    (stands-on (seen me) c.start.new.self (started me.running.now) c.start.ensures) c.repeat.ensures.came)
 
 pub command-returns-in-If-clause-came : goal.command-returns-in-If-clause-came
 command-returns-in-If-clause-came g t c =
@@ -79,8 +79,8 @@ command-returns-in-If-clause-came g t c =
     let seen = standing {R = g.row.R.Denot} {S = g.row.S.Denot} g.S.Share.account g.L.Link.told in
     rw c.in-If.is (started-came (over_link g.L.Link.serves)
     (λ lent. chosen c.in-If.test (script_run lent c.in-If.part) (script_run lent c.in-If.other)) (seen me)
-    (seen (record me { running = c.start-in-If.new.self })) (seen c.choice.new.self) c.choice.result
-    (stands-on (seen me) c.start-in-If.new.self (started me.running) c.start-in-If.ensures) c.choice.ensures.came)
+    (seen (run-to me c.start-in-If.new.self)) (seen c.choice.new.self) c.choice.result
+    (stands-on (seen me) c.start-in-If.new.self (started me.running.now) c.start-in-If.ensures) c.choice.ensures.came)
 
 -- ---- a script so many times
 

@@ -13,14 +13,14 @@ pub returns-in-Send-clause-refused : goal.returns-in-Send-clause-refused
 returns-in-Send-clause-refused g c =
     let me = c.args.self.now in
     let pass = g.S.Share.account me.pass.now in
-    on-err-map c.send.result (refused-exchange (exchange_of g.L.Link.told me.link.now me.wire)
+    on-err-map c.send.result (refused-exchange (exchange_of g.L.Link.told me.link.now me.wire.now)
     (exchange_of g.L.Link.told c.send.new.link c.send.new.self) pass.own pass.left) c.send.ensures.refused
 
 pub returns-in-ReadHead-clause-refused : goal.returns-in-ReadHead-clause-refused
 returns-in-ReadHead-clause-refused g c =
     let me = c.args.self.now in
     let pass = g.S.Share.account me.pass.now in
-    on-err-map c.read_head.result (refused-exchange (exchange_of g.L.Link.told me.link.now me.wire)
+    on-err-map c.read_head.result (refused-exchange (exchange_of g.L.Link.told me.link.now me.wire.now)
     (exchange_of g.L.Link.told c.read_head.new.link c.read_head.new.self) pass.own pass.left)
     c.read_head.ensures.refused
 
@@ -28,6 +28,6 @@ pub returns-in-ReadBody-clause-refused : goal.returns-in-ReadBody-clause-refused
 returns-in-ReadBody-clause-refused g c =
     let me = c.args.self.now in
     let pass = g.S.Share.account me.pass.now in
-    on-err-map c.read_body.result (refused-exchange (exchange_of g.L.Link.told me.link.now me.wire)
+    on-err-map c.read_body.result (refused-exchange (exchange_of g.L.Link.told me.link.now me.wire.now)
     (exchange_of g.L.Link.told c.read_body.new.link c.read_body.new.self) pass.own pass.left)
     c.read_body.ensures.refused

@@ -4,7 +4,7 @@ use Rattle.wf_run.specs.Runs.{Progress, at_time}
 use Rattle.wf_wire.specs.Wires.{over_link}
 use Rattle.wf_player.specs.Private.Going.{GoesOn, PartNoted}
 use Rattle.wf_player.specs.Standings.{setting_of, standing}
-use Rattle.wf_player.proofs.AskLemmas.{refused, same-terms}
+use Rattle.wf_player.proofs.AskLemmas.{refused, run-to, same-terms}
 use Rattle.wf_player.proofs.FetchLemmas.{act-cut, act-refused}
 use Rattle.wf_player.proofs.player.Player.go_on.Goals as goal
 
@@ -26,12 +26,12 @@ returns-in_err-step-clause-went g c =
     let by = over_link g.L.Link.serves in
     let me = c.args.self.now in
     let old = standing g.S.Share.account g.L.Link.told me in
-    let last = record c.answer.new.self { running = c.take_on.new.running } in
+    let last = run-to c.answer.new.self c.take_on.new.running in
     let new = standing g.S.Share.account g.L.Link.told last in
     let context = at_time (setting_of me.lent.now) c.args.fetching.level.now in
     let input = c.in_ok-input.input in
-    let noted : PartNoted c.args.act input me.running c.take_on.new.running =
-    subst (λ (a : Act). PartNoted a input me.running c.take_on.new.running) c.into_inner-act.ensures
+    let noted : PartNoted c.args.act input me.running.now c.take_on.new.running =
+    subst (λ (a : Act). PartNoted a input me.running.now c.take_on.new.running) c.into_inner-act.ensures
     (subst (λ (p : Progress). PartNoted c.into_inner-act.result input p c.take_on.new.running) c.answer.ensures.run
     c.in_err-step.ensures.cut) in
     refused (λ r. GoesOn by context c.args.fetching c.args.act old r new) c.from_residual-in_err-step.result

@@ -3,7 +3,7 @@ use Rattle.wf_run.specs.Runs.{fetched}
 use Rattle.wf_wire.specs.Wires.{over_link, window_of}
 use Rattle.wf_player.specs.Parts.{PlaysUnended}
 use Rattle.wf_player.specs.Standings.{standing}
-use Rattle.wf_player.proofs.AskLemmas.{end-left, on-ok, refused, same-terms}
+use Rattle.wf_player.proofs.AskLemmas.{end-left, on-ok, refused, run-to, same-terms}
 use Rattle.wf_player.proofs.AskingLemmas.{fault-came, fetch-cut, outcome-came}
 use Rattle.wf_player.proofs.player.Player.request.Goals as goal
 
@@ -12,7 +12,7 @@ returns-in-Err-clause-came g c =
     let me = c.args.self.now in
     let seen = standing {R = g.row.R.Denot} {S = g.row.S.Denot} g.S.Share.account g.L.Link.told in
     fault-came (over_link g.L.Link.serves) c.args.kind c.args.made c.in-Err.fault c.fault_event.result (seen me)
-    (seen (record me { running = c.show.new.self })) c.show.result c.in-Err.is c.fault_event.ensures refl refl
+    (seen (run-to me c.show.new.self)) c.show.result c.in-Err.is c.fault_event.ensures refl refl
     c.show.ensures.ok c.show.ensures.err c.requires.rests
 
 pub returns-in_err-outcome-in-Ok-clause-came : goal.returns-in_err-outcome-in-Ok-clause-came
@@ -35,6 +35,6 @@ returns-in_ok-outcome-in-Ok-clause-came g c =
     c.now-now.ensures.now c.in_ok-outcome-in-Ok.ensures.came
     (same-terms g.S.Share.account g.S.Share.belongs c.fetch.new.self last c.end_fetch.ensures.kept)
     c.end_fetch.ensures.outside c.end_fetch.ensures.ended
-    (on-ok c.end_fetch.result (λ it. end-left (window_of last.wire) (g.L.Link.told last.link.now).left it.1.end)
+    (on-ok c.end_fetch.result (λ it. end-left (window_of last.wire.now) (g.L.Link.told last.link.now).left it.1.end)
     c.end_fetch.ensures.ended)
     c.end_fetch.ensures.unshown

@@ -1,0 +1,58 @@
+use Rattle.std.proofs.Common.{◌≡◌, ap, arith, refl, rules, ◌∙◌}
+use Rattle.wf_link.specs.Sources.{IsAtEnd}
+use Rattle.wf_run.specs.Runs.{Progress, beginning, finished, script_run}
+use Rattle.wf_wire.specs.Wires.{over_link, window_of}
+use Rattle.wf_player.specs.Playing.{Came}
+use Rattle.wf_player.specs.Standings.{KeepsPass, most_calls, setting_of, standing}
+use Rattle.wf_player.specs.Worlds.{outside, outside_of, world_of}
+use Rattle.wf_player.proofs.AskLemmas.{both-moved, end-left, keeps-pass, moved, outside-is}
+use Rattle.wf_player.proofs.RunLemmas.{run-rests, script-came}
+use Rattle.wf_player.proofs.document.play_script.Goals as goal
+
+pub script-requires-clause-goes : goal.script-requires-clause-goes
+script-requires-clause-goes g c κs within = record {
+  calls = omega (arith, c.requires.pass.1, ap (λ (p : Progress). p.fetches) c.new-running.ensures);
+  fetches = omega (arith, ap (λ (p : Progress). p.fetches) c.new-running.ensures);
+  rests = end-left (window_of c.args.wire.now) (g.L.Link.told c.args.link.now).left c.requires.idle.end;
+}
+
+pub returns-clause-came : goal.returns-clause-came
+returns-clause-came g c =
+    let last = c.script.new.self in
+    let shown : c.into_events.result ≡ last.running.now.shown = search rules in
+    let ticks : c.now-clock.result ≡ last.running.now.clock = search rules in
+    both-moved (λ p l. Came (over_link g.L.Link.serves) c.args.lent.now.limit
+    (g.S.Share.account c.args.pass.now).document
+    (script_run (setting_of c.args.lent.now) c.args.script.now finished (beginning c.args.base))
+    (outside g.S.Share.account g.L.Link.told c.args.pass.now c.args.link.now) c.into_events.result
+    c.ended_by-ending.result c.now-clock.result (outside g.S.Share.account g.L.Link.told p l)) last.pass.now _
+    last.link.now _ (search rules) (search rules)
+    (script-came (over_link g.L.Link.serves) c.args.script.now c.args.base
+    (record {
+      terms = record { lent = setting_of c.args.lent.now; limit = c.args.lent.now.limit; document = (g.S.Share.account c.args.pass.now).document };
+      world = world_of g.S.Share.account g.L.Link.told c.args.pass.now c.args.link.now c.args.wire.now;
+      progress = c.new-running.result;
+    })
+    (standing g.S.Share.account g.L.Link.told last)
+    (outside g.S.Share.account g.L.Link.told c.args.pass.now c.args.link.now)
+    (outside g.S.Share.account g.L.Link.told last.pass.now last.link.now) c.script.result c.into_events.result
+    c.ended_by-ending.result c.now-clock.result c.new-running.ensures c.requires.idle refl refl shown c.ended_by-ending.ensures
+    ticks c.script.ensures.came)
+
+pub returns-clause-rests : goal.returns-clause-rests
+returns-clause-rests g c = λ told.
+    moved (λ l. IsAtEnd (g.L.Link.told l).left) c.script.new.self.link.now _ (search rules)
+    (run-rests (over_link g.L.Link.serves) (λ lent. script_run lent c.args.script.now) _
+    (standing g.S.Share.account g.L.Link.told c.script.new.self) c.script.result c.script.ensures.came
+    (λ bad. told (c.ended_by-ending.ensures ∙ bad)))
+
+pub returns-clause-pass : goal.returns-clause-pass
+returns-clause-pass g c =
+    moved (λ p. KeepsPass g.S.Share.account (g.S.Share.belongs c.args.lent.now.share.now) most_calls c.args.pass.now p)
+    c.script.new.self.pass.now _ (search rules)
+    (keeps-pass g.S.Share.account g.S.Share.belongs _ c.script.new.self most_calls c.script.ensures.kept (omega (
+      arith,
+      c.script.ensures.spent.calls,
+      c.script.ensures.spent.fetches,
+      ap (λ (p : Progress). p.fetches) c.new-running.ensures,
+    )))
