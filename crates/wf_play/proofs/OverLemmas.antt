@@ -80,7 +80,7 @@ module _ {L State : Type 0} (by : Answering State) (told : L → Told State) (sc
         opened = opened;
         took = took;
         play = unseated.are_so;
-        told = told-faults by scenario base history placed counted shown unseated.are_so.runs;
+        tells = told-faults by scenario base history placed counted shown unseated.are_so.runs;
         counted = counted-faults by told scenario base history placed counted shown old new (links_in seats)
             unseated.back transcripts took unseated.are_so.runs;
       }

@@ -22,21 +22,34 @@ use Rattle.wf_run.proofs.PlayLemmas.{play-map}
 use Rattle.wf_scenario.specs.declared.document.Document.{Document}
 use Rattle.wf_scenario.specs.declared.scenario.Scenario.{Scenario}
 use Rattle.wf_scenario.specs.declared.servers.Server.{Server}
-use Rattle.wf_sim.specs.Sim.{SimState, answer_to, fault_count, told_counts}
+use Rattle.wf_sim.specs.Sim.{SimState, answer_to, fault_count, told_asks, told_counts}
 use Rattle.wf_sim.proofs.SimLemmas.{answers-by_parts}
 use Rattle.wf_wire.specs.Exchanges.{Answering, Exchange}
 use Rattle.wf_wire.specs.Wires.{over_link}
 use Rattle.wf_wire.proofs.LawLemmas.{exchange-alike}
 use Rattle.wf_player.specs.Playing.{Ran}
 use Rattle.wf_player.specs.Worlds.{Answers, Outside, Settles, World}
-use Rattle.wf_link.specs.Links.{IsTold}
+use Rattle.wf_link.specs.Links.{IsTold, Serves, Told}
 use Rattle.wf_link.specs.declared.target.Route.{Route}
 use Rattle.wf_play.specs.Links.{IsPlayOverLinks, Maker, way_of}
 use Rattle.wf_iso.specs.Plays.{IsPlay, IsTranscript, RunsOver, Way, by_rules, outside_on}
 
+-- what a link to the servers answers, and what it tells
+abbrev pub sim_serves : Serves (List Server)
+sim_serves = record { answer = answer_to; next = λ servers _ _. servers }
+
+abbrev pub sim_told : SimState → Told (List Server)
+sim_told link = record {
+  state = Some link.servers;
+  left = Some link.left;
+  asks = told_asks;
+  received = told_counts;
+  faults = fault_count;
+}
+
 -- the servers as a link has them
 abbrev pub by_bytes : Answering (List Server)
-by_bytes = over_link answer_to (λ servers _ _. servers)
+by_bytes = over_link sim_serves
 
 -- what the link answers to a request that has no space in its method and its target the rules answer
 answered : (limit document : ℕ) (a : World (List Server)) (first : Act) (input : Input) (b : World (List Server))
@@ -179,11 +192,10 @@ transcripts-by-rules scenario base history {number} (EachDocument.one_more {docu
 pub scripted-play : (scenario : Scenario) (transcripts : List Transcript) (history : List Entry) (link : SimState)
     (old new : Maker SimState) → link.servers ≡ scenario.servers
     → ((k number : ℕ) (by : List Route) → old.opening k number by ≡ Some link)
-    → IsPlayOverLinks by_bytes (λ (l : SimState). Some l.servers) (λ (l : SimState). told_counts)
-    (λ (l : SimState). fault_count) old new scenario scenario.now transcripts history → IsPlay scenario transcripts history
+    → IsPlayOverLinks by_bytes sim_told old new scenario scenario.now transcripts history
+    → IsPlay scenario transcripts history
 scripted-play scenario transcripts history link old new servers opens x =
-    let way : SimState → Way (List Server) = way_of (λ (l : SimState). Some l.servers)
-    (λ (l : SimState). told_counts) (λ (l : SimState). fault_count) in
+    let way : SimState → Way (List Server) = way_of sim_told in
     record {
       legal = x.play.legal;
       turns = x.play.turns;

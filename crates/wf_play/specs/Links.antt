@@ -66,25 +66,23 @@ pub record HasTakenBack {L State : Type 0} (told : L → Told State) (old new : 
 -- A play over links as they were made for the documents, one for each, and as they were taken back. Each document's
 -- outcomes show the faults of its tape, and its link's count rose by just as many. The count of what made the links
 -- rose by as many as all tapes have, at least.
-pub record IsPlayOverLinks {L State : Type 0} (by : Answering State) (told : L → Told State) (old new : Maker L) (scenario : Scenario) (base : ℕ)
-    (transcripts : List Transcript) (history : List Entry) : Type 0 where
+pub record IsPlayOverLinks {L State : Type 0} (by : Answering State) (told : L → Told State) (old new : Maker L)
+    (scenario : Scenario) (base : ℕ) (transcripts : List Transcript) (history : List Entry) : Type 0 where
   pub made : List L
   pub back : List L
   pub opened : AreOpened (for_documents old.opening scenario.routes) made
   pub took : TookBack told old new back
-  pub play : IsPlayOver by scenario base (map (way_of told) made)
-      (map (way_of told) back) transcripts history
-  pub told : AllAreTold play.runs
+  pub play : IsPlayOver by scenario base (map (way_of told) made) (map (way_of told) back) transcripts history
+  pub tells : AllAreTold play.runs
   pub counted : grown_by old.faults (all_faults play.runs) ≤ new.faults
 
 -- A play that was refused, over links as they were made for documents, at most one for each, and as they were taken
 -- back, in the same order: each link came back as it was made; or each document was played, over one legal history.
-pub record WasRefused {L State : Type 0} (by : Answering State) (told : L → Told State) (old new : Maker L) (scenario : Scenario) (base : ℕ)
-    : Type 0 where
+pub record WasRefused {L State : Type 0} (by : Answering State) (told : L → Told State) (old new : Maker L)
+    (scenario : Scenario) (base : ℕ) : Type 0 where
   pub made : List L
   pub back : List L
   pub opened : AreOpened (for_documents old.opening scenario.routes) made
   pub few : length made ≤ length scenario.documents
   pub took : TookBack told old new back
-  pub left : NoneOrAllPlayed by scenario base (map (way_of told) made)
-      (map (way_of told) back)
+  pub left : NoneOrAllPlayed by scenario base (map (way_of told) made) (map (way_of told) back)

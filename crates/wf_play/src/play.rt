@@ -47,10 +47,10 @@ fn play_seated<R: Threads + Wait + Sync, N: Links>(
     requires ready { AreReady book.table.shared.table_id scenario.now passes.items seats.items }
     requires room { vec_len seats + vec_len passes ≤ vec_capacity passes }
     ensures played { IfOk result (λ played. AreUnseated N.Link.told (N.lent links.old)
-        (N.lent links.new) (N.told links.old).faults (N.told links.new).faults seats.items (λ olds news. IsPlayOver
+        (N.lent links.new) (N.faults links.old) (N.faults links.new) seats.items (λ olds news. IsPlayOver
         (over_link N.Link.serves) scenario.entry.now base olds news played.transcripts played.history)) }
     ensures refused { OnErr result (AreUnseated N.Link.told (N.lent links.old)
-        (N.lent links.new) (N.told links.old).faults (N.told links.new).faults seats.items
+        (N.lent links.new) (N.faults links.old) (N.faults links.new) seats.items
         (NoneOrAllPlayed (over_link N.Link.serves) scenario.entry.now base)) }
     ensures has_text { IfOk result (λ played. HasText played.transcripts) }
 {
@@ -85,10 +85,10 @@ pub fn play_over<R: Threads + Wait + Sync, N: Links>(
 ) -> Result<Played, OutOfMemory>
     requires valid { IsValid scenario.now }
     requires base { base ≤ 2 ^ 40 }
-    ensures played { IfOk result (λ played. IsPlayOverLinks (over_link N.Link.serves) N.Link.told (maker_of N.opening N.lent (N.told links.old).faults)
-        (maker_of N.opening N.lent (N.told links.new).faults) scenario.entry.now base played.transcripts played.history) }
-    ensures refused { OnErr result (WasRefused (over_link N.Link.serves) N.Link.told (maker_of N.opening N.lent (N.told links.old).faults) (maker_of N.opening N.lent (N.told links.new).faults)
-        scenario.entry.now base) }
+    ensures played { IfOk result (λ played. IsPlayOverLinks (over_link N.Link.serves) N.Link.told
+        (maker_of N.opening N.lent N.faults links.old) (maker_of N.opening N.lent N.faults links.new) scenario.entry.now base played.transcripts played.history) }
+    ensures refused { OnErr result (WasRefused (over_link N.Link.serves) N.Link.told
+        (maker_of N.opening N.lent N.faults links.old) (maker_of N.opening N.lent N.faults links.new) scenario.entry.now base) }
     ensures has_text { IfOk result (λ played. HasText played.transcripts) }
 {
     law_faults_shown();

@@ -1,5 +1,6 @@
 // The seats of the documents: each has a pass of the shared book, and a link.
 ghost use Rattle.std.specs.Prelude.{◌≡◌, ◌≤◌, ◌+◌, ◌++◌, [], length, map, option_map, vec_capacity, vec_len, OnOk};
+ghost use Rattle.wf_link.specs.Links.{faults_told};
 ghost use Rattle.wf_play.specs.Links.{AreOpened, for_documents, grown_by_all};
 ghost use Rattle.wf_play.specs.Private.Lendings.{AreTaken, out_more};
 ghost use Rattle.wf_play.specs.Private.Seated.{links_in};
@@ -26,7 +27,7 @@ pub(crate) fn seat_all<N: Links>(
         (map (λ s. s.link) seats.new.items) }
     ensures few { length seats.new.items ≤ vec_len passes }
     ensures out { N.lent links.new ≡ option_map (out_more (length seats.new.items)) (N.lent links.old) }
-    ensures faults { (N.told links.new).faults ≡ (N.told links.old).faults }
+    ensures faults { N.faults links.new ≡ N.faults links.old }
 {
     let mut number = 0u32;
     for pass in passes {
@@ -47,7 +48,8 @@ pub(crate) fn unseat<N: Links>(
     ensures passes { passes.new.items ≡ passes.old.items ++ map (λ s. s.pass) seats.items }
     ensures room { vec_capacity passes.new ≡ vec_capacity passes.old }
     ensures back { AreTaken (N.lent links.old) (N.lent links.new) (links_in seats.items) }
-    ensures faults { (N.told links.new).faults ≡ grown_by_all (N.told links.old).faults (map (faults_told N.Link.told) (links_in seats.items)) }
+    ensures faults { N.faults links.new
+        ≡ grown_by_all (N.faults links.old) (map (faults_told N.Link.told) (links_in seats.items)) }
 {
     for seating in seats {
         let Seating { pass, link } = seating;
