@@ -567,12 +567,12 @@ pub answers : {L State : Type 0} (by : Answering State) (told : L → Told State
     → Answers by told words input input' output output' c c' net net' answer
 answers by told words input input' output output' c c' net net' answer a =
     let asked = subcommand_of words in
-    let told = told-answer c c' a.verdict answer a.is_told in
+    let was = told-answer c c' a.verdict answer a.is_told in
     record {
       is_answer = a;
       usage = λ is. not_accepted-of by told net net' asked input input' output output' a.verdict
           (told-same c c' a.verdict answer a.is_told (λ h. usage_write (sym is ∙ h)) ∙ is) a.is_verdict;
-      not_accepted = λ no_words. elim told [
+      not_accepted = λ no_words. elim was [
         | inl e ↦ inl (e ∙ usage-of by told net net' asked input input' output output' a.verdict no_words
             a.is_verdict)
         | inr x ↦ inr x
@@ -595,12 +595,12 @@ answers by told words input input' output output' c c' net net' answer a =
           let v = verdict-at by told net net' asked (Some Over) input input' output output' a.verdict is
           a.is_verdict in
           left-back by told net net' v.played.bytes input' a.verdict v.left;
-      write_fault = λ is. elim told [
+      write_fault = λ is. elim was [
         | inl e ↦ inl (verdict-write by told net net' asked input input' output output' a.verdict (sym e ∙ is)
             a.is_verdict)
         | inr x ↦ inr x.1
       ];
-      told = told-line c c' a.verdict answer a.is_told;
+      complained = told-line c c' a.verdict answer a.is_told;
     }
   where
     usage_write : status.Usage ≡ status.WriteFault → ⊥

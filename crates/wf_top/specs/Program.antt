@@ -294,5 +294,5 @@ pub record Answers {L State : Type 0} (by : Answering State) (told : L → Told 
   -- WriteFault only where a sink failed or took nothing
   pub write_fault : answer ≡ status.WriteFault → Failed output output' ⊎ Failed complaints complaints'
   -- another answer than Ok and WriteFault is told by its whole line
-  pub told : answer ≢ status.Ok → answer ≢ status.WriteFault
+  pub complained : answer ≢ status.Ok → answer ≢ status.WriteFault
       → Took complaints.taken complaints'.taken (complaint answer)
