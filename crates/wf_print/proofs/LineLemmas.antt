@@ -1,12 +1,11 @@
 -- What loops over headers, events, transcripts and entries come to.
-use Rattle.std.proofs.Common.{◌<◌, ◌+◌, add-one, get_or, length, take, ◌≡◌, ℕ, List, [], ◌∷◌, ◌++◌, drop, zero, suc}
+use Rattle.std.proofs.Common.{length, take, ◌≡◌, ℕ, List, [], ◌∷◌, ◌++◌, drop, zero, suc}
 use Rattle.std.proofs.Common.{◌==◌, true, ap, arith, refl, sym, ◌∙◌, codes, option_map, Some}
 use Rattle.std.specs.List.{flat_map, slice_get}
-use Rattle.std.proofs.Math.Seq.{take-suc}
-use Rattle.std.proofs.lemmas.List.{append-nil, take-append-drop}
+use Rattle.std.proofs.lemmas.List.{take-append-drop}
 use Rattle.std.proofs.lemmas.List.Concat.{flat_map-append}
 use Rattle.wf_headers.specs.declared.headers.Header.{Header}
-use Rattle.wf_print.specs.Text.{escaped_line, header_lines}
+use Rattle.wf_events.specs.Lines.{escaped_line, header_lines}
 
 -- the header at an index, and those after it
 pub header_lines-drop : (headers : List Header) (i : ℕ) (name value : List ℕ)
@@ -25,17 +24,6 @@ header_lines-drop (header ∷ headers) (suc i) name value n v = header_lines-dro
 pub flat_map-split : {X : Type 0} (f : X → List ℕ) (xs : List X) (i : ℕ) → flat_map f xs ≡ flat_map f (take i xs)
     ++ flat_map f (drop i xs)
 flat_map-split f xs i = ap (λ l. flat_map f l) (sym (take-append-drop i xs)) ∙ flat_map-append f (take i xs) (drop i xs)
-
--- the text of one item more
-pub flat_map-take : {X : Type 0} (f : X → List ℕ) (xs : List X) (i : ℕ) (x : X) → i < length xs → x ≡ get_or xs i x
-    → flat_map f (take (i + 1) xs) ≡ flat_map f (take i xs) ++ f x
-flat_map-take f xs i x h is =
-    rw (
-      add-one,
-      take-suc xs i x h,
-      flat_map-append f (take i xs) (get_or xs i x ∷ []),
-      append-nil (f (get_or xs i x)),
-    ) (ap (λ y. flat_map f (take i xs) ++ f y) (sym is))
 
 -- the text of the items at the front, and those of the others
 pub flat_map-cut : {X : Type 0} (f : X → List ℕ) (xs first others : List X) (text : List ℕ) → xs ≡ first ++ others

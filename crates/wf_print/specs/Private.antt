@@ -1,4 +1,2 @@
 pub mod Kinds
-pub mod LengthLaws
-pub mod Longer
 pub mod Writes

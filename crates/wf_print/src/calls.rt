@@ -1,12 +1,11 @@
 ghost use Rattle.std.specs.Prelude.{◌≡◌, ◌++◌, codes, OnOk};
-ghost use Rattle.wf_print.specs.Calls as spec;
+ghost use Rattle.wf_events.specs.Calls as spec;
 
 use crate::lines::add_number;
-use crate::output::Output;
 use wf_book::{Op, Reply};
 use wf_hsts::Sts;
 use wf_precache::{Lesson, Question};
-use wf_text::Bytes;
+use wf_text::{Bytes, OutOfMemory};
 
 // What an operation replied.
 fn reply_text(reply: Reply) -> &'static [u8]
@@ -34,24 +33,24 @@ fn subdomains_text(subdomains: bool) -> &'static [u8]
 }
 
 // Adds texts, each after a comma.
-fn add_comma_texts<W: Output>(text: &mut W, texts: &[Bytes]) -> Result<(), W::Error>
-    ensures { OnOk result (text.new ≡ W.after text.old (spec.comma_texts texts.now)) }
+fn add_comma_texts(text: &mut Bytes, texts: &[Bytes]) -> Result<(), OutOfMemory>
+    ensures { OnOk result (text.new ≡ text.old ++ spec.comma_texts texts.now) }
 {
     for item in texts {
-        text.add(b",")?;
-        text.add(item.as_slice())?;
+        text.append(b",")?;
+        text.append(item.as_slice())?;
     }
     Ok(())
 }
 
 // Adds a list of texts.
-fn add_list<W: Output>(text: &mut W, texts: &[Bytes]) -> Result<(), W::Error>
-    ensures { OnOk result (text.new ≡ W.after text.old (spec.list_text texts.now)) }
+fn add_list(text: &mut Bytes, texts: &[Bytes]) -> Result<(), OutOfMemory>
+    ensures { OnOk result (text.new ≡ text.old ++ spec.list_text texts.now) }
 {
     let Some((first, others)) = texts.split_first() else {
-        return text.add(b"()");
+        return text.append(b"()");
     };
-    text.add(first.as_slice())?;
+    text.append(first.as_slice())?;
     add_comma_texts(text, others)
 }
 
@@ -66,100 +65,100 @@ fn method_text(method: &Option<Bytes>) -> &[u8]
 }
 
 // Adds a word and the space after it.
-fn add_word<W: Output>(text: &mut W, word: &[u8]) -> Result<(), W::Error>
-    ensures { OnOk result (text.new ≡ W.after text.old (word.now ++ codes " ")) }
+fn add_word(text: &mut Bytes, word: &[u8]) -> Result<(), OutOfMemory>
+    ensures { OnOk result (text.new ≡ text.old ++ (word.now ++ codes " ")) }
 {
-    text.add(word)?;
-    text.add(b" ")
+    text.append(word)?;
+    text.append(b" ")
 }
 
 // Adds what a Strict-Transport-Security field said.
-fn add_sts<W: Output>(text: &mut W, sts: &Sts) -> Result<(), W::Error>
-    ensures { OnOk result (text.new ≡ W.after text.old (spec.sts_text sts.now)) }
+fn add_sts(text: &mut Bytes, sts: &Sts) -> Result<(), OutOfMemory>
+    ensures { OnOk result (text.new ≡ text.old ++ spec.sts_text sts.now) }
 {
     add_number(text, sts.age)?;
-    text.add(b" ")?;
-    text.add(subdomains_text(sts.subdomains))
+    text.append(b" ")?;
+    text.append(subdomains_text(sts.subdomains))
 }
 
 // Adds what a request would need of the preflight cache.
-fn add_question<W: Output>(text: &mut W, question: &Question) -> Result<(), W::Error>
-    ensures { OnOk result (text.new ≡ W.after text.old (spec.question_text question.now)) }
+fn add_question(text: &mut Bytes, question: &Question) -> Result<(), OutOfMemory>
+    ensures { OnOk result (text.new ≡ text.old ++ spec.question_text question.now) }
 {
     add_word(text, question.key.as_slice())?;
     add_word(text, question.origin.as_slice())?;
     add_word(text, credentials_text(question.include))?;
     add_word(text, method_text(&question.method))?;
     add_list(text, question.names.as_slice())?;
-    text.add(b" ")?;
-    text.add(question.url.as_slice())
+    text.append(b" ")?;
+    text.append(question.url.as_slice())
 }
 
 // Adds what a preflight taught.
-fn add_lesson<W: Output>(text: &mut W, lesson: &Lesson) -> Result<(), W::Error>
-    ensures { OnOk result (text.new ≡ W.after text.old (spec.lesson_text lesson.now)) }
+fn add_lesson(text: &mut Bytes, lesson: &Lesson) -> Result<(), OutOfMemory>
+    ensures { OnOk result (text.new ≡ text.old ++ spec.lesson_text lesson.now) }
 {
     add_word(text, lesson.key.as_slice())?;
     add_word(text, lesson.origin.as_slice())?;
     add_word(text, credentials_text(lesson.include))?;
     add_number(text, lesson.age)?;
-    text.add(b" ")?;
+    text.append(b" ")?;
     add_list(text, lesson.methods.as_slice())?;
-    text.add(b" ")?;
+    text.append(b" ")?;
     add_list(text, lesson.names.as_slice())?;
-    text.add(b" ")?;
-    text.add(lesson.url.as_slice())
+    text.append(b" ")?;
+    text.append(lesson.url.as_slice())
 }
 
 // Adds the time of an operation.
-fn add_time<W: Output>(text: &mut W, now: u64) -> Result<(), W::Error>
-    ensures { OnOk result (text.new ≡ W.after text.old (spec.time_text now)) }
+fn add_time(text: &mut Bytes, now: u64) -> Result<(), OutOfMemory>
+    ensures { OnOk result (text.new ≡ text.old ++ spec.time_text now) }
 {
-    text.add(b" at ")?;
+    text.append(b" at ")?;
     add_number(text, now)
 }
 
 // Adds an operation and its time.
-fn add_op<W: Output>(text: &mut W, op: &Op) -> Result<(), W::Error>
-    ensures { OnOk result (text.new ≡ W.after text.old (spec.op_text op.now)) }
+fn add_op(text: &mut Bytes, op: &Op) -> Result<(), OutOfMemory>
+    ensures { OnOk result (text.new ≡ text.old ++ spec.op_text op.now) }
 {
     match op {
         Op::Match(host, now) => {
-            text.add(b"match ")?;
-            text.add(host.as_slice())?;
+            text.append(b"match ")?;
+            text.append(host.as_slice())?;
             add_time(text, *now)
         }
         Op::Note(host, sts, now) => {
-            text.add(b"note ")?;
+            text.append(b"note ")?;
             add_word(text, host.as_slice())?;
             add_sts(text, sts)?;
             add_time(text, *now)
         }
         Op::Covers(question, now) => {
-            text.add(b"covers ")?;
+            text.append(b"covers ")?;
             add_question(text, question)?;
             add_time(text, *now)
         }
         Op::Learn(lesson, now) => {
-            text.add(b"learn ")?;
+            text.append(b"learn ")?;
             add_lesson(text, lesson)?;
             add_time(text, *now)
         }
         Op::Clear(key, origin, url, now) => {
-            text.add(b"clear ")?;
+            text.append(b"clear ")?;
             add_word(text, key.as_slice())?;
             add_word(text, origin.as_slice())?;
-            text.add(url.as_slice())?;
+            text.append(url.as_slice())?;
             add_time(text, *now)
         }
     }
 }
 
 // Adds an operation, and what it replied.
-pub(crate) fn add_call<W: Output>(text: &mut W, op: &Op, reply: Reply) -> Result<(), W::Error>
-    ensures { OnOk result (text.new ≡ W.after text.old (spec.call_text op.now reply)) }
+pub(crate) fn add_call(text: &mut Bytes, op: &Op, reply: Reply) -> Result<(), OutOfMemory>
+    ensures { OnOk result (text.new ≡ text.old ++ spec.call_text op.now reply) }
 {
     add_op(text, op)?;
-    text.add(b": ")?;
-    text.add(reply_text(reply))
+    text.append(b": ")?;
+    text.append(reply_text(reply))
 }

@@ -1,31 +1,13 @@
 ghost use Rattle.std.specs.Prelude.{◌≡◌, ◌<◌, ◌++◌, OnOk};
-ghost use Rattle.std.specs.List.{list_all, prefix_len};
+ghost use Rattle.std.specs.List.{prefix_len};
 ghost use Rattle.std.specs.Char.{digit_char};
-ghost use Rattle.wf_print.specs.Escapes as spec;
+ghost use Rattle.wf_events.specs.Escapes as spec;
 
-use crate::output::Output;
+use wf_events::{are_plain, is_plain};
+use wf_text::{Bytes, OutOfMemory};
 
 // How many bytes are looked at together.
 const BLOCK: usize = 512;
-
-// Whether the byte is written as it is in an escaped text.
-fn is_plain(byte: u8) -> bool
-    ensures { result ≡ spec.is_plain byte }
-{
-    (0x20..=0x7e).contains(&byte) & (byte != b'\\')
-}
-
-// Whether each byte is written as it is. It looks at all of them, so that it is compiled to steps on many
-// bytes at once.
-fn are_plain(bytes: &[u8]) -> bool
-    ensures { result ≡ list_all spec.is_plain bytes.now }
-{
-    let mut plain = true;
-    for byte in bytes {
-        plain &= is_plain(*byte);
-    }
-    plain
-}
 
 // How many bytes at the front are written as they are.
 fn plain_len(bytes: &[u8]) -> usize
@@ -59,35 +41,35 @@ fn hex_escape(byte: u8) -> [u8; 4]
 }
 
 // Adds a piece, escaped. Bytes that are not changed are added a run at a time.
-fn add_runs<W: Output>(text: &mut W, piece: &[u8]) -> Result<(), W::Error>
-    ensures { OnOk result (text.new ≡ W.after text.old (spec.escaped piece.now)) }
+fn add_runs(text: &mut Bytes, piece: &[u8]) -> Result<(), OutOfMemory>
+    ensures { OnOk result (text.new ≡ text.old ++ spec.escaped piece.now) }
 {
     let mut rest = piece;
     loop {
         let (plain, others) = rest.split_at(plain_len(rest));
-        text.add(plain)?;
+        text.append(plain)?;
         let Some((byte, after)) = others.split_first() else {
             return Ok(());
         };
-        text.add(&hex_escape(*byte))?;
+        text.append(&hex_escape(*byte))?;
         rest = after;
     }
 }
 
 // Adds a block, escaped: as it is, where each of its bytes is written as it is.
-fn add_block<W: Output>(text: &mut W, block: &[u8]) -> Result<(), W::Error>
-    ensures { OnOk result (text.new ≡ W.after text.old (spec.escaped block.now)) }
+fn add_block(text: &mut Bytes, block: &[u8]) -> Result<(), OutOfMemory>
+    ensures { OnOk result (text.new ≡ text.old ++ spec.escaped block.now) }
 {
     if are_plain(block) {
-        text.add(block)
+        text.append(block)
     } else {
         add_runs(text, block)
     }
 }
 
 // Adds a piece, escaped, a block at a time.
-pub(crate) fn add_escaped<W: Output>(text: &mut W, piece: &[u8]) -> Result<(), W::Error>
-    ensures { OnOk result (text.new ≡ W.after text.old (spec.escaped piece.now)) }
+pub(crate) fn add_escaped(text: &mut Bytes, piece: &[u8]) -> Result<(), OutOfMemory>
+    ensures { OnOk result (text.new ≡ text.old ++ spec.escaped piece.now) }
 {
     let mut rest = piece;
     while !rest.is_empty() {

@@ -1,29 +1,28 @@
-ghost use Rattle.std.specs.Prelude.{◌≡◌, IfOk, OnOk};
+ghost use Rattle.std.specs.Prelude.{◌≡◌, ◌++◌, IfOk, OnOk};
 ghost use Rattle.std.specs.List.{flat_map};
 ghost use Rattle.wf_print.specs.Text as spec;
 
 use crate::calls::add_call;
 use crate::lines::add_number;
-use crate::output::Output;
 use std::alloc::Global;
 use wf_book::Entry;
 use wf_text::{Bytes, OutOfMemory};
 
 // Adds an entry of the history.
-fn add_entry<W: Output>(text: &mut W, entry: &Entry) -> Result<(), W::Error>
-    ensures { OnOk result (text.new ≡ W.after text.old (spec.entry_line entry.now)) }
+fn add_entry(text: &mut Bytes, entry: &Entry) -> Result<(), OutOfMemory>
+    ensures { OnOk result (text.new ≡ text.old ++ spec.entry_line entry.now) }
 {
     add_number(text, entry.turn)?;
-    text.add(b" ")?;
+    text.append(b" ")?;
     add_number(text, entry.document)?;
-    text.add(b" ")?;
+    text.append(b" ")?;
     add_call(text, &entry.op, entry.reply)?;
-    text.add(b"\n")
+    text.append(b"\n")
 }
 
 // Adds entries of the history.
-fn add_entries<W: Output>(text: &mut W, entries: &[Entry]) -> Result<(), W::Error>
-    ensures { OnOk result (text.new ≡ W.after text.old (flat_map spec.entry_line entries.now)) }
+fn add_entries(text: &mut Bytes, entries: &[Entry]) -> Result<(), OutOfMemory>
+    ensures { OnOk result (text.new ≡ text.old ++ flat_map spec.entry_line entries.now) }
 {
     for entry in entries {
         add_entry(text, entry)?;

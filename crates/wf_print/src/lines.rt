@@ -1,51 +1,50 @@
 ghost use Rattle.std.specs.Prelude.{◌≡◌, ◌++◌, codes, decimal, length, OnOk};
 ghost use Rattle.std.specs.List.{flat_map};
-ghost use Rattle.wf_print.specs.Calls.{call_text};
-ghost use Rattle.wf_print.specs.Escapes.{escaped};
+ghost use Rattle.wf_events.specs.Calls.{call_text};
+ghost use Rattle.wf_events.specs.Escapes.{escaped};
 ghost use Rattle.wf_types.specs.Names.{destination_name};
-ghost use Rattle.wf_print.specs.Text as spec;
+ghost use Rattle.wf_events.specs.Lines as spec;
 
 use crate::calls::add_call;
 use crate::escape::add_escaped;
-use crate::events::Event;
-use crate::output::Output;
 use itoa::{Buffer, Integer};
 use wf_book::{Op, Reply};
+use wf_events::Event;
 use wf_headers::{Header, HeaderList};
-use wf_text::Bytes;
+use wf_text::{Bytes, OutOfMemory};
 use wf_types::{BodyEnd, Destination, Hop, NetError, Outcome, Response, TypeFault, Violation};
 
 // Adds a number in decimal.
-pub(crate) fn add_number<W: Output, I: Integer>(text: &mut W, number: I) -> Result<(), W::Error>
-    ensures { OnOk result (text.new ≡ W.after text.old (I.text number)) }
+pub(crate) fn add_number<I: Integer>(text: &mut Bytes, number: I) -> Result<(), OutOfMemory>
+    ensures { OnOk result (text.new ≡ text.old ++ I.text number) }
 {
     let mut buffer = Buffer::new();
-    text.add(buffer.format(number).as_bytes())
+    text.append(buffer.format(number).as_bytes())
 }
 
 // Adds a line that ends with a number.
-fn add_number_line<W: Output>(text: &mut W, label: &[u8], number: u32) -> Result<(), W::Error>
-    ensures { OnOk result (text.new ≡ W.after text.old (spec.line (label.now ++ decimal number))) }
+fn add_number_line(text: &mut Bytes, label: &[u8], number: u32) -> Result<(), OutOfMemory>
+    ensures { OnOk result (text.new ≡ text.old ++ spec.line (label.now ++ decimal number)) }
 {
-    text.add(label)?;
+    text.append(label)?;
     add_number(text, number)?;
-    text.add(b"\n")
+    text.append(b"\n")
 }
 
 // Adds a header as a line.
-fn add_header<W: Output>(text: &mut W, name: &[u8], value: &[u8]) -> Result<(), W::Error>
-    ensures { OnOk result (text.new ≡ W.after text.old (spec.escaped_line (name.now ++ codes ": " ++ value.now))) }
+fn add_header(text: &mut Bytes, name: &[u8], value: &[u8]) -> Result<(), OutOfMemory>
+    ensures { OnOk result (text.new ≡ text.old ++ spec.escaped_line (name.now ++ codes ": " ++ value.now)) }
 {
-    text.add(b"  ")?;
+    text.append(b"  ")?;
     add_escaped(text, name)?;
-    text.add(b": ")?;
+    text.append(b": ")?;
     add_escaped(text, value)?;
-    text.add(b"\n")
+    text.append(b"\n")
 }
 
 // Adds the lines of a header list.
-fn add_headers<W: Output>(text: &mut W, headers: &HeaderList) -> Result<(), W::Error>
-    ensures { OnOk result (text.new ≡ W.after text.old (spec.header_lines headers.now)) }
+fn add_headers(text: &mut Bytes, headers: &HeaderList) -> Result<(), OutOfMemory>
+    ensures { OnOk result (text.new ≡ text.old ++ spec.header_lines headers.now) }
 {
     for index in 0..headers.len() {
         add_header(text, headers.name_at(index), headers.value_at(index))?;
@@ -54,26 +53,26 @@ fn add_headers<W: Output>(text: &mut W, headers: &HeaderList) -> Result<(), W::E
 }
 
 // Adds the length of a body and its bytes.
-fn add_body<W: Output>(text: &mut W, body: &Bytes) -> Result<(), W::Error>
-    ensures { OnOk result (text.new ≡ W.after text.old (spec.body_text body.now)) }
+fn add_body(text: &mut Bytes, body: &Bytes) -> Result<(), OutOfMemory>
+    ensures { OnOk result (text.new ≡ text.old ++ spec.body_text body.now) }
 {
     add_number(text, body.len())?;
-    text.add(b": ")?;
+    text.append(b": ")?;
     add_escaped(text, body.as_slice())
 }
 
 // Adds a line that ends with a body.
-fn add_body_line<W: Output>(text: &mut W, label: &[u8], body: &Bytes) -> Result<(), W::Error>
-    ensures { OnOk result (text.new ≡ W.after text.old (spec.line (label.now ++ spec.body_text body.now))) }
+fn add_body_line(text: &mut Bytes, label: &[u8], body: &Bytes) -> Result<(), OutOfMemory>
+    ensures { OnOk result (text.new ≡ text.old ++ spec.line (label.now ++ spec.body_text body.now)) }
 {
-    text.add(label)?;
+    text.append(label)?;
     add_body(text, body)?;
-    text.add(b"\n")
+    text.append(b"\n")
 }
 
 // Adds the line of a request's body, where there is one.
-fn add_request_body<W: Output>(text: &mut W, body: &Option<Bytes>) -> Result<(), W::Error>
-    ensures { OnOk result (text.new ≡ W.after text.old (spec.request_body_lines body.now)) }
+fn add_request_body(text: &mut Bytes, body: &Option<Bytes>) -> Result<(), OutOfMemory>
+    ensures { OnOk result (text.new ≡ text.old ++ spec.request_body_lines body.now) }
 {
     match body {
         None => Ok(()),
@@ -82,23 +81,23 @@ fn add_request_body<W: Output>(text: &mut W, body: &Option<Bytes>) -> Result<(),
 }
 
 // Adds the request line.
-fn add_request_line<W: Output>(text: &mut W, hop: &Hop) -> Result<(), W::Error>
-    ensures { OnOk result (text.new ≡ W.after text.old (spec.escaped_line (spec.request_line hop.now))) }
+fn add_request_line(text: &mut Bytes, hop: &Hop) -> Result<(), OutOfMemory>
+    ensures { OnOk result (text.new ≡ text.old ++ spec.escaped_line (spec.request_line hop.now)) }
 {
-    text.add(b"  ")?;
+    text.append(b"  ")?;
     add_escaped(text, hop.method.as_slice())?;
-    text.add(b" ")?;
+    text.append(b" ")?;
     add_escaped(text, hop.url.as_slice())?;
-    text.add(b" HTTP/1.1\n")
+    text.append(b" HTTP/1.1\n")
 }
 
 // Adds a request that was sent.
-fn add_hop<W: Output>(text: &mut W, hop: &Hop) -> Result<(), W::Error>
-    ensures { OnOk result (text.new ≡ W.after text.old (spec.hop_lines hop.now)) }
+fn add_hop(text: &mut Bytes, hop: &Hop) -> Result<(), OutOfMemory>
+    ensures { OnOk result (text.new ≡ text.old ++ spec.hop_lines hop.now) }
 {
-    text.add(b"send ")?;
-    text.add(hop.origin.as_slice())?;
-    text.add(b"\n")?;
+    text.append(b"send ")?;
+    text.append(hop.origin.as_slice())?;
+    text.append(b"\n")?;
     add_request_line(text, hop)?;
     add_headers(text, &hop.headers)?;
     add_request_body(text, &hop.body)
@@ -112,139 +111,139 @@ fn disposition(enforced: bool) -> &'static [u8]
 }
 
 // Adds a violation.
-fn add_violation<W: Output>(text: &mut W, violation: &Violation) -> Result<(), W::Error>
-    ensures { OnOk result (text.new ≡ W.after text.old (spec.violation_line violation.now)) }
+fn add_violation(text: &mut Bytes, violation: &Violation) -> Result<(), OutOfMemory>
+    ensures { OnOk result (text.new ≡ text.old ++ spec.violation_line violation.now) }
 {
-    text.add(b"violation ")?;
+    text.append(b"violation ")?;
     add_number(text, violation.policy)?;
-    text.add(b" ")?;
-    text.add(disposition(violation.enforced))?;
-    text.add(b" ")?;
-    text.add(violation.directive.name().as_bytes())?;
-    text.add(b" ")?;
-    text.add(violation.url.as_slice())?;
-    text.add(b"\n")
+    text.append(b" ")?;
+    text.append(disposition(violation.enforced))?;
+    text.append(b" ")?;
+    text.append(violation.directive.name().as_bytes())?;
+    text.append(b" ")?;
+    text.append(violation.url.as_slice())?;
+    text.append(b"\n")
 }
 
 // Adds the line of a response's body.
-fn add_body_end<W: Output>(text: &mut W, body: &BodyEnd) -> Result<(), W::Error>
-    ensures { OnOk result (text.new ≡ W.after text.old (spec.body_line body.now)) }
+fn add_body_end(text: &mut Bytes, body: &BodyEnd) -> Result<(), OutOfMemory>
+    ensures { OnOk result (text.new ≡ text.old ++ spec.body_line body.now) }
 {
     match body {
-        BodyEnd::Null => text.add(b"  body none\n"),
+        BodyEnd::Null => text.append(b"  body none\n"),
         BodyEnd::Whole(bytes) => add_body_line(text, b"  body whole ", bytes),
         BodyEnd::Cut(count) => add_number_line(text, b"  body cut ", *count),
         BodyEnd::Fault(count) => add_number_line(text, b"  body fault ", *count),
-        BodyEnd::TooBig => text.add(b"  body toobig\n"),
+        BodyEnd::TooBig => text.append(b"  body toobig\n"),
     }
 }
 
 // Adds the URL of a response.
-fn add_url<W: Output>(text: &mut W, url: &Option<Bytes>) -> Result<(), W::Error>
-    ensures { OnOk result (text.new ≡ W.after text.old (spec.url_text url.now)) }
+fn add_url(text: &mut Bytes, url: &Option<Bytes>) -> Result<(), OutOfMemory>
+    ensures { OnOk result (text.new ≡ text.old ++ spec.url_text url.now) }
 {
     match url {
-        None => text.add(b"()"),
-        Some(url) => text.add(url.as_slice()),
+        None => text.append(b"()"),
+        Some(url) => text.append(url.as_slice()),
     }
 }
 
 // Adds a response.
-fn add_response<W: Output>(text: &mut W, response: &Response) -> Result<(), W::Error>
-    ensures { OnOk result (text.new ≡ W.after text.old (spec.response_lines response.now)) }
+fn add_response(text: &mut Bytes, response: &Response) -> Result<(), OutOfMemory>
+    ensures { OnOk result (text.new ≡ text.old ++ spec.response_lines response.now) }
 {
-    text.add(b"result ")?;
-    text.add(response.kind.name().as_bytes())?;
-    text.add(b" ")?;
+    text.append(b"result ")?;
+    text.append(response.kind.name().as_bytes())?;
+    text.append(b" ")?;
     add_number(text, response.status)?;
-    text.add(b" ")?;
+    text.append(b" ")?;
     add_url(text, &response.url)?;
-    text.add(b"\n")?;
+    text.append(b"\n")?;
     add_headers(text, &response.headers)?;
     add_body_end(text, &response.body)
 }
 
 // Adds a network error.
-fn add_error<W: Output>(text: &mut W, error: &NetError) -> Result<(), W::Error>
-    ensures { OnOk result (text.new ≡ W.after text.old (spec.error_text error.now)) }
+fn add_error(text: &mut Bytes, error: &NetError) -> Result<(), OutOfMemory>
+    ensures { OnOk result (text.new ≡ text.old ++ spec.error_text error.now) }
 {
     add_number(text, error.number())?;
-    text.add(b" ")?;
-    text.add(error.name().as_bytes())?;
+    text.append(b" ")?;
+    text.append(error.name().as_bytes())?;
     if let NetError::PreflightHeader(name) = error {
-        text.add(b" ")?;
-        text.add(name.as_slice())?;
+        text.append(b" ")?;
+        text.append(name.as_slice())?;
     }
     Ok(())
 }
 
 // Adds a line that ends with a network error.
-fn add_error_line<W: Output>(text: &mut W, label: &[u8], error: &NetError) -> Result<(), W::Error>
-    ensures { OnOk result (text.new ≡ W.after text.old (spec.line (label.now ++ spec.error_text error.now))) }
+fn add_error_line(text: &mut Bytes, label: &[u8], error: &NetError) -> Result<(), OutOfMemory>
+    ensures { OnOk result (text.new ≡ text.old ++ spec.line (label.now ++ spec.error_text error.now)) }
 {
-    text.add(label)?;
+    text.append(label)?;
     add_error(text, error)?;
-    text.add(b"\n")
+    text.append(b"\n")
 }
 
 // Adds a fault of a request.
-fn add_fault<W: Output>(text: &mut W, fault: TypeFault) -> Result<(), W::Error>
-    ensures { OnOk result (text.new ≡ W.after text.old (spec.fault_text fault)) }
+fn add_fault(text: &mut Bytes, fault: TypeFault) -> Result<(), OutOfMemory>
+    ensures { OnOk result (text.new ≡ text.old ++ spec.fault_text fault) }
 {
     add_number(text, fault.number())?;
-    text.add(b" ")?;
-    text.add(fault.name().as_bytes())?;
+    text.append(b" ")?;
+    text.append(fault.name().as_bytes())?;
     if let TypeFault::BadHeader(index) = fault {
-        text.add(b" ")?;
+        text.append(b" ")?;
         add_number(text, index)?;
     }
     Ok(())
 }
 
 // Adds a line that ends with a fault of a request.
-fn add_fault_line<W: Output>(text: &mut W, label: &[u8], fault: TypeFault) -> Result<(), W::Error>
-    ensures { OnOk result (text.new ≡ W.after text.old (spec.line (label.now ++ spec.fault_text fault))) }
+fn add_fault_line(text: &mut Bytes, label: &[u8], fault: TypeFault) -> Result<(), OutOfMemory>
+    ensures { OnOk result (text.new ≡ text.old ++ spec.line (label.now ++ spec.fault_text fault)) }
 {
-    text.add(label)?;
+    text.append(label)?;
     add_fault(text, fault)?;
-    text.add(b"\n")
+    text.append(b"\n")
 }
 
 // Adds what a fetch came to.
-fn add_outcome<W: Output>(text: &mut W, outcome: &Outcome) -> Result<(), W::Error>
-    ensures { OnOk result (text.new ≡ W.after text.old (spec.outcome_lines outcome.now)) }
+fn add_outcome(text: &mut Bytes, outcome: &Outcome) -> Result<(), OutOfMemory>
+    ensures { OnOk result (text.new ≡ text.old ++ spec.outcome_lines outcome.now) }
 {
     match outcome {
         Outcome::Answer(response) => add_response(text, response),
-        Outcome::Loaded => text.add(b"result loaded\n"),
+        Outcome::Loaded => text.append(b"result loaded\n"),
         Outcome::Error(error) => add_error_line(text, b"result error ", error),
     }
 }
 
 // Adds the start of a load.
-fn add_load<W: Output>(text: &mut W, number: u32, destination: Destination) -> Result<(), W::Error>
-    ensures { OnOk result (text.new ≡ W.after text.old
-        (spec.line (codes "load " ++ decimal number ++ codes " " ++ destination_name destination))) }
+fn add_load(text: &mut Bytes, number: u32, destination: Destination) -> Result<(), OutOfMemory>
+    ensures { OnOk result (text.new ≡ text.old
+        ++ spec.line (codes "load " ++ decimal number ++ codes " " ++ destination_name destination)) }
 {
-    text.add(b"load ")?;
+    text.append(b"load ")?;
     add_number(text, number)?;
-    text.add(b" ")?;
-    text.add(destination.name().as_bytes())?;
-    text.add(b"\n")
+    text.append(b" ")?;
+    text.append(destination.name().as_bytes())?;
+    text.append(b"\n")
 }
 
 // Adds an operation on the shared book.
-fn add_call_line<W: Output>(text: &mut W, op: &Op, reply: Reply) -> Result<(), W::Error>
-    ensures { OnOk result (text.new ≡ W.after text.old (spec.line (codes "call " ++ call_text op.now reply))) }
+fn add_call_line(text: &mut Bytes, op: &Op, reply: Reply) -> Result<(), OutOfMemory>
+    ensures { OnOk result (text.new ≡ text.old ++ spec.line (codes "call " ++ call_text op.now reply)) }
 {
-    text.add(b"call ")?;
+    text.append(b"call ")?;
     add_call(text, op, reply)?;
-    text.add(b"\n")
+    text.append(b"\n")
 }
 
 // Adds the lines of an event.
-pub(crate) fn add_event<W: Output>(text: &mut W, event: &Event) -> Result<(), W::Error>
-    ensures { OnOk result (text.new ≡ W.after text.old (spec.event_text event.now)) }
+pub(crate) fn add_event(text: &mut Bytes, event: &Event) -> Result<(), OutOfMemory>
+    ensures { OnOk result (text.new ≡ text.old ++ spec.event_text event.now) }
 {
     match event {
         Event::Fetch(number) => add_number_line(text, b"fetch ", *number),

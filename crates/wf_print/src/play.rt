@@ -2,16 +2,16 @@ ghost use Rattle.std.specs.Prelude.{◌≡◌, ◌≤◌, ◌++◌, ◌↔◌, I
 ghost use Rattle.std.specs.List.{flat_map};
 ghost use Rattle.wf_link.specs.Counts.{Rose};
 ghost use Rattle.wf_link.specs.Sinks.{Took, TookPart};
+ghost use Rattle.wf_events.specs.Lines.{event_text};
 ghost use Rattle.wf_print.specs.Text as spec;
 ghost use Rattle.wf_print.specs.Private.Writes.{Writes};
 
-use crate::events::{Ending, Event, Transcript, Transcripts};
 use crate::failure::Failure;
 use crate::history::text_of_entries;
 use crate::lines::{add_event, add_number};
-use crate::output::Output;
 use std::alloc::Global;
 use wf_book::{Entry, History};
+use wf_events::{Ending, Event, Transcript, Transcripts};
 use wf_link::{Sink, write_whole};
 use wf_text::{Bytes, OutOfMemory};
 
@@ -33,8 +33,8 @@ fn add_ending(text: &mut Bytes, ending: Ending) -> Result<(), OutOfMemory>
 }
 
 // Adds the lines of the events.
-fn add_events<W: Output>(text: &mut W, events: &[Event]) -> Result<(), W::Error>
-    ensures { OnOk result (text.new ≡ W.after text.old (flat_map spec.event_text events.now)) }
+fn add_events(text: &mut Bytes, events: &[Event]) -> Result<(), OutOfMemory>
+    ensures { OnOk result (text.new ≡ text.old ++ flat_map event_text events.now) }
 {
     for event in events {
         add_event(text, event)?;

@@ -4,15 +4,16 @@ ghost use Rattle.wf_link.specs.Sinks.{Took, TookPart};
 ghost use Rattle.wf_print.specs.Private.Kinds.{is_of};
 ghost use Rattle.wf_print.specs.Private.Writes.{Writes};
 ghost use Rattle.wf_print.specs.Summary as spec;
-ghost use Rattle.wf_print.specs.Text.{HasText, line};
+ghost use Rattle.wf_events.specs.Lines.{line};
+ghost use Rattle.wf_print.specs.Text.{HasText};
 
-use crate::events::{Event, Transcript, Transcripts};
 use crate::failure::Failure;
 use crate::lines::add_number;
 use crate::play::put;
 use itoa::Integer;
 use std::alloc::Global;
 use wf_book::{Entry, History};
+use wf_events::{Event, Transcript, Transcripts};
 use wf_link::Sink;
 use wf_text::{Bytes, OutOfMemory};
 use wf_types::Outcome;

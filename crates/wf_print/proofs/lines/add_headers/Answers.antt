@@ -1,13 +1,13 @@
 use Rattle.std.proofs.Common.{add-one, ◌++◌, codes}
-use Rattle.wf_print.specs.Text as spec
+use Rattle.wf_events.specs.Lines as spec
+use Rattle.wf_print.proofs.AppendLemmas.{one_added}
 use Rattle.wf_print.proofs.LineLemmas.{header_lines-drop}
-use Rattle.wf_print.proofs.OutputLemmas.{one_added}
 use Rattle.wf_print.proofs.lines.add_headers.Goals as goal
 
 pub loop-index-preserved : goal.loop-index-preserved
-loop-index-preserved g c =
+loop-index-preserved c =
     rw add-one
-    (one_added g.W.Output.after g.met.W.Output.after_after _ _ _ _
-    (spec.escaped_line (c.name_at.result.now ++ codes ": " ++ c.value_at.result.now)) _ c.loop-index.invariant
+    (one_added _ _ _ _ (spec.escaped_line (c.name_at.result.now ++ codes ": " ++ c.value_at.result.now)) _
+    c.loop-index.invariant
     (header_lines-drop c.args.headers.now c.loop-index.index c.name_at.result.now c.value_at.result.now
     c.name_at.ensures c.value_at.ensures) c.in_ok-add_header.ensures)

@@ -1,8 +1,7 @@
-use Rattle.std.proofs.Common.{◌≡◌, drop}
-use Rattle.wf_print.specs.Text as spec
+use Rattle.std.proofs.Common.{◌≡◌, ◌++◌, drop}
+use Rattle.wf_events.specs.Lines as spec
 use Rattle.wf_print.proofs.lines.add_headers.Given as goal
 
 abbrev pub invariant-loop-index : goal.invariant-loop-index
-invariant-loop-index g l =
-    g.W.Output.after l.text (spec.header_lines (drop l.index l.headers))
-    ≡ g.W.Output.after l.fn.text (spec.header_lines l.headers)
+invariant-loop-index l =
+    l.text ++ spec.header_lines (drop l.index l.headers) ≡ l.fn.text ++ spec.header_lines l.headers

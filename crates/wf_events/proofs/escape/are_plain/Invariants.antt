@@ -1,7 +1,7 @@
 use Rattle.std.proofs.Common.{◌≡◌, ◌&&◌, drop}
 use Rattle.std.specs.List.{list_all}
-use Rattle.wf_print.specs.Escapes as spec
-use Rattle.wf_print.proofs.escape.are_plain.Given as goal
+use Rattle.wf_events.specs.Escapes as spec
+use Rattle.wf_events.proofs.escape.are_plain.Given as goal
 
 abbrev pub invariant-loop-byte : goal.invariant-loop-byte
 invariant-loop-byte l =

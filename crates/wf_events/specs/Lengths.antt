@@ -1,7 +1,7 @@
 -- Lengths of printed texts, up to the greatest number of 64 bits (the text limit of a document).
 use Rattle.std.specs.Prelude.{ℕ, ◌-◌, ◌^◌, length, min}
-use Rattle.wf_print.specs.declared.events.Event.{Event}
-use Rattle.wf_print.specs.Text.{event_text}
+use Rattle.wf_events.specs.declared.events.Event.{Event}
+use Rattle.wf_events.specs.Lines.{event_text}
 
 -- a length as far as 64 bits tell it
 abbrev pub capped : ℕ → ℕ
