@@ -22,8 +22,8 @@ use Rattle.wf_http1.specs.RequestHeads.{HasOneReading, IsRead}
 use Rattle.wf_http1.specs.Requests.{request_bytes}
 use Rattle.wf_http1.specs.declared.request_head.Asked.{Asked}
 use Rattle.wf_wire.specs.Exchanges.{Answering, HasNoHead}
-use Rattle.wf_print.specs.declared.events.Event.{Event}
-use Rattle.wf_print.specs.declared.events.Event.TheVariants as event
+use Rattle.wf_events.specs.declared.events.Event.{Event}
+use Rattle.wf_events.specs.declared.events.Event.TheVariants as event
 use Rattle.wf_player.specs.Worlds.{World}
 use Rattle.wf_server.specs.declared.table.Row.{Row}
 use Rattle.wf_server.specs.Tables.{lists, row_of}

@@ -28,8 +28,8 @@ use Rattle.wf_http1.specs.Bodies.{body_end}
 use Rattle.wf_http1.specs.Framings.{framing_of}
 use Rattle.wf_wire.specs.Exchanges.{Answering, AreToCome, Exchange, FindsBody, FindsHead, HasHead, HasNoHead}
 use Rattle.wf_wire.specs.Exchanges.{IsAnswered, is_fault}
-use Rattle.wf_print.specs.declared.events.Event.{Event}
-use Rattle.wf_print.specs.declared.events.Event.TheVariants as event
+use Rattle.wf_events.specs.declared.events.Event.{Event}
+use Rattle.wf_events.specs.declared.events.Event.TheVariants as event
 use Rattle.wf_run.specs.Play.{events_of}
 use Rattle.wf_player.specs.Driving.{LeadsOn}
 use Rattle.wf_player.specs.Worlds.{Answers, World}

@@ -44,8 +44,8 @@ use Rattle.wf_http1.specs.RequestHeads.{IsRead}
 use Rattle.wf_http1.specs.Requests.{request_bytes}
 use Rattle.wf_http1.specs.declared.request_head.Asked.{Asked}
 use Rattle.wf_wire.specs.Exchanges.{Answering, is_fault}
-use Rattle.wf_print.specs.declared.events.Event.{Event}
-use Rattle.wf_print.specs.declared.events.Event.TheVariants.{Sent}
+use Rattle.wf_events.specs.declared.events.Event.{Event}
+use Rattle.wf_events.specs.declared.events.Event.TheVariants.{Sent}
 use Rattle.wf_player.specs.Driving.{LeadsOn}
 use Rattle.wf_player.specs.Worlds.{World}
 use Rattle.wf_server.specs.Reading.{may_be_listed, most_in_line, table_of}

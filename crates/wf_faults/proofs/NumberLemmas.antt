@@ -13,7 +13,7 @@ use Rattle.wf_act.specs.declared.act.Input.{Input}
 use Rattle.wf_act.specs.declared.act.Input.TheVariants.{BodyIs, Fault}
 use Rattle.wf_act.specs.Process.{fits}
 use Rattle.wf_wire.specs.Exchanges.{is_fault}
-use Rattle.wf_print.specs.declared.events.Event.{Event}
+use Rattle.wf_events.specs.declared.events.Event.{Event}
 use Rattle.wf_run.specs.Play.{Play, PlayRun, emit, events_of, over, run_play, step}
 use Rattle.wf_run.specs.Runs.{document_run}
 use Rattle.wf_faults.specs.Failures.{Failure, IsBrokenAt, IsOnlyOne, ShowsFailure, broken, failure_in, is_broken}

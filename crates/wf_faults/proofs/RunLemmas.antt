@@ -5,7 +5,7 @@ use Rattle.wf_types.specs.declared.policy.Destination.{Destination}
 use Rattle.wf_types.specs.declared.policy.Destination.TheVariants as destination
 use Rattle.wf_types.specs.declared.response.Outcome.{Outcome}
 use Rattle.wf_types.specs.declared.response.Outcome.TheVariants as outcome
-use Rattle.wf_print.specs.declared.events.Event.{Event}
+use Rattle.wf_events.specs.declared.events.Event.{Event}
 use Rattle.wf_act.specs.Process.{Process, act, ended}
 use Rattle.wf_fetch.specs.Fetch.{fetch}
 use Rattle.wf_run.specs.Play.{Play, emit, events_of}

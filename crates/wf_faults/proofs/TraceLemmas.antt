@@ -10,10 +10,10 @@ use Rattle.wf_link.specs.Counts.{counted_on, grown_by, one_more}
 use Rattle.wf_wire.specs.Exchanges.{Answering, Exchange, IsCaused, is_fault}
 use Rattle.wf_wire.proofs.WireLemmas.{uncaused}
 use Rattle.wf_types.specs.declared.client.Cookie.{Cookie}
-use Rattle.wf_print.specs.declared.events.Ending.{Ending}
-use Rattle.wf_print.specs.declared.events.Ending.TheVariants as ending
-use Rattle.wf_print.specs.declared.events.Event.{Event}
-use Rattle.wf_print.specs.declared.events.Event.TheVariants as event
+use Rattle.wf_events.specs.declared.events.Ending.{Ending}
+use Rattle.wf_events.specs.declared.events.Ending.TheVariants as ending
+use Rattle.wf_events.specs.declared.events.Event.{Event}
+use Rattle.wf_events.specs.declared.events.Event.TheVariants as event
 use Rattle.wf_scenario.specs.declared.document.Document.{Document}
 use Rattle.wf_run.specs.Play.{Play, PlayRun, emit, over, run_play, step}
 use Rattle.wf_run.specs.Runs.{document_run}

@@ -4,8 +4,8 @@ use Rattle.std.specs.Prelude.{◌≡◌, ℕ, ◌+◌, ◌≤◌, List, Some, No
 use Rattle.wf_act.specs.declared.act.Input.{Input}
 use Rattle.wf_types.specs.declared.client.Cookie.{Cookie}
 use Rattle.wf_link.specs.Counts.{counted_on, grown_by}
-use Rattle.wf_print.specs.declared.events.Ending.{Ending}
-use Rattle.wf_print.specs.declared.events.Event.{Event}
+use Rattle.wf_events.specs.declared.events.Ending.{Ending}
+use Rattle.wf_events.specs.declared.events.Event.{Event}
 use Rattle.wf_scenario.specs.declared.document.Document.{Document}
 use Rattle.wf_run.specs.Play.{Play, PlayRun, run_play}
 use Rattle.wf_run.specs.Runs.{document_run}

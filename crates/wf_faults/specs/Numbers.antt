@@ -5,8 +5,8 @@ use Rattle.wf_types.specs.declared.response.Outcome.{Outcome}
 use Rattle.wf_act.specs.declared.act.Input.{Input}
 use Rattle.wf_act.specs.Process.{fits}
 use Rattle.wf_wire.specs.Exchanges.{is_fault}
-use Rattle.wf_print.specs.declared.events.Ending.{Ending}
-use Rattle.wf_print.specs.declared.events.Event.{Event}
+use Rattle.wf_events.specs.declared.events.Ending.{Ending}
+use Rattle.wf_events.specs.declared.events.Event.{Event}
 use Rattle.wf_run.specs.Play.{Play, emit, over, step}
 use Rattle.wf_faults.specs.Places.{outcome_of}
 

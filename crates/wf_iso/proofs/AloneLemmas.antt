@@ -11,7 +11,7 @@ use Rattle.wf_act.specs.declared.act.Act.TheVariants.{Ask}
 use Rattle.wf_act.specs.declared.act.Input.{Input}
 use Rattle.wf_act.specs.declared.act.Input.TheVariants.{Replied}
 use Rattle.wf_act.specs.Process.{fits}
-use Rattle.wf_print.specs.declared.events.Event.{Event}
+use Rattle.wf_events.specs.declared.events.Event.{Event}
 use Rattle.wf_laws.specs.Apart.{Made, calls_on, replies_on, views_from, with_call, woven}
 use Rattle.wf_laws.specs.Blind.{GoesBlind}
 use Rattle.wf_laws.specs.Seen.{seen, sent_by}

@@ -24,8 +24,8 @@ use Rattle.wf_commands.specs.Scripts.{Step, Steps}
 use Rattle.wf_commands.specs.Scripts as script
 use Rattle.wf_commands.specs.Valid.{AreValid, IsValidStep}
 use Rattle.wf_scenario.specs.declared.document.Document.{Document}
-use Rattle.wf_print.specs.declared.events.Ending.TheVariants.{Commands}
-use Rattle.wf_print.specs.declared.events.Event.{Event}
+use Rattle.wf_events.specs.declared.events.Ending.TheVariants.{Commands}
+use Rattle.wf_events.specs.declared.events.Event.{Event}
 use Rattle.wf_fetch.specs.Fetch.{fetch}
 use Rattle.wf_fetch.specs.Then.{Context}
 use Rattle.wf_laws.specs.Apart.{Made, Plan, calls_on, does, stops, with_call}

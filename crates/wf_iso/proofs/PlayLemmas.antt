@@ -9,9 +9,9 @@ use Rattle.wf_book.specs.Past.{PastsAnswer}
 use Rattle.wf_act.specs.declared.act.Act.{Act}
 use Rattle.wf_act.specs.declared.act.Act.TheVariants.{Ask, Send, ReadHead, ReadBody, Tell}
 use Rattle.wf_act.specs.declared.act.Input.{Input}
-use Rattle.wf_print.specs.declared.events.Event.{Event}
-use Rattle.wf_print.specs.declared.events.Event.TheVariants as event
-use Rattle.wf_print.specs.declared.events.Transcript.{Transcript}
+use Rattle.wf_events.specs.declared.events.Event.{Event}
+use Rattle.wf_events.specs.declared.events.Event.TheVariants as event
+use Rattle.wf_events.specs.declared.events.Transcript.{Transcript}
 use Rattle.wf_scenario.specs.declared.document.Document.{Document}
 use Rattle.wf_scenario.specs.declared.scenario.Scenario.{Scenario}
 use Rattle.wf_laws.specs.Apart.{Made, views_on}

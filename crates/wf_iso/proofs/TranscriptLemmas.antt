@@ -2,8 +2,8 @@
 use Rattle.std.proofs.Common.{None, ◌≡◌, ◌+◌, ℕ, List, [], ◌∷◌, Some, map, refl, ap, sym, ◌∙◌}
 use Rattle.wf_book.specs.declared.entry.Entry.{Entry}
 use Rattle.wf_http1.specs.HeadLaws.{HasOneEnd}
-use Rattle.wf_print.specs.declared.events.Ending.{Ending}
-use Rattle.wf_print.specs.declared.events.Transcript.{Transcript}
+use Rattle.wf_events.specs.declared.events.Ending.{Ending}
+use Rattle.wf_events.specs.declared.events.Transcript.{Transcript}
 use Rattle.wf_scenario.specs.declared.document.Document.{Document}
 use Rattle.wf_scenario.specs.declared.scenario.Scenario.{Scenario}
 use Rattle.wf_scenario.specs.declared.servers.Server.{Server}

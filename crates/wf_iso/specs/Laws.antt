@@ -10,7 +10,7 @@ use Rattle.wf_book.specs.Entries.{Legal}
 use Rattle.wf_book.specs.Ops.{InRange}
 use Rattle.wf_book.specs.Past.{is_of_key}
 use Rattle.wf_commands.specs.Valid.{AreValid}
-use Rattle.wf_print.specs.declared.events.Transcript.{Transcript}
+use Rattle.wf_events.specs.declared.events.Transcript.{Transcript}
 use Rattle.wf_run.specs.Play.{Play, run_play}
 use Rattle.wf_run.specs.Runs.{document_client, document_run}
 use Rattle.wf_scenario.specs.declared.document.Document.{Document}

@@ -8,9 +8,9 @@ use Rattle.wf_book.specs.declared.entry.Entry.{Entry}
 use Rattle.wf_book.specs.declared.op.Op.TheVariants.{Note}
 use Rattle.wf_book.specs.Book.{after, empty}
 use Rattle.wf_book.specs.Entries.{Legal, entries_of}
-use Rattle.wf_print.specs.declared.events.Ending.{Ending}
-use Rattle.wf_print.specs.declared.events.Event.{Event}
-use Rattle.wf_print.specs.declared.events.Transcript.{Transcript}
+use Rattle.wf_events.specs.declared.events.Ending.{Ending}
+use Rattle.wf_events.specs.declared.events.Event.{Event}
+use Rattle.wf_events.specs.declared.events.Transcript.{Transcript}
 use Rattle.wf_scenario.specs.declared.document.Document.{Document}
 use Rattle.wf_scenario.specs.declared.hosts.KnownHost.{KnownHost}
 use Rattle.wf_scenario.specs.declared.scenario.Scenario.{Scenario}

@@ -2,7 +2,7 @@
 use Rattle.std.proofs.Common.{◌≡◌, ℕ, ◌+◌, ◌≤◌, List, [], map, Option, arith, ap, sym, ◌∙◌}
 use Rattle.wf_book.specs.declared.entry.Entry.{Entry}
 use Rattle.wf_link.specs.Counts.{counted_on, grown_by}
-use Rattle.wf_print.specs.declared.events.Transcript.{Transcript}
+use Rattle.wf_events.specs.declared.events.Transcript.{Transcript}
 use Rattle.wf_run.specs.Documents.{EachDocument}
 use Rattle.wf_run.specs.Runs.{document_run}
 use Rattle.wf_scenario.specs.declared.document.Document.{Document}

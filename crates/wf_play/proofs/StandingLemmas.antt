@@ -10,10 +10,10 @@ use Rattle.wf_act.specs.declared.act.Act.TheVariants.{Ask, Send, ReadHead, ReadB
 use Rattle.wf_act.specs.declared.act.Input.{Input}
 use Rattle.wf_book.specs.declared.entry.Entry.{Entry}
 use Rattle.wf_book.specs.Entries.{entries_of}
-use Rattle.wf_print.specs.declared.events.Ending.{Ending}
-use Rattle.wf_print.specs.declared.events.Event.{Event}
-use Rattle.wf_print.specs.declared.events.Event.TheVariants as event
-use Rattle.wf_print.specs.declared.events.Transcript.{Transcript}
+use Rattle.wf_events.specs.declared.events.Ending.{Ending}
+use Rattle.wf_events.specs.declared.events.Event.{Event}
+use Rattle.wf_events.specs.declared.events.Event.TheVariants as event
+use Rattle.wf_events.specs.declared.events.Transcript.{Transcript}
 use Rattle.wf_run.specs.Documents.{EachDocument}
 use Rattle.wf_run.specs.Play.{Play}
 use Rattle.wf_run.specs.Runs.{document_run}

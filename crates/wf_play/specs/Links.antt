@@ -4,7 +4,7 @@ use Rattle.wf_book.specs.declared.entry.Entry.{Entry}
 use Rattle.wf_link.specs.Counts.{grown_by}
 use Rattle.wf_link.specs.Links.{IsTold, Lent, Told, faults_told}
 use Rattle.wf_link.specs.declared.target.Route.{Route}
-use Rattle.wf_print.specs.declared.events.Transcript.{Transcript}
+use Rattle.wf_events.specs.declared.events.Transcript.{Transcript}
 use Rattle.wf_scenario.specs.declared.scenario.Scenario.{Scenario}
 use Rattle.wf_wire.specs.Exchanges.{Answering}
 use Rattle.wf_iso.specs.Plays.{IsPlayOver, Way}

@@ -5,9 +5,9 @@ use Rattle.std.specs.Prelude.{⊤, nat_le, IfOk}
 use Rattle.wf_commands.specs.Scripts.{Step, fetch as fetch_step, load as load_step}
 use Rattle.wf_fetch.specs.Fetch.{fetch}
 use Rattle.wf_link.specs.Sources.{IsAtEnd}
-use Rattle.wf_print.specs.declared.events.Ending.{Ending}
-use Rattle.wf_print.specs.declared.events.Ending.TheVariants.{Commands, Memory}
-use Rattle.wf_print.specs.declared.events.Event.{Event}
+use Rattle.wf_events.specs.declared.events.Ending.{Ending}
+use Rattle.wf_events.specs.declared.events.Ending.TheVariants.{Commands, Memory}
+use Rattle.wf_events.specs.declared.events.Event.{Event}
 use Rattle.wf_run.specs.Filling.{is_plain, with_cut_body}
 use Rattle.wf_run.specs.Play.{Play}
 use Rattle.wf_run.specs.Runs.{Next, Progress, Setting, after_events, asked, at_time, embed, fault_event, fetch_started}

@@ -21,7 +21,7 @@ use Rattle.wf_laws.specs.Laws.{most_asks}
 use Rattle.wf_laws.specs.Own.{IsOwnAct}
 use Rattle.wf_laws.specs.Prices.{fetch_price, level_price, levels}
 use Rattle.wf_laws.proofs.OwnLemmas.{asks-at-most, fetch-within}
-use Rattle.wf_print.specs.declared.events.Event.{Event}
+use Rattle.wf_events.specs.declared.events.Event.{Event}
 use Rattle.wf_run.specs.Play.{events_of}
 use Rattle.wf_run.specs.Runs.{Progress, after_events, at_time}
 use Rattle.wf_types.specs.declared.request.Request.{Request}

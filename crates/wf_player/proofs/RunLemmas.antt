@@ -7,9 +7,9 @@ use Rattle.wf_act.specs.declared.act.Input.{Input}
 use Rattle.wf_commands.specs.Scripts.{Steps}
 use Rattle.wf_csp_text.specs.declared.policy.Policy.{Policy}
 use Rattle.wf_link.specs.Sources.{IsAtEnd}
-use Rattle.wf_print.specs.declared.events.Ending.{Ending}
-use Rattle.wf_print.specs.declared.events.Ending.TheVariants.{Commands, Fetches, Finished, Memory, Text}
-use Rattle.wf_print.specs.declared.events.Event.{Event}
+use Rattle.wf_events.specs.declared.events.Ending.{Ending}
+use Rattle.wf_events.specs.declared.events.Ending.TheVariants.{Commands, Fetches, Finished, Memory, Text}
+use Rattle.wf_events.specs.declared.events.Event.{Event}
 use Rattle.wf_run.specs.Play.{Play, PlayRun, over, run_play}
 use Rattle.wf_run.specs.Runs.{Next, Progress, beginning, document_client, document_run, finished, script_run, setting}
 use Rattle.wf_run.specs.Traces.{stop}

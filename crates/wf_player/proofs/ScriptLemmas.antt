@@ -13,8 +13,8 @@ use Rattle.wf_commands.specs.Scripts.{Step, Steps}
 use Rattle.wf_commands.specs.Scripts as script
 use Rattle.wf_commands.specs.Valid.{AreValid, IsValidStep}
 use Rattle.wf_link.specs.Sources.{IsAtEnd}
-use Rattle.wf_print.specs.declared.events.Ending.{Ending}
-use Rattle.wf_print.specs.declared.events.Ending.TheVariants.{Commands, Fetches, Memory, Text}
+use Rattle.wf_events.specs.declared.events.Ending.{Ending}
+use Rattle.wf_events.specs.declared.events.Ending.TheVariants.{Commands, Fetches, Memory, Text}
 use Rattle.wf_run.specs.Play.{over}
 use Rattle.wf_run.specs.Results.{holds}
 use Rattle.wf_run.specs.Runs.{Next, Progress, Setting, chosen, command_started, last_of, limit_before}

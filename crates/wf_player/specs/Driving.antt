@@ -4,7 +4,7 @@ use Rattle.wf_text.specs.declared.memory.OutOfMemory.{OutOfMemory}
 use Rattle.wf_act.specs.declared.act.Input.{Input}
 use Rattle.wf_act.specs.Process.{Process, ended}
 use Rattle.wf_act.specs.Traces.{Driven, Trace, with_events}
-use Rattle.wf_print.specs.declared.events.Event.{Event}
+use Rattle.wf_events.specs.declared.events.Event.{Event}
 use Rattle.wf_run.specs.Play.{events_of}
 use Rattle.wf_run.specs.Runs.{after_events}
 use Rattle.wf_types.specs.declared.response.Outcome.{Outcome}

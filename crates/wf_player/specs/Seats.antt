@@ -5,8 +5,8 @@ use Rattle.std.specs.List.{All, range_with_len}
 use Rattle.wf_book.specs.Accounts.{Account}
 use Rattle.wf_book.specs.declared.book.Book.{Book}
 use Rattle.wf_link.specs.Links.{Told}
-use Rattle.wf_print.specs.declared.events.Ending.TheVariants.{Memory}
-use Rattle.wf_print.specs.declared.events.Transcript.{Transcript}
+use Rattle.wf_events.specs.declared.events.Ending.TheVariants.{Memory}
+use Rattle.wf_events.specs.declared.events.Transcript.{Transcript}
 use Rattle.wf_run.specs.Documents.{EachDocument}
 use Rattle.wf_run.specs.Runs.{document_client, document_run}
 use Rattle.wf_scenario.specs.declared.document.Document.{Document}

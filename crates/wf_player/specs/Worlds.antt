@@ -11,8 +11,8 @@ use Rattle.wf_book.specs.Ops.{InRange}
 use Rattle.wf_book.specs.declared.op.Op.{Op}
 use Rattle.wf_link.specs.Links.{Received}
 use Rattle.wf_link.specs.Links as links
-use Rattle.wf_print.specs.declared.events.Event.{Event}
-use Rattle.wf_print.specs.declared.events.Event.TheVariants.{Result, LoadFailed}
+use Rattle.wf_events.specs.declared.events.Event.{Event}
+use Rattle.wf_events.specs.declared.events.Event.TheVariants.{Result, LoadFailed}
 use Rattle.wf_types.specs.Targets.{IsSendable}
 use Rattle.wf_wire.specs.declared.wire.Wire.{Wire}
 use Rattle.wf_wire.specs.Exchanges.{Answering, Exchange, Exchanges, IsIdle}

@@ -2,7 +2,7 @@
 ghost use Rattle.std.specs.Prelude.{◌≡◌, ◌≢◌, ◌≤◌, ◌<◌, ◌^◌, ◌+◌, [], length, slice_get, Some, IfOk, OnErr};
 ghost use Rattle.wf_commands.specs.Valid.{AreValid};
 ghost use Rattle.wf_link.specs.Sources.{IsAtEnd};
-ghost use Rattle.wf_print.specs.declared.events.Ending.TheVariants.{Memory};
+ghost use Rattle.wf_events.specs.declared.events.Ending.TheVariants.{Memory};
 ghost use Rattle.wf_run.specs.Runs.{beginning, document_client, document_run, finished, script_run};
 ghost use Rattle.wf_scenario.specs.Valid.{IsValid, IsValidDocument};
 ghost use Rattle.wf_scenario.specs.declared.document.Document.{Document as OneDocument};
@@ -22,8 +22,8 @@ use std::thread::Threads;
 use wf_book::Share;
 use wf_commands::Script;
 use wf_csp::Compiled;
+use wf_events::{Ending, Events, Transcript};
 use wf_link::Link;
-use wf_print::{Ending, Events, Transcript};
 use wf_run::Running;
 use wf_scenario::{Document, Scenario};
 use wf_text::{Bytes, OutOfMemory};

@@ -12,8 +12,8 @@ use std::sync::Wait;
 use std::thread::Threads;
 use wf_book::Share;
 use wf_commands::{Command, Script, Test};
+use wf_events::Ending;
 use wf_link::Link;
-use wf_print::Ending;
 use wf_run::holds;
 use wf_text::OutOfMemory;
 

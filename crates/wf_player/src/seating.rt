@@ -1,4 +1,4 @@
-use wf_print::Transcript;
+use wf_events::Transcript;
 
 /// A document's place in a play: its pass of the shared book, and its link.
 #[derive(Drop)]

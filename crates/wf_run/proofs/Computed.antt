@@ -21,9 +21,9 @@ use Rattle.wf_send.specs.Making.{new_request}
 use Rattle.wf_commands.specs.Scripts as script
 use Rattle.wf_commands.specs.declared.command.Test.TheVariants.{BodyIs}
 use Rattle.wf_scenario.specs.declared.document.Document.{Document}
-use Rattle.wf_print.specs.declared.events.Ending.TheVariants.{Finished, Fetches, Commands}
-use Rattle.wf_print.specs.declared.events.Event.{Event}
-use Rattle.wf_print.specs.declared.events.Event.TheVariants as event
+use Rattle.wf_events.specs.declared.events.Ending.TheVariants.{Finished, Fetches, Commands}
+use Rattle.wf_events.specs.declared.events.Event.{Event}
+use Rattle.wf_events.specs.declared.events.Event.TheVariants as event
 use Rattle.wf_act.specs.declared.act.Input.{Input}
 use Rattle.wf_act.specs.declared.act.Input.TheVariants.{Replied, Sent, HeadIs, BodyIs}
 use Rattle.wf_book.specs.declared.op.Op.TheVariants.{Match}

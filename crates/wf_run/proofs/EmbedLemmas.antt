@@ -7,7 +7,7 @@ use Rattle.wf_act.specs.Process.{Process, act}
 use Rattle.wf_act.specs.Traces as fetches
 use Rattle.wf_act.specs.Traces.{Trace, with_events}
 use Rattle.wf_types.specs.declared.response.Outcome.{Outcome}
-use Rattle.wf_print.specs.declared.events.Event.{Event}
+use Rattle.wf_events.specs.declared.events.Event.{Event}
 use Rattle.wf_run.specs.Play.{events_of}
 use Rattle.wf_run.specs.Runs.{Next, Progress, after_events, embed}
 use Rattle.wf_run.specs.Traces.{PlayTrace, stop, stepped}

@@ -21,7 +21,7 @@ use Rattle.wf_send.specs.Making.{first_bad, given_size, is_navigate, is_no_cors,
 use Rattle.wf_commands.specs.Pieces.{pieces_behind}
 use Rattle.wf_commands.specs.Templates.{filled, opens, pieces, placed}
 use Rattle.wf_text.specs.Pieces.{with_front}
-use Rattle.wf_print.specs.declared.events.Event.{Event}
+use Rattle.wf_events.specs.declared.events.Event.{Event}
 use Rattle.wf_run.specs.Filling.{cut_body, is_plain, lacks_dollar, lacks_dollar_in, with_cut_body}
 use Rattle.wf_run.specs.Results.{value_of}
 use Rattle.wf_run.specs.Runs.{filled_init, filled_pair}

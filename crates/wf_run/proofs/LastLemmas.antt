@@ -6,11 +6,11 @@ use Rattle.std.proofs.lemmas.List.Sums.{sum_by-append}
 use Rattle.std.proofs.lemmas.Option.{slice_get-get_or}
 use Rattle.std.proofs.Math.ListN.{get_or-append}
 use Rattle.std.specs.Prelude.{◌-◌, ◌^◌, min, slice_get, cond}
-use Rattle.wf_print.specs.Lengths.{capped, event_length}
-use Rattle.wf_print.specs.Text.{event_text}
+use Rattle.wf_events.specs.Lengths.{capped, event_length}
+use Rattle.wf_events.specs.Lines.{event_text}
 use Rattle.wf_run.specs.Runs.{text_length}
 use Rattle.std.specs.Option.{option_or}
-use Rattle.wf_print.specs.declared.events.Event.{Event}
+use Rattle.wf_events.specs.declared.events.Event.{Event}
 use Rattle.wf_run.specs.Results.{is_result, last_result, result_in}
 use Rattle.wf_run.specs.Private.Lasts.{IsLast, last_index}
 

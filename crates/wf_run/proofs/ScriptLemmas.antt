@@ -15,9 +15,9 @@ use Rattle.wf_commands.specs.Scripts.{Step, Steps}
 use Rattle.wf_commands.specs.Scripts as script
 use Rattle.wf_commands.specs.declared.command.Test.{Test}
 use Rattle.wf_scenario.specs.declared.document.Document.{Document}
-use Rattle.wf_print.specs.declared.events.Ending.{Ending}
-use Rattle.wf_print.specs.declared.events.Ending.TheVariants.{Finished}
-use Rattle.wf_print.specs.declared.events.Event.{Event}
+use Rattle.wf_events.specs.declared.events.Ending.{Ending}
+use Rattle.wf_events.specs.declared.events.Ending.TheVariants.{Finished}
+use Rattle.wf_events.specs.declared.events.Event.{Event}
 use Rattle.wf_fetch.specs.Fetch.{fetch}
 use Rattle.wf_run.specs.Play.{Play, over, emit}
 use Rattle.wf_run.specs.Results.{holds}

@@ -1,6 +1,6 @@
 -- The documents of a play, one by one (this project's own).
 use Rattle.std.specs.Prelude.{ℕ, ◌+◌, List, [], ◌∷◌}
-use Rattle.wf_print.specs.declared.events.Transcript.{Transcript}
+use Rattle.wf_events.specs.declared.events.Transcript.{Transcript}
 use Rattle.wf_scenario.specs.declared.document.Document.{Document}
 
 -- Each document, with its states before and after and with its transcript, is as `Is` says of its number; the numbers

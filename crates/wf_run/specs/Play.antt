@@ -9,9 +9,9 @@ use Rattle.wf_act.specs.Process.{fits}
 use Rattle.wf_book.specs.declared.op.Reply.{Reply}
 use Rattle.wf_book.specs.declared.op.Reply.TheVariants.{Done}
 use Rattle.wf_types.specs.declared.request.Request.{Request}
-use Rattle.wf_print.specs.declared.events.Ending.{Ending}
-use Rattle.wf_print.specs.declared.events.Event.{Event}
-use Rattle.wf_print.specs.declared.events.Event.TheVariants.{Call, Sent, Told}
+use Rattle.wf_events.specs.declared.events.Ending.{Ending}
+use Rattle.wf_events.specs.declared.events.Event.{Event}
+use Rattle.wf_events.specs.declared.events.Event.TheVariants.{Call, Sent, Told}
 
 -- A run is over, with an ending and the clock then; or it shows an event and goes on; or it acts for a
 -- request and goes on from the input that comes.

@@ -15,8 +15,8 @@ use Rattle.wf_types.specs.Names.{kind_name}
 use Rattle.wf_types.specs.Statuses.{is_ok_status}
 use Rattle.wf_commands.specs.declared.command.Test.{Test}
 use Rattle.wf_commands.specs.declared.command.Test.TheVariants.{IsOk, IsError, TypeIs, StatusIs, BodyIs}
-use Rattle.wf_print.specs.declared.events.Event.{Event}
-use Rattle.wf_print.specs.declared.events.Event.TheVariants as event
+use Rattle.wf_events.specs.declared.events.Event.{Event}
+use Rattle.wf_events.specs.declared.events.Event.TheVariants as event
 
 -- ---- the last result
 

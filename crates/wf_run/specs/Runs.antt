@@ -23,11 +23,11 @@ use Rattle.wf_commands.specs.Scripts.{Step, Steps}
 use Rattle.wf_commands.specs.Scripts as script
 use Rattle.wf_commands.specs.Templates.{filled}
 use Rattle.wf_scenario.specs.declared.document.Document.{Document}
-use Rattle.wf_print.specs.declared.events.Ending.{Ending}
-use Rattle.wf_print.specs.declared.events.Ending.TheVariants.{Finished, Fetches, Commands, Text}
-use Rattle.wf_print.specs.declared.events.Event.{Event}
-use Rattle.wf_print.specs.declared.events.Event.TheVariants as event
-use Rattle.wf_print.specs.Text.{event_text}
+use Rattle.wf_events.specs.declared.events.Ending.{Ending}
+use Rattle.wf_events.specs.declared.events.Ending.TheVariants.{Finished, Fetches, Commands, Text}
+use Rattle.wf_events.specs.declared.events.Event.{Event}
+use Rattle.wf_events.specs.declared.events.Event.TheVariants as event
+use Rattle.wf_events.specs.Lines.{event_text}
 use Rattle.wf_act.specs.Process.{Process, ended, act}
 use Rattle.wf_fetch.specs.Fetch.{fetch}
 use Rattle.wf_fetch.specs.Then.{Context, context_of}

@@ -4,7 +4,7 @@ use Rattle.wf_act.specs.declared.act.Act.{Act}
 use Rattle.wf_act.specs.declared.act.Input.{Input}
 use Rattle.wf_act.specs.Process.{fits}
 use Rattle.wf_types.specs.declared.request.Request.{Request}
-use Rattle.wf_print.specs.declared.events.Event.{Event}
+use Rattle.wf_events.specs.declared.events.Event.{Event}
 use Rattle.wf_run.specs.Play.{Play, emit, step, events_of}
 
 -- By the answers of a world, and by what the world comes to with each event that the run itself shows: with exactly

@@ -8,7 +8,7 @@ ghost use Rattle.wf_run.specs.Runs as spec;
 use crate::results::add_value;
 use std::alloc::Global;
 use wf_commands::next_piece;
-use wf_print::Event;
+use wf_events::Event;
 use wf_text::{Bytes, OutOfMemory, after_byte, before_byte, trim_http};
 use wf_types::{Init, LoadInit, Pair, Pairs};
 

@@ -5,7 +5,7 @@ ghost use Rattle.wf_text.specs.Mime.{is_text};
 
 use std::alloc::Global;
 use wf_commands::Test;
-use wf_print::Event;
+use wf_events::Event;
 use wf_text::OutOfMemory;
 use wf_types::{BodyEnd, Outcome, Response, is_ok_status};
 

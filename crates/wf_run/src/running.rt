@@ -11,7 +11,7 @@ use std::alloc::Global;
 use std::marker::Model;
 use wf_act::{Act, Input};
 use wf_commands::Command;
-use wf_print::{Ending, Event, Events};
+use wf_events::{Ending, Event, Events};
 use wf_text::OutOfMemory;
 use wf_types::{Destination, Outcome, TypeFault};
 

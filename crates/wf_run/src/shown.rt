@@ -10,7 +10,7 @@ use std::alloc::Global;
 use std::marker::Model;
 use wf_act::{Act, Input};
 use wf_book::Reply;
-use wf_print::{Event, Events, event_len};
+use wf_events::{Event, Events, event_len};
 use wf_text::OutOfMemory;
 
 // How many bytes the lines of a document have at most before a fetch.
@@ -27,9 +27,9 @@ pub(crate) struct Shown {
 
 impl Model for Shown {
     ghost use Rattle.std.specs.Prelude.{◌≡◌, List};
-    ghost use Rattle.wf_print.specs.Lengths.{capped};
+    ghost use Rattle.wf_events.specs.Lengths.{capped};
     ghost use Rattle.wf_run.specs.Runs.{text_length};
-    ghost use Rattle.wf_print.specs.declared.events.Event.{Event};
+    ghost use Rattle.wf_events.specs.declared.events.Event.{Event};
     ghost use Rattle.wf_run.specs.Private.Lasts.{IsLast};
 
     ghost Value = { List Event };

@@ -10,7 +10,7 @@ use Rattle.wf_script.specs.declared.place.Place.{Place}
 use Rattle.wf_scenario.specs.declared.scenario.Scenario.{Scenario}
 use Rattle.wf_script.specs.Scenarios.{scenario_of}
 use Rattle.wf_book.specs.declared.entry.Entry.{Entry}
-use Rattle.wf_print.specs.declared.events.Transcript.{Transcript}
+use Rattle.wf_events.specs.declared.events.Transcript.{Transcript}
 use Rattle.wf_print.specs.declared.failure.Failure.{Failure}
 use Rattle.wf_print.specs.declared.failure.Failure.TheVariants as failure
 use Rattle.wf_print.specs.Summary.{summary_text}

@@ -6,7 +6,7 @@ use Rattle.wf_book.specs.declared.entry.Entry.{Entry}
 use Rattle.wf_link.specs.Counts.{Rose}
 use Rattle.wf_link.specs.Sinks.{SinkTold, Took, TookPart}
 use Rattle.wf_link.specs.Sources.{Gave, IsAtEnd, SourceTold}
-use Rattle.wf_print.specs.declared.events.Transcript.{Transcript}
+use Rattle.wf_events.specs.declared.events.Transcript.{Transcript}
 use Rattle.wf_print.specs.Summary.{summary_text}
 use Rattle.wf_print.specs.Text.{play_text}
 use Rattle.wf_script.specs.declared.place.Place.{Place}

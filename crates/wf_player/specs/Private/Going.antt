@@ -8,7 +8,7 @@ use Rattle.wf_fetch.specs.declared.place.Fetching.{Fetching}
 use Rattle.wf_fetch.specs.declared.place.Step.{Step}
 use Rattle.wf_fetch.specs.Machine.{Does, rest}
 use Rattle.wf_fetch.specs.Then.{Context}
-use Rattle.wf_print.specs.declared.events.Event.{Event}
+use Rattle.wf_events.specs.declared.events.Event.{Event}
 use Rattle.wf_run.specs.Play.{events_of}
 use Rattle.wf_run.specs.Runs.{Progress, after_events}
 use Rattle.wf_wire.specs.Exchanges.{Answering}

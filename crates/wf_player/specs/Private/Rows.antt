@@ -1,6 +1,6 @@
 -- Seats in rows, each beside what its document has shown.
 use Rattle.std.specs.Prelude.{◌≡◌, ℕ, ◌≤◌, ◌<◌, List, length, map, slice_get, Some}
-use Rattle.wf_print.specs.declared.events.Transcript.{Transcript}
+use Rattle.wf_events.specs.declared.events.Transcript.{Transcript}
 use Rattle.wf_scenario.specs.declared.document.Document.{Document}
 use Rattle.wf_scenario.specs.declared.scenario.Scenario.{Scenario}
 use Rattle.wf_wire.specs.Exchanges.{Answering}

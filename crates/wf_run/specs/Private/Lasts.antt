@@ -1,6 +1,6 @@
 -- Where the last result among events is (private contracts).
 use Rattle.std.specs.Prelude.{◌≡◌, ◌<◌, ℕ, List, length, slice_get, Option, Some, None, if◌then◌else◌}
-use Rattle.wf_print.specs.declared.events.Event.{Event}
+use Rattle.wf_events.specs.declared.events.Event.{Event}
 use Rattle.wf_run.specs.Results.{is_result, last_result}
 
 -- where it is once an event was added after so many

@@ -1,5 +1,5 @@
 use Rattle.std.proofs.Common.{◌≡◌, ◌∙◌, List, ap, inr, length, map, refl, sym}
-use Rattle.wf_print.specs.declared.events.Transcript.{Transcript}
+use Rattle.wf_events.specs.declared.events.Transcript.{Transcript}
 use Rattle.wf_run.specs.Documents.{EachDocument}
 use Rattle.wf_player.specs.Private.Rows.{seatings_of, transcripts_of}
 use Rattle.wf_player.proofs.AskLemmas.{on-err}
