@@ -8,7 +8,7 @@ use Rattle.wf_link.specs.Sources.{IsAtEnd}
 use Rattle.wf_events.specs.declared.events.Ending.{Ending}
 use Rattle.wf_events.specs.declared.events.Ending.TheVariants.{Commands, Memory}
 use Rattle.wf_events.specs.declared.events.Event.{Event}
-use Rattle.wf_run.specs.Filling.{is_plain, with_cut_body}
+use Rattle.wf_run.specs.Filling.{is_plain, with_cuts}
 use Rattle.wf_run.specs.Play.{Play}
 use Rattle.wf_run.specs.Runs.{Next, Progress, Setting, after_events, asked, at_time, embed, fault_event, fetch_started}
 use Rattle.wf_run.specs.Runs.{fetch_limit, fetched, filled_init, last_of, limit_before, load_event, outcome_event}
@@ -45,7 +45,7 @@ asked-as-plain client last init result plain made = subst
     (λ (i : Init). IfOk result (λ made. made ≡ new_request client i)) (sym (plain-filled last init plain)) made
 
 pub asked-as-filled : (client : Client) (last : Option Event) (init filled : Init)
-    (result : Result (Result Request TypeFault) OutOfMemory) → filled ≡ with_cut_body (filled_init last init)
+    (result : Result (Result Request TypeFault) OutOfMemory) → filled ≡ with_cuts (filled_init last init)
     → IfOk result (λ made. made ≡ new_request client filled)
     → IfOk result (λ made. made ≡ new_request client (filled_init last init))
 asked-as-filled client last init filled result is made = subst

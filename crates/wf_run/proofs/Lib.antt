@@ -1,4 +1,5 @@
 pub mod Computed
+pub mod CutLemmas
 pub mod DocumentLemmas
 pub mod EmbedLemmas
 pub mod FillingLemmas

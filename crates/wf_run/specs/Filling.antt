@@ -1,16 +1,32 @@
--- What is built of a body whose placeholders are replaced: no more than is needed to see that it is longer than a
--- request's body may be (this project's own).
-use Rattle.std.specs.Prelude.{ℕ, ◌&&◌, ◌==◌, Bool, true, not, List, length, take, option_map, Option, Some, None}
+-- What is handed on of header values and bodies whose placeholders are replaced: no more than is needed to see that
+-- they are longer than those of a request may be (this project's own).
+use Rattle.std.specs.Prelude.{ℕ, ◌&&◌, ◌==◌, ◌++◌, ◌∷◌, [], Bool, true, not, nat_lt, List, length, map, take, option_map}
+use Rattle.std.specs.Prelude.{Option, Some, None, if◌then◌else◌}
 use Rattle.std.specs.List.{list_any}
+use Rattle.wf_text.specs.Values.{is_header_value}
 use Rattle.wf_types.specs.declared.init.Init.{Init}
+use Rattle.wf_types.specs.declared.init.Pair.{Pair}
+
+-- the byte behind what is kept of a value: a letter, or NUL, which no header value has, where the value is none
+abbrev pub mark : List ℕ → ℕ
+mark value = if is_header_value value then 97 else 0
+
+-- a header value, or the first 16,384 bytes of a longer one, with which the headers of a request are too long, and its
+-- mark
+abbrev pub cut_value : List ℕ → List ℕ
+cut_value value = if nat_lt 16384 (length value) then take 16384 value ++ mark value ∷ [] else value
+
+-- a header, its value cut so
+abbrev pub cut_pair : Pair → Pair
+cut_pair pair = record { name = pair.name; value = cut_value pair.value }
 
 -- the first 65,537 bytes of a body, where one of 65,536 may be sent
 abbrev pub cut_body : List ℕ → List ℕ
 cut_body body = take 65537 body
 
--- what is asked for, with its body cut so
-abbrev pub with_cut_body : Init → Init
-with_cut_body init = record init { body = option_map cut_body init.body }
+-- what is asked for, with its headers and its body cut so
+abbrev pub with_cuts : Init → Init
+with_cuts init = record init { headers = map cut_pair init.headers; body = option_map cut_body init.body }
 
 -- the text has no `$`
 abbrev pub lacks_dollar : List ℕ → Bool

@@ -9,11 +9,19 @@ use crate::results::add_value;
 use std::alloc::Global;
 use wf_commands::next_piece;
 use wf_events::Event;
-use wf_text::{Bytes, OutOfMemory, after_byte, before_byte, trim_http};
+use wf_text::{Bytes, OutOfMemory, after_byte, before_byte, is_value, trim_http};
 use wf_types::{Init, LoadInit, Pair, Pairs};
 
 /// How many bytes of a body are handed on at most: one more than a request's body may have.
 const MOST_BODY: usize = 65_537;
+
+/// How many bytes of a header value are handed on at most, but for its mark: as many as the headers of a request may
+/// have together.
+const MOST_VALUE: usize = 16_384;
+
+/// How many bytes a text has at most once its placeholders were replaced. Memory is refused for a longer one, of
+/// which a URL may lose many again, and a header value those at its ends.
+const MOST_FILLED: usize = 16_777_216;
 
 // Adds what a piece after a `${` comes to: the value of its name, and what follows the `}`.
 fn add_placed(
@@ -29,7 +37,8 @@ fn add_placed(
     Ok(())
 }
 
-// A text with its placeholders replaced by the parts of the last result.
+// A text with its placeholders replaced by the parts of the last result. Where it gets longer than that it is
+// want of memory.
 fn fill(alloc: Global, last: Option<&Event>, template: &[u8]) -> Result<Bytes, OutOfMemory>
     ensures { IfOk result (λ text. text ≡ filled (value_of (lent_result last.entry)) template.now) }
 {
@@ -39,6 +48,9 @@ fn fill(alloc: Global, last: Option<&Event>, template: &[u8]) -> Result<Bytes, O
     while let Some(behind) = rest {
         let (piece, more) = next_piece(behind);
         add_placed(&mut text, alloc, last, piece)?;
+        if text.len() > MOST_FILLED {
+            return Err(OutOfMemory);
+        }
         rest = more;
     }
     Ok(Bytes::from_vec(text))
@@ -74,20 +86,42 @@ fn normalized(alloc: Global, value: Bytes) -> Result<Bytes, OutOfMemory>
     Bytes::of(alloc, trimmed)
 }
 
-// A header, its value filled and then normalised.
+// The byte that is put behind what is kept of a header value.
+fn mark(value: &[u8]) -> u8
+    ensures { result ≡ short.mark value.now }
+{
+    if is_value(value) { b'a' } else { 0 }
+}
+
+// A header value, of which no more is kept than is needed to see that it is too long, and whether it is one.
+fn cut(alloc: Global, value: Bytes) -> Result<Bytes, OutOfMemory>
+    ensures { IfOk result (λ made. made ≡ short.cut_value value) }
+{
+    let bytes = value.as_slice();
+    if bytes.len() <= MOST_VALUE {
+        return Ok(value);
+    }
+    let mut text = Vec::from_slice(alloc, bytes.split_at(MOST_VALUE).0)?;
+    text.push(mark(bytes))?;
+    Ok(Bytes::from_vec(text))
+}
+
+// A header, its value filled, normalised and then cut.
 fn filled_pair(alloc: Global, last: Option<&Event>, pair: &Pair) -> Result<Pair, OutOfMemory>
-    ensures { IfOk result (λ filled. filled ≡ spec.filled_pair (lent_result last.entry) pair.now) }
+    ensures { IfOk result (λ filled. filled ≡ short.cut_pair (spec.filled_pair (lent_result last.entry) pair.now)) }
 {
     let value = fill(alloc, last, pair.value.as_slice())?;
+    let value = normalized(alloc, value)?;
     Ok(Pair {
         name: pair.name.copy(alloc)?,
-        value: normalized(alloc, value)?,
+        value: cut(alloc, value)?,
     })
 }
 
-// Headers, each with its value filled and then normalised.
+// Headers, each with its value filled, normalised and then cut.
 fn filled_pairs(alloc: Global, last: Option<&Event>, pairs: &[Pair]) -> Result<Pairs, OutOfMemory>
-    ensures { IfOk result (λ filled. filled ≡ map (spec.filled_pair (lent_result last.entry)) pairs.now) }
+    ensures { IfOk result
+        (λ filled. filled ≡ map short.cut_pair (map (spec.filled_pair (lent_result last.entry)) pairs.now)) }
 {
     let mut filled = Pairs::new(alloc);
     for pair in pairs {
@@ -113,12 +147,14 @@ fn filled_body(
 
 /// What a script asks of `fetch`, with the parts of the last result in the place of the placeholders in
 /// its URL, in the values of its headers and in its body. The values of headers are normalised then:
-/// without tab, space, CR and LF at their ends (Fetch, section 2.2.2, "normalize a byte sequence"). A body
-/// that gets longer than 65,536 bytes, which no request has, stops growing there, and its first 65,537 are
-/// handed on.
+/// without tab, space, CR and LF at their ends (Fetch, section 2.2.2, "normalize a byte sequence"). Of a value
+/// that is longer than 16,384 bytes, which no request has, the first 16,384 are handed on, and behind them a
+/// letter, or NUL where the value has a byte that no header value has: so it is refused for what the whole
+/// one would be. A body that gets longer than 65,536 bytes, which no request has either, stops growing there,
+/// and its first 65,537 are handed on. A URL or a value that gets longer than 16,777,216 bytes is want of memory.
 pub fn filled_init(alloc: Global, last: Option<&Event>, init: &Init) -> Result<Init, OutOfMemory>
     ensures { IfOk result
-        (λ filled. filled ≡ short.with_cut_body (spec.filled_init (lent_result last.entry) init.now)) }
+        (λ filled. filled ≡ short.with_cuts (spec.filled_init (lent_result last.entry) init.now)) }
 {
     Ok(Init {
         url: fill(alloc, last, init.url.as_slice())?,
@@ -136,7 +172,7 @@ pub fn filled_init(alloc: Global, last: Option<&Event>, init: &Init) -> Result<I
 }
 
 /// What a script asks of a load, with the parts of the last result in the place of the placeholders in
-/// its URL.
+/// its URL. One that gets longer than 16,777,216 bytes is want of memory.
 pub fn filled_load(
     alloc: Global,
     last: Option<&Event>,

@@ -1,10 +1,11 @@
 use Rattle.std.proofs.Common.{◌≡◌, ◌++◌, drop, map}
+use Rattle.wf_run.specs.Filling.{cut_pair}
 use Rattle.wf_run.specs.Results.{lent_result}
 use Rattle.wf_run.specs.Runs.{filled_pair}
 use Rattle.wf_run.proofs.filling.filled_pairs.Given as goal
 
--- the pairs so far are filled, and the others follow
+-- the pairs so far are filled and cut, and the others follow
 abbrev pub invariant-loop-pair : goal.invariant-loop-pair
 invariant-loop-pair l =
-    map (filled_pair (lent_result l.last)) l.fn.pairs
-    ≡ l.filled ++ map (filled_pair (lent_result l.last)) (drop l.pair-index l.pairs)
+    map cut_pair (map (filled_pair (lent_result l.last)) l.fn.pairs)
+    ≡ l.filled ++ map cut_pair (map (filled_pair (lent_result l.last)) (drop l.pair-index l.pairs))
