@@ -18,9 +18,7 @@ impl Peer for SlowEnd {
 }
 
 impl Source for SlowEnd {
-    ghost left = { λ _. None };
-
-    ghost faults = { λ slow. slow.end.source.faults };
+    ghost gives = { λ slow. record { left = None; faults = slow.end.source.faults } };
 
     ghost beside = { λ slow. record {
       taken = None;
@@ -35,11 +33,11 @@ impl Source for SlowEnd {
 }
 
 impl Sink for SlowEnd {
-    ghost taken = { λ _. None };
-
-    ghost faults = { λ slow. slow.end.sink.faults };
-
-    ghost zeros = { λ slow. slow.end.sink.zeros };
+    ghost takes = { λ slow. record {
+      taken = None;
+      faults = slow.end.sink.faults;
+      zeros = slow.end.sink.zeros;
+    } };
 
     ghost beside = { λ slow. record { left = None; faults = slow.end.source.faults } };
 

@@ -96,19 +96,15 @@ pub(crate) struct WaitingLink<'a> {
 impl<'a> Link for WaitingLink<'a> {
     ghost State = { Unit {0} };
 
-    ghost state = { λ _. None };
+    ghost serves = { record { answer = λ _ _ _. []; next = λ state _ _. state } };
 
-    ghost left = { λ _. None };
-
-    ghost answer = { λ _ _ _. [] };
-
-    ghost next = { λ state _ _. state };
-
-    ghost asks = { λ _. None };
-
-    ghost received = { λ _. None };
-
-    ghost faults = { λ link. link.faults };
+    ghost told = { λ link. record {
+      state = None;
+      left = None;
+      asks = None;
+      received = None;
+      faults = link.faults;
+    } };
 
     fn ask(&mut self, _target: &Target, request: &[u8]) -> Result<(), Failed> {
         if request.starts_with(self.method) {
