@@ -1,11 +1,11 @@
 -- What is read of a blind process depends on the replies and on the permitted views alone.
-use Rattle.std.proofs.Common.{◌≡◌, Bool, true, false, cond, refl, ap, sym, ◌∙◌, List, [], ◌∷◌, map, Option, IsTrue}
+use Rattle.std.proofs.Common.{◌≡◌, Bool, true, false, cond, refl, ap, sym, ◌∙◌, List, [], ◌∷◌, map, Option}
 use Rattle.wf_types.specs.declared.hop.Hop.{Hop}
 use Rattle.wf_types.specs.declared.request.Request.{Request}
 use Rattle.wf_book.specs.declared.op.Op.{Op}
 use Rattle.wf_book.specs.declared.op.Reply.{Reply}
 use Rattle.wf_act.specs.declared.act.Act.{Act}
-use Rattle.wf_act.specs.declared.act.Act.TheVariants.{Ask, Send, ReadHead, ReadBody, Tell}
+use Rattle.wf_act.specs.declared.act.Act.TheVariants.{Ask, ReadHead}
 use Rattle.wf_act.specs.declared.act.Input.{Input}
 use Rattle.wf_act.specs.declared.act.Input.TheVariants.{HeadIs, Replied}
 use Rattle.wf_act.specs.Process.{Process, act, ended, fits, run}

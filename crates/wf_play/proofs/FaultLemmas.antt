@@ -1,5 +1,5 @@
 -- The faults of the links of a play are shown and counted, by the laws of wf_faults.
-use Rattle.std.proofs.Common.{◌≡◌, ℕ, ◌+◌, ◌≤◌, List, [], map, Option, arith, ap, sym, ◌∙◌}
+use Rattle.std.proofs.Common.{◌≡◌, ℕ, ◌+◌, ◌≤◌, List, [], map, arith, ap, sym, ◌∙◌}
 use Rattle.wf_book.specs.declared.entry.Entry.{Entry}
 use Rattle.wf_link.specs.Counts.{counted_on, grown_by}
 use Rattle.wf_events.specs.declared.events.Transcript.{Transcript}

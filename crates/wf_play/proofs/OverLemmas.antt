@@ -1,5 +1,5 @@
 -- Plays over links, from what was played on seats whose links were taken back; and those that were refused.
-use Rattle.std.proofs.Common.{◌≡◌, ℕ, ◌≤◌, List, [], length, map, Option, arith, refl, inl}
+use Rattle.std.proofs.Common.{◌≡◌, ℕ, ◌≤◌, List, [], length, map, arith, refl, inl}
 use Rattle.std.proofs.lemmas.List.{length-map}
 use Rattle.std.specs.Prelude.{option_map}
 use Rattle.wf_book.specs.declared.entry.Entry.{Entry}

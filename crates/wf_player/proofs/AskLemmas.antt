@@ -21,7 +21,7 @@ use Rattle.wf_wire.specs.Exchanges as wire
 use Rattle.wf_wire.specs.Exchanges.{Exchange}
 use Rattle.wf_wire.specs.Wires.{onto_left}
 use Rattle.wf_run.specs.Runs.{Progress}
-use Rattle.wf_player.specs.Standings.{IsReady, Keeps, KeepsPass, Terms, terms_of}
+use Rattle.wf_player.specs.Standings.{IsReady, Keeps, KeepsPass, terms_of}
 use Rattle.wf_player.specs.declared.lent.Lent.{Lent}
 use Rattle.wf_player.specs.declared.player.Player.{Player}
 use Rattle.wf_player.specs.Worlds.{IsAsked, IsRefusedCall, Outside, Refuses, outside_of}

@@ -1,5 +1,5 @@
 -- The requests of fetches and loads, and what comes of them.
-use Rattle.std.proofs.Common.{◌≡◌, ◌≢◌, ◌<◌, ℕ, Bool, true, false, cond, List, [], ◌∷◌, Option, Some, None, refl, ap, sym}
+use Rattle.std.proofs.Common.{◌≡◌, ◌≢◌, ◌<◌, ℕ, Bool, true, false, cond, [], ◌∷◌, Option, Some, None, refl, ap, sym}
 use Rattle.std.proofs.Common.{subst, ◌∙◌, arith, Result, Ok, Err, OnOk, OnErr}
 use Rattle.std.specs.Prelude.{⊤, nat_le, IfOk}
 use Rattle.wf_commands.specs.Scripts.{Step, fetch as fetch_step, load as load_step}
@@ -9,8 +9,7 @@ use Rattle.wf_events.specs.declared.events.Ending.{Ending}
 use Rattle.wf_events.specs.declared.events.Ending.TheVariants.{Commands, Memory}
 use Rattle.wf_events.specs.declared.events.Event.{Event}
 use Rattle.wf_run.specs.Filling.{is_plain, with_cuts}
-use Rattle.wf_run.specs.Play.{Play}
-use Rattle.wf_run.specs.Runs.{Next, Progress, Setting, after_events, asked, at_time, embed, fault_event, fetch_started}
+use Rattle.wf_run.specs.Runs.{Next, Progress, after_events, asked, at_time, embed, fault_event, fetch_started}
 use Rattle.wf_run.specs.Runs.{fetch_limit, fetched, filled_init, last_of, limit_before, load_event, outcome_event}
 use Rattle.wf_run.specs.Runs.{own_limit, showing, start_event, started}
 use Rattle.wf_run.specs.Traces as traces

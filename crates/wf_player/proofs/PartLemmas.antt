@@ -1,23 +1,21 @@
 -- Parts of a run, one after another.
-use Rattle.std.proofs.Common.{ℕ, List, [], ◌∷◌, ◌++◌, Option, Some, None, refl, ap, sym, subst, ◌∙◌, ◌≡◌, ◌≢◌, arith}
-use Rattle.std.proofs.Common.{append_assoc, Result, Ok, Err}
+use Rattle.std.proofs.Common.{ℕ, List, [], ◌∷◌, ◌++◌, refl, ap, sym, subst, ◌∙◌, ◌≡◌, ◌≢◌, arith}
+use Rattle.std.proofs.Common.{append_assoc}
 use Rattle.std.proofs.lemmas.List.{append-nil}
 use Rattle.wf_act.specs.Process.{Process}
-use Rattle.wf_events.specs.declared.events.Ending.{Ending}
 use Rattle.wf_events.specs.declared.events.Event.{Event}
 use Rattle.wf_run.specs.Play.{Play}
-use Rattle.wf_run.specs.Runs.{Next, Progress, after_events, embed, showing, started}
+use Rattle.wf_run.specs.Runs.{Next, Progress, after_events, embed, showing}
 use Rattle.wf_run.specs.Traces.{shown}
 use Rattle.wf_run.specs.Traces as traces
 use Rattle.wf_run.proofs.EmbedLemmas.{embedded}
 use Rattle.wf_run.proofs.PlayLemmas.{play-append}
-use Rattle.wf_text.specs.declared.memory.OutOfMemory.{OutOfMemory}
 use Rattle.wf_types.specs.declared.response.Outcome.{Outcome}
 use Rattle.wf_wire.specs.Exchanges.{Answering}
 use Rattle.wf_player.specs.Driving.{FetchCut, FetchedTo}
-use Rattle.wf_player.specs.Parts.{CutShort, HasPlayed, PlayedTo, Plays, PlaysOn, Rule, WasCut}
+use Rattle.wf_player.specs.Parts.{CutShort, PlayedTo, PlaysOn, Rule, WasCut}
 use Rattle.wf_player.specs.Standings.{Standing, Terms}
-use Rattle.wf_player.specs.Worlds.{Answers, Settles, World, outside_of}
+use Rattle.wf_player.specs.Worlds.{Answers, Settles, outside_of}
 use Rattle.wf_player.proofs.AskLemmas.{refuses-none}
 
 module _ {State : Type 0} (by : Answering State) where

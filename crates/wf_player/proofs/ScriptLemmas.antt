@@ -17,14 +17,13 @@ use Rattle.wf_events.specs.declared.events.Ending.{Ending}
 use Rattle.wf_events.specs.declared.events.Ending.TheVariants.{Commands, Fetches, Memory, Text}
 use Rattle.wf_run.specs.Play.{over}
 use Rattle.wf_run.specs.Results.{holds}
-use Rattle.wf_run.specs.Runs.{Next, Progress, Setting, chosen, command_started, last_of, limit_before}
+use Rattle.wf_run.specs.Runs.{Next, Progress, chosen, command_started, last_of, limit_before}
 use Rattle.wf_run.specs.Runs.{most_commands, most_fetches, most_printed, own_limit, repeated, script_run, started}
 use Rattle.wf_run.specs.Runs.{text_length, unless_limit, waited}
 use Rattle.wf_run.specs.Traces as traces
 use Rattle.wf_wire.specs.Exchanges.{Answering}
 use Rattle.wf_player.specs.Parts.{CutShort, HasPlayed, PlayedTo, Plays, Rule, WasCut}
 use Rattle.wf_player.specs.Standings.{HasSpent, MayGoOn, Standing, Terms}
-use Rattle.wf_player.specs.Worlds.{World}
 use Rattle.wf_player.proofs.AskingLemmas.{no-memory}
 use Rattle.wf_player.proofs.PartLemmas.{cut-inside, played-cut, played-inside, played-none, played-then}
 

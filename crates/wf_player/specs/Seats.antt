@@ -1,6 +1,6 @@
 -- What a play does to the seat of each document: its pass of the shared book, and its link (this project's own; each
 -- document fetches by itself, Fetch, section 4, and the book alone is shared).
-use Rattle.std.specs.Prelude.{◌≡◌, ◌≢◌, ◌⊎◌, ℕ, ◌+◌, ◌≤◌, List, length, map, Option}
+use Rattle.std.specs.Prelude.{◌≡◌, ◌≢◌, ◌⊎◌, ℕ, ◌+◌, ◌≤◌, List, length, map}
 use Rattle.std.specs.List.{All, range_with_len}
 use Rattle.wf_book.specs.Accounts.{Account}
 use Rattle.wf_book.specs.declared.book.Book.{Book}

@@ -5,7 +5,7 @@ ghost use Rattle.wf_act.specs.Within.{asks, price_of};
 ghost use Rattle.wf_act.specs.declared.act.Act.TheVariants.{Ask};
 ghost use Rattle.wf_book.specs.Ops.{InRange};
 ghost use Rattle.wf_wire.specs.Wires.{over_link};
-ghost use Rattle.wf_player.specs.Standings.{IsReady, Keeps, standing, world};
+ghost use Rattle.wf_player.specs.Standings.{IsReady, Keeps, world};
 ghost use Rattle.wf_player.specs.Worlds.{Answers, CanAnswer, IsAsked, IsRefusedCall, Refuses, outside_of};
 
 use crate::lent::Lent;

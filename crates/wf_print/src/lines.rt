@@ -1,7 +1,5 @@
 ghost use Rattle.std.specs.Prelude.{◌≡◌, ◌++◌, codes, decimal, length, OnOk};
-ghost use Rattle.std.specs.List.{flat_map};
 ghost use Rattle.wf_events.specs.Calls.{call_text};
-ghost use Rattle.wf_events.specs.Escapes.{escaped};
 ghost use Rattle.wf_types.specs.Names.{destination_name};
 ghost use Rattle.wf_events.specs.Lines as spec;
 

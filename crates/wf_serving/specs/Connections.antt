@@ -4,7 +4,6 @@ use Rattle.std.specs.List.{AllByRecursion, flat_map}
 use Rattle.wf_link.specs.Counts.{Rose}
 use Rattle.wf_link.specs.Links.{Lent}
 use Rattle.wf_link.specs.Sinks.{SinkTold, Took, TookPart}
-use Rattle.wf_link.specs.Sources.{SourceTold}
 use Rattle.wf_server.specs.Serving.{Failed, IsServing, PeerTold}
 use Rattle.wf_server.specs.declared.serving.Served.{Served}
 use Rattle.wf_server.specs.declared.serving.Served.TheVariants as served

@@ -1,6 +1,5 @@
 ghost use Rattle.std.specs.Prelude.{◌≡◌, ◌+◌, ℕ, List, [], Ok, Some, IfOk, OnErr, option_map};
-ghost use Rattle.wf_link.specs.Counts.{grown_by};
-ghost use Rattle.wf_link.specs.Links.{IsTold, TookBack, one_out};
+ghost use Rattle.wf_link.specs.Links.{IsTold, one_out};
 ghost use Rattle.wf_link.specs.declared.target.Route.{Route};
 ghost use Rattle.wf_scenario.specs.Valid.{IsValid};
 ghost use Rattle.wf_sim.specs.Sim.{fault_count, not_lent};

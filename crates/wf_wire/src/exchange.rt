@@ -1,5 +1,5 @@
 // What is done over a wire: a request goes out, and the head and the body of its answer come in.
-ghost use Rattle.std.specs.Prelude.{◌≡◌, ◌≤◌, ◌+◌, ◌-◌, ◌^◌, ◌++◌, length, IfOk, OnErr, IsTrue};
+ghost use Rattle.std.specs.Prelude.{◌≡◌, ◌≤◌, ◌+◌, ◌-◌, ◌^◌, ◌++◌, IfOk, OnErr, IsTrue};
 ghost use Rattle.wf_http1.specs.Answers.{IsUnfinished, most_bytes};
 ghost use Rattle.wf_http1.specs.Bodies.{IsOpen, body_end};
 ghost use Rattle.wf_act.specs.Process.{fits};

@@ -1,6 +1,5 @@
 // Links that wait for each other.
 ghost use Rattle.std.specs.Prelude.{◌≡◌, [], None};
-ghost use Rattle.wf_link.specs.Counts.{grown_by};
 
 use std::alloc::Global;
 use std::sync::atomic::{AtomicBool, Ordering};

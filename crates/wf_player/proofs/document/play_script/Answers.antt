@@ -4,8 +4,8 @@ use Rattle.wf_run.specs.Runs.{Progress, beginning, finished, script_run}
 use Rattle.wf_wire.specs.Wires.{over_link, window_of}
 use Rattle.wf_player.specs.Playing.{Came}
 use Rattle.wf_player.specs.Standings.{KeepsPass, most_calls, setting_of, standing}
-use Rattle.wf_player.specs.Worlds.{outside, outside_of, world_of}
-use Rattle.wf_player.proofs.AskLemmas.{both-moved, end-left, keeps-pass, moved, outside-is}
+use Rattle.wf_player.specs.Worlds.{outside, world_of}
+use Rattle.wf_player.proofs.AskLemmas.{both-moved, end-left, keeps-pass, moved}
 use Rattle.wf_player.proofs.RunLemmas.{run-rests, script-came}
 use Rattle.wf_player.proofs.document.play_script.Goals as goal
 

@@ -1,6 +1,3 @@
-use Rattle.wf_events.specs.declared.events.Event.{Event}
-use Rattle.wf_events.specs.Lengths.{capped}
-use Rattle.wf_run.specs.Runs.{text_length}
 use Rattle.wf_run.proofs.LastLemmas.{last-grows, printed-grows}
 use Rattle.wf_run.proofs.shown.Shown.add.Goals as goal
 

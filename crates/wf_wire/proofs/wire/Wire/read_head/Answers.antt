@@ -1,4 +1,4 @@
-use Rattle.std.proofs.Common.{◌∙◌, ℕ, List, ap, arith, refl}
+use Rattle.std.proofs.Common.{◌∙◌, ℕ, List, ap, refl}
 use Rattle.wf_http1.specs.Answers.{IsUnfinished}
 use Rattle.wf_wire.specs.declared.exchange.Found.{Found}
 use Rattle.wf_wire.specs.Private.Reads.{faults_found}
