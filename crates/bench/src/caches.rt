@@ -2,7 +2,7 @@ use crate::lessons::{lesson, question};
 use crate::words::{count_in, numbered};
 use std::alloc::Global;
 use wf_precache::{Lesson, Precache, Question};
-use wf_rows::{Failed, Row};
+use worked_rows::{Failed, Row};
 use wf_text::BytesList;
 
 /// How long a lesson holds, in seconds.

@@ -4,7 +4,7 @@ use crate::words::{count_in, numbered};
 use std::alloc::Global;
 use wf_filter::{filtered, hide};
 use wf_headers::HeaderList;
-use wf_rows::{Failed, Row, named, request_of};
+use worked_rows::{Failed, Row, named, request_of};
 use wf_text::Bytes;
 use wf_types::{Head, Hop, Request};
 

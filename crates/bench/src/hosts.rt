@@ -1,7 +1,7 @@
 use crate::words::{count_in, numbered};
 use std::alloc::Global;
 use wf_hsts::{HstsList, Sts};
-use wf_rows::{Failed, Row};
+use worked_rows::{Failed, Row};
 use wf_text::BytesList;
 
 /// What each host says.

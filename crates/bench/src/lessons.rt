@@ -2,7 +2,7 @@ ghost use Rattle.std.specs.Prelude.{◌≡◌, IfOk};
 
 use std::alloc::Global;
 use wf_precache::{Lesson, Question};
-use wf_rows::Failed;
+use worked_rows::Failed;
 use wf_text::{Bytes, BytesList};
 
 /// What a preflight of http://a.test teaches of http://b.test/ under this key.

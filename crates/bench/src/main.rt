@@ -27,7 +27,7 @@ use std::process::ExitCode;
 use std::rt::Env;
 use std::sync::Wait;
 use std::thread::Threads;
-use wf_rows::{Failed, Row, Shown, named, print_text};
+use worked_rows::{Failed, Row, Shown, named, print_text};
 
 /// The kinds of work.
 #[derive(Clone, Copy)]

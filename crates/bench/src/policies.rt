@@ -4,7 +4,7 @@ use crate::words::count_in;
 use std::alloc::Global;
 use wf_csp::Compiled;
 use wf_csp_text::{Policies, parse_policies};
-use wf_rows::{Failed, Row, Shown, request_of};
+use worked_rows::{Failed, Row, Shown, request_of};
 use wf_text::Bytes;
 use wf_types::Request;
 

@@ -3,7 +3,7 @@ ghost use Rattle.std.specs.Prelude.{◌<◌};
 use crate::words::{count_in, some_in};
 use std::alloc::Global;
 use wf_http1::{BodyReader, BodyStep, Framing, HeadReader, HeadStep};
-use wf_rows::{Failed, Row, Shown, named};
+use worked_rows::{Failed, Row, Shown, named};
 use wf_text::Bytes;
 use wf_types::BodyEnd;
 

@@ -11,7 +11,7 @@ use std::thread;
 use std::thread::Threads;
 use wf_book::{Book, Op, Share};
 use wf_precache::Lesson;
-use wf_rows::{Failed, Row};
+use worked_rows::{Failed, Row};
 use wf_text::{Bytes, BytesList};
 use wf_turn::{TurnBook, TurnPass};
 

@@ -1,7 +1,7 @@
 ghost use Rattle.std.specs.Prelude.{◌<◌, IfOk};
 
 use std::alloc::Global;
-use wf_rows::{Failed, Row, Shown, number};
+use worked_rows::{Failed, Row, Shown, number};
 use wf_text::Bytes;
 
 /// The words as one text, with a space after each.

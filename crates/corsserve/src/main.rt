@@ -5,7 +5,7 @@ use std::env;
 use std::process::ExitCode;
 use std::rt::Env;
 use wf_link::{StandardError, StandardInput, StandardOutput};
-use wf_serving::corsserve;
+use wf_server_program::corsserve;
 use wf_tcp::TcpAccepts;
 
 // The words after the program's name. Where they cannot be had there are none, which is the usage

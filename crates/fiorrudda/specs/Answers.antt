@@ -5,7 +5,7 @@ use Rattle.fiorrudda.specs.declared.codes.TheConstants.{WRONG_HANDLE}
 use Rattle.fiorrudda.specs.declared.thing.Thing.{Thing}
 use Rattle.fiorrudda.specs.declared.thing.Thing.TheVariants as thing
 use Rattle.wf_mime.specs.Nosniff as sniffing
-use Rattle.wf_total.specs.Types.{essence_in}
+use Rattle.fiorrudda_rules.specs.Types.{essence_in}
 
 -- "determine nosniff" of a header list
 abbrev pub nosniff : Option Thing → ℕ

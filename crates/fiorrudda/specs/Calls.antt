@@ -4,10 +4,10 @@ use Rattle.wf_book.specs.declared.book.Book.{Book}
 use Rattle.wf_headers.specs.Headers.{combined}
 use Rattle.wf_headers.specs.declared.headers.Header.{Header}
 use Rattle.wf_types.specs.CorsCheck.{passes_cors_check}
-use Rattle.wf_total.specs.Cors.{is_kept_by_resource_policy}
-use Rattle.wf_total.specs.Headers.{appending}
-use Rattle.wf_total.specs.Hosts.{after_field, is_known_host, says}
-use Rattle.wf_total.specs.declared.refusal.Refusal.{Refusal}
+use Rattle.fiorrudda_rules.specs.Cors.{is_kept_by_resource_policy}
+use Rattle.fiorrudda_rules.specs.Headers.{appending}
+use Rattle.fiorrudda_rules.specs.Hosts.{after_field, is_known_host, says}
+use Rattle.fiorrudda_rules.specs.declared.refusal.Refusal.{Refusal}
 use Rattle.fiorrudda.specs.Codes.{code_of, told, yes_or_no, IsKept, IsTold}
 use Rattle.fiorrudda.specs.declared.codes.TheConstants.{OK, WRONG_HANDLE}
 use Rattle.fiorrudda.specs.declared.thing.Thing.{Thing}

@@ -5,8 +5,8 @@ use Rattle.wf_hsts.specs.Reading.{sts_in}
 use Rattle.wf_hsts.specs.declared.sts.Sts.{Sts}
 use Rattle.fiorrudda.specs.declared.codes.TheConstants.{OK, NO, OUT_OF_MEMORY, TOO_SHORT, NOT_A_URL, NOT_HTTP}
 use Rattle.fiorrudda.specs.declared.codes.TheConstants.{NOT_A_HEADER, TOO_LATE}
-use Rattle.wf_total.specs.declared.refusal.Refusal.{Refusal}
-use Rattle.wf_total.specs.declared.refusal.Refusal.TheVariants.{OutOfMemory, NotUrl, NotHttp, NotHeader, TooLate}
+use Rattle.fiorrudda_rules.specs.declared.refusal.Refusal.{Refusal}
+use Rattle.fiorrudda_rules.specs.declared.refusal.Refusal.TheVariants.{OutOfMemory, NotUrl, NotHttp, NotHeader, TooLate}
 
 -- the code of a refusal
 abbrev pub code_of : Refusal → ℕ

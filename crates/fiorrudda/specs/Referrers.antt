@@ -4,7 +4,7 @@ use Rattle.fiorrudda.specs.Codes.{IsKept, IsTold}
 use Rattle.fiorrudda.specs.declared.codes.TheConstants.{NO_SUCH_NUMBER}
 use Rattle.wf_types.specs.declared.mode.ReferrerPolicy.{ReferrerPolicy}
 use Rattle.wf_types.specs.declared.mode.ReferrerPolicy.TheVariants as policy
-use Rattle.wf_total.specs.Referrers.{told_referrer}
+use Rattle.fiorrudda_rules.specs.Referrers.{told_referrer}
 
 -- the policy of a number
 abbrev pub policy_numbered : ℕ → Option ReferrerPolicy

@@ -2,14 +2,14 @@
 ghost use Rattle.std.specs.Prelude.{◌≡◌, ◌≢◌, Some};
 ghost use Rattle.fiorrudda.specs.Answers.{HasEssence, nosniff};
 ghost use Rattle.fiorrudda.specs.Codes.{told};
-ghost use Rattle.wf_total.specs.Sources as sources;
+ghost use Rattle.fiorrudda_rules.specs.Sources as sources;
 
 use crate::codes::{OUT_OF_MEMORY, WRONG_HANDLE};
 use crate::handle::Handle;
 use crate::thing::Thing;
 use crate::told::{told, write_answer, yes_or_no};
 use std::alloc::Global;
-use wf_total::{essence_in, source_matches};
+use fiorrudda_rules::{essence_in, source_matches};
 
 // "determine nosniff" of a thing that is a header list.
 fn sniffless(thing: &Thing) -> u32

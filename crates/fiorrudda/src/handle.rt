@@ -9,7 +9,7 @@ use std::alloc::Global;
 use std::marker::Model;
 use std::mem::replace;
 use std::ptr::null_mut;
-use wf_held::Loose;
+use fiorrudda_held::Loose;
 
 /// One word that holds a header list or a book, or nothing: all zero it is empty. It is not to be copied, written or
 /// read but by the calls below, and it is given to one call at a time, and not twice to one call. What it holds is freed

@@ -8,7 +8,7 @@ use crate::thing::Thing;
 use crate::told::{code_of, write_answer};
 use std::alloc::Global;
 use wf_headers::HeaderList;
-use wf_total::{append_header, value_of};
+use fiorrudda_rules::{append_header, value_of};
 
 /// Makes an empty header list in a handle (Fetch, section 2.2.2). What the handle held is freed first, also where memory
 /// is refused.

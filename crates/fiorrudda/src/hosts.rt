@@ -11,7 +11,7 @@ use crate::told::{code_of, told, yes_or_no};
 use std::alloc::Global;
 use wf_book::Book;
 use wf_hsts::parse_sts;
-use wf_total::{is_known_host, note_field};
+use fiorrudda_rules::{is_known_host, note_field};
 
 /// Makes an empty book in a handle: no known HSTS hosts, and an empty CORS-preflight cache. What the handle held is freed
 /// first, also where memory is refused. Threads that share a book call it under a lock of their own.

@@ -3,7 +3,7 @@ ghost use Rattle.std.specs.Prelude.{◌≡◌, ◌≢◌, Some};
 ghost use Rattle.fiorrudda.specs.Calls.{cors_check, resource_policy};
 ghost use Rattle.fiorrudda.specs.Codes.{told};
 ghost use Rattle.fiorrudda.specs.Referrers.{IsReferrer};
-ghost use Rattle.wf_total.specs.Bodies.{matches_integrity};
+ghost use Rattle.fiorrudda_rules.specs.Bodies.{matches_integrity};
 
 use crate::codes::{NO_SUCH_NUMBER, OUT_OF_MEMORY, WRONG_HANDLE};
 use crate::handle::Handle;
@@ -11,7 +11,7 @@ use crate::policies::policy_numbered;
 use crate::thing::Thing;
 use crate::told::{told, write_answer, yes_or_no};
 use std::alloc::Global;
-use wf_total::{is_kept_by_resource_policy, matches_integrity, told_referrer};
+use fiorrudda_rules::{is_kept_by_resource_policy, matches_integrity, told_referrer};
 use wf_types::passes_cors_check;
 
 // "CORS check" of a thing that is a header list.

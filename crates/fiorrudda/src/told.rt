@@ -1,11 +1,11 @@
 // Answers, told by a code and in the room that the caller lends.
 ghost use Rattle.std.specs.Prelude.{◌≡◌, ◌≢◌, Bool, ℕ, List, Option, Result};
 ghost use Rattle.fiorrudda.specs.Codes.{code_of, some_text, told, yes_or_no, IsTold, IsWritten};
-ghost use Rattle.wf_total.specs.Answers.{Answers};
+ghost use Rattle.fiorrudda_rules.specs.Answers.{Answers};
 
 use crate::codes::{NO, NOT_A_HEADER, NOT_A_URL, NOT_HTTP, OK, OUT_OF_MEMORY, TOO_LATE, TOO_SHORT};
 use wf_text::Bytes;
-use wf_total::Refusal;
+use fiorrudda_rules::Refusal;
 
 // The code of a refusal.
 pub(crate) fn code_of(refusal: Refusal) -> u32

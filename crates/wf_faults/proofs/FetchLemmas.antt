@@ -44,35 +44,35 @@ use Rattle.wf_filter.specs.Blocks.{is_nosniff_blocked, is_type_blocked}
 use Rattle.wf_filter.specs.Filtered.{filtered, filtered_by}
 use Rattle.wf_filter.specs.Laws.{is_fetch}
 use Rattle.wf_send.specs.Heads.{hop_of}
-use Rattle.wf_act.specs.declared.act.Act.TheVariants.{Ask, Send, ReadHead, ReadBody, Tell}
-use Rattle.wf_act.specs.declared.act.Input.{Input}
-use Rattle.wf_act.specs.declared.act.Input.TheVariants.{BodyIs, Fault, HeadBad, HeadIs, HeadLong, Replied, Sent, Told}
-use Rattle.wf_act.specs.Process.{Process, act, ended, fits}
-use Rattle.wf_wire.specs.Exchanges.{is_fault}
-use Rattle.wf_rules.specs.Blocking.{refusal_before}
-use Rattle.wf_rules.specs.KnownHosts.{match_of, note_of}
-use Rattle.wf_rules.specs.Questions.{clear_of, covers_of, learn_of}
-use Rattle.wf_rules.specs.Referrers.{with_referrer}
-use Rattle.wf_rules.specs.Switch.{away_switch, cors_switch, is_at_home, needs_preflight, no_cors_switch, switch_of}
-use Rattle.wf_rules.specs.Switch.{with_tainting}
-use Rattle.wf_rules.specs.Upgrading.{secured_where, upgraded}
-use Rattle.wf_rules.specs.declared.switch.Switch.{Switch}
-use Rattle.wf_rules.specs.declared.switch.Switch.TheVariants as switch
+use Rattle.wf_fetch_acts.specs.declared.act.Act.TheVariants.{Ask, Send, ReadHead, ReadBody, Tell}
+use Rattle.wf_fetch_acts.specs.declared.act.Input.{Input}
+use Rattle.wf_fetch_acts.specs.declared.act.Input.TheVariants.{BodyIs, Fault, HeadBad, HeadIs, HeadLong, Replied, Sent, Told}
+use Rattle.wf_fetch_acts.specs.Process.{Process, act, ended, fits}
+use Rattle.wf_link_wire.specs.Exchanges.{is_fault}
+use Rattle.wf_fetch_rules.specs.Blocking.{refusal_before}
+use Rattle.wf_fetch_rules.specs.KnownHosts.{match_of, note_of}
+use Rattle.wf_fetch_rules.specs.Questions.{clear_of, covers_of, learn_of}
+use Rattle.wf_fetch_rules.specs.Referrers.{with_referrer}
+use Rattle.wf_fetch_rules.specs.Switch.{away_switch, cors_switch, is_at_home, needs_preflight, no_cors_switch, switch_of}
+use Rattle.wf_fetch_rules.specs.Switch.{with_tainting}
+use Rattle.wf_fetch_rules.specs.Upgrading.{secured_where, upgraded}
+use Rattle.wf_fetch_rules.specs.declared.switch.Switch.{Switch}
+use Rattle.wf_fetch_rules.specs.declared.switch.Switch.TheVariants as switch
 use Rattle.wf_mixed.specs.Mixed.{is_blocked}
-use Rattle.wf_answers.specs.declared.answers.Ended.{Ended}
-use Rattle.wf_answers.specs.declared.answers.Ended.TheVariants.{Over, Reads}
-use Rattle.wf_answers.specs.declared.answers.Redirection.{Redirection}
-use Rattle.wf_answers.specs.declared.answers.Redirection.TheVariants.{Goes, Refuses, Stays}
-use Rattle.wf_answers.specs.Bodies.{is_coded}
-use Rattle.wf_answers.specs.Endings.{after_body as outcome_with, block_error, ended as ended_with, ended_by, ended_read}
-use Rattle.wf_answers.specs.Endings.{ended_unblocked, ended_under, handed_over, is_accepted, is_bodiless, is_matched}
-use Rattle.wf_answers.specs.Endings.{is_read, is_trusting, response_of, type_error}
-use Rattle.wf_answers.specs.Following.{redirected_request}
-use Rattle.wf_answers.specs.Judging.{check_error, is_to_follow, refusal_after}
+use Rattle.wf_fetch_answers.specs.declared.answers.Ended.{Ended}
+use Rattle.wf_fetch_answers.specs.declared.answers.Ended.TheVariants.{Over, Reads}
+use Rattle.wf_fetch_answers.specs.declared.answers.Redirection.{Redirection}
+use Rattle.wf_fetch_answers.specs.declared.answers.Redirection.TheVariants.{Goes, Refuses, Stays}
+use Rattle.wf_fetch_answers.specs.Bodies.{is_coded}
+use Rattle.wf_fetch_answers.specs.Endings.{after_body as outcome_with, block_error, ended as ended_with, ended_by, ended_read}
+use Rattle.wf_fetch_answers.specs.Endings.{ended_unblocked, ended_under, handed_over, is_accepted, is_bodiless, is_matched}
+use Rattle.wf_fetch_answers.specs.Endings.{is_read, is_trusting, response_of, type_error}
+use Rattle.wf_fetch_answers.specs.Following.{redirected_request}
+use Rattle.wf_fetch_answers.specs.Judging.{check_error, is_to_follow, refusal_after}
 use Rattle.std.specs.Bool.{then_some}
 use Rattle.wf_filter.specs.Views.{is_error}
-use Rattle.wf_answers.specs.Redirects.{extracted_url, redirection, redirection_by}
-use Rattle.wf_answers.specs.Redirects.{redirection_where, shows_credentials}
+use Rattle.wf_fetch_answers.specs.Redirects.{extracted_url, redirection, redirection_by}
+use Rattle.wf_fetch_answers.specs.Redirects.{redirection_where, shows_credentials}
 use Rattle.wf_fetch.specs.Fetch.{after_body, again, ends, fetch, finished, onward_of}
 use Rattle.wf_fetch.specs.HttpFetch.{after_head, after_sent, answered, http_fetch, judged, redirected}
 use Rattle.wf_fetch.specs.MainFetch.{after_match, checked, main_fetch, matched_by, switched_by}

@@ -7,15 +7,15 @@ use Rattle.wf_types.specs.declared.request.Request.{Request}
 use Rattle.wf_types.specs.declared.response.BodyEnd.TheVariants as body
 use Rattle.wf_types.specs.declared.response.Outcome.{Outcome}
 use Rattle.wf_types.specs.declared.response.Outcome.TheVariants as outcome
-use Rattle.wf_act.specs.declared.act.Act.{Act}
-use Rattle.wf_act.specs.declared.act.Act.TheVariants.{Ask, Send, ReadHead, ReadBody, Tell}
-use Rattle.wf_act.specs.declared.act.Input.{Input}
-use Rattle.wf_act.specs.declared.act.Input.TheVariants.{BodyIs, Fault}
-use Rattle.wf_act.specs.Process.{fits}
-use Rattle.wf_wire.specs.Exchanges.{is_fault}
-use Rattle.wf_events.specs.declared.events.Event.{Event}
-use Rattle.wf_run.specs.Play.{Play, PlayRun, emit, events_of, over, run_play, step}
-use Rattle.wf_run.specs.Runs.{document_run}
+use Rattle.wf_fetch_acts.specs.declared.act.Act.{Act}
+use Rattle.wf_fetch_acts.specs.declared.act.Act.TheVariants.{Ask, Send, ReadHead, ReadBody, Tell}
+use Rattle.wf_fetch_acts.specs.declared.act.Input.{Input}
+use Rattle.wf_fetch_acts.specs.declared.act.Input.TheVariants.{BodyIs, Fault}
+use Rattle.wf_fetch_acts.specs.Process.{fits}
+use Rattle.wf_link_wire.specs.Exchanges.{is_fault}
+use Rattle.wf_script_events.specs.declared.events.Event.{Event}
+use Rattle.wf_script_run.specs.Play.{Play, PlayRun, emit, events_of, over, run_play, step}
+use Rattle.wf_script_run.specs.Runs.{document_run}
 use Rattle.wf_faults.specs.Failures.{Failure, IsBrokenAt, IsOnlyOne, ShowsFailure, broken, failure_in, is_broken}
 use Rattle.wf_faults.specs.Failures.{may_hide_fault, owed_after, tells_fault, unanswered}
 use Rattle.wf_faults.specs.Laws.{FaultsShown}

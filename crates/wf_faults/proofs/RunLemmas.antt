@@ -5,13 +5,13 @@ use Rattle.wf_types.specs.declared.policy.Destination.{Destination}
 use Rattle.wf_types.specs.declared.policy.Destination.TheVariants as destination
 use Rattle.wf_types.specs.declared.response.Outcome.{Outcome}
 use Rattle.wf_types.specs.declared.response.Outcome.TheVariants as outcome
-use Rattle.wf_events.specs.declared.events.Event.{Event}
-use Rattle.wf_act.specs.Process.{Process, act, ended}
+use Rattle.wf_script_events.specs.declared.events.Event.{Event}
+use Rattle.wf_fetch_acts.specs.Process.{Process, act, ended}
 use Rattle.wf_fetch.specs.Fetch.{fetch}
-use Rattle.wf_run.specs.Play.{Play, emit, events_of}
-use Rattle.wf_run.specs.Runs.{Next, Progress, after_events, at_time, embed, fault_event, load_event, outcome_event}
-use Rattle.wf_run.specs.Runs.{setting_of, showing, start_event}
-use Rattle.wf_run.proofs.ScriptLemmas.{good-document}
+use Rattle.wf_script_run.specs.Play.{Play, emit, events_of}
+use Rattle.wf_script_run.specs.Runs.{Next, Progress, after_events, at_time, embed, fault_event, load_event, outcome_event}
+use Rattle.wf_script_run.specs.Runs.{setting_of, showing, start_event}
+use Rattle.wf_script_run.proofs.ScriptLemmas.{good-document}
 use Rattle.wf_faults.specs.Failures.{Failure, ShowsFailure, owed_after}
 use Rattle.wf_faults.specs.Laws.{FaultsPlaced}
 use Rattle.wf_faults.specs.Places.{IsShown, ShowsFailures, left_after, outcome_of}

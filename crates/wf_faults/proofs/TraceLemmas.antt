@@ -3,21 +3,21 @@ use Rattle.std.proofs.Common.{◌≡◌, ℕ, ◌+◌, ◌-◌, ◌^◌, ◌≤�
 use Rattle.std.proofs.Common.{List, [], ◌++◌}
 use Rattle.std.specs.Prelude.{min, if◌then◌else◌}
 use Rattle.std.proofs.lemmas.List.Sums.{sum_by-append}
-use Rattle.wf_act.specs.declared.act.Act.{Act}
-use Rattle.wf_act.specs.declared.act.Act.TheVariants.{Ask, Send, ReadHead, ReadBody, Tell}
-use Rattle.wf_act.specs.declared.act.Input.{Input}
+use Rattle.wf_fetch_acts.specs.declared.act.Act.{Act}
+use Rattle.wf_fetch_acts.specs.declared.act.Act.TheVariants.{Ask, Send, ReadHead, ReadBody, Tell}
+use Rattle.wf_fetch_acts.specs.declared.act.Input.{Input}
 use Rattle.wf_link.specs.Counts.{counted_on, grown_by, one_more}
-use Rattle.wf_wire.specs.Exchanges.{Answering, Exchange, IsCaused, is_fault}
-use Rattle.wf_wire.proofs.WireLemmas.{uncaused}
+use Rattle.wf_link_wire.specs.Exchanges.{Answering, Exchange, IsCaused, is_fault}
+use Rattle.wf_link_wire.proofs.WireLemmas.{uncaused}
 use Rattle.wf_types.specs.declared.client.Cookie.{Cookie}
-use Rattle.wf_events.specs.declared.events.Ending.{Ending}
-use Rattle.wf_events.specs.declared.events.Ending.TheVariants as ending
-use Rattle.wf_events.specs.declared.events.Event.{Event}
-use Rattle.wf_events.specs.declared.events.Event.TheVariants as event
-use Rattle.wf_scenario.specs.declared.document.Document.{Document}
-use Rattle.wf_run.specs.Play.{Play, PlayRun, emit, over, run_play, step}
-use Rattle.wf_run.specs.Runs.{document_run}
-use Rattle.wf_run.specs.Traces.{PlayTrace, shown, stepped, stop}
+use Rattle.wf_script_events.specs.declared.events.Ending.{Ending}
+use Rattle.wf_script_events.specs.declared.events.Ending.TheVariants as ending
+use Rattle.wf_script_events.specs.declared.events.Event.{Event}
+use Rattle.wf_script_events.specs.declared.events.Event.TheVariants as event
+use Rattle.wf_script_values.specs.declared.document.Document.{Document}
+use Rattle.wf_script_run.specs.Play.{Play, PlayRun, emit, over, run_play, step}
+use Rattle.wf_script_run.specs.Runs.{document_run}
+use Rattle.wf_script_run.specs.Traces.{PlayTrace, shown, stepped, stop}
 use Rattle.wf_player.specs.Worlds.{Answers, Outside, Settles, World}
 use Rattle.wf_player.specs.Playing.{Began, Came, Ran}
 use Rattle.wf_faults.specs.Failures.{tells_fault}

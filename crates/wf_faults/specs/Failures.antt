@@ -8,9 +8,9 @@ use Rattle.wf_types.specs.declared.response.BodyEnd.{BodyEnd}
 use Rattle.wf_types.specs.declared.response.BodyEnd.TheVariants as body
 use Rattle.wf_types.specs.declared.response.Outcome.{Outcome}
 use Rattle.wf_types.specs.declared.response.Outcome.TheVariants.{Answer, Error}
-use Rattle.wf_act.specs.declared.act.Input.{Input}
-use Rattle.wf_act.specs.declared.act.Input.TheVariants.{BodyIs, Fault}
-use Rattle.wf_wire.specs.Exchanges.{is_fault}
+use Rattle.wf_fetch_acts.specs.declared.act.Input.{Input}
+use Rattle.wf_fetch_acts.specs.declared.act.Input.TheVariants.{BodyIs, Fault}
+use Rattle.wf_link_wire.specs.Exchanges.{is_fault}
 
 -- How the link failed: there is no answer; or the body of one broke off, for a request with this integrity text, after
 -- this many bytes.

@@ -1,15 +1,15 @@
 -- Laws of documents' runs: where the failures of a link show, and that there are as many as the link counted
 -- (this project's own definition).
 use Rattle.std.specs.Prelude.{◌≡◌, ℕ, ◌+◌, ◌≤◌, List, Some, None}
-use Rattle.wf_act.specs.declared.act.Input.{Input}
+use Rattle.wf_fetch_acts.specs.declared.act.Input.{Input}
 use Rattle.wf_types.specs.declared.client.Cookie.{Cookie}
 use Rattle.wf_link.specs.Counts.{counted_on, grown_by}
-use Rattle.wf_events.specs.declared.events.Ending.{Ending}
-use Rattle.wf_events.specs.declared.events.Event.{Event}
-use Rattle.wf_scenario.specs.declared.document.Document.{Document}
-use Rattle.wf_run.specs.Play.{Play, PlayRun, run_play}
-use Rattle.wf_run.specs.Runs.{document_run}
-use Rattle.wf_wire.specs.Exchanges.{Answering}
+use Rattle.wf_script_events.specs.declared.events.Ending.{Ending}
+use Rattle.wf_script_events.specs.declared.events.Event.{Event}
+use Rattle.wf_script_values.specs.declared.document.Document.{Document}
+use Rattle.wf_script_run.specs.Play.{Play, PlayRun, run_play}
+use Rattle.wf_script_run.specs.Runs.{document_run}
+use Rattle.wf_link_wire.specs.Exchanges.{Answering}
 use Rattle.wf_player.specs.Worlds.{Outside}
 use Rattle.wf_player.specs.Playing.{Began, Came, Ran}
 use Rattle.wf_faults.specs.Failures.{may_hide_fault, tells_fault}

@@ -2,12 +2,12 @@
 use Rattle.std.specs.Prelude.{ℕ, ◌+◌, Bool, List, [], ◌∷◌, Option, Some, None, if◌then◌else◌}
 use Rattle.std.specs.List.{sum_by}
 use Rattle.wf_types.specs.declared.response.Outcome.{Outcome}
-use Rattle.wf_act.specs.declared.act.Input.{Input}
-use Rattle.wf_act.specs.Process.{fits}
-use Rattle.wf_wire.specs.Exchanges.{is_fault}
-use Rattle.wf_events.specs.declared.events.Ending.{Ending}
-use Rattle.wf_events.specs.declared.events.Event.{Event}
-use Rattle.wf_run.specs.Play.{Play, emit, over, step}
+use Rattle.wf_fetch_acts.specs.declared.act.Input.{Input}
+use Rattle.wf_fetch_acts.specs.Process.{fits}
+use Rattle.wf_link_wire.specs.Exchanges.{is_fault}
+use Rattle.wf_script_events.specs.declared.events.Ending.{Ending}
+use Rattle.wf_script_events.specs.declared.events.Event.{Event}
+use Rattle.wf_script_run.specs.Play.{Play, emit, over, step}
 use Rattle.wf_faults.specs.Places.{outcome_of}
 
 -- 1 for true, 0 for false

@@ -3,11 +3,11 @@
 use Rattle.std.specs.Prelude.{◌≡◌, IsTrue, Option, Some, None}
 use Rattle.wf_types.specs.declared.response.Outcome.{Outcome}
 use Rattle.wf_types.specs.declared.response.Outcome.TheVariants.{Error}
-use Rattle.wf_act.specs.declared.act.Input.{Input}
-use Rattle.wf_act.specs.Process.{fits}
-use Rattle.wf_events.specs.declared.events.Event.{Event}
-use Rattle.wf_events.specs.declared.events.Event.TheVariants.{LoadFailed, Result}
-use Rattle.wf_run.specs.Play.{Play, emit, over, step}
+use Rattle.wf_fetch_acts.specs.declared.act.Input.{Input}
+use Rattle.wf_fetch_acts.specs.Process.{fits}
+use Rattle.wf_script_events.specs.declared.events.Event.{Event}
+use Rattle.wf_script_events.specs.declared.events.Event.TheVariants.{LoadFailed, Result}
+use Rattle.wf_script_run.specs.Play.{Play, emit, over, step}
 use Rattle.wf_faults.specs.Failures.{Failure, IsOnlyOne, ShowsFailure, owed_after}
 
 -- the outcome of a fetch or a load that an event shows, where it shows one

@@ -6,15 +6,15 @@ use Rattle.std.proofs.lemmas.Bool.{cases_Bool, true≢false}
 use Rattle.std.proofs.lemmas.Grind.{common_steps}
 use Rattle.std.specs.Prelude.{◌==◌}
 use Rattle.url.specs.Parts.{Parts}
-use Rattle.wf_answers.specs.Endings.{ended as ended_with}
-use Rattle.wf_answers.specs.Following.{redirected_request, turns_to_get, with_authorization_at, with_method_after}
-use Rattle.wf_answers.specs.Judging.{refusal_after}
-use Rattle.wf_answers.specs.declared.answers.Ended.{Ended}
+use Rattle.wf_fetch_answers.specs.Endings.{ended as ended_with}
+use Rattle.wf_fetch_answers.specs.Following.{redirected_request, turns_to_get, with_authorization_at, with_method_after}
+use Rattle.wf_fetch_answers.specs.Judging.{refusal_after}
+use Rattle.wf_fetch_answers.specs.declared.answers.Ended.{Ended}
 use Rattle.wf_book.specs.declared.op.Op.{Op}
 use Rattle.wf_cors.specs.Verdict.{verdict}
 use Rattle.wf_cors.specs.declared.answer.Checked.{Checked}
 use Rattle.wf_origin.specs.Origins.{have_same_origin}
-use Rattle.wf_rules.specs.KnownHosts.{note_of}
+use Rattle.wf_fetch_rules.specs.KnownHosts.{note_of}
 use Rattle.wf_types.specs.Requests.{current_url, serialized_request_origin}
 use Rattle.wf_types.specs.declared.error.NetError.TheVariants.{CspRequest}
 use Rattle.wf_types.specs.declared.policy.Violation.{Violation}
@@ -22,16 +22,16 @@ use Rattle.wf_text.specs.declared.memory.OutOfMemory.{OutOfMemory}
 use Rattle.wf_csp.specs.Violations.{has_enforced, response_violations, upgrades}
 use Rattle.wf_csp_text.specs.declared.policy.Policy.{Policy}
 use Rattle.wf_mixed.specs.Mixed.{is_upgraded}
-use Rattle.wf_rules.specs.Questions.{clear_of, covers_of}
-use Rattle.wf_rules.specs.Upgrading.{insecure_upgraded, secured_where, upgraded}
+use Rattle.wf_fetch_rules.specs.Questions.{clear_of, covers_of}
+use Rattle.wf_fetch_rules.specs.Upgrading.{insecure_upgraded, secured_where, upgraded}
 use Rattle.wf_types.specs.declared.client.Client.{Client}
 use Rattle.wf_types.specs.declared.error.NetError.{NetError}
 use Rattle.wf_types.specs.declared.hop.Head.{Head}
 use Rattle.wf_types.specs.declared.request.Request.{Request}
-use Rattle.wf_act.specs.declared.act.Act.{Act}
-use Rattle.wf_act.specs.declared.act.Input.{Input}
-use Rattle.wf_act.specs.declared.act.Act.TheVariants.{Ask}
-use Rattle.wf_act.specs.Process.{Process, act, began, fits, followed, run}
+use Rattle.wf_fetch_acts.specs.declared.act.Act.{Act}
+use Rattle.wf_fetch_acts.specs.declared.act.Input.{Input}
+use Rattle.wf_fetch_acts.specs.declared.act.Act.TheVariants.{Ask}
+use Rattle.wf_fetch_acts.specs.Process.{Process, act, began, fits, followed, run}
 use Rattle.wf_fetch.specs.declared.place.Fetching.{Fetching}
 use Rattle.wf_fetch.specs.declared.place.Step.{Step}
 use Rattle.wf_fetch.specs.declared.place.Step.TheVariants.{Going, Over}

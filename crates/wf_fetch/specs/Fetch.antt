@@ -7,12 +7,12 @@ use Rattle.wf_types.specs.declared.response.Outcome.TheVariants.{Error}
 use Rattle.wf_types.specs.declared.response.Response.{Response}
 use Rattle.wf_types.specs.Requests.{most_redirects}
 use Rattle.wf_csp.specs.Violations.{response_violations}
-use Rattle.wf_act.specs.declared.act.Act.TheVariants.{ReadBody}
-use Rattle.wf_act.specs.declared.act.Input.{Input}
-use Rattle.wf_act.specs.Process.{Process, act, ended}
-use Rattle.wf_answers.specs.Endings.{after_body as outcome_of, ended_under}
-use Rattle.wf_answers.specs.declared.answers.Ended.{Ended}
-use Rattle.wf_answers.specs.declared.answers.Ended.TheVariants.{Over, Reads}
+use Rattle.wf_fetch_acts.specs.declared.act.Act.TheVariants.{ReadBody}
+use Rattle.wf_fetch_acts.specs.declared.act.Input.{Input}
+use Rattle.wf_fetch_acts.specs.Process.{Process, act, ended}
+use Rattle.wf_fetch_answers.specs.Endings.{after_body as outcome_of, ended_under}
+use Rattle.wf_fetch_answers.specs.declared.answers.Ended.{Ended}
+use Rattle.wf_fetch_answers.specs.declared.answers.Ended.TheVariants.{Over, Reads}
 use Rattle.wf_fetch.specs.MainFetch.{main_fetch}
 use Rattle.wf_fetch.specs.Then.{Context, Onward, Then, body_of, tell_all}
 

@@ -6,15 +6,15 @@ use Rattle.wf_types.specs.declared.error.NetError.TheVariants.{LinkFault}
 use Rattle.wf_types.specs.declared.hop.Head.{Head}
 use Rattle.wf_types.specs.declared.request.Request.{Request}
 use Rattle.wf_send.specs.Heads.{hop_of}
-use Rattle.wf_act.specs.declared.act.Act.TheVariants.{ReadHead, Send}
-use Rattle.wf_act.specs.declared.act.Input.{Input}
-use Rattle.wf_act.specs.Process.{Process, act}
-use Rattle.wf_rules.specs.KnownHosts.{note_of}
-use Rattle.wf_answers.specs.Judging.{refusal_after}
-use Rattle.wf_answers.specs.Following.{redirected_request}
-use Rattle.wf_answers.specs.Redirects.{redirection}
-use Rattle.wf_answers.specs.declared.answers.Redirection.{Redirection}
-use Rattle.wf_answers.specs.declared.answers.Redirection.TheVariants.{Goes, Refuses, Stays}
+use Rattle.wf_fetch_acts.specs.declared.act.Act.TheVariants.{ReadHead, Send}
+use Rattle.wf_fetch_acts.specs.declared.act.Input.{Input}
+use Rattle.wf_fetch_acts.specs.Process.{Process, act}
+use Rattle.wf_fetch_rules.specs.KnownHosts.{note_of}
+use Rattle.wf_fetch_answers.specs.Judging.{refusal_after}
+use Rattle.wf_fetch_answers.specs.Following.{redirected_request}
+use Rattle.wf_fetch_answers.specs.Redirects.{redirection}
+use Rattle.wf_fetch_answers.specs.declared.answers.Redirection.{Redirection}
+use Rattle.wf_fetch_answers.specs.declared.answers.Redirection.TheVariants.{Goes, Refuses, Stays}
 use Rattle.wf_fetch.specs.Then.{Context, Onward, Then, head_of, then_ask_where, was_sent}
 
 -- HTTP-redirect fetch: the answer is the response (its step 4), or is refused (steps 5 to 10), or main fetch goes on at

@@ -4,11 +4,11 @@ use Rattle.std.specs.Prelude.{◌≡◌, ℕ, zero, suc, Bool, true, false, List
 use Rattle.wf_text.specs.declared.memory.OutOfMemory.{OutOfMemory}
 use Rattle.wf_types.specs.declared.error.NetError.TheVariants.{CspRequest}
 use Rattle.wf_types.specs.declared.request.Request.{Request}
-use Rattle.wf_act.specs.declared.act.Act.{Act}
-use Rattle.wf_act.specs.declared.act.Input.{Input}
-use Rattle.wf_act.specs.Process.{IsPlain, Process, Run, act, began, ended, followed, run}
-use Rattle.wf_answers.specs.Judging.{refusal_after}
-use Rattle.wf_rules.specs.Upgrading.{upgraded}
+use Rattle.wf_fetch_acts.specs.declared.act.Act.{Act}
+use Rattle.wf_fetch_acts.specs.declared.act.Input.{Input}
+use Rattle.wf_fetch_acts.specs.Process.{IsPlain, Process, Run, act, began, ended, followed, run}
+use Rattle.wf_fetch_answers.specs.Judging.{refusal_after}
+use Rattle.wf_fetch_rules.specs.Upgrading.{upgraded}
 use Rattle.wf_fetch.specs.declared.place.Fetching.{Fetching}
 use Rattle.wf_fetch.specs.declared.place.Level.{Level}
 use Rattle.wf_fetch.specs.declared.place.Place.{Place}

@@ -8,16 +8,16 @@ use Rattle.wf_types.specs.declared.request.Request.{Request}
 use Rattle.wf_types.specs.Requests.{current_url, is_http_url}
 use Rattle.wf_book.specs.declared.op.Op.{Op}
 use Rattle.wf_csp.specs.Violations.{request_violations}
-use Rattle.wf_act.specs.declared.act.Act.TheVariants.{Ask}
-use Rattle.wf_act.specs.declared.act.Input.{Input}
-use Rattle.wf_act.specs.Process.{Process, act}
-use Rattle.wf_rules.specs.Blocking.{refusal_before}
-use Rattle.wf_rules.specs.KnownHosts.{match_of}
-use Rattle.wf_rules.specs.Referrers.{with_referrer}
-use Rattle.wf_rules.specs.Switch.{switch_of, with_tainting}
-use Rattle.wf_rules.specs.Upgrading.{secured_where, upgraded}
-use Rattle.wf_rules.specs.declared.switch.Switch.{Switch}
-use Rattle.wf_rules.specs.declared.switch.Switch.TheVariants.{Fetches, Preflights, Refuses}
+use Rattle.wf_fetch_acts.specs.declared.act.Act.TheVariants.{Ask}
+use Rattle.wf_fetch_acts.specs.declared.act.Input.{Input}
+use Rattle.wf_fetch_acts.specs.Process.{Process, act}
+use Rattle.wf_fetch_rules.specs.Blocking.{refusal_before}
+use Rattle.wf_fetch_rules.specs.KnownHosts.{match_of}
+use Rattle.wf_fetch_rules.specs.Referrers.{with_referrer}
+use Rattle.wf_fetch_rules.specs.Switch.{switch_of, with_tainting}
+use Rattle.wf_fetch_rules.specs.Upgrading.{secured_where, upgraded}
+use Rattle.wf_fetch_rules.specs.declared.switch.Switch.{Switch}
+use Rattle.wf_fetch_rules.specs.declared.switch.Switch.TheVariants.{Fetches, Preflights, Refuses}
 use Rattle.wf_fetch.specs.HttpFetch.{http_fetch}
 use Rattle.wf_fetch.specs.PreflightFetch.{with_preflight}
 use Rattle.wf_fetch.specs.Then.{Context, Onward, Then, said_yes, tell_all}

@@ -12,11 +12,11 @@ use Rattle.wf_cors.specs.declared.answer.Checked.{Checked}
 use Rattle.wf_cors.specs.declared.answer.Checked.TheVariants.{Pass, Refused}
 use Rattle.wf_cors.specs.Preflight.{preflight_of}
 use Rattle.wf_cors.specs.Verdict.{verdict}
-use Rattle.wf_act.specs.declared.act.Act.TheVariants.{Ask, ReadHead, Send}
-use Rattle.wf_act.specs.declared.act.Input.{Input}
-use Rattle.wf_act.specs.Process.{Process, act}
-use Rattle.wf_rules.specs.KnownHosts.{note_of}
-use Rattle.wf_rules.specs.Questions.{clear_of, covers_of, learn_of}
+use Rattle.wf_fetch_acts.specs.declared.act.Act.TheVariants.{Ask, ReadHead, Send}
+use Rattle.wf_fetch_acts.specs.declared.act.Input.{Input}
+use Rattle.wf_fetch_acts.specs.Process.{Process, act}
+use Rattle.wf_fetch_rules.specs.KnownHosts.{note_of}
+use Rattle.wf_fetch_rules.specs.Questions.{clear_of, covers_of, learn_of}
 use Rattle.wf_fetch.specs.HttpFetch.{http_fetch}
 use Rattle.wf_fetch.specs.Then.{Context, Onward, Then, head_of, said_yes, then_ask, then_ask_where, was_sent}
 

@@ -13,10 +13,10 @@ use Rattle.wf_types.specs.declared.policy.Violation.{Violation}
 use Rattle.wf_types.specs.declared.request.Request.{Request}
 use Rattle.wf_types.specs.declared.response.BodyEnd.{BodyEnd}
 use Rattle.wf_types.specs.declared.response.BodyEnd.TheVariants.{Null}
-use Rattle.wf_act.specs.declared.act.Act.TheVariants.{Ask, Tell}
-use Rattle.wf_act.specs.declared.act.Input.{Input}
-use Rattle.wf_act.specs.declared.act.Input.TheVariants.{BodyIs, HeadBad, HeadIs, HeadLong, Replied, Sent}
-use Rattle.wf_act.specs.Process.{Process, act}
+use Rattle.wf_fetch_acts.specs.declared.act.Act.TheVariants.{Ask, Tell}
+use Rattle.wf_fetch_acts.specs.declared.act.Input.{Input}
+use Rattle.wf_fetch_acts.specs.declared.act.Input.TheVariants.{BodyIs, HeadBad, HeadIs, HeadLong, Replied, Sent}
+use Rattle.wf_fetch_acts.specs.Process.{Process, act}
 
 -- What a fetch is lent: the client that fetches, its policies, the table of cookies, and the time.
 pub record Context : Type 0 where

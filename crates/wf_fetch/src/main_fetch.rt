@@ -2,15 +2,15 @@ ghost use Rattle.std.specs.Prelude.{◌≡◌, true, false, drop, IfOk, Err};
 ghost use Rattle.wf_types.specs.declared.error.NetError.TheVariants.{CspRequest};
 ghost use Rattle.wf_types.specs.Requests.{IsAtHttp, IsClient};
 ghost use Rattle.wf_csp.specs.Violations.{request_violations};
-ghost use Rattle.wf_rules.specs.Referrers.{with_referrer as referred_for};
-ghost use Rattle.wf_rules.specs.Switch.{with_tainting as tainted_with};
-ghost use Rattle.wf_rules.specs.Upgrading.{secured as secured_as, secured_where};
+ghost use Rattle.wf_fetch_rules.specs.Referrers.{with_referrer as referred_for};
+ghost use Rattle.wf_fetch_rules.specs.Switch.{with_tainting as tainted_with};
+ghost use Rattle.wf_fetch_rules.specs.Upgrading.{secured as secured_as, secured_where};
 ghost use Rattle.wf_fetch.specs.Lending.{lent_at};
 ghost use Rattle.wf_fetch.specs.Machine.{IsLevelWith, Leads, at_level};
 ghost use Rattle.wf_fetch.specs.MainFetch as spec;
 ghost use Rattle.wf_fetch.specs.Ready.{IsReady};
 ghost use Rattle.wf_fetch.specs.Then.{tell_all};
-ghost use Rattle.wf_rules.specs.Upgrading.{upgraded as upgraded_for};
+ghost use Rattle.wf_fetch_rules.specs.Upgrading.{upgraded as upgraded_for};
 
 use crate::http::send;
 use crate::lent::Lent;
@@ -18,9 +18,9 @@ use crate::place::{Level, Place, Step};
 use crate::preflight::ask_cache;
 use crate::steps::{copied, going, refused};
 use std::alloc::Global;
-use wf_act::Act;
+use wf_fetch_acts::Act;
 use wf_csp::Violations;
-use wf_rules::{
+use wf_fetch_rules::{
     Switch, is_at_http, match_of, refusal_before, secure, set_referrer, set_tainting, switch_of,
     upgrade_request,
 };

@@ -4,8 +4,8 @@ ghost use Rattle.wf_fetch.specs.Ready.{is_ready_at, owes_early};
 
 use std::alloc::Global;
 use std::snapshot::Snapshot;
-use wf_act::Act;
-use wf_answers::Ended;
+use wf_fetch_acts::Act;
+use wf_fetch_answers::Ended;
 use wf_cors::Checked;
 use wf_csp::Violations;
 use wf_text::OutOfMemory;

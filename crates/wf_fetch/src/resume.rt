@@ -1,5 +1,5 @@
 ghost use Rattle.std.specs.Prelude.{◌≡◌, ◌∷◌, ◌<◌, ◌^◌, IfOk, IsTrue};
-ghost use Rattle.wf_act.specs.Process.{fits, run};
+ghost use Rattle.wf_fetch_acts.specs.Process.{fits, run};
 ghost use Rattle.wf_fetch.specs.Fetch.{fetch};
 ghost use Rattle.wf_fetch.specs.Lending.{lent_at};
 ghost use Rattle.wf_fetch.specs.Machine.{Leads, RunsAs, rest, rest_of};
@@ -14,7 +14,7 @@ use crate::place::{Fetching, Level, Place, Step, boxed};
 use crate::preflight::{covered, judge_preflight, preflight_answered, read_preflight_head};
 use crate::steps::{body_read, refused, tell_at_end};
 use std::alloc::Global;
-use wf_act::Input;
+use wf_fetch_acts::Input;
 use wf_book::Reply;
 use wf_csp::Compiled;
 use wf_text::OutOfMemory;

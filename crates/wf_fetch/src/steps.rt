@@ -1,9 +1,9 @@
 ghost use Rattle.std.specs.Prelude.{◌≡◌, ◌<◌, ◌≤◌, false, length, drop, IfOk, IsTrue, Ok, Err};
-ghost use Rattle.wf_rules.specs.Questions.{clear_of as clear_at};
+ghost use Rattle.wf_fetch_rules.specs.Questions.{clear_of as clear_at};
 ghost use Rattle.wf_types.specs.declared.error.NetError.{NetError as AnError};
 ghost use Rattle.wf_types.specs.declared.request.Request.{Request};
-ghost use Rattle.wf_act.specs.Process.{IsPlain, act as acting, ended as ended_with};
-ghost use Rattle.wf_answers.specs.Endings.{after_body as outcome_of};
+ghost use Rattle.wf_fetch_acts.specs.Process.{IsPlain, act as acting, ended as ended_with};
+ghost use Rattle.wf_fetch_answers.specs.Endings.{after_body as outcome_of};
 ghost use Rattle.wf_fetch.specs.Fetch.{ends};
 ghost use Rattle.wf_fetch.specs.Machine.{Does, Leads, next_of, rest_at};
 ghost use Rattle.wf_fetch.specs.Ready.{is_ready_at, owes_early};
@@ -14,11 +14,11 @@ use crate::lent::Lent;
 use crate::place::{Fetching, Level, Place, Step};
 use std::alloc::Global;
 use std::snapshot::Snapshot;
-use wf_act::Act;
-use wf_answers::{Ended, after_body, ended};
+use wf_fetch_acts::Act;
+use wf_fetch_answers::{Ended, after_body, ended};
 use wf_book::Op;
 use wf_csp::Violations;
-use wf_rules::clear_of;
+use wf_fetch_rules::clear_of;
 use wf_text::OutOfMemory;
 use wf_types::{BodyEnd, Head, NetError, Outcome, Response, Violation};
 

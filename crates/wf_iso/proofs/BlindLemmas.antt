@@ -18,19 +18,19 @@ use Rattle.wf_types.specs.Modes.{is_follow}
 use Rattle.wf_filter.specs.Laws.{follows_or_fetches}
 use Rattle.wf_send.specs.Loading.{load_for}
 use Rattle.wf_send.specs.Making.{fault_or, faults, first_fault, made, request_for, url_given}
-use Rattle.wf_act.specs.declared.act.Act.{Act}
-use Rattle.wf_act.specs.declared.act.Act.TheVariants.{Ask, Send, ReadHead, ReadBody, Tell}
-use Rattle.wf_act.specs.declared.act.Input.{Input}
-use Rattle.wf_act.specs.Process.{Process, act, ended}
-use Rattle.wf_scenario.specs.declared.document.Document.{Document}
+use Rattle.wf_fetch_acts.specs.declared.act.Act.{Act}
+use Rattle.wf_fetch_acts.specs.declared.act.Act.TheVariants.{Ask, Send, ReadHead, ReadBody, Tell}
+use Rattle.wf_fetch_acts.specs.declared.act.Input.{Input}
+use Rattle.wf_fetch_acts.specs.Process.{Process, act, ended}
+use Rattle.wf_script_values.specs.declared.document.Document.{Document}
 use Rattle.wf_fetch.specs.Fetch.{fetch}
-use Rattle.wf_laws.specs.Blind.{Blind, GoesBlind}
-use Rattle.wf_laws.specs.Seen.{seen, sent_by}
-use Rattle.wf_laws.proofs.BlindLemmas.{blind-fetch}
-use Rattle.wf_run.specs.Play.{Play, emit, events_of, over, step}
-use Rattle.wf_run.specs.Runs.{Next, Progress, after_events, at_time, document_run, embed, fault_event, load_event}
-use Rattle.wf_run.specs.Runs.{outcome_event, setting_of, showing, start_event}
-use Rattle.wf_run.proofs.ScriptLemmas.{IsMade, good-document}
+use Rattle.wf_fetch_laws.specs.Blind.{Blind, GoesBlind}
+use Rattle.wf_fetch_laws.specs.Seen.{seen, sent_by}
+use Rattle.wf_fetch_laws.proofs.BlindLemmas.{blind-fetch}
+use Rattle.wf_script_run.specs.Play.{Play, emit, events_of, over, step}
+use Rattle.wf_script_run.specs.Runs.{Next, Progress, after_events, at_time, document_run, embed, fault_event, load_event}
+use Rattle.wf_script_run.specs.Runs.{outcome_event, setting_of, showing, start_event}
+use Rattle.wf_script_run.proofs.ScriptLemmas.{IsMade, good-document}
 use Rattle.wf_iso.specs.Calls.{call_in}
 
 -- ---- what a script asks for

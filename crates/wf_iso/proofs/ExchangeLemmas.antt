@@ -14,13 +14,13 @@ use Rattle.wf_http1.specs.Bodies.{body_end}
 use Rattle.wf_http1.specs.Framings.{framing_of}
 use Rattle.wf_http1.specs.HeadLaws.{HasOneEnd}
 use Rattle.wf_http1.specs.declared.framing.Framing.{Framing}
-use Rattle.wf_act.specs.declared.act.Act.{Act}
-use Rattle.wf_act.specs.declared.act.Act.TheVariants.{Send, ReadHead}
-use Rattle.wf_act.specs.declared.act.Input.{Input}
-use Rattle.wf_act.specs.declared.act.Input.TheVariants.{BodyIs, Fault, HeadBad, HeadIs, HeadLong, Sent}
-use Rattle.wf_wire.specs.Exchanges.{EndsBody, Exchange, FindsBody, FindsHead, HasBody, HasHead}
-use Rattle.wf_wire.specs.Exchanges.{HasNoHead, IsAnswered}
-use Rattle.wf_wire.specs.Exchanges.{IsCaused, is_fault}
+use Rattle.wf_fetch_acts.specs.declared.act.Act.{Act}
+use Rattle.wf_fetch_acts.specs.declared.act.Act.TheVariants.{Send, ReadHead}
+use Rattle.wf_fetch_acts.specs.declared.act.Input.{Input}
+use Rattle.wf_fetch_acts.specs.declared.act.Input.TheVariants.{BodyIs, Fault, HeadBad, HeadIs, HeadLong, Sent}
+use Rattle.wf_link_wire.specs.Exchanges.{EndsBody, Exchange, FindsBody, FindsHead, HasBody, HasHead}
+use Rattle.wf_link_wire.specs.Exchanges.{HasNoHead, IsAnswered}
+use Rattle.wf_link_wire.specs.Exchanges.{IsCaused, is_fault}
 use Rattle.wf_iso.proofs.OrderLemmas.{Stage, asking, headed, idle, stage_after}
 
 -- ---- no faults

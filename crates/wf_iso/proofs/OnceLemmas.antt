@@ -6,16 +6,16 @@ use Rattle.std.specs.Prelude.{option_map}
 use Rattle.wf_book.specs.declared.entry.Entry.{Entry}
 use Rattle.wf_book.specs.declared.op.Op.{Op}
 use Rattle.wf_http1.specs.HeadLaws.{HasOneEnd}
-use Rattle.wf_act.specs.declared.act.Act.{Act}
-use Rattle.wf_act.specs.declared.act.Act.TheVariants.{Ask, Send, ReadHead, ReadBody, Tell}
-use Rattle.wf_act.specs.declared.act.Input.{Input}
-use Rattle.wf_act.specs.declared.act.Input.TheVariants.{Replied}
-use Rattle.wf_events.specs.declared.events.Ending.{Ending}
-use Rattle.wf_events.specs.declared.events.Event.{Event}
-use Rattle.wf_events.specs.declared.events.Event.TheVariants as event
-use Rattle.wf_run.specs.Play.{Play, over}
-use Rattle.wf_run.specs.Traces.{PlayTrace, shown, stepped, stop}
-use Rattle.wf_wire.specs.Exchanges.{Answering, Exchange}
+use Rattle.wf_fetch_acts.specs.declared.act.Act.{Act}
+use Rattle.wf_fetch_acts.specs.declared.act.Act.TheVariants.{Ask, Send, ReadHead, ReadBody, Tell}
+use Rattle.wf_fetch_acts.specs.declared.act.Input.{Input}
+use Rattle.wf_fetch_acts.specs.declared.act.Input.TheVariants.{Replied}
+use Rattle.wf_script_events.specs.declared.events.Ending.{Ending}
+use Rattle.wf_script_events.specs.declared.events.Event.{Event}
+use Rattle.wf_script_events.specs.declared.events.Event.TheVariants as event
+use Rattle.wf_script_run.specs.Play.{Play, over}
+use Rattle.wf_script_run.specs.Traces.{PlayTrace, shown, stepped, stop}
+use Rattle.wf_link_wire.specs.Exchanges.{Answering, Exchange}
 use Rattle.wf_player.specs.Worlds.{Answers, IsCalled, Outside, Settles, World}
 use Rattle.wf_iso.proofs.ExchangeLemmas.{Coming, IsOne, no-fault, one-body, one-head, one-sent}
 use Rattle.wf_iso.proofs.OrderLemmas.{Can, OrderedPlay, Stage, asking, headed, idle, stage_after}

@@ -18,39 +18,39 @@ use Rattle.wf_cors.specs.declared.answer.Checked.{Checked}
 use Rattle.wf_cors.specs.declared.answer.Checked.TheVariants.{Pass, Refused}
 use Rattle.wf_cors.specs.Preflight.{preflight_of}
 use Rattle.wf_cors.specs.Verdict.{verdict}
-use Rattle.wf_act.specs.declared.act.Act.{Act}
-use Rattle.wf_act.specs.declared.act.Act.TheVariants.{Ask, Send, ReadHead, ReadBody, Tell}
-use Rattle.wf_act.specs.declared.act.Input.{Input}
-use Rattle.wf_act.specs.declared.act.Input.TheVariants.{HeadIs, Sent}
-use Rattle.wf_act.specs.Process.{Process, act, ended}
+use Rattle.wf_fetch_acts.specs.declared.act.Act.{Act}
+use Rattle.wf_fetch_acts.specs.declared.act.Act.TheVariants.{Ask, Send, ReadHead, ReadBody, Tell}
+use Rattle.wf_fetch_acts.specs.declared.act.Input.{Input}
+use Rattle.wf_fetch_acts.specs.declared.act.Input.TheVariants.{HeadIs, Sent}
+use Rattle.wf_fetch_acts.specs.Process.{Process, act, ended}
 use Rattle.wf_send.specs.Heads.{hop_of}
-use Rattle.wf_rules.specs.Blocking.{refusal_before}
-use Rattle.wf_rules.specs.KnownHosts.{match_of, note_of}
-use Rattle.wf_rules.specs.Referrers.{with_referrer}
-use Rattle.wf_rules.specs.Switch.{switch_of, with_tainting}
-use Rattle.wf_rules.specs.Upgrading.{secured_where, upgraded}
-use Rattle.wf_rules.specs.declared.switch.Switch.{Switch}
-use Rattle.wf_rules.specs.declared.switch.Switch.TheVariants.{Fetches, Preflights}
-use Rattle.wf_rules.specs.declared.switch.Switch.TheVariants as switch
-use Rattle.wf_answers.specs.declared.answers.Ended.{Ended}
-use Rattle.wf_answers.specs.declared.answers.Ended.TheVariants.{Over, Reads}
-use Rattle.wf_answers.specs.declared.answers.Redirection.{Redirection}
-use Rattle.wf_answers.specs.declared.answers.Redirection.TheVariants.{Goes, Refuses, Stays}
-use Rattle.wf_answers.specs.Endings.{ended_under}
-use Rattle.wf_answers.specs.Following.{redirected_request}
-use Rattle.wf_answers.specs.Judging.{refusal_after}
-use Rattle.wf_answers.specs.Redirects.{redirection}
-use Rattle.wf_scenario.specs.declared.document.Document.{Document}
+use Rattle.wf_fetch_rules.specs.Blocking.{refusal_before}
+use Rattle.wf_fetch_rules.specs.KnownHosts.{match_of, note_of}
+use Rattle.wf_fetch_rules.specs.Referrers.{with_referrer}
+use Rattle.wf_fetch_rules.specs.Switch.{switch_of, with_tainting}
+use Rattle.wf_fetch_rules.specs.Upgrading.{secured_where, upgraded}
+use Rattle.wf_fetch_rules.specs.declared.switch.Switch.{Switch}
+use Rattle.wf_fetch_rules.specs.declared.switch.Switch.TheVariants.{Fetches, Preflights}
+use Rattle.wf_fetch_rules.specs.declared.switch.Switch.TheVariants as switch
+use Rattle.wf_fetch_answers.specs.declared.answers.Ended.{Ended}
+use Rattle.wf_fetch_answers.specs.declared.answers.Ended.TheVariants.{Over, Reads}
+use Rattle.wf_fetch_answers.specs.declared.answers.Redirection.{Redirection}
+use Rattle.wf_fetch_answers.specs.declared.answers.Redirection.TheVariants.{Goes, Refuses, Stays}
+use Rattle.wf_fetch_answers.specs.Endings.{ended_under}
+use Rattle.wf_fetch_answers.specs.Following.{redirected_request}
+use Rattle.wf_fetch_answers.specs.Judging.{refusal_after}
+use Rattle.wf_fetch_answers.specs.Redirects.{redirection}
+use Rattle.wf_script_values.specs.declared.document.Document.{Document}
 use Rattle.wf_fetch.specs.Fetch.{again, ends, fetch, finished, onward_of}
 use Rattle.wf_fetch.specs.HttpFetch.{after_head, answered, http_fetch, judged, read_head, redirected}
 use Rattle.wf_fetch.specs.MainFetch.{checked, main_fetch, matched_by, switched_by, unless_refused, unless_violated}
 use Rattle.wf_fetch.specs.PreflightFetch.{after_preflight_head, clearing, covered_or_not, names_of}
 use Rattle.wf_fetch.specs.PreflightFetch.{preflight_judged, read_preflight_head}
 use Rattle.wf_fetch.specs.Then.{Context, Onward, Then, said_yes, tell_all, then_ask_where, was_sent}
-use Rattle.wf_run.specs.Play.{Play, emit, events_of, over, step}
-use Rattle.wf_run.specs.Runs.{Next, Progress, after_events, at_time, document_run, embed, outcome_event, setting_of}
-use Rattle.wf_run.specs.Runs.{showing}
-use Rattle.wf_run.proofs.ScriptLemmas.{good-document}
+use Rattle.wf_script_run.specs.Play.{Play, emit, events_of, over, step}
+use Rattle.wf_script_run.specs.Runs.{Next, Progress, after_events, at_time, document_run, embed, outcome_event, setting_of}
+use Rattle.wf_script_run.specs.Runs.{showing}
+use Rattle.wf_script_run.proofs.ScriptLemmas.{good-document}
 
 -- How far an exchange has come: nothing is known of what is to come; a request was sent; and the head of its answer was
 -- read.

@@ -13,30 +13,30 @@ use Rattle.wf_book.specs.declared.op.Op.{Op}
 use Rattle.wf_book.specs.declared.op.Op.TheVariants.{Match, Note}
 use Rattle.wf_book.specs.Ops.{InRange}
 use Rattle.wf_book.specs.Past.{is_of_key}
-use Rattle.wf_act.specs.declared.act.Act.{Act}
-use Rattle.wf_act.specs.declared.act.Act.TheVariants.{Ask, Send, ReadHead, ReadBody, Tell}
-use Rattle.wf_act.specs.declared.act.Input.{Input}
-use Rattle.wf_act.specs.declared.act.Input.TheVariants.{Replied}
-use Rattle.wf_act.specs.Process.{Process, act, ended, fits}
-use Rattle.wf_act.specs.Within.{Anything, Within, asks, price_of}
-use Rattle.wf_rules.specs.KnownHosts.{host_to_match, host_to_note, sts_of}
-use Rattle.wf_commands.specs.Scripts.{Step, Steps}
-use Rattle.wf_commands.specs.Scripts as script
-use Rattle.wf_commands.specs.Valid.{AreValid, IsValidStep}
-use Rattle.wf_scenario.specs.declared.document.Document.{Document}
-use Rattle.wf_events.specs.declared.events.Ending.TheVariants.{Commands}
-use Rattle.wf_events.specs.declared.events.Event.{Event}
+use Rattle.wf_fetch_acts.specs.declared.act.Act.{Act}
+use Rattle.wf_fetch_acts.specs.declared.act.Act.TheVariants.{Ask, Send, ReadHead, ReadBody, Tell}
+use Rattle.wf_fetch_acts.specs.declared.act.Input.{Input}
+use Rattle.wf_fetch_acts.specs.declared.act.Input.TheVariants.{Replied}
+use Rattle.wf_fetch_acts.specs.Process.{Process, act, ended, fits}
+use Rattle.wf_fetch_acts.specs.Within.{Anything, Within, asks, price_of}
+use Rattle.wf_fetch_rules.specs.KnownHosts.{host_to_match, host_to_note, sts_of}
+use Rattle.wf_script_commands.specs.Scripts.{Step, Steps}
+use Rattle.wf_script_commands.specs.Scripts as script
+use Rattle.wf_script_commands.specs.Valid.{AreValid, IsValidStep}
+use Rattle.wf_script_values.specs.declared.document.Document.{Document}
+use Rattle.wf_script_events.specs.declared.events.Ending.TheVariants.{Commands}
+use Rattle.wf_script_events.specs.declared.events.Event.{Event}
 use Rattle.wf_fetch.specs.Fetch.{fetch}
 use Rattle.wf_fetch.specs.Then.{Context}
-use Rattle.wf_laws.specs.Apart.{Made, Plan, calls_on, does, stops, with_call}
-use Rattle.wf_laws.specs.Prices.{fetch_price}
-use Rattle.wf_laws.specs.Own.{IsOwnAct}
-use Rattle.wf_laws.proofs.OwnLemmas.{fetch-within}
-use Rattle.wf_laws.proofs.RuleLemmas.{Keeps, within-fetch}
-use Rattle.wf_run.specs.Play.{Play, events_of, run_play}
-use Rattle.wf_run.specs.Runs.{Next, Progress, after_events, at_time, document_client, document_run, embed}
-use Rattle.wf_run.specs.Runs.{outcome_event, own_limit, setting_of, showing}
-use Rattle.wf_run.proofs.ScriptLemmas.{AllWaits, Anywhere, Bounds, WaitsOfStep, good-document, good-from}
+use Rattle.wf_fetch_laws.specs.Apart.{Made, Plan, calls_on, does, stops, with_call}
+use Rattle.wf_fetch_laws.specs.Prices.{fetch_price}
+use Rattle.wf_fetch_laws.specs.Own.{IsOwnAct}
+use Rattle.wf_fetch_laws.proofs.OwnLemmas.{fetch-within}
+use Rattle.wf_fetch_laws.proofs.RuleLemmas.{Keeps, within-fetch}
+use Rattle.wf_script_run.specs.Play.{Play, events_of, run_play}
+use Rattle.wf_script_run.specs.Runs.{Next, Progress, after_events, at_time, document_client, document_run, embed}
+use Rattle.wf_script_run.specs.Runs.{outcome_event, own_limit, setting_of, showing}
+use Rattle.wf_script_run.proofs.ScriptLemmas.{AllWaits, Anywhere, Bounds, WaitsOfStep, good-document, good-from}
 use Rattle.wf_iso.specs.Apart.{plan_of}
 use Rattle.wf_iso.specs.Calls.{calls_in}
 use Rattle.wf_iso.proofs.AloneLemmas.{calls-shown}

@@ -6,20 +6,20 @@ use Rattle.wf_book.specs.declared.entry.Entry.{Entry}
 use Rattle.wf_book.specs.Book.{empty}
 use Rattle.wf_book.specs.Entries.{Legal, entries_of}
 use Rattle.wf_book.specs.Past.{PastsAnswer}
-use Rattle.wf_act.specs.declared.act.Act.{Act}
-use Rattle.wf_act.specs.declared.act.Act.TheVariants.{Ask, Send, ReadHead, ReadBody, Tell}
-use Rattle.wf_act.specs.declared.act.Input.{Input}
-use Rattle.wf_events.specs.declared.events.Event.{Event}
-use Rattle.wf_events.specs.declared.events.Event.TheVariants as event
-use Rattle.wf_events.specs.declared.events.Transcript.{Transcript}
-use Rattle.wf_scenario.specs.declared.document.Document.{Document}
-use Rattle.wf_scenario.specs.declared.scenario.Scenario.{Scenario}
-use Rattle.wf_laws.specs.Apart.{Made, views_on}
-use Rattle.wf_run.specs.Play.{Play, PlayRun, events_of, run_play}
-use Rattle.wf_run.specs.Runs.{document_client, document_run}
-use Rattle.wf_run.specs.Traces.{PlayTrace, shown, stepped, stop}
-use Rattle.wf_run.proofs.DocumentLemmas.{each-so}
-use Rattle.wf_wire.specs.Exchanges.{Answering}
+use Rattle.wf_fetch_acts.specs.declared.act.Act.{Act}
+use Rattle.wf_fetch_acts.specs.declared.act.Act.TheVariants.{Ask, Send, ReadHead, ReadBody, Tell}
+use Rattle.wf_fetch_acts.specs.declared.act.Input.{Input}
+use Rattle.wf_script_events.specs.declared.events.Event.{Event}
+use Rattle.wf_script_events.specs.declared.events.Event.TheVariants as event
+use Rattle.wf_script_events.specs.declared.events.Transcript.{Transcript}
+use Rattle.wf_script_values.specs.declared.document.Document.{Document}
+use Rattle.wf_script_values.specs.declared.scenario.Scenario.{Scenario}
+use Rattle.wf_fetch_laws.specs.Apart.{Made, views_on}
+use Rattle.wf_script_run.specs.Play.{Play, PlayRun, events_of, run_play}
+use Rattle.wf_script_run.specs.Runs.{document_client, document_run}
+use Rattle.wf_script_run.specs.Traces.{PlayTrace, shown, stepped, stop}
+use Rattle.wf_script_run.proofs.DocumentLemmas.{each-so}
+use Rattle.wf_link_wire.specs.Exchanges.{Answering}
 use Rattle.wf_player.specs.Worlds.{Answers, Outside, Settles, World}
 use Rattle.wf_iso.specs.Calls.{call_of, calls_in, calls_of}
 use Rattle.wf_iso.specs.Isolated.{IsAlone, alone_in, run_in, run_of}

@@ -2,14 +2,14 @@
 use Rattle.std.proofs.Common.{None, ◌≡◌, ◌+◌, ℕ, List, [], ◌∷◌, Some, map, refl, ap, sym, ◌∙◌}
 use Rattle.wf_book.specs.declared.entry.Entry.{Entry}
 use Rattle.wf_http1.specs.HeadLaws.{HasOneEnd}
-use Rattle.wf_events.specs.declared.events.Ending.{Ending}
-use Rattle.wf_events.specs.declared.events.Transcript.{Transcript}
-use Rattle.wf_scenario.specs.declared.document.Document.{Document}
-use Rattle.wf_scenario.specs.declared.scenario.Scenario.{Scenario}
-use Rattle.wf_scenario.specs.declared.servers.Server.{Server}
-use Rattle.wf_run.specs.Documents.{EachDocument}
-use Rattle.wf_run.specs.Play.{PlayRun, run_play}
-use Rattle.wf_wire.specs.Exchanges.{Answering}
+use Rattle.wf_script_events.specs.declared.events.Ending.{Ending}
+use Rattle.wf_script_events.specs.declared.events.Transcript.{Transcript}
+use Rattle.wf_script_values.specs.declared.document.Document.{Document}
+use Rattle.wf_script_values.specs.declared.scenario.Scenario.{Scenario}
+use Rattle.wf_script_values.specs.declared.servers.Server.{Server}
+use Rattle.wf_script_run.specs.Documents.{EachDocument}
+use Rattle.wf_script_run.specs.Play.{PlayRun, run_play}
+use Rattle.wf_link_wire.specs.Exchanges.{Answering}
 use Rattle.wf_iso.specs.Isolated.{run_in, run_of}
 use Rattle.wf_iso.specs.Laws.{IsTold, PlaysOnce, TapesOnce}
 use Rattle.wf_iso.specs.Plays.{IsTranscript, Way, by_rules}

@@ -2,16 +2,16 @@
 -- answers to its requests, what was learnt and cleared under its key, and what was noted of known hosts (this project's
 -- own definition).
 use Rattle.std.specs.Prelude.{◌≡◌, ℕ, List, Some}
-use Rattle.wf_act.specs.declared.act.Input.{Input}
+use Rattle.wf_fetch_acts.specs.declared.act.Input.{Input}
 use Rattle.wf_book.specs.declared.entry.Entry.{Entry}
-use Rattle.wf_events.specs.declared.events.Transcript.{Transcript}
-use Rattle.wf_scenario.specs.declared.document.Document.{Document}
-use Rattle.wf_scenario.specs.declared.scenario.Scenario.{Scenario}
-use Rattle.wf_run.specs.Documents.{EachDocument}
-use Rattle.wf_run.specs.Play.{Play, PlayRun}
-use Rattle.wf_run.specs.Runs.{document_client, document_run}
-use Rattle.wf_wire.specs.Exchanges.{Answering}
-use Rattle.wf_laws.specs.Apart.{views_on}
+use Rattle.wf_script_events.specs.declared.events.Transcript.{Transcript}
+use Rattle.wf_script_values.specs.declared.document.Document.{Document}
+use Rattle.wf_script_values.specs.declared.scenario.Scenario.{Scenario}
+use Rattle.wf_script_run.specs.Documents.{EachDocument}
+use Rattle.wf_script_run.specs.Play.{Play, PlayRun}
+use Rattle.wf_script_run.specs.Runs.{document_client, document_run}
+use Rattle.wf_link_wire.specs.Exchanges.{Answering}
+use Rattle.wf_fetch_laws.specs.Apart.{views_on}
 use Rattle.wf_iso.specs.Alone.{alone, pasts}
 use Rattle.wf_iso.specs.Apart.{plan_of}
 use Rattle.wf_iso.specs.Plays.{IsPlayOver, IsTranscript, Way, opening_book}

@@ -3,21 +3,21 @@
 -- noted of known hosts, alone (this project's own definition).
 use Rattle.std.specs.Prelude.{◌≡◌, ◌≤◌, ◌^◌, ℕ, true, List, Some}
 use Rattle.std.specs.List.{AllByRecursion}
-use Rattle.wf_act.specs.declared.act.Input.{Input}
+use Rattle.wf_fetch_acts.specs.declared.act.Input.{Input}
 use Rattle.wf_book.specs.declared.book.Book.{Book}
 use Rattle.wf_book.specs.declared.entry.Entry.{Entry}
 use Rattle.wf_book.specs.Entries.{Legal}
 use Rattle.wf_book.specs.Ops.{InRange}
 use Rattle.wf_book.specs.Past.{is_of_key}
-use Rattle.wf_commands.specs.Valid.{AreValid}
-use Rattle.wf_events.specs.declared.events.Transcript.{Transcript}
-use Rattle.wf_run.specs.Play.{Play, run_play}
-use Rattle.wf_run.specs.Runs.{document_client, document_run}
-use Rattle.wf_scenario.specs.declared.document.Document.{Document}
-use Rattle.wf_scenario.specs.declared.scenario.Scenario.{Scenario}
+use Rattle.wf_script_commands.specs.Valid.{AreValid}
+use Rattle.wf_script_events.specs.declared.events.Transcript.{Transcript}
+use Rattle.wf_script_run.specs.Play.{Play, run_play}
+use Rattle.wf_script_run.specs.Runs.{document_client, document_run}
+use Rattle.wf_script_values.specs.declared.document.Document.{Document}
+use Rattle.wf_script_values.specs.declared.scenario.Scenario.{Scenario}
 use Rattle.wf_types.specs.declared.client.Cookie.{Cookie}
-use Rattle.wf_wire.specs.Exchanges.{Answering}
-use Rattle.wf_laws.specs.Apart.{Made, replies_on, views_on}
+use Rattle.wf_link_wire.specs.Exchanges.{Answering}
+use Rattle.wf_fetch_laws.specs.Apart.{Made, replies_on, views_on}
 use Rattle.wf_iso.specs.Alone.{alone, pasts}
 use Rattle.wf_iso.specs.Apart.{apart, plan_of}
 use Rattle.wf_iso.specs.Calls.{calls_in, document_calls}

@@ -1,5 +1,5 @@
 -- A play of a scenario: one history of the shared book, and the run of each document over what its link answers and
--- over the document's own entries of that history (this project's own; what a run does is wf_run's definition, what
+-- over the document's own entries of that history (this project's own; what a run does is wf_script_run's definition, what
 -- comes of its acts wf_player's, and a fetch is the whole one, Fetch, section 4.1).
 use Rattle.std.specs.Prelude.{◌≡◌, ℕ, ◌+◌, ◌<◌, List, [], ◌∷◌, length, map, Option, Some, None}
 use Rattle.std.specs.List.{AllByRecursion}
@@ -8,18 +8,18 @@ use Rattle.wf_book.specs.declared.entry.Entry.{Entry}
 use Rattle.wf_book.specs.declared.op.Op.TheVariants.{Note}
 use Rattle.wf_book.specs.Book.{after, empty}
 use Rattle.wf_book.specs.Entries.{Legal, entries_of}
-use Rattle.wf_events.specs.declared.events.Ending.{Ending}
-use Rattle.wf_events.specs.declared.events.Event.{Event}
-use Rattle.wf_events.specs.declared.events.Transcript.{Transcript}
-use Rattle.wf_scenario.specs.declared.document.Document.{Document}
-use Rattle.wf_scenario.specs.declared.hosts.KnownHost.{KnownHost}
-use Rattle.wf_scenario.specs.declared.scenario.Scenario.{Scenario}
-use Rattle.wf_scenario.specs.declared.servers.Server.{Server}
-use Rattle.wf_scenario.specs.Servers.{answer}
-use Rattle.wf_run.specs.Documents.{EachDocument}
-use Rattle.wf_run.specs.Play.{Play}
-use Rattle.wf_run.specs.Runs.{document_client, document_run}
-use Rattle.wf_wire.specs.Exchanges.{Answering}
+use Rattle.wf_script_events.specs.declared.events.Ending.{Ending}
+use Rattle.wf_script_events.specs.declared.events.Event.{Event}
+use Rattle.wf_script_events.specs.declared.events.Transcript.{Transcript}
+use Rattle.wf_script_values.specs.declared.document.Document.{Document}
+use Rattle.wf_script_values.specs.declared.hosts.KnownHost.{KnownHost}
+use Rattle.wf_script_values.specs.declared.scenario.Scenario.{Scenario}
+use Rattle.wf_script_values.specs.declared.servers.Server.{Server}
+use Rattle.wf_script_values.specs.Servers.{answer}
+use Rattle.wf_script_run.specs.Documents.{EachDocument}
+use Rattle.wf_script_run.specs.Play.{Play}
+use Rattle.wf_script_run.specs.Runs.{document_client, document_run}
+use Rattle.wf_link_wire.specs.Exchanges.{Answering}
 use Rattle.wf_player.specs.Playing.{Ran}
 use Rattle.wf_player.specs.Worlds.{Outside}
 

@@ -5,9 +5,9 @@ use Rattle.std.specs.Borrow.{Bor}
 use Rattle.std.specs.Result.{IsErr}
 use Rattle.std.specs.Prelude.{not, if◌then◌else◌, Result, Ok, Err, OnErr, OnOk}
 use Rattle.wf_text.specs.declared.memory.OutOfMemory.{OutOfMemory}
-use Rattle.wf_act.specs.declared.act.Act.TheVariants.{Ask}
-use Rattle.wf_act.specs.declared.act.Input.TheVariants.{Replied}
-use Rattle.wf_act.specs.Process.{fits}
+use Rattle.wf_fetch_acts.specs.declared.act.Act.TheVariants.{Ask}
+use Rattle.wf_fetch_acts.specs.declared.act.Input.TheVariants.{Replied}
+use Rattle.wf_fetch_acts.specs.Process.{fits}
 use Rattle.wf_book.specs.Accounts.{Account}
 use Rattle.wf_book.specs.declared.book.Book.{Book}
 use Rattle.wf_book.specs.declared.entry.Entry.{Entry}
@@ -17,10 +17,10 @@ use Rattle.wf_book.specs.Entries.{Extends}
 use Rattle.wf_book.specs.Ops.{is_answer, is_question}
 use Rattle.wf_link.specs.Sources.{IsAtEnd}
 use Rattle.wf_link.proofs.ReceivedLemmas.{received-none}
-use Rattle.wf_wire.specs.Exchanges as wire
-use Rattle.wf_wire.specs.Exchanges.{Exchange}
-use Rattle.wf_wire.specs.Wires.{onto_left}
-use Rattle.wf_run.specs.Runs.{Progress}
+use Rattle.wf_link_wire.specs.Exchanges as wire
+use Rattle.wf_link_wire.specs.Exchanges.{Exchange}
+use Rattle.wf_link_wire.specs.Wires.{onto_left}
+use Rattle.wf_script_run.specs.Runs.{Progress}
 use Rattle.wf_player.specs.Standings.{IsReady, Keeps, KeepsPass, terms_of}
 use Rattle.wf_player.specs.declared.lent.Lent.{Lent}
 use Rattle.wf_player.specs.declared.player.Player.{Player}

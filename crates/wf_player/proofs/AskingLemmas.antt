@@ -2,18 +2,18 @@
 use Rattle.std.proofs.Common.{◌≡◌, ◌≢◌, ◌<◌, ℕ, Bool, true, false, cond, [], ◌∷◌, Option, Some, None, refl, ap, sym}
 use Rattle.std.proofs.Common.{subst, ◌∙◌, arith, Result, Ok, Err, OnOk, OnErr}
 use Rattle.std.specs.Prelude.{⊤, nat_le, IfOk}
-use Rattle.wf_commands.specs.Scripts.{Step, fetch as fetch_step, load as load_step}
+use Rattle.wf_script_commands.specs.Scripts.{Step, fetch as fetch_step, load as load_step}
 use Rattle.wf_fetch.specs.Fetch.{fetch}
 use Rattle.wf_link.specs.Sources.{IsAtEnd}
-use Rattle.wf_events.specs.declared.events.Ending.{Ending}
-use Rattle.wf_events.specs.declared.events.Ending.TheVariants.{Commands, Memory}
-use Rattle.wf_events.specs.declared.events.Event.{Event}
-use Rattle.wf_run.specs.Filling.{is_plain, with_cuts}
-use Rattle.wf_run.specs.Runs.{Next, Progress, after_events, asked, at_time, embed, fault_event, fetch_started}
-use Rattle.wf_run.specs.Runs.{fetch_limit, fetched, filled_init, last_of, limit_before, load_event, outcome_event}
-use Rattle.wf_run.specs.Runs.{own_limit, showing, start_event, started}
-use Rattle.wf_run.specs.Traces as traces
-use Rattle.wf_run.proofs.FillingLemmas.{cut-same, plain-filled}
+use Rattle.wf_script_events.specs.declared.events.Ending.{Ending}
+use Rattle.wf_script_events.specs.declared.events.Ending.TheVariants.{Commands, Memory}
+use Rattle.wf_script_events.specs.declared.events.Event.{Event}
+use Rattle.wf_script_run.specs.Filling.{is_plain, with_cuts}
+use Rattle.wf_script_run.specs.Runs.{Next, Progress, after_events, asked, at_time, embed, fault_event, fetch_started}
+use Rattle.wf_script_run.specs.Runs.{fetch_limit, fetched, filled_init, last_of, limit_before, load_event, outcome_event}
+use Rattle.wf_script_run.specs.Runs.{own_limit, showing, start_event, started}
+use Rattle.wf_script_run.specs.Traces as traces
+use Rattle.wf_script_run.proofs.FillingLemmas.{cut-same, plain-filled}
 use Rattle.wf_send.specs.Making.{new_request}
 use Rattle.wf_text.specs.declared.memory.OutOfMemory.{OutOfMemory}
 use Rattle.wf_types.specs.declared.client.Client.{Client}
@@ -25,7 +25,7 @@ use Rattle.wf_types.specs.declared.policy.Destination.TheVariants as destination
 use Rattle.wf_types.specs.declared.request.Request.{Request}
 use Rattle.wf_types.specs.declared.response.Outcome.{Outcome}
 use Rattle.wf_types.specs.declared.response.Outcome.TheVariants as outcome
-use Rattle.wf_wire.specs.Exchanges.{Answering, IsIdle}
+use Rattle.wf_link_wire.specs.Exchanges.{Answering, IsIdle}
 use Rattle.wf_player.specs.Driving.{FetchCut, FetchedTo}
 use Rattle.wf_player.specs.Parts.{CutShort, HasPlayed, PlayedTo, PlaysUnended, Rule, WasCut}
 use Rattle.wf_player.specs.Standings.{Standing}

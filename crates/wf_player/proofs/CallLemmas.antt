@@ -2,15 +2,15 @@
 use Rattle.std.proofs.Common.{◌≡◌, ℕ, ◌+◌, List, [], ◌∷◌, ◌++◌, length, refl, ap, sym, ◌∙◌, arith, append_assoc}
 use Rattle.std.proofs.lemmas.List.{append-nil, length-append}
 use Rattle.std.specs.List.{AllByRecursion}
-use Rattle.wf_act.specs.declared.act.Act.{Act}
-use Rattle.wf_act.specs.declared.act.Act.TheVariants.{Ask, Send, ReadHead, ReadBody, Tell}
-use Rattle.wf_act.specs.declared.act.Input.{Input}
+use Rattle.wf_fetch_acts.specs.declared.act.Act.{Act}
+use Rattle.wf_fetch_acts.specs.declared.act.Act.TheVariants.{Ask, Send, ReadHead, ReadBody, Tell}
+use Rattle.wf_fetch_acts.specs.declared.act.Input.{Input}
 use Rattle.wf_book.specs.declared.entry.Entry.{Entry}
-use Rattle.wf_events.specs.declared.events.Event.{Event}
-use Rattle.wf_events.specs.declared.events.Event.TheVariants as event
-use Rattle.wf_run.specs.Play.{Play}
-use Rattle.wf_run.specs.Traces.{PlayTrace, stop, shown, stepped}
-use Rattle.wf_wire.specs.Exchanges.{Answering}
+use Rattle.wf_script_events.specs.declared.events.Event.{Event}
+use Rattle.wf_script_events.specs.declared.events.Event.TheVariants as event
+use Rattle.wf_script_run.specs.Play.{Play}
+use Rattle.wf_script_run.specs.Traces.{PlayTrace, stop, shown, stepped}
+use Rattle.wf_link_wire.specs.Exchanges.{Answering}
 use Rattle.wf_player.specs.Worlds.{Answers, Outside, Settles, World}
 
 -- Between two worlds these entries were added, each of them the document's, and the calls left fell by as many.

@@ -2,14 +2,14 @@
 use Rattle.std.proofs.Common.{◌≡◌, ℕ, zero, suc, length, ◌+◌, ◌*◌, ◌-◌, ◌<◌, ◌≤◌, ◌^◌, List, [], ◌∷◌, ◌++◌, IsTrue, refl}
 use Rattle.std.proofs.Common.{ap, sym, subst, ◌∙◌, arith, append_assoc, length-append, Some}
 use Rattle.std.proofs.lemmas.List.{append-nil}
-use Rattle.wf_act.specs.declared.act.Act.{Act}
-use Rattle.wf_act.specs.declared.act.Act.TheVariants.{Ask, Send, ReadHead, ReadBody, Tell}
-use Rattle.wf_act.specs.declared.act.Input.{Input}
-use Rattle.wf_act.specs.Process.{Process, act, ended, fits, IsPlain}
-use Rattle.wf_act.specs.Traces.{stop, with_events}
-use Rattle.wf_act.specs.Within.{Anything, Within, acts, asks, price_of}
-use Rattle.wf_act.proofs.TraceLemmas.{trace-append, trace-one, trace-tells}
-use Rattle.wf_act.proofs.WithinLemmas.{within-more}
+use Rattle.wf_fetch_acts.specs.declared.act.Act.{Act}
+use Rattle.wf_fetch_acts.specs.declared.act.Act.TheVariants.{Ask, Send, ReadHead, ReadBody, Tell}
+use Rattle.wf_fetch_acts.specs.declared.act.Input.{Input}
+use Rattle.wf_fetch_acts.specs.Process.{Process, act, ended, fits, IsPlain}
+use Rattle.wf_fetch_acts.specs.Traces.{stop, with_events}
+use Rattle.wf_fetch_acts.specs.Within.{Anything, Within, acts, asks, price_of}
+use Rattle.wf_fetch_acts.proofs.TraceLemmas.{trace-append, trace-one, trace-tells}
+use Rattle.wf_fetch_acts.proofs.WithinLemmas.{within-more}
 use Rattle.wf_fetch.specs.declared.place.Fetching.{Fetching}
 use Rattle.wf_fetch.specs.declared.place.Step.{Step}
 use Rattle.wf_fetch.specs.declared.place.Step.TheVariants.{Going, Over}
@@ -17,16 +17,16 @@ use Rattle.wf_fetch.specs.Fetch.{fetch}
 use Rattle.wf_fetch.specs.Machine.{Does, rest}
 use Rattle.wf_fetch.specs.Then.{Context}
 use Rattle.wf_http1.specs.declared.framing.Framing.TheVariants as framing
-use Rattle.wf_laws.specs.Laws.{most_asks}
-use Rattle.wf_laws.specs.Own.{IsOwnAct}
-use Rattle.wf_laws.specs.Prices.{fetch_price, level_price, levels}
-use Rattle.wf_laws.proofs.OwnLemmas.{asks-at-most, fetch-within}
-use Rattle.wf_events.specs.declared.events.Event.{Event}
-use Rattle.wf_run.specs.Play.{events_of}
-use Rattle.wf_run.specs.Runs.{Progress, after_events, at_time}
+use Rattle.wf_fetch_laws.specs.Laws.{most_asks}
+use Rattle.wf_fetch_laws.specs.Own.{IsOwnAct}
+use Rattle.wf_fetch_laws.specs.Prices.{fetch_price, level_price, levels}
+use Rattle.wf_fetch_laws.proofs.OwnLemmas.{asks-at-most, fetch-within}
+use Rattle.wf_script_events.specs.declared.events.Event.{Event}
+use Rattle.wf_script_run.specs.Play.{events_of}
+use Rattle.wf_script_run.specs.Runs.{Progress, after_events, at_time}
 use Rattle.wf_types.specs.declared.request.Request.{Request}
 use Rattle.wf_types.specs.declared.response.Outcome.{Outcome}
-use Rattle.wf_wire.specs.Exchanges.{Answering, IsIdle}
+use Rattle.wf_link_wire.specs.Exchanges.{Answering, IsIdle}
 use Rattle.wf_player.specs.Driving.{Drove, FetchCut, FetchedTo, IsBegun, LeadsOn}
 use Rattle.wf_player.specs.Private.Going.{PartNoted, WentOn, from_act}
 use Rattle.wf_player.specs.Standings.{Standing, Terms}

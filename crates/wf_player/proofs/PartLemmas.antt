@@ -2,16 +2,16 @@
 use Rattle.std.proofs.Common.{ℕ, List, [], ◌∷◌, ◌++◌, refl, ap, sym, subst, ◌∙◌, ◌≡◌, ◌≢◌, arith}
 use Rattle.std.proofs.Common.{append_assoc}
 use Rattle.std.proofs.lemmas.List.{append-nil}
-use Rattle.wf_act.specs.Process.{Process}
-use Rattle.wf_events.specs.declared.events.Event.{Event}
-use Rattle.wf_run.specs.Play.{Play}
-use Rattle.wf_run.specs.Runs.{Next, Progress, after_events, embed, showing}
-use Rattle.wf_run.specs.Traces.{shown}
-use Rattle.wf_run.specs.Traces as traces
-use Rattle.wf_run.proofs.EmbedLemmas.{embedded}
-use Rattle.wf_run.proofs.PlayLemmas.{play-append}
+use Rattle.wf_fetch_acts.specs.Process.{Process}
+use Rattle.wf_script_events.specs.declared.events.Event.{Event}
+use Rattle.wf_script_run.specs.Play.{Play}
+use Rattle.wf_script_run.specs.Runs.{Next, Progress, after_events, embed, showing}
+use Rattle.wf_script_run.specs.Traces.{shown}
+use Rattle.wf_script_run.specs.Traces as traces
+use Rattle.wf_script_run.proofs.EmbedLemmas.{embedded}
+use Rattle.wf_script_run.proofs.PlayLemmas.{play-append}
 use Rattle.wf_types.specs.declared.response.Outcome.{Outcome}
-use Rattle.wf_wire.specs.Exchanges.{Answering}
+use Rattle.wf_link_wire.specs.Exchanges.{Answering}
 use Rattle.wf_player.specs.Driving.{FetchCut, FetchedTo}
 use Rattle.wf_player.specs.Parts.{CutShort, PlayedTo, PlaysOn, Rule, WasCut}
 use Rattle.wf_player.specs.Standings.{Standing, Terms}

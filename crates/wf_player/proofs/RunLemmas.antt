@@ -3,21 +3,21 @@ use Rattle.std.proofs.Common.{◌≡◌, ◌≢◌, ℕ, List, [], ◌++◌, Opt
 use Rattle.std.proofs.Common.{Result, Ok, Err}
 use Rattle.std.proofs.lemmas.List.{append-nil}
 use Rattle.wf_text.specs.declared.memory.OutOfMemory.{OutOfMemory}
-use Rattle.wf_act.specs.declared.act.Input.{Input}
-use Rattle.wf_commands.specs.Scripts.{Steps}
+use Rattle.wf_fetch_acts.specs.declared.act.Input.{Input}
+use Rattle.wf_script_commands.specs.Scripts.{Steps}
 use Rattle.wf_csp_text.specs.declared.policy.Policy.{Policy}
 use Rattle.wf_link.specs.Sources.{IsAtEnd}
-use Rattle.wf_events.specs.declared.events.Ending.{Ending}
-use Rattle.wf_events.specs.declared.events.Ending.TheVariants.{Commands, Fetches, Finished, Memory, Text}
-use Rattle.wf_events.specs.declared.events.Event.{Event}
-use Rattle.wf_run.specs.Play.{Play, PlayRun, over, run_play}
-use Rattle.wf_run.specs.Runs.{Next, Progress, beginning, document_client, document_run, finished, script_run, setting}
-use Rattle.wf_run.specs.Traces.{stop}
-use Rattle.wf_run.proofs.PlayLemmas.{play-run}
-use Rattle.wf_scenario.specs.declared.document.Document.{Document}
+use Rattle.wf_script_events.specs.declared.events.Ending.{Ending}
+use Rattle.wf_script_events.specs.declared.events.Ending.TheVariants.{Commands, Fetches, Finished, Memory, Text}
+use Rattle.wf_script_events.specs.declared.events.Event.{Event}
+use Rattle.wf_script_run.specs.Play.{Play, PlayRun, over, run_play}
+use Rattle.wf_script_run.specs.Runs.{Next, Progress, beginning, document_client, document_run, finished, script_run, setting}
+use Rattle.wf_script_run.specs.Traces.{stop}
+use Rattle.wf_script_run.proofs.PlayLemmas.{play-run}
+use Rattle.wf_script_values.specs.declared.document.Document.{Document}
 use Rattle.wf_types.specs.declared.client.Client.{Client}
 use Rattle.wf_types.specs.declared.client.Cookie.{Cookie}
-use Rattle.wf_wire.specs.Exchanges.{Answering, IsIdle}
+use Rattle.wf_link_wire.specs.Exchanges.{Answering, IsIdle}
 use Rattle.wf_player.specs.Parts.{CutShort, PlayedTo, Plays, PlaysOn, Rule}
 use Rattle.wf_player.specs.Playing.{Began, Came, Ran, ended_by}
 use Rattle.wf_player.specs.Standings.{Standing}

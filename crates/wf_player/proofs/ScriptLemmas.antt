@@ -5,23 +5,23 @@ use Rattle.std.proofs.Common.{Result, Ok, Err}
 use Rattle.std.proofs.lemmas.List.{append-nil, drop_all}
 use Rattle.std.specs.Prelude.{is_some, nat_le, nat_lt}
 use Rattle.wf_text.specs.declared.memory.OutOfMemory.{OutOfMemory}
-use Rattle.wf_commands.specs.declared.command.Command.{Command}
-use Rattle.wf_commands.specs.declared.command.Test.{Test}
-use Rattle.wf_commands.specs.Commands.{step_of, steps_of}
-use Rattle.wf_commands.specs.Depth.{step_size, steps_size}
-use Rattle.wf_commands.specs.Scripts.{Step, Steps}
-use Rattle.wf_commands.specs.Scripts as script
-use Rattle.wf_commands.specs.Valid.{AreValid, IsValidStep}
+use Rattle.wf_script_commands.specs.declared.command.Command.{Command}
+use Rattle.wf_script_commands.specs.declared.command.Test.{Test}
+use Rattle.wf_script_commands.specs.Commands.{step_of, steps_of}
+use Rattle.wf_script_commands.specs.Depth.{step_size, steps_size}
+use Rattle.wf_script_commands.specs.Scripts.{Step, Steps}
+use Rattle.wf_script_commands.specs.Scripts as script
+use Rattle.wf_script_commands.specs.Valid.{AreValid, IsValidStep}
 use Rattle.wf_link.specs.Sources.{IsAtEnd}
-use Rattle.wf_events.specs.declared.events.Ending.{Ending}
-use Rattle.wf_events.specs.declared.events.Ending.TheVariants.{Commands, Fetches, Memory, Text}
-use Rattle.wf_run.specs.Play.{over}
-use Rattle.wf_run.specs.Results.{holds}
-use Rattle.wf_run.specs.Runs.{Next, Progress, chosen, command_started, last_of, limit_before}
-use Rattle.wf_run.specs.Runs.{most_commands, most_fetches, most_printed, own_limit, repeated, script_run, started}
-use Rattle.wf_run.specs.Runs.{text_length, unless_limit, waited}
-use Rattle.wf_run.specs.Traces as traces
-use Rattle.wf_wire.specs.Exchanges.{Answering}
+use Rattle.wf_script_events.specs.declared.events.Ending.{Ending}
+use Rattle.wf_script_events.specs.declared.events.Ending.TheVariants.{Commands, Fetches, Memory, Text}
+use Rattle.wf_script_run.specs.Play.{over}
+use Rattle.wf_script_run.specs.Results.{holds}
+use Rattle.wf_script_run.specs.Runs.{Next, Progress, chosen, command_started, last_of, limit_before}
+use Rattle.wf_script_run.specs.Runs.{most_commands, most_fetches, most_printed, own_limit, repeated, script_run, started}
+use Rattle.wf_script_run.specs.Runs.{text_length, unless_limit, waited}
+use Rattle.wf_script_run.specs.Traces as traces
+use Rattle.wf_link_wire.specs.Exchanges.{Answering}
 use Rattle.wf_player.specs.Parts.{CutShort, HasPlayed, PlayedTo, Plays, Rule, WasCut}
 use Rattle.wf_player.specs.Standings.{HasSpent, MayGoOn, Standing, Terms}
 use Rattle.wf_player.proofs.AskingLemmas.{no-memory}

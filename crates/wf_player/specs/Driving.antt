@@ -1,14 +1,14 @@
 -- What a fetch comes to in a document's world.
 use Rattle.std.specs.Prelude.{◌≡◌, ℕ, ◌≤◌, List, ◌++◌, length, Result, Ok, Err}
 use Rattle.wf_text.specs.declared.memory.OutOfMemory.{OutOfMemory}
-use Rattle.wf_act.specs.declared.act.Input.{Input}
-use Rattle.wf_act.specs.Process.{Process, ended}
-use Rattle.wf_act.specs.Traces.{Driven, Trace, with_events}
-use Rattle.wf_events.specs.declared.events.Event.{Event}
-use Rattle.wf_run.specs.Play.{events_of}
-use Rattle.wf_run.specs.Runs.{after_events}
+use Rattle.wf_fetch_acts.specs.declared.act.Input.{Input}
+use Rattle.wf_fetch_acts.specs.Process.{Process, ended}
+use Rattle.wf_fetch_acts.specs.Traces.{Driven, Trace, with_events}
+use Rattle.wf_script_events.specs.declared.events.Event.{Event}
+use Rattle.wf_script_run.specs.Play.{events_of}
+use Rattle.wf_script_run.specs.Runs.{after_events}
 use Rattle.wf_types.specs.declared.response.Outcome.{Outcome}
-use Rattle.wf_wire.specs.Exchanges.{Answering, IsIdle}
+use Rattle.wf_link_wire.specs.Exchanges.{Answering, IsIdle}
 use Rattle.wf_player.specs.declared.fetch.FetchRun.{FetchRun}
 use Rattle.wf_player.specs.Standings.{Standing}
 use Rattle.wf_player.specs.Worlds.{Answers, Outside, Refuses, World, outside_of}

@@ -1,15 +1,15 @@
 -- What each part of a document's run comes to in the document's world.
 use Rattle.std.specs.Prelude.{◌≡◌, ◌≢◌, ℕ, ◌≤◌, List, ◌++◌, length, Option, Some, None, Result, Ok, Err, ⊤}
 use Rattle.wf_text.specs.declared.memory.OutOfMemory.{OutOfMemory}
-use Rattle.wf_act.specs.declared.act.Input.{Input}
+use Rattle.wf_fetch_acts.specs.declared.act.Input.{Input}
 use Rattle.wf_link.specs.Sources.{IsAtEnd}
-use Rattle.wf_events.specs.declared.events.Ending.{Ending}
-use Rattle.wf_events.specs.declared.events.Ending.TheVariants.{Memory}
-use Rattle.wf_events.specs.declared.events.Event.{Event}
-use Rattle.wf_run.specs.Play.{Play}
-use Rattle.wf_run.specs.Runs.{Next, Setting, unless_limit}
-use Rattle.wf_run.specs.Traces.{PlayTrace}
-use Rattle.wf_wire.specs.Exchanges.{Answering}
+use Rattle.wf_script_events.specs.declared.events.Ending.{Ending}
+use Rattle.wf_script_events.specs.declared.events.Ending.TheVariants.{Memory}
+use Rattle.wf_script_events.specs.declared.events.Event.{Event}
+use Rattle.wf_script_run.specs.Play.{Play}
+use Rattle.wf_script_run.specs.Runs.{Next, Setting, unless_limit}
+use Rattle.wf_script_run.specs.Traces.{PlayTrace}
+use Rattle.wf_link_wire.specs.Exchanges.{Answering}
 use Rattle.wf_player.specs.Standings.{Standing}
 use Rattle.wf_player.specs.Worlds.{Answers, Refuses, Settles, World, outside_of}
 

@@ -5,13 +5,13 @@ use Rattle.std.specs.List.{All, range_with_len}
 use Rattle.wf_book.specs.Accounts.{Account}
 use Rattle.wf_book.specs.declared.book.Book.{Book}
 use Rattle.wf_link.specs.Links.{Told}
-use Rattle.wf_events.specs.declared.events.Ending.TheVariants.{Memory}
-use Rattle.wf_events.specs.declared.events.Transcript.{Transcript}
-use Rattle.wf_run.specs.Documents.{EachDocument}
-use Rattle.wf_run.specs.Runs.{document_client, document_run}
-use Rattle.wf_scenario.specs.declared.document.Document.{Document}
-use Rattle.wf_scenario.specs.declared.scenario.Scenario.{Scenario}
-use Rattle.wf_wire.specs.Exchanges.{Answering}
+use Rattle.wf_script_events.specs.declared.events.Ending.TheVariants.{Memory}
+use Rattle.wf_script_events.specs.declared.events.Transcript.{Transcript}
+use Rattle.wf_script_run.specs.Documents.{EachDocument}
+use Rattle.wf_script_run.specs.Runs.{document_client, document_run}
+use Rattle.wf_script_values.specs.declared.document.Document.{Document}
+use Rattle.wf_script_values.specs.declared.scenario.Scenario.{Scenario}
+use Rattle.wf_link_wire.specs.Exchanges.{Answering}
 use Rattle.wf_player.specs.Worlds.{Outside, outside}
 use Rattle.wf_player.specs.Standings.{most_calls}
 use Rattle.wf_player.specs.Playing.{Came}

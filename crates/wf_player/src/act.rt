@@ -1,10 +1,10 @@
 // One act of a fetch.
 ghost use Rattle.std.specs.Prelude.{◌≡◌, ◌<◌, ◌≤◌, ◌+◌, IfOk, OnErr, IsTrue};
-ghost use Rattle.wf_act.specs.Process.{fits};
-ghost use Rattle.wf_act.specs.Within.{asks, price_of};
-ghost use Rattle.wf_act.specs.declared.act.Act.TheVariants.{Ask};
+ghost use Rattle.wf_fetch_acts.specs.Process.{fits};
+ghost use Rattle.wf_fetch_acts.specs.Within.{asks, price_of};
+ghost use Rattle.wf_fetch_acts.specs.declared.act.Act.TheVariants.{Ask};
 ghost use Rattle.wf_book.specs.Ops.{InRange};
-ghost use Rattle.wf_wire.specs.Wires.{over_link};
+ghost use Rattle.wf_link_wire.specs.Wires.{over_link};
 ghost use Rattle.wf_player.specs.Standings.{IsReady, Keeps, world};
 ghost use Rattle.wf_player.specs.Worlds.{Answers, CanAnswer, IsAsked, IsRefusedCall, Refuses, outside_of};
 
@@ -12,7 +12,7 @@ use crate::lent::Lent;
 use crate::player::Player;
 use std::sync::Wait;
 use std::thread::Threads;
-use wf_act::{Act, Input};
+use wf_fetch_acts::{Act, Input};
 use wf_book::{Op, Share};
 use wf_link::Link;
 use wf_text::OutOfMemory;

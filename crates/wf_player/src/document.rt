@@ -1,14 +1,14 @@
 // One document, played.
 ghost use Rattle.std.specs.Prelude.{◌≡◌, ◌≢◌, ◌≤◌, ◌<◌, ◌^◌, ◌+◌, [], length, slice_get, Some, IfOk, OnErr};
-ghost use Rattle.wf_commands.specs.Valid.{AreValid};
+ghost use Rattle.wf_script_commands.specs.Valid.{AreValid};
 ghost use Rattle.wf_link.specs.Sources.{IsAtEnd};
-ghost use Rattle.wf_events.specs.declared.events.Ending.TheVariants.{Memory};
-ghost use Rattle.wf_run.specs.Runs.{beginning, document_client, document_run, finished, script_run};
-ghost use Rattle.wf_scenario.specs.Valid.{IsValid, IsValidDocument};
-ghost use Rattle.wf_scenario.specs.declared.document.Document.{Document as OneDocument};
+ghost use Rattle.wf_script_events.specs.declared.events.Ending.TheVariants.{Memory};
+ghost use Rattle.wf_script_run.specs.Runs.{beginning, document_client, document_run, finished, script_run};
+ghost use Rattle.wf_script_values.specs.Valid.{IsValid, IsValidDocument};
+ghost use Rattle.wf_script_values.specs.declared.document.Document.{Document as OneDocument};
 ghost use Rattle.wf_types.specs.Requests.{IsClient};
-ghost use Rattle.wf_wire.specs.Exchanges.{IsIdle};
-ghost use Rattle.wf_wire.specs.Wires.{exchange_of, over_link};
+ghost use Rattle.wf_link_wire.specs.Exchanges.{IsIdle};
+ghost use Rattle.wf_link_wire.specs.Wires.{exchange_of, over_link};
 ghost use Rattle.wf_player.specs.Playing as spec;
 ghost use Rattle.wf_player.specs.Playing.{Came};
 ghost use Rattle.wf_player.specs.Standings.{KeepsPass, most_calls, setting_of};
@@ -20,15 +20,15 @@ use std::alloc::Global;
 use std::sync::Wait;
 use std::thread::Threads;
 use wf_book::Share;
-use wf_commands::Script;
+use wf_script_commands::Script;
 use wf_csp::Compiled;
-use wf_events::{Ending, Events, Transcript};
+use wf_script_events::{Ending, Events, Transcript};
 use wf_link::Link;
-use wf_run::Running;
-use wf_scenario::{Document, Scenario};
+use wf_script_run::Running;
+use wf_script_values::{Document, Scenario};
 use wf_text::{Bytes, OutOfMemory};
 use wf_types::Client;
-use wf_wire::Wire;
+use wf_link_wire::Wire;
 
 // A script that has been played: what it showed, its ending and its clock then.
 #[derive(Drop)]

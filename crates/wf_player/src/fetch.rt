@@ -1,16 +1,16 @@
 // One fetch, played over a link and a share of the book.
 ghost use Rattle.std.specs.Prelude.{◌≡◌, ◌<◌, ◌≤◌, ◌+◌, ◌^◌, [], IfOk, IsTrue, OnErr, OnOk};
-ghost use Rattle.wf_act.specs.Process.{fits};
-ghost use Rattle.wf_act.specs.Within.{asks, price_of};
+ghost use Rattle.wf_fetch_acts.specs.Process.{fits};
+ghost use Rattle.wf_fetch_acts.specs.Within.{asks, price_of};
 ghost use Rattle.wf_fetch.specs.Fetch.{fetch};
 ghost use Rattle.wf_fetch.specs.Machine.{Leads, rest};
 ghost use Rattle.wf_fetch.specs.Then.{context_of};
-ghost use Rattle.wf_laws.specs.Laws.{most_asks};
+ghost use Rattle.wf_fetch_laws.specs.Laws.{most_asks};
 ghost use Rattle.wf_link.specs.Sources.{IsAtEnd};
-ghost use Rattle.wf_run.specs.Play.{events_of};
-ghost use Rattle.wf_run.specs.Runs.{after_events, at_time};
+ghost use Rattle.wf_script_run.specs.Play.{events_of};
+ghost use Rattle.wf_script_run.specs.Runs.{after_events, at_time};
 ghost use Rattle.wf_types.specs.Requests.{IsClient, IsRequest};
-ghost use Rattle.wf_wire.specs.Wires.{over_link};
+ghost use Rattle.wf_link_wire.specs.Wires.{over_link};
 ghost use Rattle.wf_player.specs.Driving.{Drives, Fetches};
 ghost use Rattle.wf_player.specs.Private.Going.{GoesOn, PartNoted};
 ghost use Rattle.wf_player.specs.Standings.{IsReady, Keeps, KeepsPass, setting_of, standing, world};
@@ -22,16 +22,16 @@ use crate::player::Player;
 use std::alloc::Global;
 use std::sync::Wait;
 use std::thread::Threads;
-use wf_act::{Act, Input};
+use wf_fetch_acts::{Act, Input};
 use wf_book::Share;
 use wf_csp::Compiled;
-use wf_events::Events;
+use wf_script_events::Events;
 use wf_fetch::{Fetching, Step};
 use wf_link::Link;
-use wf_run::Running;
+use wf_script_run::Running;
 use wf_text::OutOfMemory;
 use wf_types::{Client, Cookies, Outcome, Request};
-use wf_wire::Wire;
+use wf_link_wire::Wire;
 
 /// What one fetch has shown, and what it came to.
 #[derive(Drop)]

@@ -1,9 +1,9 @@
 // Scripts, command by command.
 ghost use Rattle.std.specs.Prelude.{◌≡◌, None};
-ghost use Rattle.wf_commands.specs.Commands.{step_of};
-ghost use Rattle.wf_commands.specs.Valid.{AreValid, IsValidStep};
-ghost use Rattle.wf_run.specs.Runs.{chosen, command_started, limit_before, repeated, script_run};
-ghost use Rattle.wf_wire.specs.Wires.{over_link};
+ghost use Rattle.wf_script_commands.specs.Commands.{step_of};
+ghost use Rattle.wf_script_commands.specs.Valid.{AreValid, IsValidStep};
+ghost use Rattle.wf_script_run.specs.Runs.{chosen, command_started, limit_before, repeated, script_run};
+ghost use Rattle.wf_link_wire.specs.Wires.{over_link};
 ghost use Rattle.wf_player.specs.Parts.{Plays};
 ghost use Rattle.wf_player.specs.Standings.{HasSpent, IsReady, Keeps, MayGoOn, standing};
 
@@ -11,10 +11,10 @@ use crate::player::Player;
 use std::sync::Wait;
 use std::thread::Threads;
 use wf_book::Share;
-use wf_commands::{Command, Script, Test};
-use wf_events::Ending;
+use wf_script_commands::{Command, Script, Test};
+use wf_script_events::Ending;
 use wf_link::Link;
-use wf_run::holds;
+use wf_script_run::holds;
 use wf_text::OutOfMemory;
 
 impl<R: Threads + Wait + Sync, S: Share, L: Link> Player<'_, '_, '_, '_, '_, R, S, L> {

@@ -1,4 +1,4 @@
-use wf_events::Transcript;
+use wf_script_events::Transcript;
 
 /// A document's place in a play: its pass of the shared book, and its link.
 #[derive(Drop)]

@@ -2,9 +2,9 @@
 ghost use Rattle.std.specs.Prelude.{◌≡◌, ℕ, ◌≤◌, ◌<◌, ◌^◌, [], length, map, slice_index_or};
 ghost use Rattle.std.specs.Prelude.{vec_capacity, vec_len, IfOk, OnErr};
 ghost use Rattle.std.specs.List.{All, range_with_len};
-ghost use Rattle.wf_scenario.specs.Valid.{IsValid};
-ghost use Rattle.wf_wire.specs.Wires.{over_link};
-ghost use Rattle.wf_run.specs.Documents.{EachDocument};
+ghost use Rattle.wf_script_values.specs.Valid.{IsValid};
+ghost use Rattle.wf_link_wire.specs.Wires.{over_link};
+ghost use Rattle.wf_script_run.specs.Documents.{EachDocument};
 ghost use Rattle.wf_player.specs.Seats.{AreRefused, AreSeated, IsPlayed, seat_of};
 ghost use Rattle.wf_player.specs.Private.Rows.{CanPlay, RowPlayed, seatings_of, transcripts_of};
 
@@ -15,9 +15,9 @@ use std::sync::Wait;
 use std::thread::Threads;
 use std::{mem, thread};
 use wf_book::Share;
-use wf_events::{Ending, Transcript, Transcripts};
+use wf_script_events::{Ending, Transcript, Transcripts};
 use wf_link::Link;
-use wf_scenario::Scenario;
+use wf_script_values::Scenario;
 use wf_text::{Bytes, Items, OutOfMemory};
 
 // A document, in its row.

@@ -17,11 +17,11 @@ use Rattle.wf_types.specs.declared.response.BodyEnd.TheVariants.{Whole, Cut, Nul
 use Rattle.wf_types.specs.declared.response.Outcome.TheVariants.{Answer, Error, Loaded}
 use Rattle.wf_types.specs.declared.response.Response.{Response}
 use Rattle.wf_types.specs.declared.response.ResponseKind.TheVariants.{Basic, Cors, Opaque}
-use Rattle.wf_events.specs.declared.events.Ending.TheVariants.{Finished, Fetches, Text}
-use Rattle.wf_events.specs.declared.events.Event.TheVariants as event
-use Rattle.wf_events.specs.declared.events.Transcript.{Transcript}
-use Rattle.wf_events.specs.Calls.{call_text}
-use Rattle.wf_events.specs.Escapes.{escaped}
+use Rattle.wf_script_events.specs.declared.events.Ending.TheVariants.{Finished, Fetches, Text}
+use Rattle.wf_script_events.specs.declared.events.Event.TheVariants as event
+use Rattle.wf_script_events.specs.declared.events.Transcript.{Transcript}
+use Rattle.wf_script_events.specs.Calls.{call_text}
+use Rattle.wf_script_events.specs.Escapes.{escaped}
 use Rattle.wf_print.specs.Summary.{summary_text}
 use Rattle.wf_print.specs.Text.{play_text, transcript_text}
 

@@ -5,7 +5,7 @@ use Rattle.std.specs.List.{flat_map, slice_get}
 use Rattle.std.proofs.lemmas.List.{take-append-drop}
 use Rattle.std.proofs.lemmas.List.Concat.{flat_map-append}
 use Rattle.wf_headers.specs.declared.headers.Header.{Header}
-use Rattle.wf_events.specs.Lines.{escaped_line, header_lines}
+use Rattle.wf_script_events.specs.Lines.{escaped_line, header_lines}
 
 -- the header at an index, and those after it
 pub header_lines-drop : (headers : List Header) (i : ℕ) (name value : List ℕ)

@@ -17,9 +17,9 @@ use Rattle.wf_hsts.specs.declared.sts.Sts.{Sts}
 use Rattle.wf_precache.specs.declared.question.Lesson.{Lesson}
 use Rattle.wf_precache.specs.declared.question.Question.{Question}
 use Rattle.wf_text.specs.Ascii.{comma}
-use Rattle.wf_events.specs.Calls.{comma_texts, credentials_text, list_text, method_text, op_text, reply_text}
+use Rattle.wf_script_events.specs.Calls.{comma_texts, credentials_text, list_text, method_text, op_text, reply_text}
 use Rattle.wf_book.specs.Ops.{time_of}
-use Rattle.wf_events.specs.Calls.{subdomains_text, time_text}
+use Rattle.wf_script_events.specs.Calls.{subdomains_text, time_text}
 use Rattle.wf_print.specs.Laws.{HasOneHistory, IsListed, IsNamed, IsNumber, IsReadable, IsReadableLesson}
 use Rattle.wf_print.specs.Laws.{IsReadableOp, IsReadableQuestion, IsWord}
 use Rattle.wf_print.specs.Text.{entry_line, history_text}

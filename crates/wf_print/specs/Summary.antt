@@ -3,10 +3,10 @@ use Rattle.std.specs.Prelude.{ℕ, Bool, true, false, List, ◌++◌, length, fi
 use Rattle.std.specs.List.{flat_map}
 use Rattle.wf_book.specs.declared.entry.Entry.{Entry}
 use Rattle.wf_types.specs.declared.response.Outcome.TheVariants as outcome
-use Rattle.wf_events.specs.declared.events.Event.{Event}
-use Rattle.wf_events.specs.declared.events.Event.TheVariants as event
-use Rattle.wf_events.specs.declared.events.Transcript.{Transcript}
-use Rattle.wf_events.specs.Lines.{line}
+use Rattle.wf_script_events.specs.declared.events.Event.{Event}
+use Rattle.wf_script_events.specs.declared.events.Event.TheVariants as event
+use Rattle.wf_script_events.specs.declared.events.Transcript.{Transcript}
+use Rattle.wf_script_events.specs.Lines.{line}
 
 -- a fetch started
 abbrev pub is_fetch : Event → Bool

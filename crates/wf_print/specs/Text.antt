@@ -3,11 +3,11 @@
 use Rattle.std.specs.Prelude.{ℕ, ◌≢◌, List, [], ◌++◌, codes, decimal}
 use Rattle.std.specs.List.{flat_map, All}
 use Rattle.wf_book.specs.declared.entry.Entry.{Entry}
-use Rattle.wf_events.specs.Calls.{call_text}
-use Rattle.wf_events.specs.declared.events.Ending.{Ending}
-use Rattle.wf_events.specs.declared.events.Ending.TheVariants as ending
-use Rattle.wf_events.specs.declared.events.Transcript.{Transcript}
-use Rattle.wf_events.specs.Lines.{line, event_text}
+use Rattle.wf_script_events.specs.Calls.{call_text}
+use Rattle.wf_script_events.specs.declared.events.Ending.{Ending}
+use Rattle.wf_script_events.specs.declared.events.Ending.TheVariants as ending
+use Rattle.wf_script_events.specs.declared.events.Transcript.{Transcript}
+use Rattle.wf_script_events.specs.Lines.{line, event_text}
 
 -- how a document ended; one that ended for memory is never printed
 abbrev pub ending_line : Ending → List ℕ

@@ -1,5 +1,5 @@
 ghost use Rattle.std.specs.Prelude.{◌≡◌, ◌++◌, codes, OnOk};
-ghost use Rattle.wf_events.specs.Calls as spec;
+ghost use Rattle.wf_script_events.specs.Calls as spec;
 
 use crate::lines::add_number;
 use wf_book::{Op, Reply};

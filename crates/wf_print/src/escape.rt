@@ -1,9 +1,9 @@
 ghost use Rattle.std.specs.Prelude.{◌≡◌, ◌<◌, ◌++◌, OnOk};
 ghost use Rattle.std.specs.List.{prefix_len};
 ghost use Rattle.std.specs.Char.{digit_char};
-ghost use Rattle.wf_events.specs.Escapes as spec;
+ghost use Rattle.wf_script_events.specs.Escapes as spec;
 
-use wf_events::{are_plain, is_plain};
+use wf_script_events::{are_plain, is_plain};
 use wf_text::{Bytes, OutOfMemory};
 
 // How many bytes are looked at together.

@@ -1,13 +1,13 @@
 ghost use Rattle.std.specs.Prelude.{◌≡◌, ◌++◌, codes, decimal, length, OnOk};
-ghost use Rattle.wf_events.specs.Calls.{call_text};
+ghost use Rattle.wf_script_events.specs.Calls.{call_text};
 ghost use Rattle.wf_types.specs.Names.{destination_name};
-ghost use Rattle.wf_events.specs.Lines as spec;
+ghost use Rattle.wf_script_events.specs.Lines as spec;
 
 use crate::calls::add_call;
 use crate::escape::add_escaped;
 use itoa::{Buffer, Integer};
 use wf_book::{Op, Reply};
-use wf_events::Event;
+use wf_script_events::Event;
 use wf_headers::{Header, HeaderList};
 use wf_text::{Bytes, OutOfMemory};
 use wf_types::{BodyEnd, Destination, Hop, NetError, Outcome, Response, TypeFault, Violation};

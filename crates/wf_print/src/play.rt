@@ -2,7 +2,7 @@ ghost use Rattle.std.specs.Prelude.{◌≡◌, ◌≤◌, ◌++◌, ◌↔◌, I
 ghost use Rattle.std.specs.List.{flat_map};
 ghost use Rattle.wf_link.specs.Counts.{Rose};
 ghost use Rattle.wf_link.specs.Sinks.{Took, TookPart};
-ghost use Rattle.wf_events.specs.Lines.{event_text};
+ghost use Rattle.wf_script_events.specs.Lines.{event_text};
 ghost use Rattle.wf_print.specs.Text as spec;
 ghost use Rattle.wf_print.specs.Private.Writes.{Writes};
 
@@ -11,7 +11,7 @@ use crate::history::text_of_entries;
 use crate::lines::{add_event, add_number};
 use std::alloc::Global;
 use wf_book::{Entry, History};
-use wf_events::{Ending, Event, Transcript, Transcripts};
+use wf_script_events::{Ending, Event, Transcript, Transcripts};
 use wf_link::{Sink, write_whole};
 use wf_text::{Bytes, OutOfMemory};
 

@@ -4,7 +4,7 @@ ghost use Rattle.wf_link.specs.Sinks.{Took, TookPart};
 ghost use Rattle.wf_print.specs.Private.Kinds.{is_of};
 ghost use Rattle.wf_print.specs.Private.Writes.{Writes};
 ghost use Rattle.wf_print.specs.Summary as spec;
-ghost use Rattle.wf_events.specs.Lines.{line};
+ghost use Rattle.wf_script_events.specs.Lines.{line};
 ghost use Rattle.wf_print.specs.Text.{HasText};
 
 use crate::failure::Failure;
@@ -13,7 +13,7 @@ use crate::play::put;
 use itoa::Integer;
 use std::alloc::Global;
 use wf_book::{Entry, History};
-use wf_events::{Event, Transcript, Transcripts};
+use wf_script_events::{Event, Transcript, Transcripts};
 use wf_link::Sink;
 use wf_text::{Bytes, OutOfMemory};
 use wf_types::Outcome;

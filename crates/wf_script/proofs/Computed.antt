@@ -13,13 +13,13 @@ use Rattle.wf_types.specs.declared.mode.Credentials.TheVariants as credentials
 use Rattle.wf_types.specs.declared.mode.Mode.TheVariants as mode
 use Rattle.wf_types.specs.declared.mode.RedirectMode.TheVariants as redirect
 use Rattle.wf_types.specs.declared.mode.ReferrerPolicy.TheVariants as policy
-use Rattle.wf_commands.specs.Scripts.{fetch, wait, no_steps, step}
-use Rattle.wf_scenario.specs.declared.scenario.Scenario.{Scenario}
+use Rattle.wf_script_commands.specs.Scripts.{fetch, wait, no_steps, step}
+use Rattle.wf_script_values.specs.declared.scenario.Scenario.{Scenario}
 use Rattle.wf_script.specs.declared.place.Place.{Place}
-use Rattle.wf_scenario.specs.declared.servers.Server.{Server}
+use Rattle.wf_script_values.specs.declared.servers.Server.{Server}
 use Rattle.wf_script.specs.Generated.{address_text, address, generated}
 use Rattle.wf_script.specs.Scenarios.{scenario_of}
-use Rattle.wf_scenario.specs.Servers.{answer}
+use Rattle.wf_script_values.specs.Servers.{answer}
 use Rattle.wf_script.specs.Answers.{answer_bytes}
 
 abbrev refused : List ℕ → Result Scenario Place

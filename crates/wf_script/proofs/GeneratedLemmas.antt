@@ -10,13 +10,13 @@ use Rattle.std.proofs.lemmas.List.FromFn.{get_or-map-range_with_len, map-range_w
 use Rattle.url.proofs.OnLiterals.{url_on_literals}
 use Rattle.url.specs.Parts.{Parts}
 use Rattle.wf_types.specs.Urls.{url_of_text}
-use Rattle.wf_commands.specs.Valid.{IsValidInit, IsValidScript}
+use Rattle.wf_script_commands.specs.Valid.{IsValidInit, IsValidScript}
 use Rattle.wf_script.specs.Generated.{api_server, put_request, put_script, address_text, address, generated_document}
 use Rattle.wf_script.specs.Generated.{preflight_rule, other_rule, generated}
-use Rattle.wf_scenario.specs.declared.document.Document.{Document}
-use Rattle.wf_scenario.specs.Urls.{is_document_url}
-use Rattle.wf_scenario.specs.Valid.{IsValidCookie, IsValidHost, IsValidRoute, IsValidRule, IsValidServer}
-use Rattle.wf_scenario.specs.Valid.{IsValidDocument, IsValid}
+use Rattle.wf_script_values.specs.declared.document.Document.{Document}
+use Rattle.wf_script_values.specs.Urls.{is_document_url}
+use Rattle.wf_script_values.specs.Valid.{IsValidCookie, IsValidHost, IsValidRoute, IsValidRule, IsValidServer}
+use Rattle.wf_script_values.specs.Valid.{IsValidDocument, IsValid}
 
 -- ---- URLs
 

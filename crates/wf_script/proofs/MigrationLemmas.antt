@@ -7,14 +7,14 @@ use Rattle.serde_json.proofs.Views.{get_member-put, get_member-put_other}
 use Rattle.serde_json.specs.Data.{Data, number, unsigned, object, Members, put}
 use Rattle.serde_json.specs.Find.{get, as_array, as_object}
 use Rattle.url.specs.Parts.{Parts}
-use Rattle.wf_form.specs.Reading.{Read, present, given, under, found_or, number_of, required, optional, count}
-use Rattle.wf_form.specs.Reading.{each_from, items_of, list_of, has_keys}
-use Rattle.wf_form.proofs.FollowsLemmas.{Follows, follows-same, follows-then, follows-past, follows-required}
-use Rattle.wf_form.proofs.FollowsLemmas.{follows-optional, follows-list, follows-only_keys, apart, get-unknown}
-use Rattle.wf_form.proofs.FollowsLemmas.{has_keys-more, known-put}
+use Rattle.wf_script_tables.specs.Reading.{Read, present, given, under, found_or, number_of, required, optional, count}
+use Rattle.wf_script_tables.specs.Reading.{each_from, items_of, list_of, has_keys}
+use Rattle.wf_script_tables.proofs.FollowsLemmas.{Follows, follows-same, follows-then, follows-past, follows-required}
+use Rattle.wf_script_tables.proofs.FollowsLemmas.{follows-optional, follows-list, follows-only_keys, apart, get-unknown}
+use Rattle.wf_script_tables.proofs.FollowsLemmas.{has_keys-more, known-put}
 use Rattle.wf_script.specs.declared.format.Format.{Format}
 use Rattle.wf_script.specs.declared.format.Format.TheVariants.{First, Second}
-use Rattle.wf_scenario.specs.declared.scenario.Scenario.{Scenario}
+use Rattle.wf_script_values.specs.declared.scenario.Scenario.{Scenario}
 use Rattle.wf_script.specs.declared.place.Place.{Place}
 use Rattle.wf_script.specs.Formats.{format_numbered, whole_number, format_of, later_keys, root_keys, body_limit_of}
 use Rattle.wf_script.specs.Formats.{most_documents, document_keys, top_of}

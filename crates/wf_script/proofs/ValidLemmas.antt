@@ -16,31 +16,31 @@ use Rattle.wf_types.specs.declared.mode.ReferrerPolicy.TheVariants as policy
 use Rattle.wf_types.specs.ReferrerPolicies.{policy_of_header}
 use Rattle.wf_types.specs.Requests.{is_policy}
 use Rattle.wf_types.specs.Urls.{url_of_text}
-use Rattle.wf_commands.specs.Valid.{IsValidScript}
-use Rattle.wf_form.specs.Reading.{Read, present, any, has_key, only_keys, optional, found_or, number_of, truth_of}
-use Rattle.wf_form.specs.Reading.{text_that, some_of, items_of, list_of}
-use Rattle.wf_form.proofs.KeepsLemmas.{Keeps, Anything, keeps-anything, keeps-after, keeps-then, keeps-under}
-use Rattle.wf_form.proofs.KeepsLemmas.{keeps-found_or, keeps-given, keeps-required, keeps-optional, IsListOf}
-use Rattle.wf_form.proofs.KeepsLemmas.{keeps-items, keeps-list, Within, keeps-number, keeps-text_that, keeps-some}
-use Rattle.wf_form.proofs.KeepsLemmas.{keeps-parts}
-use Rattle.wf_steps.specs.Scripts.{document_script_of}
-use Rattle.wf_steps.proofs.ValidLemmas.{keeps-document_script}
+use Rattle.wf_script_commands.specs.Valid.{IsValidScript}
+use Rattle.wf_script_tables.specs.Reading.{Read, present, any, has_key, only_keys, optional, found_or, number_of, truth_of}
+use Rattle.wf_script_tables.specs.Reading.{text_that, some_of, items_of, list_of}
+use Rattle.wf_script_tables.proofs.KeepsLemmas.{Keeps, Anything, keeps-anything, keeps-after, keeps-then, keeps-under}
+use Rattle.wf_script_tables.proofs.KeepsLemmas.{keeps-found_or, keeps-given, keeps-required, keeps-optional, IsListOf}
+use Rattle.wf_script_tables.proofs.KeepsLemmas.{keeps-items, keeps-list, Within, keeps-number, keeps-text_that, keeps-some}
+use Rattle.wf_script_tables.proofs.KeepsLemmas.{keeps-parts}
+use Rattle.wf_script_steps.specs.Scripts.{document_script_of}
+use Rattle.wf_script_steps.proofs.ValidLemmas.{keeps-document_script}
 use Rattle.wf_script.specs.declared.format.Format.{Format}
 use Rattle.wf_script.specs.declared.format.Format.TheVariants.{First, Second}
-use Rattle.wf_scenario.specs.declared.document.Document.{Document}
-use Rattle.wf_scenario.specs.declared.scenario.Scenario.{Scenario}
+use Rattle.wf_script_values.specs.declared.document.Document.{Document}
+use Rattle.wf_script_values.specs.declared.scenario.Scenario.{Scenario}
 use Rattle.wf_script.specs.Formats.{root_keys, body_limit_of, document_keys, top_of, most_documents}
-use Rattle.wf_scenario.specs.Hosts.{is_host_name}
-use Rattle.wf_scenario.specs.Texts.{is_cookie_value}
+use Rattle.wf_script_values.specs.Hosts.{is_host_name}
+use Rattle.wf_script_values.specs.Texts.{is_cookie_value}
 use Rattle.wf_types.specs.OriginTexts.{is_origin_text}
-use Rattle.wf_scenario.specs.Urls.{is_document_url}
+use Rattle.wf_script_values.specs.Urls.{is_document_url}
 use Rattle.wf_script.specs.Urls.{document_url_of}
 use Rattle.wf_script.specs.Headers.{listed, policies_of_headers, policy_or_default}
 use Rattle.wf_script.specs.Scenarios.{host_keys, host_of, cookie_of, route_of, plain_header_of, answer_of, rule_keys}
 use Rattle.wf_script.specs.Scenarios.{rule_of, server_keys, server_of, said_of, document_of, scenario_as}
-use Rattle.wf_scenario.specs.Valid.{IsValidHost, IsValidCookie, IsValidRoute, IsValidRule, IsValidServer}
-use Rattle.wf_scenario.specs.Valid.{IsValidDocument}
-use Rattle.wf_scenario.specs.Valid.{IsValid}
+use Rattle.wf_script_values.specs.Valid.{IsValidHost, IsValidCookie, IsValidRoute, IsValidRule, IsValidServer}
+use Rattle.wf_script_values.specs.Valid.{IsValidDocument}
+use Rattle.wf_script_values.specs.Valid.{IsValid}
 
 -- the text passes a test
 abbrev That : (List ℕ → Bool) → List ℕ → Type 0

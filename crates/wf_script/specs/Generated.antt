@@ -10,11 +10,11 @@ use Rattle.wf_types.specs.declared.mode.Credentials.TheVariants as credentials
 use Rattle.wf_types.specs.declared.mode.Mode.TheVariants as mode
 use Rattle.wf_types.specs.declared.mode.RedirectMode.TheVariants as redirect
 use Rattle.wf_types.specs.declared.mode.ReferrerPolicy.TheVariants as policy
-use Rattle.wf_commands.specs.Scripts.{fetch, wait, repeat, Steps, no_steps, step}
-use Rattle.wf_scenario.specs.declared.servers.Rule.{Rule}
-use Rattle.wf_scenario.specs.declared.servers.Server.{Server}
-use Rattle.wf_scenario.specs.declared.document.Document.{Document}
-use Rattle.wf_scenario.specs.declared.scenario.Scenario.{Scenario}
+use Rattle.wf_script_commands.specs.Scripts.{fetch, wait, repeat, Steps, no_steps, step}
+use Rattle.wf_script_values.specs.declared.servers.Rule.{Rule}
+use Rattle.wf_script_values.specs.declared.servers.Server.{Server}
+use Rattle.wf_script_values.specs.declared.document.Document.{Document}
+use Rattle.wf_script_values.specs.declared.scenario.Scenario.{Scenario}
 use Rattle.wf_script.specs.Answers.{answer_bytes}
 
 -- ---- the server

@@ -2,7 +2,7 @@
 use Rattle.std.specs.Prelude.{◌≡◌, codes, Some, Ok}
 use Rattle.serde_json.specs.Data.{number, unsigned, object, Members, put}
 use Rattle.wf_script.specs.declared.format.Format.TheVariants.{First}
-use Rattle.wf_scenario.specs.declared.scenario.Scenario.{Scenario}
+use Rattle.wf_script_values.specs.declared.scenario.Scenario.{Scenario}
 use Rattle.wf_script.specs.Formats.{format_of}
 use Rattle.wf_script.specs.Scenarios.{scenario_of_tree}
 

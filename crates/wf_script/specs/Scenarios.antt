@@ -13,23 +13,23 @@ use Rattle.wf_types.specs.declared.mode.ReferrerPolicy.{ReferrerPolicy}
 use Rattle.wf_types.specs.declared.mode.ReferrerPolicy.TheVariants as policy
 use Rattle.wf_types.specs.Urls.{utf8_text}
 use Rattle.wf_link.specs.declared.target.Route.{Route}
-use Rattle.wf_form.specs.Reading.{Read, ◌>>=◌, given, number_of, truth_of, text_that, any, some_of}
-use Rattle.wf_form.specs.Reading.{has_key, only_keys, required, optional, items_of, list_of, pair_of}
-use Rattle.wf_steps.specs.Scripts.{document_script_of}
-use Rattle.wf_scenario.specs.declared.hosts.KnownHost.{KnownHost}
-use Rattle.wf_scenario.specs.declared.servers.Rule.{Rule}
-use Rattle.wf_scenario.specs.declared.servers.Server.{Server}
-use Rattle.wf_scenario.specs.declared.document.Document.{Document}
-use Rattle.wf_scenario.specs.declared.scenario.Scenario.{Scenario}
+use Rattle.wf_script_tables.specs.Reading.{Read, ◌>>=◌, given, number_of, truth_of, text_that, any, some_of}
+use Rattle.wf_script_tables.specs.Reading.{has_key, only_keys, required, optional, items_of, list_of, pair_of}
+use Rattle.wf_script_steps.specs.Scripts.{document_script_of}
+use Rattle.wf_script_values.specs.declared.hosts.KnownHost.{KnownHost}
+use Rattle.wf_script_values.specs.declared.servers.Rule.{Rule}
+use Rattle.wf_script_values.specs.declared.servers.Server.{Server}
+use Rattle.wf_script_values.specs.declared.document.Document.{Document}
+use Rattle.wf_script_values.specs.declared.scenario.Scenario.{Scenario}
 use Rattle.wf_script.specs.declared.place.Place.{Place}
 use Rattle.wf_script.specs.declared.format.Format.{Format}
 use Rattle.wf_script.specs.Formats.{format_of, number_of_format, root_keys, body_limit_of, most_documents}
 use Rattle.wf_script.specs.Formats.{document_keys, top_of}
 use Rattle.wf_script.specs.Headers.{policies_of_headers, policy_of_headers}
-use Rattle.wf_scenario.specs.Hosts.{is_host_name}
+use Rattle.wf_script_values.specs.Hosts.{is_host_name}
 use Rattle.wf_types.specs.OriginTexts.{is_origin_text}
 use Rattle.wf_script.specs.Answers.{answer_bytes}
-use Rattle.wf_scenario.specs.Texts.{is_cookie_value}
+use Rattle.wf_script_values.specs.Texts.{is_cookie_value}
 use Rattle.wf_script.specs.Urls.{document_url_of}
 
 -- ---- known hosts

@@ -4,7 +4,7 @@ ghost use Rattle.wf_script.specs.Scenarios as spec;
 use crate::texts::{CookieValue, OriginText};
 use serde_json::Value;
 use std::alloc::Global;
-use wf_form::{Form, PairOf, Refused, TextThat};
+use wf_script_tables::{Form, PairOf, Refused, TextThat};
 use wf_types::Cookie;
 
 const COOKIE: PairOf<TextThat<OriginText>, TextThat<CookieValue>> = PairOf {

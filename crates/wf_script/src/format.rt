@@ -1,14 +1,14 @@
 // The formats of scenarios, and the keys that only one of them has.
 ghost use Rattle.std.specs.Prelude.{◌≡◌, map};
 ghost use Rattle.serde_json.specs.View.{view};
-ghost use Rattle.wf_form.specs.Gives.{Gives};
+ghost use Rattle.wf_script_tables.specs.Gives.{Gives};
 ghost use Rattle.wf_script.specs.Formats as spec;
 
 use crate::urls::DocumentUrl;
 use serde_json::Value;
 use std::alloc::Global;
 use url::Url;
-use wf_form::{Number, Refused, optional};
+use wf_script_tables::{Number, Refused, optional};
 
 /// The format of a scenario.
 #[derive(Clone, Copy, Debug)]

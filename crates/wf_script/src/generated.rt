@@ -2,15 +2,15 @@
 ghost use Rattle.std.specs.Prelude.{◌≡◌, ◌≤◌, ◌<◌, IfOk, map};
 ghost use Rattle.std.specs.List.{range_with_len};
 ghost use Rattle.wf_script.specs.Generated as spec;
-ghost use Rattle.wf_scenario.specs.Valid.{IsValid};
+ghost use Rattle.wf_script_values.specs.Valid.{IsValid};
 
 use crate::answers::answer_bytes;
 use std::alloc::Global;
 use url::Url;
-use wf_commands::{Command, Script};
+use wf_script_commands::{Command, Script};
 use wf_csp_text::Policies;
 use wf_link::Routes;
-use wf_scenario::{Document, Documents, Hosts, Rule, Rules, Scenario, Server, Servers};
+use wf_script_values::{Document, Documents, Hosts, Rule, Rules, Scenario, Server, Servers};
 use wf_text::{Bytes, OutOfMemory};
 use wf_types::{
     Cookies, Credentials, Init, Mode, Pair, Pairs, RedirectMode, ReferrerPolicy, url_alone,

@@ -1,15 +1,15 @@
 // The table of known hosts.
 ghost use Rattle.std.specs.Prelude.{◌≡◌, IfOk};
-ghost use Rattle.wf_scenario.specs.Hosts as hosts;
+ghost use Rattle.wf_script_values.specs.Hosts as hosts;
 ghost use Rattle.wf_script.specs.Scenarios as spec;
 ghost use Rattle.wf_text.specs.Mime.{is_text};
 
 use serde_json::Value;
 use std::alloc::Global;
 use url::Url;
-use wf_form::{Form, Number, Refused, TextTest, TextThat, Truth, only_keys, required};
+use wf_script_tables::{Form, Number, Refused, TextTest, TextThat, Truth, only_keys, required};
 use wf_origin::is_local_name;
-use wf_scenario::KnownHost;
+use wf_script_values::KnownHost;
 use wf_text::OutOfMemory;
 use wf_types::url_alone;
 

@@ -3,7 +3,7 @@ ghost use Rattle.serde_json.specs.Data.{Members};
 ghost use Rattle.wf_types.specs.Urls.{url_of_text};
 ghost use Rattle.wf_script.specs.Generated.{address, address_text};
 ghost use Rattle.wf_script.specs.Migration.{IsMigratedAlike};
-ghost use Rattle.wf_scenario.specs.declared.scenario.Scenario.{Scenario};
+ghost use Rattle.wf_script_values.specs.declared.scenario.Scenario.{Scenario};
 
 /// A tree that is read as a scenario in format 1 is read as the same scenario where its `format` is
 /// the number 2 and it has the key `body_limit` with 262,144, whatever else it holds.

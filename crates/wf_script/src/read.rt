@@ -3,7 +3,7 @@ ghost use Rattle.std.specs.Prelude.{◌≡◌, IfOk, option_map};
 ghost use Rattle.serde_json.specs.View.{view};
 ghost use Rattle.wf_script.specs.Formats as formats;
 ghost use Rattle.wf_script.specs.Scenarios as spec;
-ghost use Rattle.wf_scenario.specs.Valid.{IsValid};
+ghost use Rattle.wf_script_values.specs.Valid.{IsValid};
 
 use crate::cookies::CookiePair;
 use crate::documents::DocumentTable;
@@ -14,8 +14,8 @@ use crate::routes::RoutePair;
 use crate::servers::ServerTable;
 use serde_json::Value;
 use std::alloc::Global;
-use wf_form::{Form, ItemsOf, ListOf, Number, Refused, only_keys, optional, required};
-use wf_scenario::{Scenario, Servers};
+use wf_script_tables::{Form, ItemsOf, ListOf, Number, Refused, only_keys, optional, required};
+use wf_script_values::{Scenario, Servers};
 use wf_text::{Bytes, Items, OutOfMemory};
 use wf_types::utf8_text;
 

@@ -4,7 +4,7 @@ ghost use Rattle.wf_script.specs.Scenarios as spec;
 use crate::texts::OriginText;
 use serde_json::Value;
 use std::alloc::Global;
-use wf_form::{AnyText, Form, PairOf, Refused, TextThat};
+use wf_script_tables::{AnyText, Form, PairOf, Refused, TextThat};
 use wf_link::Route;
 
 const ROUTE: PairOf<TextThat<OriginText>, TextThat<AnyText>> = PairOf {

@@ -2,17 +2,17 @@
 ghost use Rattle.wf_script.specs.Scenarios as spec;
 ghost use Rattle.std.specs.Prelude.{◌≡◌, map, is_some};
 ghost use Rattle.serde_json.specs.View.{view};
-ghost use Rattle.wf_form.specs.Gives.{Gives};
+ghost use Rattle.wf_script_tables.specs.Gives.{Gives};
 
 use crate::answers::answer_bytes;
 use crate::headers::PlainHeader;
 use crate::texts::OriginText;
 use serde_json::Value;
 use std::alloc::Global;
-use wf_form::{
+use wf_script_tables::{
     AnyText, Form, Given, ItemsOf, Number, Refused, TextThat, Token, only_keys, optional, required,
 };
-use wf_scenario::{Rule, Server};
+use wf_script_values::{Rule, Server};
 use wf_text::{Bytes, Items};
 
 // The keys of a rule whose answer is given by its bytes.

@@ -1,9 +1,9 @@
 // What a text of a scenario has to be.
-ghost use Rattle.wf_scenario.specs.Texts as spec;
+ghost use Rattle.wf_script_values.specs.Texts as spec;
 ghost use Rattle.wf_types.specs.OriginTexts.{is_origin_text};
 
 use std::alloc::Global;
-use wf_form::TextTest;
+use wf_script_tables::TextTest;
 use wf_text::{OutOfMemory, is_value};
 use wf_types::read_origin;
 

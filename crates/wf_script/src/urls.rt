@@ -1,12 +1,12 @@
 // The URLs that documents, and the pages at their top, may have.
 ghost use Rattle.std.specs.Prelude.{◌≡◌};
-ghost use Rattle.wf_scenario.specs.Urls.{is_document_url};
+ghost use Rattle.wf_script_values.specs.Urls.{is_document_url};
 ghost use Rattle.wf_script.specs.Urls as spec;
 
 use serde_json::Value;
 use std::alloc::Global;
 use url::Url;
-use wf_form::{Form, Refused, refused_here};
+use wf_script_tables::{Form, Refused, refused_here};
 use wf_origin::is_http_url;
 use wf_types::{has_credentials, is_short_url, url_alone};
 

@@ -6,8 +6,8 @@ use Rattle.std.specs.Prelude.{not, IsTrue, codes, unwrap_or}
 use Rattle.std.specs.List.{after_first, before_first, flat_map, prefix_len}
 use Rattle.wf_text.specs.Ascii.{lacks_space}
 use Rattle.wf_http1.specs.Requests.{header_line, request_bytes}
-use Rattle.wf_scenario.specs.Servers.{answer}
-use Rattle.wf_scenario.specs.declared.servers.Server.{Server}
+use Rattle.wf_script_values.specs.Servers.{answer}
+use Rattle.wf_script_values.specs.declared.servers.Server.{Server}
 use Rattle.wf_sim.specs.Sim.{is_space, answer_to}
 use Rattle.wf_sim.specs.Laws.{AnswersByParts}
 

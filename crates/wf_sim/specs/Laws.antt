@@ -4,8 +4,8 @@ use Rattle.std.specs.Prelude.{◌≡◌, List}
 use Rattle.wf_types.specs.declared.hop.Hop.{Hop}
 use Rattle.wf_types.specs.Targets.{IsSendable}
 use Rattle.wf_http1.specs.Requests.{request_bytes}
-use Rattle.wf_scenario.specs.Servers.{answer}
-use Rattle.wf_scenario.specs.declared.servers.Server.{Server}
+use Rattle.wf_script_values.specs.Servers.{answer}
+use Rattle.wf_script_values.specs.declared.servers.Server.{Server}
 use Rattle.wf_sim.specs.Sim.{answer_to}
 
 -- the answer to a request's bytes is the one that its method and its target get

@@ -5,8 +5,8 @@ use Rattle.std.specs.List.{after_first, before_first}
 use Rattle.wf_text.specs.Ascii.{space}
 use Rattle.wf_link.specs.Links.{Lent}
 use Rattle.wf_link.specs.declared.target.Ask.{Ask}
-use Rattle.wf_scenario.specs.Servers.{answer}
-use Rattle.wf_scenario.specs.declared.servers.Server.{Server}
+use Rattle.wf_script_values.specs.Servers.{answer}
+use Rattle.wf_script_values.specs.declared.servers.Server.{Server}
 
 -- ---- requests
 

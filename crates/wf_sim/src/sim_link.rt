@@ -4,14 +4,14 @@ ghost use Rattle.std.specs.Io.{ReadsAtMost};
 ghost use Rattle.wf_link.specs.Counts.{HasCause};
 ghost use Rattle.wf_link.specs.Links.{Asked, Awaits, MayHaveAsked, Received};
 ghost use Rattle.wf_link.specs.Sources.{Gave, IsAtEnd};
-ghost use Rattle.wf_scenario.specs.Valid.{IsValid};
-ghost use Rattle.wf_scenario.specs.declared.servers.Server.{Server};
+ghost use Rattle.wf_script_values.specs.Valid.{IsValid};
+ghost use Rattle.wf_script_values.specs.declared.servers.Server.{Server};
 ghost use Rattle.wf_sim.specs.Sim.{after_receive, answer_to, fault_count, received, told_asks, told_counts};
 
 use crate::request::{method_of, target_of};
 use std::marker::Model;
 use wf_link::{Failed, Link, Target};
-use wf_scenario::{Scenario, Servers};
+use wf_script_values::{Scenario, Servers};
 
 /// A link to the scripted servers of a scenario. It never fails, takes no memory, and tells neither
 /// what it was asked nor how much of each answer was received.

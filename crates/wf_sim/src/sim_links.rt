@@ -1,14 +1,14 @@
 ghost use Rattle.std.specs.Prelude.{◌≡◌, ◌+◌, ℕ, List, [], Ok, Some, IfOk, OnErr, option_map};
 ghost use Rattle.wf_link.specs.Links.{IsTold, one_out};
 ghost use Rattle.wf_link.specs.declared.target.Route.{Route};
-ghost use Rattle.wf_scenario.specs.Valid.{IsValid};
+ghost use Rattle.wf_script_values.specs.Valid.{IsValid};
 ghost use Rattle.wf_sim.specs.Sim.{fault_count, not_lent};
 
 use crate::sim_link::SimLink;
 use std::alloc::Global;
 use std::marker::Model;
 use wf_link::{Links, Routes};
-use wf_scenario::{Scenario, Servers};
+use wf_script_values::{Scenario, Servers};
 use wf_text::OutOfMemory;
 
 /// Links to the scripted servers of a scenario, each like the other. One can always be made, and none

@@ -7,17 +7,17 @@ use Rattle.wf_link.specs.Counts.{Rose}
 use Rattle.wf_link.specs.Sinks.{SinkTold, Took, TookPart}
 use Rattle.wf_link.specs.Sources.{Gave, IsAtEnd, SourceTold}
 use Rattle.wf_script.specs.declared.place.Place.{Place}
-use Rattle.wf_scenario.specs.declared.scenario.Scenario.{Scenario}
+use Rattle.wf_script_values.specs.declared.scenario.Scenario.{Scenario}
 use Rattle.wf_script.specs.Scenarios.{scenario_of}
 use Rattle.wf_book.specs.declared.entry.Entry.{Entry}
-use Rattle.wf_events.specs.declared.events.Transcript.{Transcript}
+use Rattle.wf_script_events.specs.declared.events.Transcript.{Transcript}
 use Rattle.wf_print.specs.declared.failure.Failure.{Failure}
 use Rattle.wf_print.specs.declared.failure.Failure.TheVariants as failure
 use Rattle.wf_print.specs.Summary.{summary_text}
 use Rattle.wf_print.specs.Text.{play_text}
-use Rattle.wf_wire.specs.Exchanges.{Answering}
-use Rattle.wf_play.specs.Links.{HasTakenBack, WasRefused}
-use Rattle.wf_play.proofs.LinkLemmas.{none-taken}
+use Rattle.wf_link_wire.specs.Exchanges.{Answering}
+use Rattle.wf_player_play.specs.Links.{HasTakenBack, WasRefused}
+use Rattle.wf_player_play.proofs.LinkLemmas.{none-taken}
 use Rattle.wf_top.specs.Private.Steps.{IsRead, IsUnread, IsWhyNone, IsWritten}
 use Rattle.wf_top.specs.Program.{most_input, IsWhole, WritesPlay, IsCause, IsPlayed, IsVerdict, IsComplained, IsTold}
 use Rattle.wf_top.specs.Program.{AreLeft, HasPlayed, IsPlayedOver, IsAnswer, IsExcused, IsExcusedRead, IsLinked, IsScripted, IsSummed}

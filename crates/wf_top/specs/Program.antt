@@ -6,18 +6,18 @@ use Rattle.wf_book.specs.declared.entry.Entry.{Entry}
 use Rattle.wf_link.specs.Counts.{Rose}
 use Rattle.wf_link.specs.Sinks.{SinkTold, Took, TookPart}
 use Rattle.wf_link.specs.Sources.{Gave, IsAtEnd, SourceTold}
-use Rattle.wf_events.specs.declared.events.Transcript.{Transcript}
+use Rattle.wf_script_events.specs.declared.events.Transcript.{Transcript}
 use Rattle.wf_print.specs.Summary.{summary_text}
 use Rattle.wf_print.specs.Text.{play_text}
 use Rattle.wf_script.specs.declared.place.Place.{Place}
-use Rattle.wf_scenario.specs.declared.scenario.Scenario.{Scenario}
-use Rattle.wf_run.specs.Documents.{EachDocument}
+use Rattle.wf_script_values.specs.declared.scenario.Scenario.{Scenario}
+use Rattle.wf_script_run.specs.Documents.{EachDocument}
 use Rattle.wf_script.specs.Generated.{generated}
 use Rattle.wf_script.specs.Scenarios.{scenario_of}
-use Rattle.wf_wire.specs.Exchanges.{Answering}
+use Rattle.wf_link_wire.specs.Exchanges.{Answering}
 use Rattle.wf_iso.specs.Isolated.{IsAlone, IsIsolated}
 use Rattle.wf_iso.specs.Plays.{IsPlay, by_rules, ways_to_servers}
-use Rattle.wf_play.specs.Links.{HasTakenBack, IsPlayOverLinks, WasRefused, way_of}
+use Rattle.wf_player_play.specs.Links.{HasTakenBack, IsPlayOverLinks, WasRefused, way_of}
 use Rattle.wf_top.specs.Statuses.{complaint}
 use Rattle.wf_top.specs.Streams.{Net, Failed}
 use Rattle.wf_top.specs.Words.{subcommand_of}

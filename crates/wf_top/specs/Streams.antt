@@ -2,7 +2,7 @@
 use Rattle.std.specs.Prelude.{ℕ, Option, ◌⊎◌}
 use Rattle.wf_link.specs.Counts.{Rose}
 use Rattle.wf_link.specs.Sinks.{SinkTold}
-use Rattle.wf_play.specs.Links.{Maker}
+use Rattle.wf_player_play.specs.Links.{Maker}
 
 -- a sink failed, or took nothing
 abbrev pub Failed : SinkTold → SinkTold → Type 0

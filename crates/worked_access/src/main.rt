@@ -7,7 +7,7 @@
 //     fetch TABLE DOCUMENT INIT     what a document at this URL sees of a server with the table: `fetches.rt`
 //     program WORDS CALLS INPUT CONNECTION...     what a run of the program comes to: `programs.rt`
 //
-// Each is printed with what it comes to. `wf_rows`'s `row.rt` says how a text is written. Lines that begin with `#` are
+// Each is printed with what it comes to. `worked_rows`'s `row.rt` says how a text is written. Lines that begin with `#` are
 // printed as they are.
 #![tactic(auto)]
 
@@ -23,7 +23,7 @@ use std::io;
 use std::process::ExitCode;
 use std::sync::Wait;
 use std::thread::Threads;
-use wf_rows::{Failed, Row, Shown, is_title, named, print_text};
+use worked_rows::{Failed, Row, Shown, is_title, named, print_text};
 
 /// The kinds of rows.
 #[derive(Clone, Copy)]

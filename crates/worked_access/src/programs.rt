@@ -12,8 +12,8 @@
 use crate::serving::{bytes_of, failing};
 use std::alloc::Global;
 use wf_link::{MemoryAccepts, MemoryEnd, MemorySink, MemorySource};
-use wf_rows::{Failed, Row, Shown};
-use wf_serving::corsserve;
+use worked_rows::{Failed, Row, Shown};
+use wf_server_program::corsserve;
 use wf_text::Bytes;
 
 /// Where the texts of the connections begin in a row.

@@ -11,7 +11,7 @@ use crate::slow::SlowEnd;
 use crate::tables::table_in;
 use std::alloc::Global;
 use wf_link::{MemoryEnd, MemorySink, MemorySource, Source};
-use wf_rows::{Failed, Row, Shown, has_word, number, value_of};
+use worked_rows::{Failed, Row, Shown, has_word, number, value_of};
 use wf_server::{AllowTable, Served, serve};
 use wf_text::Bytes;
 

@@ -1,6 +1,6 @@
 // Rows of tables, and of the answers by them.
 use std::alloc::Global;
-use wf_rows::{Failed, Row, Shown};
+use worked_rows::{Failed, Row, Shown};
 use wf_server::{AllowTable, answer, read_table};
 use wf_text::BytesList;
 

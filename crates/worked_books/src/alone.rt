@@ -6,7 +6,7 @@ use std::alloc::Global;
 use std::sync::Wait;
 use std::thread::Threads;
 use wf_book::{Book, Entry, History, Op, Reply, Share, SoloBook, SoloPass};
-use wf_rows::{Failed, Held, Shown};
+use worked_rows::{Failed, Held, Shown};
 
 // A reply as it is printed.
 fn add_reply(reply: Reply, shown: &mut Shown) {

@@ -2,7 +2,7 @@
 use crate::cut::{Cut, LARGE, SINGLE, places};
 use crate::reading::{Part, Reading};
 use std::alloc::Global;
-use wf_rows::{Failed, Shown, number, unescaped};
+use worked_rows::{Failed, Shown, number, unescaped};
 use wf_text::{Bytes, after_byte, before_byte};
 
 // What the heads of an answer come to: the final head and how many bytes there are up to its end, or why

@@ -14,7 +14,7 @@ use crate::questions::{ORIGIN, lesson_of, question_of};
 use std::alloc::Global;
 use wf_hsts::{HstsList, Sts};
 use wf_precache::{Allowed, CacheEntry, Precache};
-use wf_rows::{Failed, Held, Lines, Row, Shown, named, number};
+use worked_rows::{Failed, Held, Lines, Row, Shown, named, number};
 use wf_text::{Bytes, after_byte, before_byte};
 
 /// Times and ages are below this.

@@ -4,7 +4,7 @@ ghost use Rattle.std.specs.Prelude.{◌≤◌, IfOk};
 use std::io;
 use std::io::{ErrorKind, Read, Write};
 use wf_link::{Clock, FixedClock, ReaderSource, Sink, Source, WriterSink};
-use wf_rows::Shown;
+use worked_rows::Shown;
 
 /// A device that gives and takes two bytes a call, and fails at its second.
 #[derive(Drop)]

@@ -3,7 +3,7 @@
 // between the pieces of one, and the calls: `ask=TEXT`, `receive=COUNT` or `hang_up`.
 use std::alloc::Global;
 use wf_link::{Link, Links, MemoryLink, MemoryLinks, Routes, Target};
-use wf_rows::{Failed, Held, Row, Shown, named, number, texts_between};
+use worked_rows::{Failed, Held, Row, Shown, named, number, texts_between};
 use wf_text::{Bytes, BytesList, after_byte, before_byte};
 
 /// How many bytes a receive asks for at most.

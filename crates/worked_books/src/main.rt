@@ -24,7 +24,7 @@ use std::alloc::Global;
 use std::process::ExitCode;
 use std::sync::Wait;
 use std::thread::Threads;
-use wf_rows::{Failed, Lines, Shown, play, print_text};
+use worked_rows::{Failed, Lines, Shown, play, print_text};
 
 /// The rows of the wire, and the cache and the list that operations change.
 #[derive(Drop)]

@@ -5,7 +5,7 @@ use crate::questions::{ORIGIN, lesson_of, question_of};
 use std::alloc::Global;
 use wf_book::Op;
 use wf_hsts::Sts;
-use wf_rows::{Failed, Row};
+use worked_rows::{Failed, Row};
 use wf_text::Bytes;
 
 // The longest age of a lesson, in seconds.

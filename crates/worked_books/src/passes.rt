@@ -2,7 +2,7 @@ ghost use Rattle.std.specs.Prelude.{◌≡◌, ◌≤◌, [], ◌∷◌, IfOk, v
 ghost use Rattle.wf_turn.specs.Passes.{left_of, made_of};
 
 use std::alloc::Global;
-use wf_rows::Failed;
+use worked_rows::Failed;
 use wf_turn::{TurnBook, TurnPass};
 
 // The passes of documents 0 and 1.

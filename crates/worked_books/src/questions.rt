@@ -4,7 +4,7 @@
 //     KEY URL CREDENTIALS AGE METHODS NAMES     a lesson
 use std::alloc::Global;
 use wf_precache::{Lesson, Question};
-use wf_rows::{Failed, Row, named, number, texts_between};
+use worked_rows::{Failed, Row, named, number, texts_between};
 use wf_text::{Bytes, BytesList};
 
 /// The origin of all requests.

@@ -1,6 +1,6 @@
 use std::alloc::Global;
 use wf_http1::{BodyReader, BodyStep, HeadReader, HeadStep};
-use wf_rows::{Failed, Held, Shown};
+use worked_rows::{Failed, Held, Shown};
 use wf_types::{BodyEnd, Head};
 
 /// How many bytes of a whole body are printed, and how many headers of a head.

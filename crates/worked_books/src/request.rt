@@ -2,7 +2,7 @@
 use std::alloc::Global;
 use wf_headers::HeaderList;
 use wf_http1::write_request;
-use wf_rows::{Failed, Shown, texts_between};
+use worked_rows::{Failed, Shown, texts_between};
 use wf_text::{Bytes, after_byte, before_byte};
 use wf_types::Hop;
 

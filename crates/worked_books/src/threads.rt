@@ -8,7 +8,7 @@ use std::sync::Wait;
 use std::thread;
 use std::thread::Threads;
 use wf_book::{Book, Entry, History, Reply, Share};
-use wf_rows::{Failed, Held, Shown};
+use worked_rows::{Failed, Held, Shown};
 use wf_turn::{TurnBook, TurnPass};
 
 /// How many calls a thread makes.

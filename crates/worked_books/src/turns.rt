@@ -8,7 +8,7 @@ use std::alloc::Global;
 use std::sync::Wait;
 use std::thread::Threads;
 use wf_book::{Book, History, Share};
-use wf_rows::{Failed, Shown};
+use worked_rows::{Failed, Shown};
 use wf_turn::{FIRST, TurnBook, TurnPass};
 
 // One pass learns, and the other asks.

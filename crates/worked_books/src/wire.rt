@@ -8,10 +8,10 @@
 //
 // Each is printed with what it comes to. An answer is read whole, in pieces of one byte, and in pieces of 4,096 bytes.
 // One of at most 1,024 bytes is also cut in two at each place; a longer one is not. Where what an answer comes to
-// differs, the row comes to `DIFFERS`. `wf_rows`'s `row.rt` says how a text is written.
+// differs, the row comes to `DIFFERS`. `worked_rows`'s `row.rt` says how a text is written.
 use crate::{answer, device, link, request};
 use std::alloc::Global;
-use wf_rows::{Failed, Shown, named};
+use worked_rows::{Failed, Shown, named};
 use wf_text::{after_byte, before_byte};
 
 /// The kinds of rows.

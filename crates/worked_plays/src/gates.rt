@@ -14,7 +14,7 @@ use crate::waiting::{Asked, Manner, WaitingLinks};
 use std::alloc::Global;
 use std::sync::Wait;
 use std::thread::Threads;
-use wf_rows::{Failed, Shown, texts_between};
+use worked_rows::{Failed, Shown, texts_between};
 
 /// Two documents, each of which asks the book whether b.test is known, and fetches its page.
 pub(crate) const SCENARIO: &[u8] = b"{\"format\":1,\"documents\":[\

@@ -8,19 +8,19 @@
 // each other, up to an empty line, are played one after another over one book. Of each is shown how often its link was
 // asked and how often it failed, and then the text of all of them, with the book's history.
 ghost use Rattle.std.specs.Prelude.{◌≤◌, ◌<◌, ◌+◌, ◌*◌, length, IfOk};
-ghost use Rattle.wf_scenario.specs.Valid.{IsValid};
+ghost use Rattle.wf_script_values.specs.Valid.{IsValid};
 
 use crate::streams::numbers_of;
 use std::alloc::Global;
 use std::sync::Wait;
 use std::thread::Threads;
 use wf_book::{Book, History, Share, SoloBook, SoloPass};
-use wf_events::Transcripts;
+use wf_script_events::Transcripts;
 use wf_link::{MemoryLink, MemorySink};
 use wf_player::drive;
 use wf_print::{has_text, write_play};
-use wf_rows::{Failed, Held, Row, Shown, texts_between};
-use wf_scenario::Scenario;
+use worked_rows::{Failed, Held, Row, Shown, texts_between};
+use wf_script_values::Scenario;
 use wf_script::read_scenario;
 use wf_text::{BytesList, after_byte, before_byte};
 

@@ -26,7 +26,7 @@ use std::io;
 use std::process::ExitCode;
 use std::sync::Wait;
 use std::thread::Threads;
-use wf_rows::{Failed, Shown, is_title, print_text};
+use worked_rows::{Failed, Shown, is_title, print_text};
 
 // Plays the lines of a group.
 fn play_together<R: Threads + Wait + Sync + AllocGlobal>(

@@ -7,7 +7,7 @@ use std::alloc::Global;
 use std::sync::Wait;
 use std::thread::Threads;
 use wf_link::MemoryLinks;
-use wf_rows::{Failed, Held, Shown, number};
+use worked_rows::{Failed, Held, Shown, number};
 use wf_text::{after_byte, before_byte};
 
 // The links of rows, in order.

@@ -1,5 +1,5 @@
 // A request that is fetched by itself over a link and a book of its own. A row has, with a tab between, the request, as
-// `wf_rows`'s `requests.rt` writes one, and its link, as `links.rt` does. The words for what fails may include
+// `worked_rows`'s `requests.rt` writes one, and its link, as `links.rt` does. The words for what fails may include
 //
 //     limit=N           the fetch reads so many bytes of a body at most, and not 262,144
 ghost use Rattle.std.specs.Prelude.{◌≤◌};
@@ -12,10 +12,10 @@ use std::thread::Threads;
 use wf_book::{Book, Share, SoloBook};
 use wf_csp::Compiled;
 use wf_csp_text::Policies;
-use wf_events::{Ending, Event, Transcript, Transcripts};
+use wf_script_events::{Ending, Event, Transcript, Transcripts};
 use wf_link::MemoryLink;
 use wf_player::{FetchRun, drive_fetch};
-use wf_rows::{Failed, Held, Shown, client_at, number, request_of, value_of};
+use worked_rows::{Failed, Held, Shown, client_at, number, request_of, value_of};
 use wf_text::{Bytes, after_byte, before_byte};
 use wf_types::{Client, Cookies};
 

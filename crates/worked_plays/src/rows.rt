@@ -15,7 +15,7 @@ use std::alloc::Global;
 use std::sync::Wait;
 use std::thread::Threads;
 use wf_link::MemoryLinks;
-use wf_rows::{Failed, Held, Shown, has_word, named, number, texts_between, value_of};
+use worked_rows::{Failed, Held, Shown, has_word, named, number, texts_between, value_of};
 use wf_text::{Bytes, after_byte, before_byte};
 
 /// How many lines are printed of a row with `tail`.

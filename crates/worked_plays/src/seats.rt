@@ -3,7 +3,7 @@
 // events it has shown.
 ghost use Rattle.std.specs.Prelude.{◌≡◌, [], ◌∷◌, length, map, IfOk};
 ghost use Rattle.std.specs.List.{All};
-ghost use Rattle.wf_scenario.specs.Valid.{IsValid};
+ghost use Rattle.wf_script_values.specs.Valid.{IsValid};
 ghost use Rattle.wf_turn.specs.Passes.{left_of, made_of};
 
 use crate::gates::{SCENARIO, waiting_for};
@@ -13,10 +13,10 @@ use std::alloc::Global;
 use std::sync::Wait;
 use std::thread::Threads;
 use wf_book::Book;
-use wf_events::{Ending, Transcript};
+use wf_script_events::{Ending, Transcript};
 use wf_player::{Seating, play_all};
-use wf_rows::{Failed, Shown};
-use wf_scenario::Scenario;
+use worked_rows::{Failed, Shown};
+use wf_script_values::Scenario;
 use wf_text::OutOfMemory;
 use wf_turn::{TurnBook, TurnPass};
 

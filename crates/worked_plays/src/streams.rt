@@ -6,7 +6,7 @@ use std::alloc::Global;
 use std::sync::Wait;
 use std::thread::Threads;
 use wf_link::{FixedClock, Links, MemorySink, MemorySource};
-use wf_rows::{Failed, Held, Shown, number, value_of};
+use worked_rows::{Failed, Held, Shown, number, value_of};
 use wf_text::{Bytes, after_byte, before_byte};
 use wf_top::fetchplay;
 

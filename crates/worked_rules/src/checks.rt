@@ -9,7 +9,7 @@ ghost use Rattle.wf_types.specs.Requests.{IsRequest};
 use std::alloc::Global;
 use wf_csp::{Compiled, Violations};
 use wf_csp_text::{Policies, parse_policies};
-use wf_rows::{Failed, Held, Row, Shown};
+use worked_rows::{Failed, Held, Row, Shown};
 use wf_text::{after_byte, before_byte};
 use wf_types::{Request, Violation};
 

@@ -1,4 +1,4 @@
-// Rows of the CORS protocol; OPS make a header list, as `wf_rows`'s `list_of` says, and NAMES are unsafe names
+// Rows of the CORS protocol; OPS make a header list, as `worked_rows`'s `list_of` says, and NAMES are unsafe names
 // with a space between:
 //
 //     corp REQUEST OPS                      whether the cross-origin resource policy check blocks
@@ -11,7 +11,7 @@ use crate::responses::head_of;
 use std::alloc::Global;
 use wf_cors::{Checked, preflight_of, verdict};
 use wf_origin::tuple_origin;
-use wf_rows::{Failed, Held, Row, Shown, list_of, texts_between};
+use worked_rows::{Failed, Held, Row, Shown, list_of, texts_between};
 use wf_text::BytesList;
 use wf_types::{Hop, NetError, Request, corp_blocks, serialized_origin};
 

@@ -9,7 +9,7 @@ use std::alloc::Global;
 use wf_filter::exposed_names;
 use wf_headers::HeaderList;
 use wf_mime::{essence_of, nosniff};
-use wf_rows::{Failed, Row, Shown};
+use worked_rows::{Failed, Row, Shown};
 use wf_safelist::unsafe_names;
 use wf_types::{ReferrerPolicy, passes_cors_check, policy_of_header};
 

@@ -1,4 +1,4 @@
-// Rows of header lists. The last texts make a list (`wf_rows`'s `list_of`).
+// Rows of header lists. The last texts make a list (`worked_rows`'s `list_of`).
 //
 //     list OPS                   the list
 //     get NAME OPS               all values of the name, joined
@@ -12,7 +12,7 @@
 use crate::headers;
 use std::alloc::Global;
 use wf_headers::{Extracted, HeaderList, Rule};
-use wf_rows::{Failed, Row, Shown, list_of, named};
+use worked_rows::{Failed, Row, Shown, list_of, named};
 use wf_safelist::{Appended, Guard, guarded_append};
 use wf_text::{after_byte, before_byte};
 

@@ -9,7 +9,7 @@ ghost use Rattle.wf_types.specs.Requests.{IsClient, IsRequest};
 
 use std::alloc::Global;
 use wf_origin::same_origin;
-use wf_rows::{
+use worked_rows::{
     Failed, Held, Row, Shown, client_at, destination_named, named, policy_named, value_of,
 };
 use wf_send::new_load;

@@ -1,6 +1,6 @@
 // Reads worked rows of the rules of a fetch, one a line, and prints each with what its call answers. A line that begins
 // with `#` is a title, which is printed as it is, and so is an empty line. A row is a kind and its texts, with a tab
-// between; `wf_rows`'s `row.rt` says how a text is written and `requests.rt` how a request is, and each file here which
+// between; `worked_rows`'s `row.rt` says how a text is written and `requests.rt` how a request is, and each file here which
 // kinds it knows.
 #![tactic(auto)]
 
@@ -18,7 +18,7 @@ mod texts;
 
 use std::alloc::Global;
 use std::process::ExitCode;
-use wf_rows::{Failed, Lines, Row, Shown, play};
+use worked_rows::{Failed, Lines, Row, Shown, play};
 
 /// The table of the kinds of rows.
 #[derive(Drop)]

@@ -16,7 +16,7 @@ use wf_origin::{
     same_origin, same_site, serialize,
 };
 use wf_referrer::determine;
-use wf_rows::{Failed, Held, Row, Shown, origin_written, policy_named, url_written};
+use worked_rows::{Failed, Held, Row, Shown, origin_written, policy_named, url_written};
 use wf_types::ReferrerPolicy;
 
 // The answer to a row of these kinds, and whether the row is one.

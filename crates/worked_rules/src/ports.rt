@@ -3,7 +3,7 @@
 //     bad_port PORT         whether the port is bad; `-` is none
 //     bad_ports             all bad ports
 use wf_mixed::bad_port;
-use wf_rows::{Row, Shown};
+use worked_rows::{Row, Shown};
 use wf_text::parse_digits;
 
 // The answer to a row of these kinds, and whether the row is one.

@@ -1,4 +1,4 @@
-// Rows of requests, as `wf_rows`'s `requests.rt` writes one in their first text:
+// Rows of requests, as `worked_rows`'s `requests.rt` writes one in their first text:
 //
 //     origin REQUEST                the serialised origin
 //     mixed REQUEST TOP             whether the request, in a page with that URL at the top, is upgraded, and whether
@@ -11,7 +11,7 @@ ghost use Rattle.wf_types.specs.Requests.{IsAtHttp, IsRequest, is_determined};
 use crate::{checks, cors, responses};
 use std::alloc::Global;
 use wf_mixed::{blocked, upgrade};
-use wf_rows::{Failed, Row, Shown, origin_written, request_of, value_of};
+use worked_rows::{Failed, Row, Shown, origin_written, request_of, value_of};
 use wf_types::{Request, serialized_origin};
 
 // The answer to a row of a request or of policies, and whether the row is one.

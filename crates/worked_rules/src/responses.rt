@@ -1,4 +1,4 @@
-// Rows of what is let through of an answer; OPS make its header list, as `wf_rows`'s `list_of` says:
+// Rows of what is let through of an answer; OPS make its header list, as `worked_rows`'s `list_of` says:
 //
 //     filtered REQUEST STATUS OPS          the filtered response
 //     manual REQUEST STATUS OPS            the same of a redirect in redirect mode manual
@@ -9,7 +9,7 @@ ghost use Rattle.wf_types.specs.Requests.{IsRequest};
 use std::alloc::Global;
 use wf_filter::{filtered, hide};
 use wf_headers::HeaderList;
-use wf_rows::{Failed, Held, Row, Shown, list_of, number};
+use worked_rows::{Failed, Held, Row, Shown, list_of, number};
 use wf_text::Bytes;
 use wf_types::{Head, Hop, Request, Response};
 

@@ -1,6 +1,6 @@
 -- The events that the summary of a play counts, by their kind (private contracts).
 use Rattle.std.specs.Prelude.{Bool}
-use Rattle.wf_events.specs.declared.events.Event.{Event}
+use Rattle.wf_script_events.specs.declared.events.Event.{Event}
 use Rattle.wf_print.specs.declared.summary.Kind.{Kind}
 use Rattle.wf_print.specs.declared.summary.Kind.TheVariants.{Fetch, Request, Response, Error}
 use Rattle.wf_print.specs.Summary.{is_fetch, is_request, is_response, is_error}

@@ -4,9 +4,9 @@ use Rattle.wf_book.specs.declared.entry.Entry.{Entry}
 use Rattle.wf_link.specs.Counts.{Rose}
 use Rattle.wf_link.specs.Sinks.{SinkTold, Took, TookPart}
 use Rattle.wf_link.specs.Sources.{Gave, SourceTold}
-use Rattle.wf_events.specs.declared.events.Transcript.{Transcript}
+use Rattle.wf_script_events.specs.declared.events.Transcript.{Transcript}
 use Rattle.wf_print.specs.Text.{play_text}
-use Rattle.wf_scenario.specs.declared.scenario.Scenario.{Scenario}
+use Rattle.wf_script_values.specs.declared.scenario.Scenario.{Scenario}
 use Rattle.wf_script.specs.Scenarios.{scenario_of}
 use Rattle.wf_top.specs.Program.{IsWhole, most_input}
 use Rattle.wf_top.specs.Streams.{Failed}

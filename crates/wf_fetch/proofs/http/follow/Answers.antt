@@ -1,5 +1,5 @@
 use Rattle.std.proofs.Common.{arith, false, sym}
-use Rattle.wf_answers.specs.Following.{redirected_request}
+use Rattle.wf_fetch_answers.specs.Following.{redirected_request}
 use Rattle.wf_fetch.specs.Lending.{lent_at}
 use Rattle.wf_fetch.specs.Machine.{next_of}
 use Rattle.wf_fetch.proofs.MachineLemmas.{goes-on, redirected-count}

@@ -1,5 +1,5 @@
 use Rattle.std.proofs.Common.{◌∙◌, ap, arith, sym}
-use Rattle.wf_rules.specs.Upgrading.{upgraded}
+use Rattle.wf_fetch_rules.specs.Upgrading.{upgraded}
 use Rattle.wf_fetch.specs.Fetch.{onward_of}
 use Rattle.wf_fetch.specs.Lending.{lent_at}
 use Rattle.wf_fetch.specs.Machine.{next_of}

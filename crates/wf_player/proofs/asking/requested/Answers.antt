@@ -1,5 +1,5 @@
 use Rattle.std.proofs.Common.{sym, ◌∙◌}
-use Rattle.wf_run.specs.Results.{lent_result}
+use Rattle.wf_script_run.specs.Results.{lent_result}
 use Rattle.wf_player.proofs.AskingLemmas.{asked-as-filled, asked-as-plain}
 use Rattle.wf_player.proofs.asking.requested.Goals as goal
 

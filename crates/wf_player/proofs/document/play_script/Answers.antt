@@ -1,7 +1,7 @@
 use Rattle.std.proofs.Common.{◌≡◌, ap, arith, refl, rules, ◌∙◌}
 use Rattle.wf_link.specs.Sources.{IsAtEnd}
-use Rattle.wf_run.specs.Runs.{Progress, beginning, finished, script_run}
-use Rattle.wf_wire.specs.Wires.{over_link, window_of}
+use Rattle.wf_script_run.specs.Runs.{Progress, beginning, finished, script_run}
+use Rattle.wf_link_wire.specs.Wires.{over_link, window_of}
 use Rattle.wf_player.specs.Playing.{Came}
 use Rattle.wf_player.specs.Standings.{KeepsPass, most_calls, setting_of, standing}
 use Rattle.wf_player.specs.Worlds.{outside, world_of}

@@ -1,7 +1,7 @@
 use Rattle.std.proofs.Common.{refl, subst}
-use Rattle.wf_run.specs.Play.{Play}
-use Rattle.wf_run.specs.Runs.{document_run}
-use Rattle.wf_wire.specs.Wires.{over_link}
+use Rattle.wf_script_run.specs.Play.{Play}
+use Rattle.wf_script_run.specs.Runs.{document_run}
+use Rattle.wf_link_wire.specs.Wires.{over_link}
 use Rattle.wf_player.specs.Playing.{Came}
 use Rattle.wf_player.specs.Worlds.{Outside, outside}
 use Rattle.wf_player.proofs.AskLemmas.{outside-is}

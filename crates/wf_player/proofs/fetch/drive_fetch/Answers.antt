@@ -1,9 +1,9 @@
 use Rattle.std.proofs.Common.{◌≡◌, ap, refl, rules}
 use Rattle.wf_fetch.specs.Fetch.{fetch}
 use Rattle.wf_fetch.specs.Then.{context_of}
-use Rattle.wf_laws.specs.Laws.{most_asks}
-use Rattle.wf_run.specs.Runs.{Progress, setting}
-use Rattle.wf_wire.specs.Wires.{over_link, window_of}
+use Rattle.wf_fetch_laws.specs.Laws.{most_asks}
+use Rattle.wf_script_run.specs.Runs.{Progress, setting}
+use Rattle.wf_link_wire.specs.Wires.{over_link, window_of}
 use Rattle.wf_player.specs.Driving.{Drives, Drove}
 use Rattle.wf_player.specs.Standings.{KeepsPass, standing}
 use Rattle.wf_player.specs.Worlds.{outside, outside_of, world_of}

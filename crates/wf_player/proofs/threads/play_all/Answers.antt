@@ -1,10 +1,10 @@
 use Rattle.std.proofs.Common.{◌≡◌, ◌∙◌, List, ap, inr, length, map, refl, sym}
-use Rattle.wf_events.specs.declared.events.Transcript.{Transcript}
-use Rattle.wf_run.specs.Documents.{EachDocument}
+use Rattle.wf_script_events.specs.declared.events.Transcript.{Transcript}
+use Rattle.wf_script_run.specs.Documents.{EachDocument}
 use Rattle.wf_player.specs.Private.Rows.{seatings_of, transcripts_of}
 use Rattle.wf_player.proofs.AskLemmas.{on-err}
 use Rattle.wf_player.specs.Seats.{IsPlayed, seat_of}
-use Rattle.wf_wire.specs.Wires.{over_link}
+use Rattle.wf_link_wire.specs.Wires.{over_link}
 use Rattle.wf_player.proofs.SeatLemmas.{belong-back, documents-after, documents-before, made-list, played-back, ready}
 use Rattle.wf_player.proofs.SeatLemmas.{none-played, written}
 use Rattle.wf_player.proofs.threads.play_all.Goals as goal

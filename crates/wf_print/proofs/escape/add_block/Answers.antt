@@ -1,6 +1,6 @@
 use Rattle.std.proofs.Common.{◌≡◌, true, sym, ◌∙◌}
 use Rattle.std.specs.List.{list_all}
-use Rattle.wf_events.specs.Escapes as spec
+use Rattle.wf_script_events.specs.Escapes as spec
 use Rattle.wf_print.proofs.EscapeLemmas.{escaped-all_plain}
 use Rattle.wf_print.proofs.escape.add_block.Goals as goal
 

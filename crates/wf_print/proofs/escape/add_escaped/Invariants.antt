@@ -1,5 +1,5 @@
 use Rattle.std.proofs.Common.{◌≡◌, ◌++◌, length}
-use Rattle.wf_events.specs.Escapes as spec
+use Rattle.wf_script_events.specs.Escapes as spec
 use Rattle.wf_print.proofs.escape.add_escaped.Given as goal
 
 abbrev pub invariant-loop-rest : goal.invariant-loop-rest

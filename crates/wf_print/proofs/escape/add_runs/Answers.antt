@@ -1,6 +1,6 @@
 use Rattle.std.proofs.Common.{◌++◌, ◌∙◌, sym, ap, length, refl}
 use Rattle.std.proofs.lemmas.List.Sums.{prefix_len-le-length}
-use Rattle.wf_events.specs.Escapes as spec
+use Rattle.wf_script_events.specs.Escapes as spec
 use Rattle.wf_print.proofs.AppendLemmas.{one_added}
 use Rattle.wf_print.proofs.EscapeLemmas.{escaped_run, escaped_plain}
 use Rattle.wf_print.proofs.escape.add_runs.Goals as goal

@@ -1,5 +1,5 @@
 use Rattle.std.proofs.Common.{add-one, ◌++◌, codes}
-use Rattle.wf_events.specs.Lines as spec
+use Rattle.wf_script_events.specs.Lines as spec
 use Rattle.wf_print.proofs.AppendLemmas.{one_added}
 use Rattle.wf_print.proofs.LineLemmas.{header_lines-drop}
 use Rattle.wf_print.proofs.lines.add_headers.Goals as goal

@@ -1,5 +1,5 @@
 use Rattle.std.proofs.Common.{◌≡◌, ◌++◌, drop}
-use Rattle.wf_events.specs.Lines as spec
+use Rattle.wf_script_events.specs.Lines as spec
 use Rattle.wf_print.proofs.lines.add_headers.Given as goal
 
 abbrev pub invariant-loop-index : goal.invariant-loop-index

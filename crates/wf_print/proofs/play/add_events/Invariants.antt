@@ -1,6 +1,6 @@
 use Rattle.std.proofs.Common.{◌≡◌, ◌++◌, drop}
 use Rattle.std.specs.List.{flat_map}
-use Rattle.wf_events.specs.Lines as spec
+use Rattle.wf_script_events.specs.Lines as spec
 use Rattle.wf_print.proofs.play.add_events.Given as goal
 
 abbrev pub invariant-loop-event : goal.invariant-loop-event

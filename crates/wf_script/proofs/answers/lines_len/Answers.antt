@@ -2,7 +2,7 @@ use Rattle.std.proofs.Common.{List, ap, arith, length}
 use Rattle.std.specs.List.{flat_map}
 use Rattle.wf_types.specs.declared.init.Pair.{Pair}
 use Rattle.wf_script.specs.Answers.{header_line}
-use Rattle.wf_form.proofs.ReadingLemmas.{drop-past}
+use Rattle.wf_script_tables.proofs.ReadingLemmas.{drop-past}
 use Rattle.wf_script.proofs.answers.lines_len.Goals as goal
 
 pub returns : goal.returns

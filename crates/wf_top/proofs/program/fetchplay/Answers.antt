@@ -1,7 +1,7 @@
-use Rattle.wf_play.specs.Links.{maker_of}
+use Rattle.wf_player_play.specs.Links.{maker_of}
 use Rattle.wf_top.specs.Streams.{net_of}
 use Rattle.wf_top.specs.Words.{texts}
-use Rattle.wf_wire.specs.Wires.{over_link}
+use Rattle.wf_link_wire.specs.Wires.{over_link}
 use Rattle.wf_top.proofs.ProgramLemmas.{answers}
 use Rattle.wf_top.proofs.program.fetchplay.Goals as goal
 

@@ -1,8 +1,8 @@
 use Rattle.std.proofs.Common.{true, false, ap, arith, rules, sym, ◌∙◌}
-use Rattle.wf_commands.specs.Commands.{step_of}
-use Rattle.wf_run.specs.Results.{holds}
-use Rattle.wf_run.specs.Runs.{chosen, command_started, repeated, script_run, started, waited}
-use Rattle.wf_wire.specs.Wires.{over_link}
+use Rattle.wf_script_commands.specs.Commands.{step_of}
+use Rattle.wf_script_run.specs.Results.{holds}
+use Rattle.wf_script_run.specs.Runs.{chosen, command_started, repeated, script_run, started, waited}
+use Rattle.wf_link_wire.specs.Wires.{over_link}
 use Rattle.wf_player.specs.Parts.{Plays}
 use Rattle.wf_player.specs.Standings.{standing}
 use Rattle.wf_player.proofs.AskLemmas.{keeps-none, keeps-then, refused, run-to}

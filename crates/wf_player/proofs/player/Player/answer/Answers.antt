@@ -1,4 +1,4 @@
-use Rattle.wf_wire.specs.Wires.{exchange_of}
+use Rattle.wf_link_wire.specs.Wires.{exchange_of}
 use Rattle.wf_player.specs.Worlds.{outside}
 use Rattle.wf_player.proofs.AskLemmas.{on-err-map, refused-call, refused-exchange}
 use Rattle.wf_player.proofs.player.Player.answer.Goals as goal

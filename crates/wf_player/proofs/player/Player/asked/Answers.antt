@@ -1,5 +1,5 @@
 use Rattle.std.proofs.Common.{refl}
-use Rattle.wf_wire.specs.Wires.{over_link}
+use Rattle.wf_link_wire.specs.Wires.{over_link}
 use Rattle.wf_player.specs.Parts.{PlaysUnended}
 use Rattle.wf_player.specs.Standings.{standing}
 use Rattle.wf_player.proofs.AskLemmas.{refused, run-to}

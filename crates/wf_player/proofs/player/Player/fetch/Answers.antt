@@ -1,8 +1,8 @@
 use Rattle.std.proofs.Common.{arith, subst}
 use Rattle.wf_fetch.specs.declared.place.Step.{Step}
 use Rattle.wf_fetch.specs.Fetch.{fetch}
-use Rattle.wf_run.specs.Runs.{at_time}
-use Rattle.wf_wire.specs.Wires.{over_link}
+use Rattle.wf_script_run.specs.Runs.{at_time}
+use Rattle.wf_link_wire.specs.Wires.{over_link}
 use Rattle.wf_player.specs.Driving.{Fetches}
 use Rattle.wf_player.specs.Standings.{setting_of, standing}
 use Rattle.wf_player.proofs.AskLemmas.{keeps-none, keeps-then, refused}

@@ -1,8 +1,8 @@
 use Rattle.std.proofs.Common.{◌-◌}
-use Rattle.wf_act.specs.Within.{acts}
-use Rattle.wf_laws.specs.Prices.{fetch_price}
-use Rattle.wf_run.specs.Runs.{at_time}
-use Rattle.wf_wire.specs.Wires.{over_link}
+use Rattle.wf_fetch_acts.specs.Within.{acts}
+use Rattle.wf_fetch_laws.specs.Prices.{fetch_price}
+use Rattle.wf_script_run.specs.Runs.{at_time}
+use Rattle.wf_link_wire.specs.Wires.{over_link}
 use Rattle.wf_player.specs.Standings.{Keeps, setting_of, standing}
 use Rattle.wf_player.proofs.FetchLemmas.{IsFetching}
 use Rattle.wf_player.proofs.player.Player.fetch.Given as goal

@@ -1,10 +1,10 @@
 use Rattle.std.proofs.Common.{refl}
-use Rattle.wf_commands.specs.Scripts.{fetch}
-use Rattle.wf_run.specs.Results.{lent_result}
-use Rattle.wf_run.specs.Runs.{command_started, filled_init}
+use Rattle.wf_script_commands.specs.Scripts.{fetch}
+use Rattle.wf_script_run.specs.Results.{lent_result}
+use Rattle.wf_script_run.specs.Runs.{command_started, filled_init}
 use Rattle.wf_send.specs.Making.{new_request}
 use Rattle.wf_types.specs.declared.policy.Destination.TheVariants as destination
-use Rattle.wf_wire.specs.Wires.{over_link}
+use Rattle.wf_link_wire.specs.Wires.{over_link}
 use Rattle.wf_player.specs.Parts.{PlaysUnended}
 use Rattle.wf_player.specs.Standings.{standing}
 use Rattle.wf_player.proofs.AskLemmas.{refused}

@@ -1,7 +1,7 @@
 use Rattle.std.proofs.Common.{subst}
-use Rattle.wf_act.specs.declared.act.Act.{Act}
-use Rattle.wf_run.specs.Runs.{Progress, at_time}
-use Rattle.wf_wire.specs.Wires.{over_link}
+use Rattle.wf_fetch_acts.specs.declared.act.Act.{Act}
+use Rattle.wf_script_run.specs.Runs.{Progress, at_time}
+use Rattle.wf_link_wire.specs.Wires.{over_link}
 use Rattle.wf_player.specs.Private.Going.{GoesOn, PartNoted}
 use Rattle.wf_player.specs.Standings.{setting_of, standing}
 use Rattle.wf_player.proofs.AskLemmas.{refused, run-to, same-terms}

@@ -1,9 +1,9 @@
 use Rattle.std.proofs.Common.{refl}
-use Rattle.wf_commands.specs.Scripts.{load}
-use Rattle.wf_run.specs.Results.{lent_result}
-use Rattle.wf_run.specs.Runs.{command_started, filled_load}
+use Rattle.wf_script_commands.specs.Scripts.{load}
+use Rattle.wf_script_run.specs.Results.{lent_result}
+use Rattle.wf_script_run.specs.Runs.{command_started, filled_load}
 use Rattle.wf_send.specs.Loading.{new_load}
-use Rattle.wf_wire.specs.Wires.{over_link}
+use Rattle.wf_link_wire.specs.Wires.{over_link}
 use Rattle.wf_player.specs.Parts.{PlaysUnended}
 use Rattle.wf_player.specs.Standings.{standing}
 use Rattle.wf_player.proofs.AskLemmas.{refused}

@@ -1,6 +1,6 @@
 use Rattle.std.proofs.Common.{refl}
-use Rattle.wf_run.specs.Runs.{fetched}
-use Rattle.wf_wire.specs.Wires.{over_link, window_of}
+use Rattle.wf_script_run.specs.Runs.{fetched}
+use Rattle.wf_link_wire.specs.Wires.{over_link, window_of}
 use Rattle.wf_player.specs.Parts.{PlaysUnended}
 use Rattle.wf_player.specs.Standings.{standing}
 use Rattle.wf_player.proofs.AskLemmas.{end-left, on-ok, refused, run-to, same-terms}

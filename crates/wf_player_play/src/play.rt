@@ -1,0 +1,125 @@
+// A play: the book is opened, the documents are seated and played, and the book is closed.
+ghost use Rattle.std.specs.Prelude.{◌≤◌, ◌+◌, ◌^◌, vec_capacity, vec_len, IfOk, OnErr};
+ghost use Rattle.wf_print.specs.Text.{HasText};
+ghost use Rattle.wf_script_values.specs.Valid.{IsValid};
+ghost use Rattle.wf_link_wire.specs.Wires.{over_link};
+ghost use Rattle.wf_player_play.specs.Links.{IsPlayOverLinks, WasRefused, maker_of};
+ghost use Rattle.wf_player_play.specs.Private.Seated.{AreReady, AreUnseated};
+ghost use Rattle.wf_player_play.specs.Refused.{NoneOrAllPlayed};
+ghost use Rattle.wf_iso.specs.Plays.{IsPlay, IsPlayOver};
+
+use crate::book::opened;
+use crate::passes::passes_of;
+use crate::seats::{seat_all, unseat};
+use std::alloc::Global;
+use std::sync::Wait;
+use std::thread::Threads;
+use wf_book::History;
+use wf_script_events::Transcripts;
+use wf_faults::{law_faults_counted, law_faults_shown};
+use wf_link::Links;
+use wf_player::{Seating, play_all};
+use wf_print::has_text;
+use wf_script_values::Scenario;
+use wf_sim::SimLinks;
+use wf_text::OutOfMemory;
+use wf_turn::{Closed, TurnBook, TurnPass};
+
+/// What a play has come to: what each document has shown, and the one history of the book.
+#[derive(Drop)]
+pub struct Played {
+    pub transcripts: Transcripts,
+    pub history: History,
+}
+
+// Plays each document on its seat, takes the links back, in order of documents, and closes the book.
+fn play_seated<R: Threads + Wait + Sync, N: Links>(
+    rt: &R,
+    alloc: Global,
+    scenario: &Scenario,
+    base: u64,
+    book: TurnBook,
+    mut seats: Vec<Seating<N::Link, TurnPass>>,
+    mut passes: Vec<TurnPass>,
+    links: &mut N,
+) -> Result<Played, OutOfMemory>
+    requires valid { IsValid scenario.now }
+    requires base { base ≤ 2 ^ 40 }
+    requires ready { AreReady book.table.shared.table_id scenario.now passes.items seats.items }
+    requires room { vec_len seats + vec_len passes ≤ vec_capacity passes }
+    ensures played { IfOk result (λ played. AreUnseated N.Link.told (N.lent links.old)
+        (N.lent links.new) (N.faults links.old) (N.faults links.new) seats.items (λ olds news. IsPlayOver
+        (over_link N.Link.serves) scenario.entry.now base olds news played.transcripts played.history)) }
+    ensures refused { OnErr result (AreUnseated N.Link.told (N.lent links.old)
+        (N.lent links.new) (N.faults links.old) (N.faults links.new) seats.items
+        (NoneOrAllPlayed (over_link N.Link.serves) scenario.entry.now base)) }
+    ensures has_text { IfOk result (λ played. HasText played.transcripts) }
+{
+    let played = play_all(rt, alloc, scenario, base, &book, &mut seats);
+    unseat(seats, links, &mut passes);
+    let Closed { book: _, history } = book.close(passes);
+    let transcripts = played?;
+    if has_text(&transcripts) {
+        Ok(Played {
+            transcripts,
+            history,
+        })
+    } else {
+        Err(OutOfMemory)
+    }
+}
+
+/// Plays a scenario over links, from a time in seconds on, which is at most 2^40: each document on a
+/// thread of its own where one can be made, over the link that is made for it and over one book, which
+/// opens with the scenario's hosts. The links are made in order of documents, and taken back in the same
+/// order, also where memory was refused.
+///
+/// `OutOfMemory` where memory was refused, to a document or to what surrounds them, or where a link could not
+/// be made; then the links that were made were taken back in order of documents: as they were made, or, where
+/// the documents were played, as their runs have left them. The calls of those runs are one legal history too.
+pub fn play_over<R: Threads + Wait + Sync, N: Links>(
+    rt: &R,
+    alloc: Global,
+    scenario: &Scenario,
+    base: u64,
+    links: &mut N,
+) -> Result<Played, OutOfMemory>
+    requires valid { IsValid scenario.now }
+    requires base { base ≤ 2 ^ 40 }
+    ensures played { IfOk result (λ played. IsPlayOverLinks (over_link N.Link.serves) N.Link.told
+        (maker_of N.opening N.lent N.faults links.old) (maker_of N.opening N.lent N.faults links.new) scenario.entry.now base played.transcripts played.history) }
+    ensures refused { OnErr result (WasRefused (over_link N.Link.serves) N.Link.told
+        (maker_of N.opening N.lent N.faults links.old) (maker_of N.opening N.lent N.faults links.new) scenario.entry.now base) }
+    ensures has_text { IfOk result (λ played. HasText played.transcripts) }
+{
+    law_faults_shown();
+    law_faults_counted::<N::Link>();
+    let opening = opened(alloc, scenario.hosts.as_slice())?;
+    let (book, mut first) = TurnBook::new(alloc, opening)?;
+    let count = scenario.documents.len();
+    let passes = passes_of(alloc, &book, &mut first, count)?;
+    let mut seats = Vec::with_capacity(alloc, count)?;
+    let mut back = Vec::with_capacity(alloc, count + 1)?;
+    back.push_reserved(first);
+    match seat_all(alloc, &scenario.routes, passes, links, &mut seats) {
+        Ok(()) => play_seated(rt, alloc, scenario, base, book, seats, back, links),
+        Err(OutOfMemory) => {
+            unseat(seats, links, &mut back);
+            Err(OutOfMemory)
+        }
+    }
+}
+
+/// Plays a scenario over its own servers, from its own time on.
+pub fn play_scripted<R: Threads + Wait + Sync>(
+    rt: &R,
+    alloc: Global,
+    scenario: &Scenario,
+) -> Result<Played, OutOfMemory>
+    requires { IsValid scenario.now }
+    ensures played { IfOk result (λ played. IsPlay scenario.entry.now played.transcripts played.history) }
+    ensures has_text { IfOk result (λ played. HasText played.transcripts) }
+{
+    let mut links = SimLinks::new(scenario);
+    play_over(rt, alloc, scenario, scenario.now, &mut links)
+}

@@ -1,0 +1,37 @@
+use Rattle.std.proofs.Common.{◌≡◌, ◌+◌, ◌*◌, drop}
+use Rattle.serde_json.specs.View.{items_view}
+use Rattle.wf_script_tables.specs.Reading.{each_from}
+use Rattle.wf_script_tables.proofs.ReadingLemmas.{with_front}
+use Rattle.wf_script_steps.specs.Scripts.{command_in}
+use Rattle.wf_script_steps.proofs.StepLemmas.{listed}
+use Rattle.wf_script_steps.proofs.script.+scripts.Given as goal
+
+-- the commands so far come before those that are left
+abbrev pub invariant-commands-loop-i : goal.invariant-commands-loop-i
+invariant-commands-loop-i l =
+    each_from (command_in l.repeats l.ifs) 0 (items_view l.items)
+    ≡ with_front (listed l.script) (each_from (command_in l.repeats l.ifs) l.i (items_view (drop l.i l.items)))
+
+abbrev pub decreases-script_under : goal.decreases-script_under
+decreases-script_under l = 8 * (l.repeats + l.ifs) + 7
+
+abbrev pub decreases-script_or_none : goal.decreases-script_or_none
+decreases-script_or_none l = 8 * (l.repeats + l.ifs) + 7
+
+abbrev pub decreases-script : goal.decreases-script
+decreases-script l = 8 * (l.repeats + l.ifs) + 6
+
+abbrev pub decreases-commands : goal.decreases-commands
+decreases-commands l = 8 * (l.repeats + l.ifs) + 5
+
+abbrev pub decreases-command_at : goal.decreases-command_at
+decreases-command_at l = 8 * (l.repeats + l.ifs) + 4
+
+abbrev pub decreases-command : goal.decreases-command
+decreases-command l = 8 * (l.repeats + l.ifs) + 3
+
+abbrev pub decreases-repeat_command : goal.decreases-repeat_command
+decreases-repeat_command l = 8 * (l.repeats + l.ifs) + 2
+
+abbrev pub decreases-if_command : goal.decreases-if_command
+decreases-if_command l = 8 * (l.repeats + l.ifs) + 2

@@ -1,0 +1,106 @@
+// The conditions of an `if`.
+ghost use Rattle.std.specs.Prelude.{◌≡◌, option_map, option_and_then};
+ghost use Rattle.serde_json.specs.Find.{as_array};
+ghost use Rattle.serde_json.specs.View.{view};
+ghost use Rattle.wf_script_tables.specs.Gives.{Gives};
+ghost use Rattle.wf_script_steps.specs.Conditions as spec;
+
+use crate::texts::TEXT;
+use serde_json::Value;
+use std::alloc::Global;
+use wf_script_commands::Test;
+use wf_script_tables::{Form, Number, Refused, Word, item_at, refused_here};
+
+/// What a condition is about.
+#[derive(Clone, Copy, Debug)]
+pub(crate) enum Subject {
+    Success,
+    Error,
+    Type,
+    Status,
+    Body,
+}
+
+const SUBJECT: Word<'static, Subject> = Word {
+    words: &[
+        ("ok", Subject::Success),
+        ("error", Subject::Error),
+        ("type", Subject::Type),
+        ("status", Subject::Status),
+        ("body", Subject::Body),
+    ],
+};
+
+const STATUS: Number = Number {
+    least: 0,
+    most: 999,
+};
+
+// The first part of a list of one or two, and the second, where there is one.
+fn parts_of(tree: &Value) -> Option<(&Value, Option<&Value>)>
+    ensures { option_map
+        (λ parts. (view parts.0.now, option_map (λ second. view second.now) parts.1)) result
+        ≡ option_and_then spec.parts_of (as_array (view tree.now)) }
+{
+    match tree.as_array()?.as_slice() {
+        [first] => Some((first, None)),
+        [first, second] => Some((first, Some(second))),
+        _ => None,
+    }
+}
+
+// A condition that has no second part.
+fn alone(alloc: Global, test: Test, second: Option<&Value>) -> Result<Test, Refused>
+    ensures { Gives result (spec.alone test (option_map (λ part. view part.now) second.entry)) }
+{
+    match second {
+        None => Ok(test),
+        Some(_) => refused_here(alloc),
+    }
+}
+
+// The second part of a condition that has one.
+fn second_part<F: Form>(alloc: Global, second: Option<&Value>, form: &F) -> Result<F::Out, Refused>
+    ensures { Gives result
+        (spec.second_part (F.reads form.now) (option_map (λ part. view part.now) second.entry)) }
+{
+    match second {
+        None => refused_here(alloc),
+        Some(second) => item_at(alloc, 1, second, form),
+    }
+}
+
+// The condition of a word and a second part.
+fn test_about(alloc: Global, about: Subject, second: Option<&Value>) -> Result<Test, Refused>
+    ensures { Gives result
+        (spec.test_about about (option_map (λ part. view part.now) second.entry)) }
+{
+    match about {
+        Subject::Success => alone(alloc, Test::IsOk, second),
+        Subject::Error => alone(alloc, Test::IsError, second),
+        Subject::Type => Ok(Test::TypeIs(second_part(alloc, second, &TEXT)?)),
+        Subject::Status => {
+            let status = second_part(alloc, second, &STATUS)?;
+            Ok(Test::StatusIs(status as u16))
+        }
+        Subject::Body => Ok(Test::BodyIs(second_part(alloc, second, &TEXT)?)),
+    }
+}
+
+/// A condition: a list of a word, and of what is compared with it where the word has such a part.
+#[derive(Drop)]
+pub(crate) struct Condition;
+
+impl Form for Condition {
+    type Out = Test;
+
+    ghost reads = { λ _. spec.test_of };
+
+    fn read(&self, alloc: Global, tree: &Value) -> Result<Test, Refused> {
+        let Some((first, second)) = parts_of(tree) else {
+            return refused_here(alloc);
+        };
+        let about = item_at(alloc, 0, first, &SUBJECT)?;
+        test_about(alloc, about, second)
+    }
+}

@@ -1,0 +1,19 @@
+use url::Url;
+use wf_script_commands::Script;
+use wf_csp_text::Policies;
+use wf_text::Items;
+use wf_types::ReferrerPolicy;
+
+/// A document: its URL, the URL of the page at the top, which is its own where it is not embedded, its
+/// referrer policy, its content security policies, and its script.
+#[derive(Drop)]
+pub struct Document {
+    pub url: Url,
+    pub top: Url,
+    pub policy: ReferrerPolicy,
+    pub policies: Policies,
+    pub script: Script,
+}
+
+/// The documents of a scenario, in order.
+pub type Documents = Items<Document>;

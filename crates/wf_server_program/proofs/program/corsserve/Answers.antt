@@ -1,0 +1,21 @@
+use Rattle.wf_server.specs.Serving.{peer_told}
+use Rattle.wf_server_words.specs.Words.{texts}
+use Rattle.wf_server_program.specs.Connections.{accepts_told}
+use Rattle.wf_server_program.proofs.ProgramLemmas.{answers}
+use Rattle.wf_server_program.proofs.program.corsserve.Goals as goal
+
+pub returns : goal.returns
+returns g c =
+    answers
+    (peer_told g.A.End.Source.gives g.A.End.Sink.takes)
+    (g.S.Source.gives c.args.input.now)
+    (g.S.Source.gives c.verdict-verdict.new.input)
+    (accepts_told g.A.Accepts.opened g.A.Accepts.coming g.A.Accepts.lent g.A.Accepts.faults c.args.accepts.now)
+    (accepts_told g.A.Accepts.opened g.A.Accepts.coming g.A.Accepts.lent g.A.Accepts.faults
+    c.verdict-verdict.new.accepts)
+    (g.K.Sink.takes c.args.output.now)
+    (g.K.Sink.takes c.verdict-verdict.new.output)
+    (g.E.Sink.takes c.args.complaints.now)
+    (g.E.Sink.takes c.tell.new.complaints)
+    c.verdict-verdict.result c.tell.result c.tell.ensures (texts c.args.words.now)
+    c.verdict-verdict.ensures.first c.verdict-verdict.ensures.verdict

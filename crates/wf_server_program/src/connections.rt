@@ -1,0 +1,96 @@
+ghost use Rattle.std.specs.Prelude.{◌≡◌, IfOk, OnErr};
+ghost use Rattle.wf_server.specs.Serving.{peer_told};
+ghost use Rattle.wf_server_program.specs.Connections.{Serves, accepts_told};
+ghost use Rattle.wf_server_program.specs.Private.Nexts.{HasNoNext, HasServedNext};
+ghost use Rattle.wf_server_program.specs.Private.Notes.{IsNoted, written_status};
+
+use crate::pieces::{write_numbered, write_text};
+use crate::status::ServeStatus;
+use std::alloc::Global;
+use wf_link::{Accepts, Failed, Sink, WriteFault};
+use wf_server::{AllowTable, Served, serve};
+
+// What comes of writing a line.
+fn status_of(written: Result<(), WriteFault>) -> ServeStatus
+    ensures { result ≡ written_status written }
+{
+    match written {
+        Ok(()) => ServeStatus::Ok,
+        Err(WriteFault::Fault) => ServeStatus::WriteFault,
+        Err(WriteFault::TookNothing) => ServeStatus::WriteFault,
+    }
+}
+
+// Writes the line of a connection, which has none where memory was refused.
+fn note<K: Sink>(output: &mut K, served: Served) -> ServeStatus
+    ensures { IsNoted (K.takes output.old)
+        (K.takes output.new) served result }
+{
+    match served {
+        Served::Answered(status) => {
+            status_of(write_numbered(output, b"answered ", u32::from(status)))
+        }
+        Served::ReadFault => status_of(write_text(output, b"fault read\n")),
+        Served::WriteFault => status_of(write_text(output, b"fault write\n")),
+        Served::OutOfMemory => ServeStatus::OutOfMemory,
+    }
+}
+
+// Serves the next connection, and takes its end back.
+fn serve_next<A: Accepts>(
+    alloc: Global,
+    table: &AllowTable,
+    accepts: &mut A,
+) -> Result<Served, Failed>
+    ensures ok { IfOk result (HasServedNext (peer_told A.End.gives A.End.takes) table.now (accepts_told A.opened A.coming A.lent A.faults accepts.old)
+        (accepts_told A.opened A.coming A.lent A.faults accepts.new)) }
+    ensures err { OnErr result (HasNoNext (accepts_told A.opened A.coming A.lent A.faults accepts.old)
+        (accepts_told A.opened A.coming A.lent A.faults accepts.new)) }
+{
+    let mut end = accepts.next()?;
+    let served = serve(alloc, table, &mut end);
+    accepts.take_back(end);
+    Ok(served)
+}
+
+// Serves the next connection, and writes its line once its end was taken back.
+fn serve_and_note<K: Sink, A: Accepts>(
+    alloc: Global,
+    table: &AllowTable,
+    output: &mut K,
+    accepts: &mut A,
+) -> ServeStatus
+    ensures { Serves (peer_told A.End.gives A.End.takes) table.now 1
+        (accepts_told A.opened A.coming A.lent A.faults accepts.old)
+        (accepts_told A.opened A.coming A.lent A.faults accepts.new)
+        (K.takes output.old) (K.takes output.new) result }
+{
+    match serve_next(alloc, table, accepts) {
+        Ok(served) => note(output, served),
+        Err(Failed) => ServeStatus::AcceptFault,
+    }
+}
+
+// Serves so many connections, one after the other.
+pub(crate) fn serve_each<K: Sink, A: Accepts>(
+    alloc: Global,
+    table: &AllowTable,
+    count: u32,
+    output: &mut K,
+    accepts: &mut A,
+) -> ServeStatus
+    ensures { Serves (peer_told A.End.gives A.End.takes) table.now
+        count
+        (accepts_told A.opened A.coming A.lent A.faults accepts.old)
+        (accepts_told A.opened A.coming A.lent A.faults accepts.new)
+        (K.takes output.old) (K.takes output.new) result }
+{
+    let mut number = 0;
+    while number < count {
+        match serve_and_note(alloc, table, output, accepts) {
+            ServeStatus::Ok => number += 1,
+            status => return status,
+        }
+    }
+    ServeStatus::Ok
+}

@@ -1,9 +1,0 @@
-ghost use Rattle.wf_wire.specs.ExchangeLaws.{ExchangeAlike};
-
-use wf_link::Link;
-
-/// What comes of an act over a link depends on what answers only by the request that the act sends: where
-/// two answer it alike in each state, the same may come of it by both.
-pub fn law_exchange_alike<L: Link>()
-    ensures { ExchangeAlike L.State }
-{}
