@@ -2,8 +2,8 @@ use crate::lessons::{lesson, question};
 use crate::words::{count_in, numbered};
 use std::alloc::Global;
 use wf_precache::{Lesson, Precache, Question};
-use worked_rows::{Failed, Row};
 use wf_text::BytesList;
+use worked_rows::{Failed, Row};
 
 /// How long a lesson holds, in seconds.
 const AGE: u64 = 7_200;

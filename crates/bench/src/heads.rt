@@ -4,9 +4,9 @@ use crate::words::{count_in, numbered};
 use std::alloc::Global;
 use wf_filter::{filtered, hide};
 use wf_headers::HeaderList;
-use worked_rows::{Failed, Row, named, request_of};
 use wf_text::Bytes;
 use wf_types::{Head, Hop, Request};
+use worked_rows::{Failed, Row, named, request_of};
 
 /// The request that the head answers.
 const REQUEST: &[u8] = b"url=https://b.test/ from=https://a.test/ tainting=cors";

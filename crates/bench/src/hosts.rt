@@ -1,8 +1,8 @@
 use crate::words::{count_in, numbered};
 use std::alloc::Global;
 use wf_hsts::{HstsList, Sts};
-use worked_rows::{Failed, Row};
 use wf_text::BytesList;
+use worked_rows::{Failed, Row};
 
 /// What each host says.
 const STS: Sts = Sts {

@@ -2,8 +2,8 @@ ghost use Rattle.std.specs.Prelude.{◌≡◌, IfOk};
 
 use std::alloc::Global;
 use wf_precache::{Lesson, Question};
-use worked_rows::Failed;
 use wf_text::{Bytes, BytesList};
+use worked_rows::Failed;
 
 /// What a preflight of http://a.test teaches of http://b.test/ under this key.
 pub(crate) fn lesson(

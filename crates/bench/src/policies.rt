@@ -4,9 +4,9 @@ use crate::words::count_in;
 use std::alloc::Global;
 use wf_csp::Compiled;
 use wf_csp_text::{Policies, parse_policies};
-use worked_rows::{Failed, Row, Shown, request_of};
 use wf_text::Bytes;
 use wf_types::Request;
+use worked_rows::{Failed, Row, Shown, request_of};
 
 // A path of so many bytes.
 fn path_of(alloc: Global, length: u32) -> Result<Bytes, Failed> {

@@ -3,9 +3,9 @@ ghost use Rattle.std.specs.Prelude.{◌<◌};
 use crate::words::{count_in, some_in};
 use std::alloc::Global;
 use wf_http1::{BodyReader, BodyStep, Framing, HeadReader, HeadStep};
-use worked_rows::{Failed, Row, Shown, named};
 use wf_text::Bytes;
 use wf_types::BodyEnd;
+use worked_rows::{Failed, Row, Shown, named};
 
 /// How many bytes a body has.
 const BODY: u32 = 262_144;

@@ -11,9 +11,9 @@ use std::thread;
 use std::thread::Threads;
 use wf_book::{Book, Op, Share};
 use wf_precache::Lesson;
-use worked_rows::{Failed, Row};
 use wf_text::{Bytes, BytesList};
 use wf_turn::{TurnBook, TurnPass};
+use worked_rows::{Failed, Row};
 
 /// A pass, and how many of its calls were answered.
 #[derive(Drop)]

@@ -8,8 +8,8 @@ use crate::codes::{OUT_OF_MEMORY, WRONG_HANDLE};
 use crate::handle::Handle;
 use crate::thing::Thing;
 use crate::told::{told, write_answer, yes_or_no};
-use std::alloc::Global;
 use fiorrudda_rules::{essence_in, source_matches};
+use std::alloc::Global;
 
 // "determine nosniff" of a thing that is a header list.
 fn sniffless(thing: &Thing) -> u32

@@ -5,11 +5,11 @@ ghost use Rattle.fiorrudda.specs.declared.thing.Thing.{Thing as Held};
 
 use crate::codes::{OK, OUT_OF_MEMORY};
 use crate::thing::Thing;
+use fiorrudda_held::Loose;
 use std::alloc::Global;
 use std::marker::Model;
 use std::mem::replace;
 use std::ptr::null_mut;
-use fiorrudda_held::Loose;
 
 /// One word that holds a header list or a book, or nothing: all zero it is empty. It is not to be copied, written or
 /// read but by the calls below, and it is given to one call at a time, and not twice to one call. What it holds is freed

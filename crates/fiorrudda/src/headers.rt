@@ -6,9 +6,9 @@ use crate::codes::{OK, OUT_OF_MEMORY, WRONG_HANDLE};
 use crate::handle::Handle;
 use crate::thing::Thing;
 use crate::told::{code_of, write_answer};
+use fiorrudda_rules::{append_header, value_of};
 use std::alloc::Global;
 use wf_headers::HeaderList;
-use fiorrudda_rules::{append_header, value_of};
 
 /// Makes an empty header list in a handle (Fetch, section 2.2.2). What the handle held is freed first, also where memory
 /// is refused.

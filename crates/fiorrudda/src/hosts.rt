@@ -8,10 +8,10 @@ use crate::codes::{NO, OK, OUT_OF_MEMORY, WRONG_HANDLE};
 use crate::handle::Handle;
 use crate::thing::Thing;
 use crate::told::{code_of, told, yes_or_no};
+use fiorrudda_rules::{is_known_host, note_field};
 use std::alloc::Global;
 use wf_book::Book;
 use wf_hsts::parse_sts;
-use fiorrudda_rules::{is_known_host, note_field};
 
 /// Makes an empty book in a handle: no known HSTS hosts, and an empty CORS-preflight cache. What the handle held is freed
 /// first, also where memory is refused. Threads that share a book call it under a lock of their own.

@@ -5,8 +5,10 @@ ghost use Rattle.fiorrudda_rules.specs.Origins as origins;
 
 use crate::codes::OUT_OF_MEMORY;
 use crate::told::{told, write_text};
+use fiorrudda_rules::{
+    are_same_origin, are_same_site, goes_to_bad_port, is_trustworthy, origin_text,
+};
 use std::alloc::Global;
-use fiorrudda_rules::{are_same_origin, are_same_site, goes_to_bad_port, is_trustworthy, origin_text};
 
 /// Writes the serialised origin of a URL at the beginning of `room`, with no NUL after it, and tells in `len` how many
 /// bytes it is (HTML, section 7.1.1, "serialization of an origin").

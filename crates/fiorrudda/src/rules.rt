@@ -10,8 +10,8 @@ use crate::handle::Handle;
 use crate::policies::policy_numbered;
 use crate::thing::Thing;
 use crate::told::{told, write_answer, yes_or_no};
-use std::alloc::Global;
 use fiorrudda_rules::{is_kept_by_resource_policy, matches_integrity, told_referrer};
+use std::alloc::Global;
 use wf_types::passes_cors_check;
 
 // "CORS check" of a thing that is a header list.

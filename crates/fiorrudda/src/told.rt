@@ -4,8 +4,8 @@ ghost use Rattle.fiorrudda.specs.Codes.{code_of, some_text, told, yes_or_no, IsT
 ghost use Rattle.fiorrudda_rules.specs.Answers.{Answers};
 
 use crate::codes::{NO, NOT_A_HEADER, NOT_A_URL, NOT_HTTP, OK, OUT_OF_MEMORY, TOO_LATE, TOO_SHORT};
-use wf_text::Bytes;
 use fiorrudda_rules::Refusal;
+use wf_text::Bytes;
 
 // The code of a refusal.
 pub(crate) fn code_of(refusal: Refusal) -> u32

@@ -18,8 +18,8 @@ use crate::place::{Level, Place, Step};
 use crate::preflight::ask_cache;
 use crate::steps::{copied, going, refused};
 use std::alloc::Global;
-use wf_fetch_acts::Act;
 use wf_csp::Violations;
+use wf_fetch_acts::Act;
 use wf_fetch_rules::{
     Switch, is_at_http, match_of, refusal_before, secure, set_referrer, set_tainting, switch_of,
     upgrade_request,

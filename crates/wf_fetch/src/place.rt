@@ -4,10 +4,10 @@ ghost use Rattle.wf_fetch.specs.Ready.{is_ready_at, owes_early};
 
 use std::alloc::Global;
 use std::snapshot::Snapshot;
-use wf_fetch_acts::Act;
-use wf_fetch_answers::Ended;
 use wf_cors::Checked;
 use wf_csp::Violations;
+use wf_fetch_acts::Act;
+use wf_fetch_answers::Ended;
 use wf_text::OutOfMemory;
 use wf_types::{Head, NetError, Outcome, Request, Response};
 

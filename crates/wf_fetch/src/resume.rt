@@ -14,9 +14,9 @@ use crate::place::{Fetching, Level, Place, Step, boxed};
 use crate::preflight::{covered, judge_preflight, preflight_answered, read_preflight_head};
 use crate::steps::{body_read, refused, tell_at_end};
 use std::alloc::Global;
-use wf_fetch_acts::Input;
 use wf_book::Reply;
 use wf_csp::Compiled;
+use wf_fetch_acts::Input;
 use wf_text::OutOfMemory;
 use wf_types::{BodyEnd, Client, Cookies, Head, NetError, Request};
 

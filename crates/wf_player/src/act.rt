@@ -12,8 +12,8 @@ use crate::lent::Lent;
 use crate::player::Player;
 use std::sync::Wait;
 use std::thread::Threads;
-use wf_fetch_acts::{Act, Input};
 use wf_book::{Op, Share};
+use wf_fetch_acts::{Act, Input};
 use wf_link::Link;
 use wf_text::OutOfMemory;
 

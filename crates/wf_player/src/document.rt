@@ -20,15 +20,15 @@ use std::alloc::Global;
 use std::sync::Wait;
 use std::thread::Threads;
 use wf_book::Share;
-use wf_script_commands::Script;
 use wf_csp::Compiled;
-use wf_script_events::{Ending, Events, Transcript};
 use wf_link::Link;
+use wf_link_wire::Wire;
+use wf_script_commands::Script;
+use wf_script_events::{Ending, Events, Transcript};
 use wf_script_run::Running;
 use wf_script_values::{Document, Scenario};
 use wf_text::{Bytes, OutOfMemory};
 use wf_types::Client;
-use wf_link_wire::Wire;
 
 // A script that has been played: what it showed, its ending and its clock then.
 #[derive(Drop)]

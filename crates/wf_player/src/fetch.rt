@@ -22,16 +22,16 @@ use crate::player::Player;
 use std::alloc::Global;
 use std::sync::Wait;
 use std::thread::Threads;
-use wf_fetch_acts::{Act, Input};
 use wf_book::Share;
 use wf_csp::Compiled;
-use wf_script_events::Events;
 use wf_fetch::{Fetching, Step};
+use wf_fetch_acts::{Act, Input};
 use wf_link::Link;
+use wf_link_wire::Wire;
+use wf_script_events::Events;
 use wf_script_run::Running;
 use wf_text::OutOfMemory;
 use wf_types::{Client, Cookies, Outcome, Request};
-use wf_link_wire::Wire;
 
 /// What one fetch has shown, and what it came to.
 #[derive(Drop)]

@@ -1,8 +1,8 @@
 use crate::lent::Lent;
 use wf_book::Share;
 use wf_link::Link;
-use wf_script_run::Running;
 use wf_link_wire::Wire;
+use wf_script_run::Running;
 
 /// The one value that plays: what the document is lent, its pass of the shared book, its link with the wire over
 /// it, and how far its run has come. Contracts see where it stands (`standing`). It owns none of them, so that who makes

@@ -11,9 +11,9 @@ use crate::player::Player;
 use std::sync::Wait;
 use std::thread::Threads;
 use wf_book::Share;
+use wf_link::Link;
 use wf_script_commands::{Command, Script, Test};
 use wf_script_events::Ending;
-use wf_link::Link;
 use wf_script_run::holds;
 use wf_text::OutOfMemory;
 

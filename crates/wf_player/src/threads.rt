@@ -15,8 +15,8 @@ use std::sync::Wait;
 use std::thread::Threads;
 use std::{mem, thread};
 use wf_book::Share;
-use wf_script_events::{Ending, Transcript, Transcripts};
 use wf_link::Link;
+use wf_script_events::{Ending, Transcript, Transcripts};
 use wf_script_values::Scenario;
 use wf_text::{Bytes, Items, OutOfMemory};
 

@@ -7,8 +7,8 @@ use crate::calls::add_call;
 use crate::escape::add_escaped;
 use itoa::{Buffer, Integer};
 use wf_book::{Op, Reply};
-use wf_script_events::Event;
 use wf_headers::{Header, HeaderList};
+use wf_script_events::Event;
 use wf_text::{Bytes, OutOfMemory};
 use wf_types::{BodyEnd, Destination, Hop, NetError, Outcome, Response, TypeFault, Violation};
 

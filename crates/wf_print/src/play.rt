@@ -11,8 +11,8 @@ use crate::history::text_of_entries;
 use crate::lines::{add_event, add_number};
 use std::alloc::Global;
 use wf_book::{Entry, History};
-use wf_script_events::{Ending, Event, Transcript, Transcripts};
 use wf_link::{Sink, write_whole};
+use wf_script_events::{Ending, Event, Transcript, Transcripts};
 use wf_text::{Bytes, OutOfMemory};
 
 // How many entries of the history are written together.

@@ -13,8 +13,8 @@ use crate::play::put;
 use itoa::Integer;
 use std::alloc::Global;
 use wf_book::{Entry, History};
-use wf_script_events::{Event, Transcript, Transcripts};
 use wf_link::Sink;
+use wf_script_events::{Event, Transcript, Transcripts};
 use wf_text::{Bytes, OutOfMemory};
 use wf_types::Outcome;
 

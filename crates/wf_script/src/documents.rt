@@ -6,9 +6,9 @@ use crate::headers::DocumentHeaders;
 use crate::urls::DocumentUrl;
 use serde_json::Value;
 use std::alloc::Global;
+use wf_script_steps::DocumentScript;
 use wf_script_tables::{Form, Refused, only_keys, optional, required};
 use wf_script_values::Document;
-use wf_script_steps::DocumentScript;
 use wf_text::Items;
 use wf_types::ReferrerPolicy;
 

@@ -7,8 +7,10 @@ ghost use Rattle.wf_script.specs.Scenarios as table;
 use serde_json::Value;
 use std::alloc::Global;
 use wf_csp_text::{Policies, parse_policies};
-use wf_script_tables::{Form, HeaderValue, ItemsOf, PairOf, Refused, TextThat, Token, refused_here};
 use wf_headers::HeaderList;
+use wf_script_tables::{
+    Form, HeaderValue, ItemsOf, PairOf, Refused, TextThat, Token, refused_here,
+};
 use wf_text::{OutOfMemory, eq_fold};
 use wf_types::{Pair, ReferrerPolicy, policy_of_header};
 

@@ -4,8 +4,8 @@ ghost use Rattle.wf_script.specs.Scenarios as spec;
 use crate::texts::OriginText;
 use serde_json::Value;
 use std::alloc::Global;
-use wf_script_tables::{AnyText, Form, PairOf, Refused, TextThat};
 use wf_link::Route;
+use wf_script_tables::{AnyText, Form, PairOf, Refused, TextThat};
 
 const ROUTE: PairOf<TextThat<OriginText>, TextThat<AnyText>> = PairOf {
     first: TextThat { test: OriginText },

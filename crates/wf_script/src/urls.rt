@@ -6,8 +6,8 @@ ghost use Rattle.wf_script.specs.Urls as spec;
 use serde_json::Value;
 use std::alloc::Global;
 use url::Url;
-use wf_script_tables::{Form, Refused, refused_here};
 use wf_origin::is_http_url;
+use wf_script_tables::{Form, Refused, refused_here};
 use wf_types::{has_credentials, is_short_url, url_alone};
 
 // Whether it is an http or https URL without credentials, of at most 8,192 bytes.

@@ -8,8 +8,8 @@ ghost use Rattle.wf_script_run.specs.Private.Lasts.{last_index};
 use crate::results::is_result;
 use std::alloc::Global;
 use std::marker::Model;
-use wf_fetch_acts::{Act, Input};
 use wf_book::Reply;
+use wf_fetch_acts::{Act, Input};
 use wf_script_events::{Event, Events, event_len};
 use wf_text::OutOfMemory;
 

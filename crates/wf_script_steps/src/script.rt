@@ -12,7 +12,9 @@ use crate::conditions::Condition;
 use serde_json::Value;
 use std::alloc::Global;
 use wf_script_commands::{Command, Script};
-use wf_script_tables::{Form, Number, Refused, at_segment, only_keys, refused_at, refused_here, required};
+use wf_script_tables::{
+    Form, Number, Refused, at_segment, only_keys, refused_at, refused_here, required,
+};
 
 // How many `repeat` may be inside each other.
 const REPEATS: u32 = 8;

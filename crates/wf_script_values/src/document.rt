@@ -1,6 +1,6 @@
 use url::Url;
-use wf_script_commands::Script;
 use wf_csp_text::Policies;
+use wf_script_commands::Script;
 use wf_text::Items;
 use wf_types::ReferrerPolicy;
 

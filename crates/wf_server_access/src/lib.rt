@@ -3,9 +3,9 @@
 
 ghost use Rattle.wf_server_access.specs.Access.{IsAccess, PlainHopsAreReadable, RowsAreRead};
 
-use wf_server_heard::{law_replies_heard, law_requests_heard};
 use wf_http1::law_one_request;
 use wf_link::Link;
+use wf_server_heard::{law_replies_heard, law_requests_heard};
 
 /// A law: the rows of each table that is read are rows of which `law_access` speaks. The call does nothing.
 pub fn law_rows()

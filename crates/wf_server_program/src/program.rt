@@ -12,8 +12,8 @@ use crate::status::ServeStatus;
 use std::alloc::Global;
 use wf_link::{Accepts, Failed, ReadStop, Sink, Source, read_whole};
 use wf_server::{AllowTable, read_table};
-use wf_text::OutOfMemory;
 use wf_server_words::{Task, task_of};
+use wf_text::OutOfMemory;
 
 /// The longest input that is read, in bytes.
 const MOST_INPUT: usize = 1_048_832;

@@ -22,8 +22,8 @@ use wf_iso::law_isolated;
 use wf_link::{Clock, Links, ReadStop, Sink, Source, read_whole};
 use wf_player_play::{Played, play_over, play_scripted};
 use wf_print::{Failure, write_play, write_summary};
-use wf_script_values::Scenario;
 use wf_script::{generate, read_scenario};
+use wf_script_values::Scenario;
 use wf_sim::SimLink;
 use wf_text::OutOfMemory;
 

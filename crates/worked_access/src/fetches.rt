@@ -15,13 +15,13 @@ use std::thread::Threads;
 use wf_book::{Book, Share, SoloBook};
 use wf_csp::Compiled;
 use wf_csp_text::Policies;
-use wf_script_events::Event;
 use wf_link::MemoryLink;
 use wf_player::{FetchRun, drive_fetch};
-use worked_rows::{Failed, Held, Row, Shown, client_at};
+use wf_script_events::Event;
 use wf_server::{AllowTable, answer};
 use wf_text::{Bytes, BytesList};
 use wf_types::{BodyEnd, Client, Cookies, Hop, NetError, Outcome, Response};
+use worked_rows::{Failed, Held, Row, Shown, client_at};
 
 /// How many bytes of a body are read at most.
 const LIMIT: u32 = 262_144;

@@ -11,12 +11,12 @@ ghost use Rattle.std.specs.Prelude.{◌<◌, ◌^◌, length, IfOk};
 ghost use Rattle.wf_types.specs.Requests.{IsClient, IsRequest};
 
 use std::alloc::Global;
-use worked_rows::{Failed, has_word, named, value_of, values_of};
 use wf_send::new_request;
 use wf_text::{Bytes, after_byte, before_byte};
 use wf_types::{
     Client, Credentials, Init, Mode, Pair, Pairs, RedirectMode, ReferrerPolicy, Request,
 };
+use worked_rows::{Failed, has_word, named, value_of, values_of};
 
 /// The credentials modes.
 const CREDENTIALS: [(&[u8], Credentials); 4] = [

@@ -12,9 +12,9 @@
 use crate::serving::{bytes_of, failing};
 use std::alloc::Global;
 use wf_link::{MemoryAccepts, MemoryEnd, MemorySink, MemorySource};
-use worked_rows::{Failed, Row, Shown};
 use wf_server_program::corsserve;
 use wf_text::Bytes;
+use worked_rows::{Failed, Row, Shown};
 
 /// Where the texts of the connections begin in a row.
 const FIRST_PEER: usize = 4;

@@ -11,9 +11,9 @@ use crate::slow::SlowEnd;
 use crate::tables::table_in;
 use std::alloc::Global;
 use wf_link::{MemoryEnd, MemorySink, MemorySource, Source};
-use worked_rows::{Failed, Row, Shown, has_word, number, value_of};
 use wf_server::{AllowTable, Served, serve};
 use wf_text::Bytes;
+use worked_rows::{Failed, Row, Shown, has_word, number, value_of};
 
 /// How many bytes a peer takes, if no word says it.
 const ROOM: usize = 65_536;

@@ -1,8 +1,8 @@
 // Rows of tables, and of the answers by them.
 use std::alloc::Global;
-use worked_rows::{Failed, Row, Shown};
 use wf_server::{AllowTable, answer, read_table};
 use wf_text::BytesList;
+use worked_rows::{Failed, Row, Shown};
 
 // The table that a text is.
 pub(crate) fn table_in(alloc: Global, text: &[u8]) -> Result<AllowTable, Failed> {

@@ -2,8 +2,8 @@
 use crate::cut::{Cut, LARGE, SINGLE, places};
 use crate::reading::{Part, Reading};
 use std::alloc::Global;
-use worked_rows::{Failed, Shown, number, unescaped};
 use wf_text::{Bytes, after_byte, before_byte};
+use worked_rows::{Failed, Shown, number, unescaped};
 
 // What the heads of an answer come to: the final head and how many bytes there are up to its end, or why
 // there is none.

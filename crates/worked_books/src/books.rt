@@ -14,8 +14,8 @@ use crate::questions::{ORIGIN, lesson_of, question_of};
 use std::alloc::Global;
 use wf_hsts::{HstsList, Sts};
 use wf_precache::{Allowed, CacheEntry, Precache};
-use worked_rows::{Failed, Held, Lines, Row, Shown, named, number};
 use wf_text::{Bytes, after_byte, before_byte};
+use worked_rows::{Failed, Held, Lines, Row, Shown, named, number};
 
 /// Times and ages are below this.
 const LIMIT: u64 = 1 << 48;

@@ -3,8 +3,8 @@
 // between the pieces of one, and the calls: `ask=TEXT`, `receive=COUNT` or `hang_up`.
 use std::alloc::Global;
 use wf_link::{Link, Links, MemoryLink, MemoryLinks, Routes, Target};
-use worked_rows::{Failed, Held, Row, Shown, named, number, texts_between};
 use wf_text::{Bytes, BytesList, after_byte, before_byte};
+use worked_rows::{Failed, Held, Row, Shown, named, number, texts_between};
 
 /// How many bytes a receive asks for at most.
 const BUFFER: usize = 16;

@@ -5,8 +5,8 @@ use crate::questions::{ORIGIN, lesson_of, question_of};
 use std::alloc::Global;
 use wf_book::Op;
 use wf_hsts::Sts;
-use worked_rows::{Failed, Row};
 use wf_text::Bytes;
+use worked_rows::{Failed, Row};
 
 // The longest age of a lesson, in seconds.
 const MOST_AGE: u64 = 7_200;

@@ -2,8 +2,8 @@ ghost use Rattle.std.specs.Prelude.{◌≡◌, ◌≤◌, [], ◌∷◌, IfOk, v
 ghost use Rattle.wf_turn.specs.Passes.{left_of, made_of};
 
 use std::alloc::Global;
-use worked_rows::Failed;
 use wf_turn::{TurnBook, TurnPass};
+use worked_rows::Failed;
 
 // The passes of documents 0 and 1.
 pub(crate) fn two_documents(

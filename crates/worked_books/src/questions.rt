@@ -4,8 +4,8 @@
 //     KEY URL CREDENTIALS AGE METHODS NAMES     a lesson
 use std::alloc::Global;
 use wf_precache::{Lesson, Question};
-use worked_rows::{Failed, Row, named, number, texts_between};
 use wf_text::{Bytes, BytesList};
+use worked_rows::{Failed, Row, named, number, texts_between};
 
 /// The origin of all requests.
 pub(crate) const ORIGIN: &[u8] = b"http://a.test";

@@ -1,7 +1,7 @@
 use std::alloc::Global;
 use wf_http1::{BodyReader, BodyStep, HeadReader, HeadStep};
-use worked_rows::{Failed, Held, Shown};
 use wf_types::{BodyEnd, Head};
+use worked_rows::{Failed, Held, Shown};
 
 /// How many bytes of a whole body are printed, and how many headers of a head.
 const SHOWN: usize = 16;

@@ -2,9 +2,9 @@
 use std::alloc::Global;
 use wf_headers::HeaderList;
 use wf_http1::write_request;
-use worked_rows::{Failed, Shown, texts_between};
 use wf_text::{Bytes, after_byte, before_byte};
 use wf_types::Hop;
+use worked_rows::{Failed, Shown, texts_between};
 
 // The headers of a text: each its name, a colon, a space and its value, with `|` between.
 fn headers_in(alloc: Global, text: &[u8]) -> Result<HeaderList, Failed> {

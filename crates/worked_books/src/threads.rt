@@ -8,8 +8,8 @@ use std::sync::Wait;
 use std::thread;
 use std::thread::Threads;
 use wf_book::{Book, Entry, History, Reply, Share};
-use worked_rows::{Failed, Held, Shown};
 use wf_turn::{TurnBook, TurnPass};
+use worked_rows::{Failed, Held, Shown};
 
 /// How many calls a thread makes.
 const CALLS: u64 = 500;

@@ -8,8 +8,8 @@ use std::alloc::Global;
 use std::sync::Wait;
 use std::thread::Threads;
 use wf_book::{Book, History, Share};
-use worked_rows::{Failed, Shown};
 use wf_turn::{FIRST, TurnBook, TurnPass};
+use worked_rows::{Failed, Shown};
 
 // One pass learns, and the other asks.
 fn learn_and_ask<R: Threads + Wait + Sync>(

@@ -11,8 +11,8 @@
 // differs, the row comes to `DIFFERS`. `worked_rows`'s `row.rt` says how a text is written.
 use crate::{answer, device, link, request};
 use std::alloc::Global;
-use worked_rows::{Failed, Shown, named};
 use wf_text::{after_byte, before_byte};
+use worked_rows::{Failed, Shown, named};
 
 /// The kinds of rows.
 #[derive(Clone, Copy)]

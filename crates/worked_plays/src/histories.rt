@@ -1,8 +1,8 @@
 // What is shown of the output of a play of several documents, whose calls of the book may come in any order. The output
 // has the lines of each document, the first of which is `document N KEY`; a line `history`; and for each call of the
 // book a line `TURN N CALL`, where N is the number of its document and CALL is what was called and the reply.
-use worked_rows::{Shown, named};
 use wf_text::{Bytes, after_byte, before_byte};
+use worked_rows::{Shown, named};
 
 // The index of the line `history`, or how many lines there are where it is missing.
 fn place_of_history(lines: &[Bytes]) -> usize {

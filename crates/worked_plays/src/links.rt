@@ -15,14 +15,14 @@ use std::alloc::Global;
 use std::sync::Wait;
 use std::thread::Threads;
 use wf_book::{Book, History, Share, SoloBook, SoloPass};
-use wf_script_events::Transcripts;
 use wf_link::{MemoryLink, MemorySink};
 use wf_player::drive;
 use wf_print::{has_text, write_play};
-use worked_rows::{Failed, Held, Row, Shown, texts_between};
-use wf_script_values::Scenario;
 use wf_script::read_scenario;
+use wf_script_events::Transcripts;
+use wf_script_values::Scenario;
 use wf_text::{BytesList, after_byte, before_byte};
+use worked_rows::{Failed, Held, Row, Shown, texts_between};
 
 /// How many rows are played over one book at most.
 const MOST_ROWS: usize = 64;

@@ -7,8 +7,8 @@ use std::alloc::Global;
 use std::sync::Wait;
 use std::thread::Threads;
 use wf_link::MemoryLinks;
-use worked_rows::{Failed, Held, Shown, number};
 use wf_text::{after_byte, before_byte};
+use worked_rows::{Failed, Held, Shown, number};
 
 // The links of rows, in order.
 fn links_of(alloc: Global, rows: &[&str]) -> Result<Held<MemoryLinks>, Failed> {

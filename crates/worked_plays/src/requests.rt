@@ -12,12 +12,12 @@ use std::thread::Threads;
 use wf_book::{Book, Share, SoloBook};
 use wf_csp::Compiled;
 use wf_csp_text::Policies;
-use wf_script_events::{Ending, Event, Transcript, Transcripts};
 use wf_link::MemoryLink;
 use wf_player::{FetchRun, drive_fetch};
-use worked_rows::{Failed, Held, Shown, client_at, number, request_of, value_of};
+use wf_script_events::{Ending, Event, Transcript, Transcripts};
 use wf_text::{Bytes, after_byte, before_byte};
 use wf_types::{Client, Cookies};
+use worked_rows::{Failed, Held, Shown, client_at, number, request_of, value_of};
 
 // How many bytes of a body are read at most.
 fn limit_of(words: &[u8]) -> Result<u32, Failed> {

@@ -15,8 +15,8 @@ use std::alloc::Global;
 use std::sync::Wait;
 use std::thread::Threads;
 use wf_link::MemoryLinks;
-use worked_rows::{Failed, Held, Shown, has_word, named, number, texts_between, value_of};
 use wf_text::{Bytes, after_byte, before_byte};
+use worked_rows::{Failed, Held, Shown, has_word, named, number, texts_between, value_of};
 
 /// How many lines are printed of a row with `tail`.
 const TAIL: usize = 4;

@@ -13,12 +13,12 @@ use std::alloc::Global;
 use std::sync::Wait;
 use std::thread::Threads;
 use wf_book::Book;
-use wf_script_events::{Ending, Transcript};
 use wf_player::{Seating, play_all};
-use worked_rows::{Failed, Shown};
+use wf_script_events::{Ending, Transcript};
 use wf_script_values::Scenario;
 use wf_text::OutOfMemory;
 use wf_turn::{TurnBook, TurnPass};
+use worked_rows::{Failed, Shown};
 
 // The seats of two documents.
 fn seats_of<'a>(

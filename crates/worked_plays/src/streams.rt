@@ -6,9 +6,9 @@ use std::alloc::Global;
 use std::sync::Wait;
 use std::thread::Threads;
 use wf_link::{FixedClock, Links, MemorySink, MemorySource};
-use worked_rows::{Failed, Held, Shown, number, value_of};
 use wf_text::{Bytes, after_byte, before_byte};
 use wf_top::fetchplay;
+use worked_rows::{Failed, Held, Shown, number, value_of};
 
 /// How many bytes the output and the complaints each have room for.
 const ROOM: usize = 16_777_216;

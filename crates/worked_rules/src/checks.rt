@@ -9,9 +9,9 @@ ghost use Rattle.wf_types.specs.Requests.{IsRequest};
 use std::alloc::Global;
 use wf_csp::{Compiled, Violations};
 use wf_csp_text::{Policies, parse_policies};
-use worked_rows::{Failed, Held, Row, Shown};
 use wf_text::{after_byte, before_byte};
 use wf_types::{Request, Violation};
+use worked_rows::{Failed, Held, Row, Shown};
 
 // Adds the policies of a text.
 fn add_policies(alloc: Global, policies: &mut Policies, text: &[u8]) -> Result<(), Failed> {

@@ -11,9 +11,9 @@ use crate::responses::head_of;
 use std::alloc::Global;
 use wf_cors::{Checked, preflight_of, verdict};
 use wf_origin::tuple_origin;
-use worked_rows::{Failed, Held, Row, Shown, list_of, texts_between};
 use wf_text::BytesList;
 use wf_types::{Hop, NetError, Request, corp_blocks, serialized_origin};
+use worked_rows::{Failed, Held, Row, Shown, list_of, texts_between};
 
 // Whether the row's headers keep an answer from a request.
 pub(crate) fn blocked(

@@ -9,9 +9,9 @@ use std::alloc::Global;
 use wf_filter::exposed_names;
 use wf_headers::HeaderList;
 use wf_mime::{essence_of, nosniff};
-use worked_rows::{Failed, Row, Shown};
 use wf_safelist::unsafe_names;
 use wf_types::{ReferrerPolicy, passes_cors_check, policy_of_header};
+use worked_rows::{Failed, Row, Shown};
 
 // The answer to a row that takes no memory, and whether the row is one.
 pub(crate) fn is_asked(kind: &str, row: &Row, list: &HeaderList, shown: &mut Shown) -> bool {

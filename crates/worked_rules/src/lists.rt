@@ -12,9 +12,9 @@
 use crate::headers;
 use std::alloc::Global;
 use wf_headers::{Extracted, HeaderList, Rule};
-use worked_rows::{Failed, Row, Shown, list_of, named};
 use wf_safelist::{Appended, Guard, guarded_append};
 use wf_text::{after_byte, before_byte};
+use worked_rows::{Failed, Row, Shown, list_of, named};
 
 /// Where the list begins in the rows of a kind.
 const STARTS: [(&[u8], usize); 14] = [

@@ -9,13 +9,13 @@ ghost use Rattle.wf_types.specs.Requests.{IsClient, IsRequest};
 
 use std::alloc::Global;
 use wf_origin::same_origin;
-use worked_rows::{
-    Failed, Held, Row, Shown, client_at, destination_named, named, policy_named, value_of,
-};
 use wf_send::new_load;
 use wf_text::Bytes;
 use wf_types::{
     Client, CrossOrigin, Destination, LoadInit, Referrer, Request, Tainting, TypeFault,
+};
+use worked_rows::{
+    Failed, Held, Row, Shown, client_at, destination_named, named, policy_named, value_of,
 };
 
 /// The states of the CORS settings attribute.

@@ -16,8 +16,8 @@ use wf_origin::{
     same_origin, same_site, serialize,
 };
 use wf_referrer::determine;
-use worked_rows::{Failed, Held, Row, Shown, origin_written, policy_named, url_written};
 use wf_types::ReferrerPolicy;
+use worked_rows::{Failed, Held, Row, Shown, origin_written, policy_named, url_written};
 
 // The answer to a row of these kinds, and whether the row is one.
 pub(crate) fn answer(

@@ -3,8 +3,8 @@
 //     bad_port PORT         whether the port is bad; `-` is none
 //     bad_ports             all bad ports
 use wf_mixed::bad_port;
-use worked_rows::{Row, Shown};
 use wf_text::parse_digits;
+use worked_rows::{Row, Shown};
 
 // The answer to a row of these kinds, and whether the row is one.
 pub(crate) fn answer(kind: &str, row: &Row, shown: &mut Shown) -> bool {

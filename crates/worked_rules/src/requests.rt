@@ -11,8 +11,8 @@ ghost use Rattle.wf_types.specs.Requests.{IsAtHttp, IsRequest, is_determined};
 use crate::{checks, cors, responses};
 use std::alloc::Global;
 use wf_mixed::{blocked, upgrade};
-use worked_rows::{Failed, Row, Shown, origin_written, request_of, value_of};
 use wf_types::{Request, serialized_origin};
+use worked_rows::{Failed, Row, Shown, origin_written, request_of, value_of};
 
 // The answer to a row of a request or of policies, and whether the row is one.
 pub(crate) fn answer(

@@ -9,9 +9,9 @@ ghost use Rattle.wf_types.specs.Requests.{IsRequest};
 use std::alloc::Global;
 use wf_filter::{filtered, hide};
 use wf_headers::HeaderList;
-use worked_rows::{Failed, Held, Row, Shown, list_of, number};
 use wf_text::Bytes;
 use wf_types::{Head, Hop, Request, Response};
+use worked_rows::{Failed, Held, Row, Shown, list_of, number};
 
 // The head whose status is the text at an index, and whose headers the texts after it make.
 pub(crate) fn head_of(alloc: Global, row: &Row, index: usize) -> Result<Head, Failed> {

@@ -6,8 +6,8 @@
 use std::alloc::Global;
 use wf_csp_match::{HostSource, Source, SourcePort, matches, parse_source};
 use wf_origin::Origin;
-use worked_rows::{Failed, Held, Row, Shown, origin_written, url_written};
 use wf_text::Bytes;
+use worked_rows::{Failed, Held, Row, Shown, origin_written, url_written};
 
 // The answer to a row of these kinds, and whether the row is one.
 pub(crate) fn answer(

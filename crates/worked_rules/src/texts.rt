@@ -27,12 +27,12 @@ use wf_hsts::{Sts, parse_sts};
 use wf_integrity::{matches, parse_metadata};
 use wf_mime::{is_javascript, mime_blocked, nosniff_blocked};
 use wf_origin::is_local_name;
-use worked_rows::{Failed, Row, Shown};
 use wf_safelist::{is_forbidden_method, is_safelisted};
 use wf_text::{
     eq_fold, essence_is, is_digits, is_token, is_value, parse_digits, trim_http, trim_tab_or_space,
     written_essence,
 };
+use worked_rows::{Failed, Row, Shown};
 
 // The answer to a row of a text, and whether the row is one.
 pub(crate) fn answer(kind: &str, row: &Row, shown: &mut Shown) -> bool {
