@@ -34,11 +34,13 @@ pub trait Share {
         requires left { 0 < (account pass.old).left }
         requires range { InRange op }
         ensures belongs { belongs self.now pass.new }
-        ensures same { ((account pass.new).document ≡ (account pass.old).document) × ((account pass.new).opening ≡ (account pass.old).opening) }
+        ensures same { ((account pass.new).document ≡ (account pass.old).document)
+            × ((account pass.new).opening ≡ (account pass.old).opening) }
         ensures left { (account pass.new).left ≡ (account pass.old).left - 1 }
         ensures ok { IfOk result (λ answer. Extends (account pass.old).opening (account pass.old).document op answer
             (account pass.old).own (account pass.new).own (account pass.old).seen (account pass.new).seen) }
         ensures kind { IfOk result (λ answer. is_answer answer ≡ is_question op) }
-        ensures err { OnErr result (((account pass.new).own ≡ (account pass.old).own) × StartsWith (account pass.new).seen (account pass.old).seen) }
+        ensures err { OnErr result (((account pass.new).own ≡ (account pass.old).own)
+            × StartsWith (account pass.new).seen (account pass.old).seen) }
         ensures whole { entries_of (account pass.new).document (account pass.new).seen ≡ (account pass.new).own };
 }

@@ -23,7 +23,8 @@ key_cmp a b = ordering_then (nat_cmp a.0 b.0) (text_cmp a.1.now b.1.now)
 
 -- two keys are equal
 same-key : (algorithm other : ℕ) (value text : List ℕ)
-    → is_eq (ordering_then (nat_cmp algorithm other) (text_cmp value text)) ≡ (algorithm == other && bytes_eq value text)
+    → is_eq (ordering_then (nat_cmp algorithm other) (text_cmp value text))
+    ≡ (algorithm == other && bytes_eq value text)
 same-key algorithm other value text =
     sym (tied_then (nat_cmp algorithm other) (text_cmp value text))
     ∙ rw (is_eq-slice_cmp value text, ← unsigned_ties algorithm other) refl

@@ -34,7 +34,8 @@ module _ {K : Type 0} (bytes : K → List ℕ) where
   inserted-by : (name : List ℕ) (k x : K) (keys : List K) (o : Ordering) → text_cmp (bytes k) (bytes x) ≡ o
       → list_any (is_key bytes name) (insert_key (key_cmp bytes) keys k)
       ≡ (is_key bytes name k || list_any (is_key bytes name) keys)
-      → list_any (is_key bytes name) (match_ordering o (k ∷ x ∷ keys) (x ∷ keys) (x ∷ insert_key (key_cmp bytes) keys k))
+      → list_any (is_key bytes name) (match_ordering o (k ∷ x ∷ keys) (x ∷ keys)
+      (x ∷ insert_key (key_cmp bytes) keys k))
       ≡ (is_key bytes name k || list_any (is_key bytes name) (x ∷ keys))
   inserted-by name k x keys Less is rest = refl
   inserted-by name k x keys Equal is rest =

@@ -46,14 +46,16 @@ use Rattle.wf_filter.specs.Laws.{is_fetch}
 use Rattle.wf_send.specs.Heads.{hop_of}
 use Rattle.wf_fetch_acts.specs.declared.act.Act.TheVariants.{Ask, Send, ReadHead, ReadBody, Tell}
 use Rattle.wf_fetch_acts.specs.declared.act.Input.{Input}
-use Rattle.wf_fetch_acts.specs.declared.act.Input.TheVariants.{BodyIs, Fault, HeadBad, HeadIs, HeadLong, Replied, Sent, Told}
+use Rattle.wf_fetch_acts.specs.declared.act.Input.TheVariants.{BodyIs, Fault, HeadBad, HeadIs, HeadLong, Replied, Sent}
+use Rattle.wf_fetch_acts.specs.declared.act.Input.TheVariants.{Told}
 use Rattle.wf_fetch_acts.specs.Process.{Process, act, ended, fits}
 use Rattle.wf_link_wire.specs.Exchanges.{is_fault}
 use Rattle.wf_fetch_rules.specs.Blocking.{refusal_before}
 use Rattle.wf_fetch_rules.specs.KnownHosts.{match_of, note_of}
 use Rattle.wf_fetch_rules.specs.Questions.{clear_of, covers_of, learn_of}
 use Rattle.wf_fetch_rules.specs.Referrers.{with_referrer}
-use Rattle.wf_fetch_rules.specs.Switch.{away_switch, cors_switch, is_at_home, needs_preflight, no_cors_switch, switch_of}
+use Rattle.wf_fetch_rules.specs.Switch.{away_switch, cors_switch, is_at_home, needs_preflight, no_cors_switch}
+use Rattle.wf_fetch_rules.specs.Switch.{switch_of}
 use Rattle.wf_fetch_rules.specs.Switch.{with_tainting}
 use Rattle.wf_fetch_rules.specs.Upgrading.{secured_where, upgraded}
 use Rattle.wf_fetch_rules.specs.declared.switch.Switch.{Switch}
@@ -64,8 +66,10 @@ use Rattle.wf_fetch_answers.specs.declared.answers.Ended.TheVariants.{Over, Read
 use Rattle.wf_fetch_answers.specs.declared.answers.Redirection.{Redirection}
 use Rattle.wf_fetch_answers.specs.declared.answers.Redirection.TheVariants.{Goes, Refuses, Stays}
 use Rattle.wf_fetch_answers.specs.Bodies.{is_coded}
-use Rattle.wf_fetch_answers.specs.Endings.{after_body as outcome_with, block_error, ended as ended_with, ended_by, ended_read}
-use Rattle.wf_fetch_answers.specs.Endings.{ended_unblocked, ended_under, handed_over, is_accepted, is_bodiless, is_matched}
+use Rattle.wf_fetch_answers.specs.Endings.{after_body as outcome_with, block_error, ended as ended_with, ended_by}
+use Rattle.wf_fetch_answers.specs.Endings.{ended_read}
+use Rattle.wf_fetch_answers.specs.Endings.{ended_unblocked, ended_under, handed_over, is_accepted, is_bodiless}
+use Rattle.wf_fetch_answers.specs.Endings.{is_matched}
 use Rattle.wf_fetch_answers.specs.Endings.{is_read, is_trusting, response_of, type_error}
 use Rattle.wf_fetch_answers.specs.Following.{redirected_request}
 use Rattle.wf_fetch_answers.specs.Judging.{check_error, is_to_follow, refusal_after}

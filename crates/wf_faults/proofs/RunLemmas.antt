@@ -9,7 +9,8 @@ use Rattle.wf_script_events.specs.declared.events.Event.{Event}
 use Rattle.wf_fetch_acts.specs.Process.{Process, act, ended}
 use Rattle.wf_fetch.specs.Fetch.{fetch}
 use Rattle.wf_script_run.specs.Play.{Play, emit, events_of}
-use Rattle.wf_script_run.specs.Runs.{Next, Progress, after_events, at_time, embed, fault_event, load_event, outcome_event}
+use Rattle.wf_script_run.specs.Runs.{Next, Progress, after_events, at_time, embed, fault_event, load_event}
+use Rattle.wf_script_run.specs.Runs.{outcome_event}
 use Rattle.wf_script_run.specs.Runs.{setting_of, showing, start_event}
 use Rattle.wf_script_run.proofs.ScriptLemmas.{good-document}
 use Rattle.wf_faults.specs.Failures.{Failure, ShowsFailure, owed_after}

@@ -10,7 +10,8 @@ use Rattle.wf_types.specs.Targets.{IsSendable}
 use Rattle.wf_fetch_acts.specs.declared.act.Act.{Act}
 use Rattle.wf_fetch_acts.specs.declared.act.Act.TheVariants.{Ask, Send, ReadHead, ReadBody, Tell}
 use Rattle.wf_fetch_acts.specs.declared.act.Input.{Input}
-use Rattle.wf_fetch_acts.specs.declared.act.Input.TheVariants.{Replied, Sent, HeadIs, HeadBad, HeadLong, BodyIs, Fault, Told}
+use Rattle.wf_fetch_acts.specs.declared.act.Input.TheVariants.{Replied, Sent, HeadIs, HeadBad, HeadLong, BodyIs, Fault}
+use Rattle.wf_fetch_acts.specs.declared.act.Input.TheVariants.{Told}
 
 -- It has ended with an outcome, or it acts for a request, which is kept as it is then, and goes on from the input that
 -- comes.

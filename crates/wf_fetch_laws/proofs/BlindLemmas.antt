@@ -24,7 +24,8 @@ use Rattle.wf_mixed.specs.Mixed.{is_upgraded}
 use Rattle.wf_send.specs.Heads.{hop_of}
 use Rattle.wf_fetch_acts.specs.declared.act.Act.TheVariants.{ReadHead}
 use Rattle.wf_fetch_acts.specs.declared.act.Input.{Input}
-use Rattle.wf_fetch_acts.specs.declared.act.Input.TheVariants.{BodyIs, Fault, HeadBad, HeadIs, HeadLong, Replied, Sent, Told}
+use Rattle.wf_fetch_acts.specs.declared.act.Input.TheVariants.{BodyIs, Fault, HeadBad, HeadIs, HeadLong, Replied, Sent}
+use Rattle.wf_fetch_acts.specs.declared.act.Input.TheVariants.{Told}
 use Rattle.wf_fetch_acts.specs.Process.{Process, fits}
 use Rattle.wf_fetch_rules.specs.Blocking.{refusal_before}
 use Rattle.wf_fetch_rules.specs.KnownHosts.{match_of, note_of}

@@ -49,7 +49,8 @@ of-digits headers value length is found =
     ∙ grind (arith, nat_tests, common_steps, split-digits value, found)
 
 -- the same of what reading it comes to
-pub length-alone : (headers : List Header) (value : List ℕ) (result : Option ℕ) → combined (codes "Content-Length") headers
+pub length-alone : (headers : List Header) (value : List ℕ) (result : Option ℕ) → combined (codes "Content-Length")
+    headers
     ≡ Some value → result ≡ capped_digits value (2 ^ 64 - 1)
     → IfSome result (λ length. of_content_length headers ≡ framing.Length length)
 length-alone headers value None is found = tt

@@ -18,7 +18,8 @@ use Rattle.wf_http1.specs.RequestHeads.{asked_of, BeginsRequest, IsRead}
 use Rattle.wf_http1.specs.declared.request_head.Asked.{Asked}
 use Rattle.wf_http1.proofs.BlockLemmas.{no-line-byte, quiet-append}
 use Rattle.wf_http1.proofs.LineLemmas.{IsBehindLine, IsLineText, line-quiet, shortest-behind}
-use Rattle.wf_http1.proofs.HeadLemmas.{behind-both, blank-none, blank-quiet, fields-quiet, line_text-all, line_text-append}
+use Rattle.wf_http1.proofs.HeadLemmas.{behind-both, blank-none, blank-quiet, fields-quiet, line_text-all}
+use Rattle.wf_http1.proofs.HeadLemmas.{line_text-append}
 use Rattle.wf_http1.proofs.HeadLemmas.{minor-line, token-cr, token-lf}
 use Rattle.wf_http1.proofs.CountLemmas.{ends-append, fields-ends}
 use Rattle.wf_http1.proofs.ValueLemmas.{lines-are}

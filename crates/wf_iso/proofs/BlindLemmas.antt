@@ -28,7 +28,8 @@ use Rattle.wf_fetch_laws.specs.Blind.{Blind, GoesBlind}
 use Rattle.wf_fetch_laws.specs.Seen.{seen, sent_by}
 use Rattle.wf_fetch_laws.proofs.BlindLemmas.{blind-fetch}
 use Rattle.wf_script_run.specs.Play.{Play, emit, events_of, over, step}
-use Rattle.wf_script_run.specs.Runs.{Next, Progress, after_events, at_time, document_run, embed, fault_event, load_event}
+use Rattle.wf_script_run.specs.Runs.{Next, Progress, after_events, at_time, document_run, embed, fault_event}
+use Rattle.wf_script_run.specs.Runs.{load_event}
 use Rattle.wf_script_run.specs.Runs.{outcome_event, setting_of, showing, start_event}
 use Rattle.wf_script_run.proofs.ScriptLemmas.{IsMade, good-document}
 use Rattle.wf_iso.specs.Calls.{call_in}

@@ -48,7 +48,8 @@ use Rattle.wf_fetch.specs.PreflightFetch.{after_preflight_head, clearing, covere
 use Rattle.wf_fetch.specs.PreflightFetch.{preflight_judged, read_preflight_head}
 use Rattle.wf_fetch.specs.Then.{Context, Onward, Then, said_yes, tell_all, then_ask_where, was_sent}
 use Rattle.wf_script_run.specs.Play.{Play, emit, events_of, over, step}
-use Rattle.wf_script_run.specs.Runs.{Next, Progress, after_events, at_time, document_run, embed, outcome_event, setting_of}
+use Rattle.wf_script_run.specs.Runs.{Next, Progress, after_events, at_time, document_run, embed, outcome_event}
+use Rattle.wf_script_run.specs.Runs.{setting_of}
 use Rattle.wf_script_run.specs.Runs.{showing}
 use Rattle.wf_script_run.proofs.ScriptLemmas.{good-document}
 

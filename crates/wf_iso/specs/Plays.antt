@@ -1,6 +1,6 @@
 -- A play of a scenario: one history of the shared book, and the run of each document over what its link answers and
--- over the document's own entries of that history (this project's own; what a run does is wf_script_run's definition, what
--- comes of its acts wf_player's, and a fetch is the whole one, Fetch, section 4.1).
+-- over the document's own entries of that history (this project's own; what a run does is wf_script_run's definition,
+-- what comes of its acts wf_player's, and a fetch is the whole one, Fetch, section 4.1).
 use Rattle.std.specs.Prelude.{◌≡◌, ℕ, ◌+◌, ◌<◌, List, [], ◌∷◌, length, map, Option, Some, None}
 use Rattle.std.specs.List.{AllByRecursion}
 use Rattle.wf_book.specs.declared.book.Book.{Book}

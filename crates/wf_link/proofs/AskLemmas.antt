@@ -47,7 +47,8 @@ asks_in-append (size ∷ sizes) text origin request e =
 -- an ask that finds its room is kept
 pub keep-asks : (sizes : List AskSize) (text origin request : List ℕ) (asks : List Ask) (room : ℕ) → bytes_of sizes
     ≡ length text → asks_in sizes text ≡ asks → length origin + length request + 1 ≤ room
-    → asks_in (sizes ++ record { origin = length origin; request = length request; received = 0 } ∷ []) (text ++ origin ++ request)
+    → asks_in (sizes ++ record { origin = length origin; request = length request; received = 0 } ∷ [])
+    (text ++ origin ++ request)
     ≡ asks_after room asks (record { origin = origin; request = request })
 keep-asks sizes text origin request asks room bytes same within =
     rw (

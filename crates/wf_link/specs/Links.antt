@@ -11,8 +11,8 @@ pub record Serves (State : Type 0) : Type 0 where
 
 -- What a link tells of itself: its state, the bytes of the current answer still to come, and what it was asked so far,
 -- each where told; how many bytes of each answer were received, where told: a number for each ask that succeeded, in
--- order, which begins at 0 and stops at its greatest value (an ask that failed may have added a number too, or not); and
--- how often it failed.
+-- order, which begins at 0 and stops at its greatest value (an ask that failed may have added a number too, or not);
+-- and how often it failed.
 pub record Told (State : Type 0) : Type 0 where
   pub state : Option State
   pub left : Option (List ℕ)

@@ -22,7 +22,8 @@ pub trait Link {
     /// Sends a request to its target. The bytes to come are then its answer. The state goes on also
     /// where it failed. The count of faults rises by one where it fails, and only there.
     fn ask(&mut self, target: &Target, request: &[u8]) -> Result<(), Failed>
-        ensures state { (told self.new).state ≡ option_map (λ s. serves.next s target.now.origin request.now) (told self.old).state }
+        ensures state { (told self.new).state
+            ≡ option_map (λ s. serves.next s target.now.origin request.now) (told self.old).state }
         ensures answered { OnOk result ((told self.new).left
             ≡ option_map (λ s. serves.answer s target.now.origin request.now) (told self.old).state) }
         ensures asked { OnOk result (Asked (told self.old).asks (told self.new).asks

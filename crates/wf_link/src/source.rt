@@ -58,9 +58,12 @@ fn piece_buffer(alloc: Global) -> Result<Vec<u8>, OutOfMemory>
 pub fn read_whole<S: Source>(alloc: Global, source: &mut S, most: usize) -> Result<Bytes, ReadStop>
     requires { most < 2 ^ 32 }
     ensures ok { IfOk result (λ text. GaveWhole (S.gives source.old).left (S.gives source.new).left text most) }
-    ensures too_long { result ≡ Err ReadStop.TooLong → GaveJust (S.gives source.old).left (S.gives source.new).left (most + 1) }
-    ensures stopped { result ≡ Err ReadStop.Fault → GaveAtMost (S.gives source.old).left (S.gives source.new).left most }
-    ensures refused { result ≡ Err ReadStop.OutOfMemory → GaveAtMost (S.gives source.old).left (S.gives source.new).left most }
+    ensures too_long { result ≡ Err ReadStop.TooLong
+        → GaveJust (S.gives source.old).left (S.gives source.new).left (most + 1) }
+    ensures stopped { result ≡ Err ReadStop.Fault
+        → GaveAtMost (S.gives source.old).left (S.gives source.new).left most }
+    ensures refused { result ≡ Err ReadStop.OutOfMemory
+        → GaveAtMost (S.gives source.old).left (S.gives source.new).left most }
     ensures faults { (S.gives source.old).faults ≤ (S.gives source.new).faults }
     ensures fault { result ≡ Err ReadStop.Fault → Rose (S.gives source.old).faults (S.gives source.new).faults }
 {

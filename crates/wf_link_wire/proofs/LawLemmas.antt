@@ -4,7 +4,8 @@ use Rattle.std.specs.Prelude.{option_map}
 use Rattle.wf_fetch_acts.specs.declared.act.Act.{Act}
 use Rattle.wf_fetch_acts.specs.declared.act.Act.TheVariants.{Ask, Send, ReadHead, ReadBody, Tell}
 use Rattle.wf_fetch_acts.specs.declared.act.Input.{Input}
-use Rattle.wf_fetch_acts.specs.declared.act.Input.TheVariants.{Replied, Sent, HeadIs, HeadBad, HeadLong, BodyIs, Fault, Told}
+use Rattle.wf_fetch_acts.specs.declared.act.Input.TheVariants.{Replied, Sent, HeadIs, HeadBad, HeadLong, BodyIs, Fault}
+use Rattle.wf_fetch_acts.specs.declared.act.Input.TheVariants.{Told}
 use Rattle.wf_link_wire.specs.ExchangeLaws.{AnswerAlike}
 use Rattle.wf_link_wire.specs.Exchanges.{Answering, Exchange, Exchanges, IsAnswered, IsAsked}
 

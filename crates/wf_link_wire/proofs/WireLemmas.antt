@@ -1,6 +1,7 @@
 -- What a wire's window and its link have of the bytes that were to come.
 use Rattle.std.proofs.Common.{◌≡◌, ℕ, ◌+◌, ◌-◌, ◌≤◌, List, [], ◌++◌, take, drop, length, refl, ap, sym}
-use Rattle.std.proofs.Common.{true, false, inl, inr, ◌<◌, subst, ◌∙◌, arith, append_assoc, length-append, Option, Some, None}
+use Rattle.std.proofs.Common.{true, false, inl, inr, ◌<◌, subst, ◌∙◌, arith, append_assoc, length-append, Option, Some}
+use Rattle.std.proofs.Common.{None}
 use Rattle.std.specs.Prelude.{slice_range, unwrap_or}
 use Rattle.std.proofs.lemmas.List.{append-nil, drop-append-le, drop-drop, drop-take, length-take, take-append-drop}
 use Rattle.std.proofs.lemmas.List.{take-take}
@@ -10,7 +11,8 @@ use Rattle.wf_link.specs.Sources.{Gave, GaveJust, IsAtEnd}
 use Rattle.wf_link.proofs.ReceivedLemmas.{received-none, received-on}
 use Rattle.wf_link.proofs.SourceLemmas.{gave-again}
 use Rattle.wf_fetch_acts.specs.declared.act.Input.{Input}
-use Rattle.wf_link_wire.specs.Exchanges.{AreToCome, Exchange, Gives, IsCaused, Refuses, Waited, WaitedFor, ends_answer, is_fault, most_received}
+use Rattle.wf_link_wire.specs.Exchanges.{AreToCome, Exchange, Gives, IsCaused, Refuses, Waited, WaitedFor, ends_answer}
+use Rattle.wf_link_wire.specs.Exchanges.{is_fault, most_received}
 use Rattle.wf_link_wire.specs.Private.Reads.{Gathers, GivesAtMost, GivesSome}
 use Rattle.wf_link_wire.specs.Wires.{onto_left}
 
@@ -281,7 +283,8 @@ hung-up Open old new input left ends gives = record {
 
 -- ---- what is gathered is counted
 
-front-length : (buffer : List ℕ) (from to : ℕ) → from ≡ 0 → to ≤ length buffer → length (slice_range buffer from to) ≡ to
+front-length : (buffer : List ℕ) (from to : ℕ) → from ≡ 0 → to ≤ length buffer → length (slice_range buffer from to)
+    ≡ to
 front-length buffer from to front within =
     omega (arith, ap length (front-is buffer from to front), length-take to buffer, within)
 

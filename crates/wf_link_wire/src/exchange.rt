@@ -147,7 +147,8 @@ impl Wire {
     // Finds the final head in what was received, and receives as much more as that needs, but no byte
     // after the one that makes the head too long.
     fn find_head<L: Link>(&mut self, link: &mut L, alloc: Global) -> Result<Found, OutOfMemory>
-        ensures found { IfOk result (λ found. Finds (coming_of (L.told link.old).left self.old) found (window_of self.new)
+        ensures found { IfOk result (λ found. Finds (coming_of (L.told link.old).left self.old) found
+            (window_of self.new)
             (L.told link.new).left) }
         ensures state { (L.told link.new).state ≡ (L.told link.old).state }
         ensures later { (L.told link.old).faults ≤ (L.told link.new).faults }

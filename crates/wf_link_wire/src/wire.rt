@@ -162,7 +162,8 @@ impl Wire {
         ensures end { IfOk result (λ more. more ≡ false → IsAtEnd (L.told link.new).left) }
         ensures few { OnErr result (0 < length (window_of self.new) → length (window_of self.new) < fewest) }
         ensures before { Gathers fewest (L.told link.old).left (window_of self.new) }
-        ensures received { Received (length (window_of self.new)) (L.told link.old).received (L.told link.new).received }
+        ensures received { Received (length (window_of self.new)) (L.told link.old).received
+            (L.told link.new).received }
         ensures cause { HasCause (L.told link.old).faults (L.told link.new).faults result }
     {
         self.from = 0;

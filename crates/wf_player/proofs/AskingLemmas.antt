@@ -10,7 +10,8 @@ use Rattle.wf_script_events.specs.declared.events.Ending.TheVariants.{Commands, 
 use Rattle.wf_script_events.specs.declared.events.Event.{Event}
 use Rattle.wf_script_run.specs.Filling.{is_plain, with_cuts}
 use Rattle.wf_script_run.specs.Runs.{Next, Progress, after_events, asked, at_time, embed, fault_event, fetch_started}
-use Rattle.wf_script_run.specs.Runs.{fetch_limit, fetched, filled_init, last_of, limit_before, load_event, outcome_event}
+use Rattle.wf_script_run.specs.Runs.{fetch_limit, fetched, filled_init, last_of, limit_before, load_event}
+use Rattle.wf_script_run.specs.Runs.{outcome_event}
 use Rattle.wf_script_run.specs.Runs.{own_limit, showing, start_event, started}
 use Rattle.wf_script_run.specs.Traces as traces
 use Rattle.wf_script_run.proofs.FillingLemmas.{cut-same, plain-filled}
@@ -113,7 +114,8 @@ module _ {State : Type 0} (by : Answering State) where
       (λ next. onward kind next outcome b.progress) b
   unfolding onward
   request-came kind made request a b outcome is x =
-      subst (λ (m : Result Request TypeFault). PlayedTo by (λ (next : Next). fetched a.terms.lent kind m next a.progress)
+      subst (λ (m : Result Request TypeFault). PlayedTo by
+      (λ (next : Next). fetched a.terms.lent kind m next a.progress)
       a (λ next. showing (outcome_event kind outcome) next b.progress) b) (sym is)
       (played-inside by (λ (next : Outcome → Next). embed (fetch (at_time a.terms.lent a.progress.clock) request) next
       a.progress) (λ next. next outcome b.progress) (onward kind) a b

@@ -1,5 +1,6 @@
 -- Whole runs.
-use Rattle.std.proofs.Common.{◌≡◌, ◌≢◌, ℕ, List, [], ◌++◌, Option, Some, None, refl, ap, sym, subst, ◌∙◌, arith, append_assoc}
+use Rattle.std.proofs.Common.{◌≡◌, ◌≢◌, ℕ, List, [], ◌++◌, Option, Some, None, refl, ap, sym, subst, ◌∙◌, arith}
+use Rattle.std.proofs.Common.{append_assoc}
 use Rattle.std.proofs.Common.{Result, Ok, Err}
 use Rattle.std.proofs.lemmas.List.{append-nil}
 use Rattle.wf_text.specs.declared.memory.OutOfMemory.{OutOfMemory}
@@ -11,7 +12,8 @@ use Rattle.wf_script_events.specs.declared.events.Ending.{Ending}
 use Rattle.wf_script_events.specs.declared.events.Ending.TheVariants.{Commands, Fetches, Finished, Memory, Text}
 use Rattle.wf_script_events.specs.declared.events.Event.{Event}
 use Rattle.wf_script_run.specs.Play.{Play, PlayRun, over, run_play}
-use Rattle.wf_script_run.specs.Runs.{Next, Progress, beginning, document_client, document_run, finished, script_run, setting}
+use Rattle.wf_script_run.specs.Runs.{Next, Progress, beginning, document_client, document_run, finished, script_run}
+use Rattle.wf_script_run.specs.Runs.{setting}
 use Rattle.wf_script_run.specs.Traces.{stop}
 use Rattle.wf_script_run.proofs.PlayLemmas.{play-run}
 use Rattle.wf_script_values.specs.declared.document.Document.{Document}
@@ -99,7 +101,8 @@ module _ {State : Type 0} (by : Answering State) (script : Steps) (old now : Sta
       }
 
   -- what the script came to, the run did
-  pub run-came : (result : Result (Option Ending) OutOfMemory) → Plays by (λ lent. script_run lent script) old result now
+  pub run-came : (result : Result (Option Ending) OutOfMemory) → Plays by (λ lent. script_run lent script) old result
+      now
       → Came by old.terms.limit old.terms.document whole from now.progress.shown (ended_by result) now.progress.clock
       to
   unfolding ran cut

@@ -1,5 +1,6 @@
 -- The commands of a script.
-use Rattle.std.proofs.Common.{◌≡◌, ◌≢◌, ℕ, zero, suc, ◌+◌, ◌-◌, ◌≤◌, ◌<◌, List, [], ◌∷◌, Option, Some, None, true, false}
+use Rattle.std.proofs.Common.{◌≡◌, ◌≢◌, ℕ, zero, suc, ◌+◌, ◌-◌, ◌≤◌, ◌<◌, List, [], ◌∷◌, Option, Some, None, true}
+use Rattle.std.proofs.Common.{false}
 use Rattle.std.proofs.Common.{refl, ap, sym, subst, ◌∙◌, arith, add-one, drop, drop-cons, cond, get_or, length, Bool}
 use Rattle.std.proofs.Common.{Result, Ok, Err}
 use Rattle.std.proofs.lemmas.List.{append-nil, drop_all}
@@ -18,7 +19,8 @@ use Rattle.wf_script_events.specs.declared.events.Ending.TheVariants.{Commands, 
 use Rattle.wf_script_run.specs.Play.{over}
 use Rattle.wf_script_run.specs.Results.{holds}
 use Rattle.wf_script_run.specs.Runs.{Next, Progress, chosen, command_started, last_of, limit_before}
-use Rattle.wf_script_run.specs.Runs.{most_commands, most_fetches, most_printed, own_limit, repeated, script_run, started}
+use Rattle.wf_script_run.specs.Runs.{most_commands, most_fetches, most_printed, own_limit, repeated, script_run}
+use Rattle.wf_script_run.specs.Runs.{started}
 use Rattle.wf_script_run.specs.Runs.{text_length, unless_limit, waited}
 use Rattle.wf_script_run.specs.Traces as traces
 use Rattle.wf_link_wire.specs.Exchanges.{Answering}
@@ -310,14 +312,16 @@ module _ {State : Type 0} (by : Answering State) where
       → Plays by (λ lent. cond chose (script_run lent part) (script_run lent other)) old result new
       → Plays by (λ lent. chosen test (script_run lent part) (script_run lent other)) old result new
   chosen-came test part other true old new (Ok ending) is x = record {
-    played = subst (λ (b : Bool). PlayedTo by (λ (next : Next). cond b (script_run old.terms.lent part next old.progress)
+    played = subst (λ (b : Bool). PlayedTo by (λ (next : Next). cond b
+        (script_run old.terms.lent part next old.progress)
         (script_run old.terms.lent other next old.progress)) old (λ next. unless_limit ending next new.progress) new)
         (sym is) x.played;
     rests = x.rests;
     told = x.told;
   }
   chosen-came test part other false old new (Ok ending) is x = record {
-    played = subst (λ (b : Bool). PlayedTo by (λ (next : Next). cond b (script_run old.terms.lent part next old.progress)
+    played = subst (λ (b : Bool). PlayedTo by (λ (next : Next). cond b
+        (script_run old.terms.lent part next old.progress)
         (script_run old.terms.lent other next old.progress)) old (λ next. unless_limit ending next new.progress) new)
         (sym is) x.played;
     rests = x.rests;

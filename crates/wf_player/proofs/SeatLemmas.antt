@@ -60,7 +60,8 @@ module _ {L P State : Type 0} (belongs : P → Type 0) (seen : Seating L P → S
             sym (ap (λ (s : Seat State). s.document) seat_is)
             ∙ sym (get_or-map (λ (s : Seat State). s.document) (map seen seats) i (seen d.seating) 0
             (omega (arith, length-map seats seen)))
-            ∙ ap (λ (l : List ℕ). get_or l i 0) seated.each ∙ get_or-range_with_len 0 n i 0 (omega (arith, many)) ∙ zero_before i;
+            ∙ ap (λ (l : List ℕ). get_or l i 0) seated.each ∙ get_or-range_with_len 0 n i 0 (omega (arith, many))
+            ∙ zero_before i;
         calls = subst Calls seat_is (seated.calls i (seen d.seating) (omega (arith, length-map seats seen)));
       }
     where
@@ -73,7 +74,8 @@ module _ {L P State : Type 0} (belongs : P → Type 0) (seen : Seating L P → S
       → ((i : ℕ) (one : Document) (a b : Row L P) → i < length olds → slice_get documents i ≡ Some one
       → IsPlayed by scenario base (number + i) one (seen (get_or olds i a).seating) (seen (get_or news i b).seating)
       (get_or news i b).transcript)
-      → EachDocument (IsPlayed by scenario base) number documents (map seen (seatings_of olds)) (map seen (seatings_of news))
+      → EachDocument (IsPlayed by scenario base) number documents (map seen (seatings_of olds))
+      (map seen (seatings_of news))
       (transcripts_of news)
   played-from by scenario base number [] [] [] many same each = EachDocument.none
   played-from by scenario base number [] [] (n ∷ ns) many same each = absurd (omega (arith, same))
@@ -81,11 +83,13 @@ module _ {L P State : Type 0} (belongs : P → Type 0) (seen : Seating L P → S
   played-from by scenario base number (d ∷ ds) [] news many same each = absurd (omega (arith, many))
   played-from by scenario base number (d ∷ ds) (o ∷ os) [] many same each = absurd (omega (arith, same))
   played-from by scenario base number (d ∷ ds) (o ∷ os) (n ∷ ns) many same each =
-      EachDocument.one_more (subst (λ (k : ℕ). IsPlayed by scenario base k d (seen o.seating) (seen n.seating) n.transcript)
+      EachDocument.one_more (subst (λ (k : ℕ). IsPlayed by scenario base k d (seen o.seating) (seen n.seating)
+      n.transcript)
       (zero_behind number) (each zero d o n (omega arith) refl))
       (played-from by scenario base (number + 1) ds os ns (omega (arith, many)) (omega (arith, same))
       (λ i one a b within at. subst (λ (k : ℕ). IsPlayed by scenario base k one (seen (get_or os i a).seating)
-      (seen (get_or ns i b).seating) (get_or ns i b).transcript) (next number i) (each (suc i) one a b (omega arith) at)))
+      (seen (get_or ns i b).seating) (get_or ns i b).transcript) (next number i)
+      (each (suc i) one a b (omega arith) at)))
     where
       zero_behind : (m : ℕ) → m + 0 ≡ m
       zero_behind m = omega arith
@@ -153,6 +157,7 @@ module _ {L P State : Type 0} (seen : Seating L P → Seat State) where
       ∙ each-numbered (λ (s : Seat State). s.document) (λ number document old new transcript is. is.document_is) played
 
 -- where memory was refused and the seats are as they were, none was played
-pub none-played : {State : Type 0} (by : Answering State) (scenario : Scenario) (base : ℕ) (olds news : List (Seat State))
+pub none-played : {State : Type 0} (by : Answering State) (scenario : Scenario) (base : ℕ)
+    (olds news : List (Seat State))
     → news ≡ olds → AreRefused by scenario base olds news
 none-played by scenario base olds news same = inl same

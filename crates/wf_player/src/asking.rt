@@ -6,7 +6,8 @@ ghost use Rattle.wf_fetch_laws.specs.Laws.{most_asks};
 ghost use Rattle.wf_link.specs.Sources.{IsAtEnd};
 ghost use Rattle.wf_script_run.specs.Results.{lent_result};
 ghost use Rattle.wf_script_run.specs.Runs.{after_events, asked as asks_for, command_started, fetched, limit_before};
-ghost use Rattle.wf_script_run.specs.Runs.{filled_init as filled_fetch, filled_load as load_filled, most_commands, most_fetches};
+ghost use Rattle.wf_script_run.specs.Runs.{filled_init as filled_fetch, filled_load as load_filled, most_commands};
+ghost use Rattle.wf_script_run.specs.Runs.{most_fetches};
 ghost use Rattle.wf_script_run.specs.Runs.{started};
 ghost use Rattle.wf_send.specs.Loading.{new_load as load_of};
 ghost use Rattle.wf_send.specs.Making.{new_request as request_of};
@@ -117,7 +118,8 @@ impl<R: Threads + Wait + Sync, S: Share, L: Link> Player<'_, '_, '_, '_, '_, R, 
     ) -> Result<(), OutOfMemory>
         requires ready { IsReady S.belongs self.old }
         requires made { IfOk made IsRequest }
-        requires limits { (self.old.running.now.commands < most_commands) × (self.old.running.now.fetches < most_fetches) }
+        requires limits { (self.old.running.now.commands < most_commands)
+            × (self.old.running.now.fetches < most_fetches) }
         requires goes { MayGoOn (standing S.account L.told self.old) }
         ensures came { PlaysUnended (over_link L.serves)
             (λ lent next progress. asks_for lent kind made next (started progress))

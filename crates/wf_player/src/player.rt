@@ -5,8 +5,8 @@ use wf_link_wire::Wire;
 use wf_script_run::Running;
 
 /// The one value that plays: what the document is lent, its pass of the shared book, its link with the wire over
-/// it, and how far its run has come. Contracts see where it stands (`standing`). It owns none of them, so that who makes
-/// one knows what it has left of each.
+/// it, and how far its run has come. Contracts see where it stands (`standing`). It owns none of them, so that who
+/// makes one knows what it has left of each.
 #[derive(Drop)]
 pub(crate) struct Player<'a, 'p, 'l, 'w, 'r, R, S: Share, L: Link> {
     pub(crate) lent: &'a Lent<'a, R, S>,

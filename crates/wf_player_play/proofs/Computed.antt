@@ -1,5 +1,5 @@
--- The definitions computed on worked examples: what scripted servers answer to a document that fetches its own root, and
--- the book that a play opens with.
+-- The definitions computed on worked examples: what scripted servers answer to a document that fetches its own root,
+-- and the book that a play opens with.
 use Rattle.std.proofs.Common.{◌≡◌, ℕ, Bool, refl, true, false, List, [], ◌∷◌, codes, Some, None}
 use Rattle.wf_book.specs.Book.{empty}
 use Rattle.wf_script_values.specs.Servers.{answer}

@@ -36,7 +36,8 @@ module _ {State : Type 0} (by : Answering State) (scenario : Scenario) (base : �
       let behind = outside_on new (entries_of number history) is.run_is.behind in (
         record {
           placed = placed scenario.cookies base document;
-          shown = shown by scenario.body_limit number scenario.cookies base document before t.events t.ending t.clock behind
+          shown = shown by scenario.body_limit number scenario.cookies base document before t.events t.ending t.clock
+              behind
               is.run_is.ran;
           counted = counted by scenario.body_limit number whole before t.events t.ending t.clock behind is.run_is.ran;
         },
@@ -57,7 +58,8 @@ module _ {State : Type 0} (by : Answering State) (scenario : Scenario) (base : �
 -- what made the links has counted them
 pub counted-faults : {L State : Type 0} (by : Answering State) (told : L → Told State)
     (scenario : Scenario) (base : ℕ) (history : List Entry) (placed : FaultsPlaced) (counted : FaultsCounted State)
-    (shown : RanShown State) (old new : Maker L) (made back : List L) (transcripts : List Transcript) → TookBack told old new back
+    (shown : RanShown State) (old new : Maker L) (made back : List L) (transcripts : List Transcript) → TookBack told
+    old new back
     → (runs : EachDocument (IsTranscript by scenario base history) 0 scenario.documents
     (map (way_of told) made) (map (way_of told) back) transcripts)
     → grown_by old.faults (all_faults runs) ≤ new.faults

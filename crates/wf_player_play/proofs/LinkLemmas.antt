@@ -13,7 +13,8 @@ use Rattle.wf_player.specs.declared.seating.Seating.{Seating}
 use Rattle.wf_turn.specs.declared.pass.TurnPass.{TurnPass}
 
 lent-is : {L : Type 0} (back back' : List L) (out out' : ℕ) → back ≡ back' → out ≡ out'
-    → (let a : Lent L = record { back = back; out = out } in let b : Lent L = record { back = back'; out = out' } in a ≡ b)
+    → (let a : Lent L = record { back = back; out = out } in let b : Lent L = record { back = back'; out = out' } in a
+    ≡ b)
 lent-is back back' out out' b o = rw (b, o) refl
 
 -- ---- out
@@ -31,7 +32,8 @@ pub out-one : {L : Type 0} (first mid last : Option (Lent L)) (count more : ℕ)
 out-one {L} first mid last count more is next one =
     next ∙ ap (option_map one_out) is ∙ step first ∙ ap (λ (n : ℕ). option_map (out_more n) first) (sym one)
   where
-    step : (o : Option (Lent L)) → option_map one_out (option_map (out_more count) o) ≡ option_map (out_more (count + 1)) o
+    step : (o : Option (Lent L)) → option_map one_out (option_map (out_more count) o) ≡ option_map
+        (out_more (count + 1)) o
     step None = refl
     step (Some lent) =
         ap (λ (l : Lent L). let o : Option (Lent L) = Some l in o)
@@ -68,14 +70,16 @@ taken_one {L} (Some lent) mid last links link so_far next = λ few.
 
 -- so many that are out, and all of them back
 pub all-back : {L : Type 0} (first mid last : Option (Lent L)) (links : List L) (count : ℕ)
-    → mid ≡ option_map (out_more count) first → AreTaken mid last links → length links ≡ count → AreBack first last links
+    → mid ≡ option_map (out_more count) first → AreTaken mid last links → length links ≡ count → AreBack first last
+    links
 all-back None mid last links count out taken many = tt
 all-back {L} (Some lent) mid last links count out taken many =
     let x : AreTaken (Some (out_more count lent)) last links =
     subst (λ (o : Option (Lent L)). AreTaken o last links) out taken in
     x (omega (arith, many))
     ∙ ap (λ (l : Lent L). let o : Option (Lent L) = Some l in o)
-    (lent-is (lent.back ++ links) (lent.back ++ links) (lent.out + count - length links) lent.out refl (omega (arith, many)))
+    (lent-is (lent.back ++ links) (lent.back ++ links) (lent.out + count - length links) lent.out refl
+    (omega (arith, many)))
 
 -- ---- counts
 
@@ -120,7 +124,8 @@ took-all told old mid new links count out same many taken counted = record {
 -- the links of seats, all of which were out
 pub took-seats : {L State : Type 0} (told : L → Told State) (old mid new : Maker L) (seats : List (Seating L TurnPass))
     → mid.lent ≡ option_map (out_more (length seats)) old.lent → mid.faults ≡ old.faults
-    → AreTaken mid.lent new.lent (links_in seats) → new.faults ≡ grown_by_all mid.faults (map (faults_told told) (links_in seats))
+    → AreTaken mid.lent new.lent (links_in seats) → new.faults ≡ grown_by_all mid.faults
+    (map (faults_told told) (links_in seats))
     → TookAll told old new (links_in seats)
 took-seats {L} told old mid new seats out same taken counted =
     took-all told old mid new (links_in seats) (length seats) out same

@@ -34,7 +34,8 @@ module _ {L State : Type 0} (by : Answering State) (told : L → Told State) (sc
 
   -- the links that were made came back as they were
   pub seats-refused : (old mid new : Maker L) (seats : List (Seating L TurnPass))
-      → AreOpened (for_documents old.opening scenario.routes) (links_in seats) → length seats ≤ length scenario.documents
+      → AreOpened (for_documents old.opening scenario.routes) (links_in seats) → length seats ≤ length
+      scenario.documents
       → mid.lent ≡ option_map (out_more (length seats)) old.lent → mid.faults ≡ old.faults
       → AreTaken mid.lent new.lent (links_in seats)
       → new.faults ≡ grown_by_all mid.faults (map (faults_told told) (links_in seats))
@@ -50,7 +51,8 @@ module _ {L State : Type 0} (by : Answering State) (told : L → Told State) (sc
 
   -- or as the documents' runs have left them
   pub played-refused : (old mid new : Maker L) (seats : List (Seating L TurnPass))
-      → AreOpened (for_documents old.opening scenario.routes) (links_in seats) → length seats ≤ length scenario.documents
+      → AreOpened (for_documents old.opening scenario.routes) (links_in seats) → length seats ≤ length
+      scenario.documents
       → mid.lent ≡ option_map (out_more (length seats)) old.lent → mid.faults ≡ old.faults
       → AreUnseated told mid.lent new.lent mid.faults new.faults seats (NoneOrAllPlayed by scenario base)
       → WasRefused by told old new scenario base
@@ -59,13 +61,15 @@ module _ {L State : Type 0} (by : Answering State) (told : L → Told State) (sc
     back = unseated.back;
     opened = opened;
     few = omega (arith, few, length-map seats (λ (s : Seating L TurnPass). s.link));
-    took = took-all told old mid new unseated.back (length seats) out same unseated.many unseated.taken unseated.counted;
+    took = took-all told old mid new unseated.back (length seats) out same unseated.many unseated.taken
+        unseated.counted;
     left = unseated.are_so;
   }
 
   -- a play on the seats is one over their links, where the laws of faults hold
   pub played-over : FaultsPlaced → FaultsCounted State → RanShown State → (old mid new : Maker L)
-      (seats : List (Seating L TurnPass)) (transcripts : List Transcript) (history : List Entry) → AreOpened (for_documents old.opening scenario.routes)
+      (seats : List (Seating L TurnPass)) (transcripts : List Transcript) (history : List Entry) → AreOpened
+      (for_documents old.opening scenario.routes)
       (links_in seats)
       → mid.lent ≡ option_map (out_more (length seats)) old.lent → mid.faults ≡ old.faults
       → AreUnseated told mid.lent new.lent mid.faults new.faults seats

@@ -119,13 +119,16 @@ transcript-of {State} by scenario base history number document old new transcrip
       run_is = record {
         before = old.outside.left;
         behind = new.outside.left;
-        ran = subst (λ (o : Outside State). Ran by scenario.body_limit number (document_run scenario.cookies base document)
+        ran = subst (λ (o : Outside State). Ran by scenario.body_limit number
+            (document_run scenario.cookies base document)
             o transcript.events transcript.ending transcript.clock
             (outside_on (seat_way new) (entries_of number history) new.outside.left))
             (outside-is old.outside (outside_on (seat_way old) [] old.outside.left) refl refl refl none refl)
-            (subst (λ (o : Outside State). Ran by scenario.body_limit number (document_run scenario.cookies base document)
+            (subst (λ (o : Outside State). Ran by scenario.body_limit number
+            (document_run scenario.cookies base document)
             old.outside transcript.events transcript.ending transcript.clock o)
-            (outside-is new.outside (outside_on (seat_way new) (entries_of number history) new.outside.left) refl refl refl
+            (outside-is new.outside (outside_on (seat_way new) (entries_of number history) new.outside.left) refl refl
+            refl
             (sym own) refl) ran);
       };
     }
@@ -173,7 +176,8 @@ has-run {State} by scenario base history number document old new transcript is n
           (outside-is old.outside (outside_on (seat_way old) [] old.outside.left) refl refl refl none refl)
           (subst (λ (o : Outside State). Came by scenario.body_limit number whole
           old.outside transcript.events transcript.ending transcript.clock o)
-          (outside-is new.outside (outside_on (seat_way new) (entries_of number history) new.outside.left) refl refl refl
+          (outside-is new.outside (outside_on (seat_way new) (entries_of number history) new.outside.left) refl refl
+          refl
           (sym own) refl) is.came);
       few = is.few;
     }
@@ -182,7 +186,8 @@ have-run : {State : Type 0} (by : Answering State) (scenario : Scenario) (base :
     {number : ℕ} {documents : List Document} {olds news : List (Seat State)} {transcripts : List Transcript}
     → EachDocument (IsPlayed by scenario base) number documents olds news transcripts → All IsFresh olds
     → All (HasOwn history) news
-    → EachDocument (HasRun by scenario base history) number documents (map seat_way olds) (map seat_way news) transcripts
+    → EachDocument (HasRun by scenario base history) number documents (map seat_way olds) (map seat_way news)
+    transcripts
 have-run by scenario base history {transcripts = transcripts} played fresh own =
     each-seen seat_way (λ number document old new transcript is.
     has-run by scenario base history number document old new transcript is.0 is.1.own_is
@@ -320,7 +325,8 @@ named-below count first back (e ∷ es) is documents named apart = (
 -- seats that were made with the book's passes, and their passes as they came back to a book that is closed
 module _ {L State : Type 0} (by : Answering State) (told : L → Told State) (scenario : Scenario)
     (base : ℕ) (id : TableId) (first : TurnPass) (made back : List (Seating L TurnPass)) (book : Book)
-    (history : List Entry) (are : ArePasses id (opening_book scenario) (length scenario.documents) first (passes_in made))
+    (history : List Entry) (are : ArePasses id (opening_book scenario) (length scenario.documents) first
+    (passes_in made))
     (documents : map (λ (p : TurnPass). p.document) (passes_in back) ≡ range_with_len 0 (length scenario.documents))
     (closed : IsOneHistory (first ∷ passes_in back) book history) where
   -- what is told of the links of seats
@@ -333,7 +339,8 @@ module _ {L State : Type 0} (by : Answering State) (told : L → Told State) (sc
   -- no call was made on the seats at first
   fresh-seats : All IsFresh (map (seat_seen told) made)
   fresh-seats = All-map IsFresh (seat_seen told) made
-      (λ k d lt. let n = unmap (IsNew id (opening_book scenario)) (λ (s : Seating L TurnPass). s.pass) made are.new k d lt
+      (λ k d lt. let n = unmap (IsNew id (opening_book scenario)) (λ (s : Seating L TurnPass). s.pass) made are.new k d
+      lt
       in record { own_is = n.own_is; left_is = n.left_is })
 
   -- the entries of each document are its pass's own
@@ -355,7 +362,8 @@ module _ {L State : Type 0} (by : Answering State) (told : L → Told State) (sc
   named-history =
       let OwnOf : TurnPass → Type 0 = λ p. entries_of p.document history ≡ own_of p in
       named-below (length scenario.documents) first (passes_in back) history are.first_is.document_is documents
-      (recursion_from_All (λ (e : Entry). 0 < count_by (is_of e.document) (first ∷ passes_in back)) history closed.named)
+      (recursion_from_All (λ (e : Entry). 0 < count_by (is_of e.document) (first ∷ passes_in back)) history
+      closed.named)
       (none-of 4294967295 history (subst (λ (d : ℕ). entries_of d history ≡ own_of first) are.first_is.document_is
       (All-head OwnOf first (passes_in back) closed.own) ∙ are.first_is.own_is))
 

@@ -1,6 +1,7 @@
 -- Scripted servers as what answers a document's requests: by the bytes of a request, as the link has them, and by its
 -- method and its target.
-use Rattle.std.proofs.Common.{◌≡◌, ℕ, zero, suc, ◌<◌, List, [], ◌∷◌, length, map, get_or, refl, ap, sym, subst, ◌∙◌, arith}
+use Rattle.std.proofs.Common.{◌≡◌, ℕ, zero, suc, ◌<◌, List, [], ◌∷◌, length, map, get_or, refl, ap, sym, subst, ◌∙◌}
+use Rattle.std.proofs.Common.{arith}
 use Rattle.std.proofs.Common.{Option, Some, None, Result, Ok, Err}
 use Rattle.std.specs.Prelude.{option_map, slice_get, IfOk}
 use Rattle.std.specs.List.{All}
@@ -147,7 +148,8 @@ way-behind : (limit document : ℕ) (old new : Way (List Server)) (entries : Lis
 way-behind limit document old new entries whole events ending clock servers is quiet run =
     way-is new (record { state = Some servers; received = None; faults = 0 })
     (sym (ap (λ (o : Outside (List Server)). o.state) run.ran.to)
-    ∙ trace-state limit document run.ran.trace ∙ ap (λ (o : Outside (List Server)). o.state) run.ran.from ∙ is) quiet.0 quiet.1
+    ∙ trace-state limit document run.ran.trace ∙ ap (λ (o : Outside (List Server)). o.state) run.ran.from ∙ is) quiet.0
+    quiet.1
   where
     way-is : (a b : Way (List Server)) → a.state ≡ b.state → a.received ≡ b.received → a.faults ≡ b.faults → a ≡ b
     way-is a b s r f = rw (s, r, f) refl
@@ -186,7 +188,8 @@ transcripts-by-rules scenario base history {number} (EachDocument.one_more {docu
             (outside_on new (entries_of number history) is.run_is.behind)) first is.run_is.ran));
       };
     })
-    (transcripts-by-rules scenario base history more (All-tail Opened old olds opened) (All-tail IsQuiet new news quiet))
+    (transcripts-by-rules scenario base history more (All-tail Opened old olds opened)
+    (All-tail IsQuiet new news quiet))
 
 -- a play over links to the scenario's servers is one over the servers
 pub scripted-play : (scenario : Scenario) (transcripts : List Transcript) (history : List Entry) (link : SimState)

@@ -15,8 +15,8 @@ use Rattle.wf_player.specs.Playing.{Came}
 use Rattle.wf_iso.specs.Plays.{Way, opening_book, outside_on}
 
 -- From one moment of its link to another, the run of the document of this number came to its transcript's ending, or to
--- where memory was refused. It made the calls of the document's entries of the history, in order, and no others. The calls that it
--- may still make fell by as many at most as a whole script makes.
+-- where memory was refused. It made the calls of the document's entries of the history, in order, and no others. The
+-- calls that it may still make fell by as many at most as a whole script makes.
 pub record HasRun {State : Type 0} (by : Answering State) (scenario : Scenario) (base : ℕ) (history : List Entry)
     (number : ℕ) (document : Document) (old new : Way State) (transcript : Transcript) : Type 0 where
   pub before : ℕ

@@ -87,9 +87,11 @@ pub fn play_over<R: Threads + Wait + Sync, N: Links>(
     requires valid { IsValid scenario.now }
     requires base { base ≤ 2 ^ 40 }
     ensures played { IfOk result (λ played. IsPlayOverLinks (over_link N.Link.serves) N.Link.told
-        (maker_of N.opening N.lent N.faults links.old) (maker_of N.opening N.lent N.faults links.new) scenario.entry.now base played.transcripts played.history) }
+        (maker_of N.opening N.lent N.faults links.old) (maker_of N.opening N.lent N.faults links.new)
+        scenario.entry.now base played.transcripts played.history) }
     ensures refused { OnErr result (WasRefused (over_link N.Link.serves) N.Link.told
-        (maker_of N.opening N.lent N.faults links.old) (maker_of N.opening N.lent N.faults links.new) scenario.entry.now base) }
+        (maker_of N.opening N.lent N.faults links.old) (maker_of N.opening N.lent N.faults links.new)
+        scenario.entry.now base) }
     ensures has_text { IfOk result (λ played. HasText played.transcripts) }
 {
     law_faults_shown();

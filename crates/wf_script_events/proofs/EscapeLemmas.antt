@@ -13,7 +13,8 @@ pub none_escaped : (text : List ℕ) → list_all is_plain text ≡ true → len
 none_escaped [] all = refl
 none_escaped (byte ∷ text) all = split (is_plain byte) (none_escaped text) all
   where
-    split : (v : Bool) → (list_all is_plain text ≡ true → length (others text) ≡ 0) → (v && list_all is_plain text) ≡ true
+    split : (v : Bool) → (list_all is_plain text ≡ true → length (others text) ≡ 0) → (v && list_all is_plain text)
+        ≡ true
         → length (cond (not v) (byte ∷ others text) (others text)) ≡ 0
     split true more all = more all
     split false more all = cc

@@ -1,5 +1,6 @@
 -- Header values that are cut: what is cut is a header value where the whole is.
-use Rattle.std.proofs.Common.{◌≡◌, ℕ, zero, suc, ◌<◌, Bool, true, false, cond, ◌&&◌, not, List, [], ◌∷◌, ◌++◌, length, take}
+use Rattle.std.proofs.Common.{◌≡◌, ℕ, zero, suc, ◌<◌, Bool, true, false, cond, ◌&&◌, not, List, [], ◌∷◌, ◌++◌, length}
+use Rattle.std.proofs.Common.{take}
 use Rattle.std.proofs.Common.{refl, ap, sym, ◌∙◌, arith, true≢false}
 use Rattle.std.proofs.lemmas.List.{length-take, length-append}
 use Rattle.std.proofs.lemmas.Slice.Eq.{bytes_eq-Decides}
@@ -48,7 +49,8 @@ still-value (suc n) (byte ∷ text) some long is =
     let begins : list_any (λ (blank : ℕ). blank == byte) tab_or_space ≡ false =
     begins-unblank tab_or_space byte text
     ((bytes_eq-Decides (trimmed tab_or_space (byte ∷ text)) (byte ∷ text)).0 parts.0) in
-    let same : bytes_eq (trimmed tab_or_space (byte ∷ (take n text ++ 97 ∷ []))) (byte ∷ (take n text ++ 97 ∷ [])) ≡ true =
+    let same : bytes_eq (trimmed tab_or_space (byte ∷ (take n text ++ 97 ∷ []))) (byte ∷ (take n text ++ 97 ∷ []))
+    ≡ true =
     (bytes_eq-Decides (trimmed tab_or_space (byte ∷ (take n text ++ 97 ∷ []))) (byte ∷ (take n text ++ 97 ∷ []))).1
     (trimmed-between tab_or_space byte 97 (take n text) begins refl) in
     ap (λ (b : Bool). b && list_all fits (byte ∷ (take n text ++ 97 ∷ []))) same

@@ -252,9 +252,11 @@ made-by : (client : Client) (init : Init) (url : Parts) (long : Bool) → is_too
     ≡ fault_or (first_fault (faults init url)) (made client init url)
 made-by client init url true long =
     let there : HasFault (faults init url) =
-    subst HasFault (sym (faults-of init url ∙ ap (faults_by init url (is_some init.body) (first_bad 0 init.headers)) long))
+    subst HasFault (sym (faults-of init url ∙ ap (faults_by init url (is_some init.body) (first_bad 0 init.headers))
+    long))
     (has-fault init url (is_some init.body) (first_bad 0 init.headers)) in
-    ap (λ (l : List (Option TypeFault)). fault_or (first_fault l) (made client (with_cuts init) url)) (faults-same init url)
+    ap (λ (l : List (Option TypeFault)). fault_or (first_fault l) (made client (with_cuts init) url))
+    (faults-same init url)
     ∙ same-fault (faults init url) (made client (with_cuts init) url) (made client init url) there
 made-by client init url false short =
     ap (λ (i : Init). fault_or (first_fault (faults i url)) (made client i url)) (uncut init short)

@@ -1,5 +1,6 @@
 -- Texts that have nothing to trim.
-use Rattle.std.proofs.Common.{◌≡◌, ℕ, ◌≤◌, Bool, true, false, cond, List, [], ◌∷◌, length, ◌++◌, refl, ap, sym, ◌∙◌, arith}
+use Rattle.std.proofs.Common.{◌≡◌, ℕ, ◌≤◌, Bool, true, false, cond, List, [], ◌∷◌, length, ◌++◌, refl, ap, sym, ◌∙◌}
+use Rattle.std.proofs.Common.{arith}
 use Rattle.std.proofs.lemmas.List.{length-reverse, reverse-append, reverse-reverse}
 use Rattle.std.specs.Prelude.{◌==◌, reverse}
 use Rattle.std.specs.List.{list_any}
@@ -92,7 +93,8 @@ trimmed-between blanks first last text begins ends =
     let turned : reverse whole ≡ last ∷ reverse (first ∷ text) = reverse-append (first ∷ text) (last ∷ []) in
     ap (trimmed_end blanks) start
     ∙ ap (λ (l : List ℕ). reverse (trimmed_start blanks l)) turned
-    ∙ ap (λ (b : Bool). reverse (cond b (trimmed_start blanks (reverse (first ∷ text))) (last ∷ reverse (first ∷ text))))
+    ∙ ap (λ (b : Bool). reverse (cond b (trimmed_start blanks (reverse (first ∷ text)))
+    (last ∷ reverse (first ∷ text))))
     ends
     ∙ ap reverse (sym turned)
     ∙ reverse-reverse whole

@@ -1,6 +1,7 @@
 -- What is handed on of header values and bodies whose placeholders are replaced: no more than is needed to see that
 -- they are longer than those of a request may be (this project's own).
-use Rattle.std.specs.Prelude.{ℕ, ◌&&◌, ◌==◌, ◌++◌, ◌∷◌, [], Bool, true, not, nat_lt, List, length, map, take, option_map}
+use Rattle.std.specs.Prelude.{ℕ, ◌&&◌, ◌==◌, ◌++◌, ◌∷◌, [], Bool, true, not, nat_lt, List, length, map, take}
+use Rattle.std.specs.Prelude.{option_map}
 use Rattle.std.specs.Prelude.{Option, Some, None, if◌then◌else◌}
 use Rattle.std.specs.List.{list_any}
 use Rattle.wf_text.specs.Values.{is_header_value}

@@ -3,7 +3,8 @@ ghost use Rattle.wf_script_commands.specs.Commands.{step_of};
 ghost use Rattle.wf_script_run.specs.Play.{events_of};
 ghost use Rattle.wf_script_run.specs.Results.{lent_result};
 ghost use Rattle.wf_script_run.specs.Runs as spec;
-ghost use Rattle.wf_script_run.specs.Runs.{after_events, beginning, fetch_started, last_of, most_commands, most_fetches};
+ghost use Rattle.wf_script_run.specs.Runs.{after_events, beginning, fetch_started, last_of, most_commands};
+ghost use Rattle.wf_script_run.specs.Runs.{most_fetches};
 ghost use Rattle.wf_script_run.specs.Runs.{started, waited};
 
 use crate::shown::Shown;

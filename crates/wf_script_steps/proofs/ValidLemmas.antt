@@ -19,14 +19,17 @@ use Rattle.wf_script_commands.specs.declared.command.Test.TheVariants.{TypeIs, S
 use Rattle.wf_script_tables.specs.Reading.{Read, under, present, number_of, truth_of, text_that, any, word_of, some_of}
 use Rattle.wf_script_tables.specs.Reading.{has_key, only_keys, optional, list_of, count, each_from}
 use Rattle.wf_script_tables.proofs.KeepsLemmas.{Keeps, Anything, keeps-anything, keeps-after, keeps-weaker, keeps-then}
-use Rattle.wf_script_tables.proofs.KeepsLemmas.{keeps-under, keeps-there, keeps-if, keeps-required, keeps-optional, IsListOf}
-use Rattle.wf_script_tables.proofs.KeepsLemmas.{keeps-list, Within, keeps-number, keeps-word, keeps-text_that, keeps-some}
+use Rattle.wf_script_tables.proofs.KeepsLemmas.{keeps-under, keeps-there, keeps-if, keeps-required, keeps-optional}
+use Rattle.wf_script_tables.proofs.KeepsLemmas.{IsListOf}
+use Rattle.wf_script_tables.proofs.KeepsLemmas.{keeps-list, Within, keeps-number, keeps-word, keeps-text_that}
+use Rattle.wf_script_tables.proofs.KeepsLemmas.{keeps-some}
 use Rattle.wf_script_tables.proofs.KeepsLemmas.{keeps-each, keeps-parts}
 use Rattle.wf_script_steps.specs.Conditions.{subjects, second_part, parts_of, test_about, test_of}
 use Rattle.wf_script_steps.specs.Fetches.{header_of, content_of, manner_of, referring_of, fetch_keys, fetch_of}
 use Rattle.wf_script_steps.specs.Loads.{kinds, settings, load_keys, load_of}
 use Rattle.wf_script_steps.specs.Referring.{policy_of}
-use Rattle.wf_script_steps.specs.Scripts.{fetch_command_of, load_command_of, wait_command_of, repeat_command_of, if_command_of}
+use Rattle.wf_script_steps.specs.Scripts.{fetch_command_of, load_command_of, wait_command_of, repeat_command_of}
+use Rattle.wf_script_steps.specs.Scripts.{if_command_of}
 use Rattle.wf_script_steps.specs.Scripts.{command_of, in_order, commands_of, script_with, script_of, document_script_of}
 use Rattle.wf_script_steps.specs.declared.conditions.Subject.{Subject}
 use Rattle.wf_script_steps.specs.declared.conditions.Subject.TheVariants as subject

@@ -10,7 +10,8 @@ use Rattle.std.proofs.lemmas.Slice.Eq.{bytes_eq-Decides}
 use Rattle.serde_json.specs.Data.{Data, null, boolean, number, string, array, object, Items, no_items, item}
 use Rattle.serde_json.specs.Data.{Members, no_members, member, put}
 use Rattle.serde_json.specs.Find.{get, get_member, as_array, as_object}
-use Rattle.wf_script_tables.specs.Reading.{Read, ◌>>=◌, below, under, present, given, found_or, required, optional, count}
+use Rattle.wf_script_tables.specs.Reading.{Read, ◌>>=◌, below, under, present, given, found_or, required, optional}
+use Rattle.wf_script_tables.specs.Reading.{count}
 use Rattle.wf_script_tables.specs.Reading.{each_from, list_of, is_one_of, known, has_keys, only_keys}
 use Rattle.wf_script_tables.proofs.KeepsLemmas.{both}
 

@@ -7,7 +7,8 @@ use Rattle.std.proofs.lemmas.Bool.{leb-true}
 use Rattle.std.proofs.lemmas.List.Elements.{All-nil, All-cons}
 use Rattle.serde_json.specs.Data.{Data, Items, no_items, item}
 use Rattle.serde_json.specs.Find.{get, as_str, as_array, as_number, as_u64}
-use Rattle.wf_script_tables.specs.Reading.{Read, ◌>>=◌, under, present, given, number_of, text_that, meaning, word_of, some_of}
+use Rattle.wf_script_tables.specs.Reading.{Read, ◌>>=◌, under, present, given, number_of, text_that, meaning, word_of}
+use Rattle.wf_script_tables.specs.Reading.{some_of}
 use Rattle.wf_script_tables.specs.Reading.{found_or, required, optional, count, each_from, items_of, list_of, two_of}
 use Rattle.wf_script_tables.specs.Reading.{pair_of}
 

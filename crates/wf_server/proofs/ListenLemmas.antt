@@ -60,7 +60,8 @@ module _ {P : Type 0} (gives : P → SourceTold) (takes : P → SinkTold) (besid
 
   -- a read that gave these bytes
   pub read-more : (first old new : P) (bytes piece : List ℕ) → Gives (told first) (told old) bytes
-      → Gave (gives old).left (gives new).left piece → beside new ≡ beside old → Gives (told first) (told new) (bytes ++ piece)
+      → Gave (gives old).left (gives new).left piece → beside new ≡ beside old → Gives (told first) (told new)
+      (bytes ++ piece)
   read-more first old new bytes piece before gave same =
       gives-both (told first) (told old) (told new) bytes piece before
       (record { gave = gave; sink = sink-kept old new same })

@@ -45,7 +45,8 @@ use Rattle.wf_server_access.proofs.BehindLemmas.{behind, done}
 use Rattle.wf_server_access.proofs.LineLemmas.{IsCookie, IsLineWhere}
 use Rattle.wf_server_access.proofs.ListLemmas.{all-each}
 use Rattle.wf_server_access.proofs.ReferrerLemmas.{referrer-visible}
-use Rattle.wf_server_access.proofs.VisibleLemmas.{AreVisible, HasVisibleParts, is_visible, visible-host_value, visible-origin}
+use Rattle.wf_server_access.proofs.VisibleLemmas.{AreVisible, HasVisibleParts, is_visible, visible-host_value}
+use Rattle.wf_server_access.proofs.VisibleLemmas.{visible-origin}
 use Rattle.wf_server_access.proofs.VisibleLemmas.{visible-parts, visible-text, visible-value}
 use Rattle.wf_server_access.proofs.MadeLemmas.{IsAway, IsMade, made-away, made-is}
 use Rattle.wf_server_access.proofs.MainLemmas.{main-is, switched-is}

@@ -22,7 +22,8 @@ use Rattle.wf_http1.specs.RequestHeads.{IsRead}
 use Rattle.wf_http1.specs.declared.request_head.Asked.{Asked}
 use Rattle.wf_server_heard.specs.Heard.{as_read}
 use Rattle.wf_server_access.proofs.ListLemmas.{all-each, each-more}
-use Rattle.wf_server_access.proofs.TokenLemmas.{all-joined, all-reverse, is_solid, list_value, solid-trimmed, tchar-solid}
+use Rattle.wf_server_access.proofs.TokenLemmas.{all-joined, all-reverse, is_solid, list_value, solid-trimmed}
+use Rattle.wf_server_access.proofs.TokenLemmas.{tchar-solid}
 use Rattle.wf_server_access.proofs.ValueLemmas.{value_if, values, values-appended}
 
 -- ---- values as they are read

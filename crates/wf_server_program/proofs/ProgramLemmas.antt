@@ -14,7 +14,8 @@ use Rattle.wf_server_words.specs.Words.{are_texts, task_of}
 use Rattle.wf_server_words.specs.declared.words.Task.{Task}
 use Rattle.wf_server_program.specs.Connections.{AcceptsTold}
 use Rattle.wf_server_program.specs.Program.{Answers, AnswersTask, HasTable}
-use Rattle.wf_server_program.specs.Program.{IsCause, IsComplained, IsDone, IsExcused, IsExcusedRead, IsExcusedServed, IsOk}
+use Rattle.wf_server_program.specs.Program.{IsCause, IsComplained, IsDone, IsExcused, IsExcusedRead, IsExcusedServed}
+use Rattle.wf_server_program.specs.Program.{IsOk}
 use Rattle.wf_server_program.specs.Program.{IsTold}
 use Rattle.wf_server_program.specs.Program.{IsVerdict, IsWhole, most_input}
 use Rattle.wf_server_program.specs.Statuses.{complaint}

@@ -10,8 +10,10 @@ use wf_link::{Sink, WriteFault};
 
 // Writes the line of a verdict.
 fn write_complaint<E: Sink>(complaints: &mut E, verdict: ServeStatus) -> Result<(), WriteFault>
-    ensures ok { OnOk result (Took (E.takes complaints.old).taken (E.takes complaints.new).taken (complaint verdict)) }
-    ensures err { OnErr result (TookPart (E.takes complaints.old).taken (E.takes complaints.new).taken (complaint verdict)) }
+    ensures ok { OnOk result (Took (E.takes complaints.old).taken (E.takes complaints.new).taken
+        (complaint verdict)) }
+    ensures err { OnErr result (TookPart (E.takes complaints.old).taken (E.takes complaints.new).taken
+        (complaint verdict)) }
     ensures failed { OnErr result (Failed (E.takes complaints.old)
         (E.takes complaints.new)) }
 {

@@ -42,7 +42,8 @@ fn serve_next<A: Accepts>(
     table: &AllowTable,
     accepts: &mut A,
 ) -> Result<Served, Failed>
-    ensures ok { IfOk result (HasServedNext (peer_told A.End.gives A.End.takes) table.now (accepts_told A.opened A.coming A.lent A.faults accepts.old)
+    ensures ok { IfOk result (HasServedNext (peer_told A.End.gives A.End.takes) table.now
+        (accepts_told A.opened A.coming A.lent A.faults accepts.old)
         (accepts_told A.opened A.coming A.lent A.faults accepts.new)) }
     ensures err { OnErr result (HasNoNext (accepts_told A.opened A.coming A.lent A.faults accepts.old)
         (accepts_told A.opened A.coming A.lent A.faults accepts.new)) }

@@ -20,7 +20,8 @@ use Rattle.wf_player_play.specs.Links.{HasTakenBack, WasRefused}
 use Rattle.wf_player_play.proofs.LinkLemmas.{none-taken}
 use Rattle.wf_top.specs.Private.Steps.{IsRead, IsUnread, IsWhyNone, IsWritten}
 use Rattle.wf_top.specs.Program.{most_input, IsWhole, WritesPlay, IsCause, IsPlayed, IsVerdict, IsComplained, IsTold}
-use Rattle.wf_top.specs.Program.{AreLeft, HasPlayed, IsPlayedOver, IsAnswer, IsExcused, IsExcusedRead, IsLinked, IsScripted, IsSummed}
+use Rattle.wf_top.specs.Program.{AreLeft, HasPlayed, IsPlayedOver, IsAnswer, IsExcused, IsExcusedRead, IsLinked}
+use Rattle.wf_top.specs.Program.{IsScripted, IsSummed}
 use Rattle.wf_top.specs.Program.{IsBase, WritesSummary}
 use Rattle.wf_top.specs.Program.{GeneratedPlay, PlayOf, WritesSummaryPart, GaveFor, AnswersInput, AnswersCount, Answers}
 use Rattle.wf_top.specs.Statuses.{complaint, written_status}
@@ -140,7 +141,8 @@ module _ (Plays : Scenario → List Transcript → List Entry → Type 0) where
       cause status.InputTooLong why = (why, refl)
 
   -- a scenario that could not be played
-  pub refused-played : (input input' : SourceTold) (output : SinkTold) (scenario : Scenario) → IsRead input input' scenario
+  pub refused-played : (input input' : SourceTold) (output : SinkTold) (scenario : Scenario) → IsRead input input'
+      scenario
       → IsPlayed Plays input input' output output status.OutOfMemory
   refused-played input input' output scenario r =
       record { bytes = r.bytes; gave = r.gave; cause = (r.whole.short, inl refl) }
@@ -196,13 +198,15 @@ module _ (Plays : Scenario → List Transcript → List Entry → Type 0) where
       inr (inl (e, p.cause.1))
   no_scenario-at input input' output output' c c' bytes place status.WriteFault answer p e tells short is =
       inr (inr (inr (e, inl p.cause.1.1)))
-  no_scenario-at input input' output output' c c' bytes place status.OutOfMemory answer p e tells short is = inr (inr (inl e))
+  no_scenario-at input input' output output' c c' bytes place status.OutOfMemory answer p e tells short is = inr
+  (inr (inl e))
   no_scenario-at input input' output output' c c' bytes place status.InputTooLong answer p e tells short is =
       absurd (omega (arith, p.cause.0, given-short bytes p.bytes input.left input'.left tells p.gave))
 
   longer-at : (input input' : SourceTold) (output output' c c' : SinkTold) (bytes : List ℕ) (verdict answer : Status)
       → IsPlayed Plays input input' output output' verdict → answer ≡ verdict → input.left ≡ Some bytes
-      → most_input < length bytes → (answer ≡ status.InputTooLong) ⊎ IsExcusedRead input input' output output' c c' answer
+      → most_input < length bytes → (answer ≡ status.InputTooLong) ⊎ IsExcusedRead input input' output output' c c'
+      answer
   longer-at input input' output output' c c' bytes status.Ok answer p e tells long =
       absurd (omega (
         arith,
@@ -239,7 +243,8 @@ module _ (Plays : Scenario → List Transcript → List Entry → Type 0) where
       inr (inl (e, p.cause.1))
   complete-at input input' output output' c c' bytes scenario status.WriteFault answer p e tells short is =
       inr (inr (inr (e, inl p.cause.1.1)))
-  complete-at input input' output output' c c' bytes scenario status.OutOfMemory answer p e tells short is = inr (inr (inl e))
+  complete-at input input' output output' c c' bytes scenario status.OutOfMemory answer p e tells short is = inr
+  (inr (inl e))
   complete-at input input' output output' c c' bytes scenario status.InputTooLong answer p e tells short is =
       absurd (omega (arith, p.cause.0, given-short bytes p.bytes input.left input'.left tells p.gave))
 
@@ -272,7 +277,8 @@ module _ (Plays : Scenario → List Transcript → List Entry → Type 0) where
         ];
         out_of_memory = λ is. cause-at input input' output output' verdict status.OutOfMemory p
             (same is (λ h. memory_write h) ∙ is);
-        bound = record { bytes = p.bytes; gave = p.gave; reason_is = bound-at input input' output output' p.bytes verdict p.cause };
+        bound = record { bytes = p.bytes; gave = p.gave; reason_is = bound-at input input' output output' p.bytes
+            verdict p.cause };
       }
     where
       ok_write : status.Ok ≡ status.WriteFault → ⊥
@@ -350,7 +356,8 @@ module _ (count : ℕ) where
   summed-complete output output' c c' status.OutOfMemory answer s e = inr (inl e)
   summed-complete output output' c c' status.InputTooLong answer s e = absurd s
 
-  count-answers : (input input' : SourceTold) (output output' c c' : SinkTold) (verdict answer : Status) → input' ≡ input
+  count-answers : (input input' : SourceTold) (output output' c c' : SinkTold) (verdict answer : Status) → input'
+      ≡ input
       → IsSummed count output output' verdict → IsTold c c' verdict answer
       → AnswersCount count input input' output output' c c' answer
   count-answers input input' output output' c c' verdict answer unread s t = record {
@@ -514,7 +521,8 @@ module _ {L State : Type 0} (by : Answering State) (told : L → Told State) whe
 
 module _ {L State : Type 0} (by : Answering State) (told : L → Told State) (net net' : Net L) where
   -- the verdict by other words that are equal
-  verdict-at : (asked other : Option Subcommand) (input input' : SourceTold) (output output' : SinkTold) (verdict : Status)
+  verdict-at : (asked other : Option Subcommand) (input input' : SourceTold) (output output' : SinkTold)
+      (verdict : Status)
       → asked ≡ other → IsVerdict by told net net' asked input input' output output' verdict
       → IsVerdict by told net net' other input input' output output' verdict
   verdict-at asked other input input' output output' verdict is v =
@@ -526,7 +534,8 @@ module _ {L State : Type 0} (by : Answering State) (told : L → Told State) (ne
   usage-of asked input input' output output' verdict is v =
       (verdict-at asked None input input' output output' verdict is v).0
 
-  not_accepted-of : (asked : Option Subcommand) (input input' : SourceTold) (output output' : SinkTold) (verdict : Status)
+  not_accepted-of : (asked : Option Subcommand) (input input' : SourceTold) (output output' : SinkTold)
+      (verdict : Status)
       → verdict ≡ status.Usage → IsVerdict by told net net' asked input input' output output' verdict
       → asked ≡ None
   not_accepted-of None input input' output output' verdict is v = refl
@@ -562,7 +571,8 @@ module _ {L State : Type 0} (by : Answering State) (told : L → Told State) (ne
 
 -- the account of an answer says what the program promises
 pub answers : {L State : Type 0} (by : Answering State) (told : L → Told State)
-    (words : List (List ℕ)) (input input' : SourceTold) (output output' c c' : SinkTold) (net net' : Net L) (answer : Status)
+    (words : List (List ℕ)) (input input' : SourceTold) (output output' c c' : SinkTold) (net net' : Net L)
+    (answer : Status)
     → IsAnswer by told words input input' output output' c c' net net' answer
     → Answers by told words input input' output output' c c' net net' answer
 answers by told words input input' output output' c c' net net' answer a =

@@ -201,7 +201,8 @@ IsTold old new verdict answer = IsComplained old new verdict answer
 
 -- How the program came to its answer: it came to a verdict first, and told it then.
 pub record IsAnswer {L State : Type 0} (by : Answering State) (told : L → Told State)
-    (words : List (List ℕ)) (input input' : SourceTold) (output output' complaints complaints' : SinkTold) (net net' : Net L)
+    (words : List (List ℕ)) (input input' : SourceTold) (output output' complaints complaints' : SinkTold)
+    (net net' : Net L)
     (answer : Status) : Type 0 where
   pub verdict : Status
   pub is_verdict : IsVerdict by told net net' (subcommand_of words) input input' output output' verdict

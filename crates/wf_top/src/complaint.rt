@@ -25,8 +25,10 @@ fn write_one<E: Sink>(complaints: &mut E, text: &[u8]) -> Result<(), WriteFault>
 
 // Writes two texts whole, one after the other.
 fn write_two<E: Sink>(complaints: &mut E, first: &[u8], second: &[u8]) -> Result<(), WriteFault>
-    ensures ok { OnOk result (Took (E.takes complaints.old).taken (E.takes complaints.new).taken (first.now ++ second.now)) }
-    ensures err { OnErr result (TookPart (E.takes complaints.old).taken (E.takes complaints.new).taken (first.now ++ second.now)) }
+    ensures ok { OnOk result (Took (E.takes complaints.old).taken (E.takes complaints.new).taken
+        (first.now ++ second.now)) }
+    ensures err { OnErr result (TookPart (E.takes complaints.old).taken (E.takes complaints.new).taken
+        (first.now ++ second.now)) }
     ensures faults { (E.takes complaints.old).faults ≤ (E.takes complaints.new).faults }
     ensures zeros { (E.takes complaints.old).zeros ≤ (E.takes complaints.new).zeros }
     ensures failed { OnErr result (Failed (E.takes complaints.old)
@@ -40,8 +42,10 @@ fn write_two<E: Sink>(complaints: &mut E, first: &[u8], second: &[u8]) -> Result
 
 // Writes the line of a refused scenario.
 fn write_refusal<E: Sink>(complaints: &mut E, place: &[u8]) -> Result<(), WriteFault>
-    ensures ok { OnOk result (Took (E.takes complaints.old).taken (E.takes complaints.new).taken (refusal place.now)) }
-    ensures err { OnErr result (TookPart (E.takes complaints.old).taken (E.takes complaints.new).taken (refusal place.now)) }
+    ensures ok { OnOk result (Took (E.takes complaints.old).taken (E.takes complaints.new).taken
+        (refusal place.now)) }
+    ensures err { OnErr result (TookPart (E.takes complaints.old).taken (E.takes complaints.new).taken
+        (refusal place.now)) }
     ensures failed { OnErr result (Failed (E.takes complaints.old)
         (E.takes complaints.new)) }
 {
@@ -53,8 +57,10 @@ fn write_refusal<E: Sink>(complaints: &mut E, place: &[u8]) -> Result<(), WriteF
 
 // Writes the line of a verdict.
 fn write_complaint<E: Sink>(complaints: &mut E, verdict: &Status) -> Result<(), WriteFault>
-    ensures ok { OnOk result (Took (E.takes complaints.old).taken (E.takes complaints.new).taken (complaint verdict.now)) }
-    ensures err { OnErr result (TookPart (E.takes complaints.old).taken (E.takes complaints.new).taken (complaint verdict.now)) }
+    ensures ok { OnOk result (Took (E.takes complaints.old).taken (E.takes complaints.new).taken
+        (complaint verdict.now)) }
+    ensures err { OnErr result (TookPart (E.takes complaints.old).taken (E.takes complaints.new).taken
+        (complaint verdict.now)) }
     ensures failed { OnErr result (Failed (E.takes complaints.old)
         (E.takes complaints.new)) }
 {

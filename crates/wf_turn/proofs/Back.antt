@@ -26,7 +26,8 @@ use Rattle.wf_turn.specs.declared.desk.Desk.{Desk}
 use Rattle.wf_turn.specs.declared.view.View.{View}
 use Rattle.wf_turn.specs.declared.view.Ended.{Ended}
 use Rattle.wf_turn.proofs.Ends.{Closes}
-use Rattle.wf_turn.proofs.Sums.{at-most, eqb-sym, sum-total, often-here, times-often, total-plus, total-same, total-zero}
+use Rattle.wf_turn.proofs.Sums.{at-most, eqb-sym, sum-total, often-here, times-often, total-plus, total-same}
+use Rattle.wf_turn.proofs.Sums.{total-zero}
 use Rattle.wf_turn.proofs.Turns.{some_desk}
 
 endings-snoc : (ps : List TurnPass) (p : TurnPass) (more : List Ended) → endings ps ++ (ending p.seat.me.0 ∷ more)
@@ -126,7 +127,8 @@ module _ (passes rest : List TurnPass) (first : TurnPass) (same : IsPermutation 
   made-here : (d : ℕ) → 0 < often d v.made → 0 < count_by (is_of d) passes
   unfolding WholeOf
   made-here d h = All-head WholeOf first rest (All-permutation WholeOf passes (first ∷ rest) same all.whole) is-first
-      d (subst (λ (l : List ℕ). 0 < times d l) (ap (λ (x : View). x.made) taken) (omega (arith, h, times-often d v.made)))
+      d (subst (λ (l : List ℕ). 0 < times d l) (ap (λ (x : View). x.made) taken)
+      (omega (arith, h, times-often d v.made)))
 
   pub whole-here : (d : ℕ) → d ≢ 4294967295 → 0 < often d v.made → (k : ℕ) × (e : Ended)
       × (get_elem? v.ended k ≡ some e) × (e.document ≡ d)

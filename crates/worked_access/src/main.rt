@@ -7,8 +7,8 @@
 //     fetch TABLE DOCUMENT INIT     what a document at this URL sees of a server with the table: `fetches.rt`
 //     program WORDS CALLS INPUT CONNECTION...     what a run of the program comes to: `programs.rt`
 //
-// Each is printed with what it comes to. `worked_rows`'s `row.rt` says how a text is written. Lines that begin with `#` are
-// printed as they are.
+// Each is printed with what it comes to. `worked_rows`'s `row.rt` says how a text is written. Lines that begin with `#`
+// are printed as they are.
 #![tactic(auto)]
 
 mod fetches;

@@ -1,5 +1,5 @@
-// Reads rows of the wire (`wire.rt`), and operations on a preflight cache and on a list of known hosts (`books.rt`), one
-// a line of the input; and then plays calls on a book that has both: on one that nobody shares, by one pass, by two
+// Reads rows of the wire (`wire.rt`), and operations on a preflight cache and on a list of known hosts (`books.rt`),
+// one a line of the input; and then plays calls on a book that has both: on one that nobody shares, by one pass, by two
 // passes and by two threads. Prints what they come to, and the histories. Lines that begin with `#` are printed as they
 // are.
 #![tactic(auto)]

@@ -1,7 +1,7 @@
 // Reads worked rows of the rules of a fetch, one a line, and prints each with what its call answers. A line that begins
 // with `#` is a title, which is printed as it is, and so is an empty line. A row is a kind and its texts, with a tab
-// between; `worked_rows`'s `row.rt` says how a text is written and `requests.rt` how a request is, and each file here which
-// kinds it knows.
+// between; `worked_rows`'s `row.rt` says how a text is written and `requests.rt` how a request is, and each file here
+// which kinds it knows.
 #![tactic(auto)]
 
 mod checks;

@@ -10,6 +10,7 @@ returns-in-Some c =
     let context = lent_at c.args.lent.now c.args.level.now in
     let next = next_of context c.args.level.owed c.args.level.owes in
     does-same context c.going.result _ _
-    (answered-notes (onward_of context c.args.level.request.value) context next c.args.level.request.value c.args.came c.in-Ok.head
+    (answered-notes (onward_of context c.args.level.request.value) context next c.args.level.request.value c.args.came
+    c.in-Ok.head
     c.in-Some.op c.in-Ok.is (sym (rw c.deref.ensures at c.in_ok-note_of.ensures.value) ∙ c.in-Some.is))
     c.going.ensures

@@ -8,7 +8,8 @@ use Rattle.wf_fetch.proofs.http.follow.Goals as goal
 pub invariant_of-level : goal.invariant_of-level
 invariant_of-level c = record {
   valid = rw c.in_ok-boxed.ensures c.in_ok-request.ensures.request;
-  few = rw (c.in_ok-boxed.ensures, c.in_ok-request.ensures.value, c.into_inner.ensures, redirected-count c.args.level.request.value c.args.head c.args.url)
+  few = rw (c.in_ok-boxed.ensures, c.in_ok-request.ensures.value, c.into_inner.ensures, redirected-count
+      c.args.level.request.value c.args.head c.args.url)
       (omega (arith, c.total_owed.ensures.few, c.args.level.few));
   timely = c.args.level.timely;
 }
@@ -18,7 +19,8 @@ returns c =
     let context = lent_at c.args.lent.now c.args.level.now in
     let next = next_of context c.args.level.owed c.args.level.owes in
     goes-on context c.begin.result c.args.level.request.value.redirects c.in_ok-boxed.field-0.value
-    (redirected_request c.args.level.request.value c.args.head c.args.url) (next_of context c.total_owed.result false) next
+    (redirected_request c.args.level.request.value c.args.head c.args.url) (next_of context c.total_owed.result false)
+    next
     c.requires.few (rw (sym c.in_ok-boxed.ensures, c.into_inner.ensures) at c.in_ok-request.ensures.value)
     (redirected-count c.args.level.request.value c.args.head c.args.url) (c.total_owed.ensures.same context)
     c.begin.ensures

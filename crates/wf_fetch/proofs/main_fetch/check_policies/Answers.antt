@@ -12,7 +12,8 @@ returns-else-is_empty c =
     let next = next_of context c.args.level.owed c.args.level.owes in
     let onward = onward_of context c.args.level.request.value in
     leads-same context c.tell_blocks.result _ _
-    (ap (unless_violated onward context next c.args.level.request.value) (sym (rw c.deref.ensures at c.in_ok-violations.ensures))
+    (ap (unless_violated onward context next c.args.level.request.value)
+    (sym (rw c.deref.ensures at c.in_ok-violations.ensures))
     ∙ violated-blocks onward context next c.args.level.request.value c.in_ok-violations.violations
     (sym c.is_empty.ensures ∙ c.if-is_empty.false))
     c.tell_blocks.ensures

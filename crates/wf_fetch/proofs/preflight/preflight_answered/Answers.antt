@@ -10,7 +10,9 @@ returns c =
     let context = lent_at c.args.lent.now c.args.level.now in
     let next = next_of context c.args.level.owed c.args.level.owes in
     does-same context c.going.result _ _
-    (preflight-notes (onward_of context c.args.level.request.value) context next c.args.level.request.value c.args.came c.in-Ok.head
-    c.in-Some.op c.in_ok-checked.checked c.in-Ok.is (sym (rw c.deref-2.ensures at c.in_ok-note_of.ensures.value) ∙ c.in-Some.is)
+    (preflight-notes (onward_of context c.args.level.request.value) context next c.args.level.request.value c.args.came
+    c.in-Ok.head
+    c.in-Some.op c.in_ok-checked.checked c.in-Ok.is
+    (sym (rw c.deref-2.ensures at c.in_ok-note_of.ensures.value) ∙ c.in-Some.is)
     (rw c.deref.ensures at c.in_ok-checked.ensures))
     c.going.ensures

@@ -8,7 +8,8 @@ returns c =
     let context = lent_at c.args.lent.now c.args.level.now in
     leads-same context c.tell_at_end.result _ _
     (next_of-head context c.args.level.owed c.args.level.owes c.args.level.request.value c.args.head
-    ∙ finished-as context c.args.level.request.value c.args.head c.in_ok-violations.violations c.in_ok-violations.blocked
+    ∙ finished-as context c.args.level.request.value c.args.head c.in_ok-violations.violations
+    c.in_ok-violations.blocked
     c.in_ok-end.end (rw c.deref.ensures at c.in_ok-violations.ensures.0)
     c.in_ok-violations.ensures.1 (rw c.deref-2.ensures at c.in_ok-end.ensures))
     c.tell_at_end.ensures

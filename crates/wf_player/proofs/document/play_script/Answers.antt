@@ -29,14 +29,19 @@ returns-clause-came g c =
     last.link.now _ (search rules) (search rules)
     (script-came (over_link g.L.Link.serves) c.args.script.now c.args.base
     (record {
-      terms = record { lent = setting_of c.args.lent.now; limit = c.args.lent.now.limit; document = (g.S.Share.account c.args.pass.now).document };
+      terms = record {
+        lent = setting_of c.args.lent.now;
+        limit = c.args.lent.now.limit;
+        document = (g.S.Share.account c.args.pass.now).document;
+      };
       world = world_of g.S.Share.account g.L.Link.told c.args.pass.now c.args.link.now c.args.wire.now;
       progress = c.new-running.result;
     })
     (standing g.S.Share.account g.L.Link.told last)
     (outside g.S.Share.account g.L.Link.told c.args.pass.now c.args.link.now)
     (outside g.S.Share.account g.L.Link.told last.pass.now last.link.now) c.script.result c.into_events.result
-    c.ended_by-ending.result c.now-clock.result c.new-running.ensures c.requires.idle refl refl shown c.ended_by-ending.ensures
+    c.ended_by-ending.result c.now-clock.result c.new-running.ensures c.requires.idle refl refl shown
+    c.ended_by-ending.ensures
     ticks c.script.ensures.came)
 
 pub returns-clause-rests : goal.returns-clause-rests

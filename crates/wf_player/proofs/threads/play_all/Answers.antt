@@ -33,10 +33,12 @@ returns-clause-played g c =
     let by = over_link g.L.Link.serves in
     let w = c.as_mut_slice.ensures in let f = c.from_rows.ensures in
     let long = ap length (sym w.value) ∙ w.len in
-    let kept : length c.play_rows.new.rows ≡ length c.in_ok-rows.rows.items = c.play_rows.auto.rows ∙ ap length w.value in
+    let kept : length c.play_rows.new.rows ≡ length c.in_ok-rows.rows.items = c.play_rows.auto.rows ∙ ap length w.value
+    in
     let same = written c.in_ok-rows.rows.len c.play_rows.new.rows c.in_ok-rows.rows.items kept long in
     made-list (λ (l : List Transcript). EachDocument (IsPlayed by c.args.scenario.now c.args.base) 0
-    c.args.scenario.now.documents (map seen c.args.seats.now.items) (map seen c.from_rows.new.seats.items) l) c.listed.result
+    c.args.scenario.now.documents (map seen c.args.seats.now.items) (map seen c.from_rows.new.seats.items) l)
+    c.listed.result
     c.from_rows.new.transcripts.items c.listed.ensures
     (played-back belongs seen by c.args.scenario.now c.args.base c.in_ok-rows.rows.items c.play_rows.new.rows
     c.args.seats.now.items c.from_rows.new.seats.items c.from_rows.new.transcripts.items c.in_ok-rows.ensures.ok.0
@@ -63,7 +65,8 @@ returns-clause-refused g c =
     let by = over_link g.L.Link.serves in
     let w = c.as_mut_slice.ensures in let f = c.from_rows.ensures in
     let long = ap length (sym w.value) ∙ w.len in
-    let kept : length c.play_rows.new.rows ≡ length c.in_ok-rows.rows.items = c.play_rows.auto.rows ∙ ap length w.value in
+    let kept : length c.play_rows.new.rows ≡ length c.in_ok-rows.rows.items = c.play_rows.auto.rows ∙ ap length w.value
+    in
     let same = written c.in_ok-rows.rows.len c.play_rows.new.rows c.in_ok-rows.rows.items kept long in
     on-err c.listed.result (inr (record {
       transcripts = c.from_rows.new.transcripts.items;
@@ -80,10 +83,12 @@ returns-clause-belong g c =
     let by = over_link g.L.Link.serves in
     let w = c.as_mut_slice.ensures in let f = c.from_rows.ensures in
     let long = ap length (sym w.value) ∙ w.len in
-    let kept : length c.play_rows.new.rows ≡ length c.in_ok-rows.rows.items = c.play_rows.auto.rows ∙ ap length w.value in
+    let kept : length c.play_rows.new.rows ≡ length c.in_ok-rows.rows.items = c.play_rows.auto.rows ∙ ap length w.value
+    in
     let same = written c.in_ok-rows.rows.len c.play_rows.new.rows c.in_ok-rows.rows.items kept long in
     rw (f.seats ∙ ap seatings_of same) (belong-back belongs seen by c.args.scenario.now c.args.base
-    c.in_ok-rows.rows.items c.play_rows.new.rows kept (λ i d lt. rw (← w.value) (c.play_rows.ensures i d (rw w.value lt))))
+    c.in_ok-rows.rows.items c.play_rows.new.rows kept
+    (λ i d lt. rw (← w.value) (c.play_rows.ensures i d (rw w.value lt))))
 
 pub returns-clause-documents : goal.returns-clause-documents
 returns-clause-documents g c =
@@ -92,7 +97,8 @@ returns-clause-documents g c =
     let by = over_link g.L.Link.serves in
     let w = c.as_mut_slice.ensures in let f = c.from_rows.ensures in
     let long = ap length (sym w.value) ∙ w.len in
-    let kept : length c.play_rows.new.rows ≡ length c.in_ok-rows.rows.items = c.play_rows.auto.rows ∙ ap length w.value in
+    let kept : length c.play_rows.new.rows ≡ length c.in_ok-rows.rows.items = c.play_rows.auto.rows ∙ ap length w.value
+    in
     let same = written c.in_ok-rows.rows.len c.play_rows.new.rows c.in_ok-rows.rows.items kept long in
     documents-after seen by c.args.scenario.now c.args.base c.args.seats.now.items c.from_rows.new.seats.items
     c.from_rows.new.transcripts.items

@@ -38,10 +38,12 @@ loop-number-preserved c =
         own_is = e.same.2 ∙ i.first.own_is;
         left_is = e.same.4 ∙ i.first.left_is;
       };
-      new = All-same New c.push_reserved.new.self.items (passes ++ one ∷ []) p.items (All-push New passes one i.new is_new);
+      new = All-same New c.push_reserved.new.self.items (passes ++ one ∷ []) p.items
+          (All-push New passes one i.new is_new);
       documents = ap (map (λ (q : TurnPass). q.document)) p.items ∙ map_push (λ (q : TurnPass). q.document) passes one
           ∙ ap (λ (l : List ℕ). l ++ one.document ∷ []) i.documents
-          ∙ ap (λ (n : ℕ). range_with_len 0 number ++ n ∷ []) e.new.0 ∙ sym (range-more 0 number number (zero_before number));
+          ∙ ap (λ (n : ℕ). range_with_len 0 number ++ n ∷ []) e.new.0 ∙ sym
+          (range-more 0 number number (zero_before number));
       made = made-more number (made_of c.loop-number.first) (made_of c.pass.new.parent) i.made e.made;
       count = omega (arith, p.len, i.count);
       room = omega (arith, p.capacity, i.room);

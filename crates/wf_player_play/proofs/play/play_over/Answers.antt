@@ -75,7 +75,8 @@ play_seated-requires-clause-ready g c κs within =
     let scenario = c.args.scenario.now in
     let first = c.passes_of.new.first in
     let passes = c.in_ok-passes.passes.items in
-    let opens = c.in_ok-book.ensures.first.1 ∙ c.in_ok-opening.ensures ∙ ap (λ (hosts : List KnownHost). with_hosts hosts empty) c.as_slice.ensures in
+    let opens = c.in_ok-book.ensures.first.1 ∙ c.in_ok-opening.ensures ∙ ap
+    (λ (hosts : List KnownHost). with_hosts hosts empty) c.as_slice.ensures in
     let counted = subst (λ (n : ℕ). ArePasses id (opening_of c.in_ok-book.first) n first passes) c.len-count.ensures
     c.in_ok-passes.ensures.passes in
     let are = subst (λ (b : Book). ArePasses id b (length scenario.documents) first passes) opens counted in

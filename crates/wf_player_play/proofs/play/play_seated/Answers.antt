@@ -18,7 +18,8 @@ play_all-played-requires-clause-seats g c κs within =
 pub play_all-played-requires-clause-belong : goal.play_all-played-requires-clause-belong
 play_all-played-requires-clause-belong g c κs within =
     let seats = c.args.seats.items in
-    belong-at c.args.book.table.shared.table_id c.args.scenario.now (passes_in seats) seats c.requires.ready.made.new refl
+    belong-at c.args.book.table.shared.table_id c.args.scenario.now (passes_in seats) seats c.requires.ready.made.new
+    refl
 
 pub close-history-requires : goal.close-history-requires
 close-history-requires g c =

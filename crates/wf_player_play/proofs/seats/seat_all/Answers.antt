@@ -18,9 +18,11 @@ loop-pass-preserved g c =
     let routes = c.args.routes.now in
     let number : c.loop-pass.number ≡ 0 + length links =
     omega (arith, i.number, i.count, length-map seats (λ s. s.link)) in
-    let pushed = ap (map (λ s. s.link)) p.items ∙ map_push (λ s. s.link) seats (record { pass = c.in-Some.pass; link = link }) in
+    let pushed = ap (map (λ s. s.link)) p.items ∙ map_push (λ s. s.link) seats
+    (record { pass = c.in-Some.pass; link = link }) in
     record {
-      passes = ap (map (λ s. s.pass)) p.items ∙ map_push (λ s. s.pass) seats (record { pass = c.in-Some.pass; link = link })
+      passes = ap (map (λ s. s.pass)) p.items ∙ map_push (λ s. s.pass) seats
+          (record { pass = c.in-Some.pass; link = link })
           ∙ ap (λ l. l ++ c.in-Some.pass ∷ []) i.passes;
       opened = rw pushed (opened-more (for_documents opening routes)
           (λ k. g.N.Links.opening c.loop-pass.links k (k + length links) routes) links link i.opened

@@ -35,6 +35,7 @@ loop-seating-preserved g c =
           (taken_one (g.N.Links.lent c.args.links.now) (g.N.Links.lent c.loop-seating.links)
           (g.N.Links.lent c.take_back.new.self) (links_in yielded) seating.link i.back c.take_back.ensures.took);
       faults = rw (map_push (λ s. s.link) yielded seating)
-          (faults_one (faults_told g.N.Link.Link.told) (g.N.Links.faults c.args.links.now) (g.N.Links.faults c.loop-seating.links)
+          (faults_one (faults_told g.N.Link.Link.told) (g.N.Links.faults c.args.links.now)
+          (g.N.Links.faults c.loop-seating.links)
           (g.N.Links.faults c.take_back.new.self) (links_in yielded) seating.link i.faults c.take_back.ensures.faults);
     }

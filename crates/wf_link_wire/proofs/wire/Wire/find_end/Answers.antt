@@ -30,7 +30,8 @@ returns-in-Err-clause-ended g c =
     body-fails (window_of c.args.self.now) (g.L.Link.told c.args.link.now).left c.args.self.now.framing c.args.limit
     c.loop-end.reader c.window.result.now (window_of c.loop-end.self) (g.L.Link.told c.loop-end.link).left
     c.window.ensures is.framing is.limit is.received c.in-More.next (window_of c.gather.new.self)
-    (g.L.Link.told c.gather.new.link).left c.last-in-Err.result c.count_of.result c.fewest.result c.in-More.ensures came.gave
+    (g.L.Link.told c.gather.new.link).left c.last-in-Err.result c.count_of.result c.fewest.result c.in-More.ensures
+    came.gave
     c.in-Err.ensures.few c.fewest.ensures.open c.last-in-Err.ensures c.count_of.ensures
 
 pub count_of-requires : goal.count_of-requires
@@ -57,26 +58,35 @@ loop-end-preserved g c =
     let came = c.in-Ok-true.ensures in
     let gathered = c.gather.ensures in
     record {
-      received = body-goes-on (window_of c.args.self.now) (g.L.Link.told c.args.link.now).left c.args.self.now.framing c.args.limit
+      received = body-goes-on (window_of c.args.self.now) (g.L.Link.told c.args.link.now).left c.args.self.now.framing
+          c.args.limit
           c.loop-end.reader c.window.result.now (window_of c.loop-end.self) (g.L.Link.told c.loop-end.link).left
           c.window.ensures is.framing is.limit is.received c.in-More.next
           (window_of c.gather.new.self) (g.L.Link.told c.gather.new.link).left c.in-More.ensures gathered.gave;
-      counts = counts-more (IsOpen c.args.self.now.framing c.args.limit) (window_of c.args.self.now) (g.L.Link.told c.args.link.now).left
-          (g.L.Link.told c.args.link.now).received c.loop-end.reader.bytes (window_of c.loop-end.self) c.in-More.next.bytes
-          (window_of c.gather.new.self) (g.L.Link.told c.loop-end.link).received (g.L.Link.told c.gather.new.link).received
-          (body-read (window_of c.args.self.now) (g.L.Link.told c.args.link.now).left c.args.self.now.framing c.args.limit
+      counts = counts-more (IsOpen c.args.self.now.framing c.args.limit) (window_of c.args.self.now)
+          (g.L.Link.told c.args.link.now).left
+          (g.L.Link.told c.args.link.now).received c.loop-end.reader.bytes (window_of c.loop-end.self)
+          c.in-More.next.bytes
+          (window_of c.gather.new.self) (g.L.Link.told c.loop-end.link).received
+          (g.L.Link.told c.gather.new.link).received
+          (body-read (window_of c.args.self.now) (g.L.Link.told c.args.link.now).left c.args.self.now.framing
+          c.args.limit
           c.loop-end.reader c.window.result.now (window_of c.loop-end.self) (g.L.Link.told c.loop-end.link).left
           c.window.ensures is.framing is.limit is.received c.in-More.next c.in-More.ensures)
           gathered.received is.counts
-          (body-waits (window_of c.args.self.now) (g.L.Link.told c.args.link.now).left c.args.self.now.framing c.args.limit
+          (body-waits (window_of c.args.self.now) (g.L.Link.told c.args.link.now).left c.args.self.now.framing
+          c.args.limit
           c.loop-end.reader c.window.result.now (window_of c.loop-end.self) (g.L.Link.told c.loop-end.link).left
           c.window.ensures is.framing is.limit is.received c.in-More.next
-          (window_of c.gather.new.self) is.counts.count c.fewest.result c.in-More.ensures gathered.before c.fewest.ensures.open
+          (window_of c.gather.new.self) is.counts.count c.fewest.result c.in-More.ensures gathered.before
+          c.fewest.ensures.open
           is.counts.whole);
-      framing = body-framed (window_of c.args.self.now) (g.L.Link.told c.args.link.now).left c.args.self.now.framing c.args.limit
+      framing = body-framed (window_of c.args.self.now) (g.L.Link.told c.args.link.now).left c.args.self.now.framing
+          c.args.limit
           c.loop-end.reader c.window.result.now (window_of c.loop-end.self) (g.L.Link.told c.loop-end.link).left
           c.window.ensures is.framing is.limit is.received c.in-More.next c.in-More.ensures;
-      limit = body-limited (window_of c.args.self.now) (g.L.Link.told c.args.link.now).left c.args.self.now.framing c.args.limit
+      limit = body-limited (window_of c.args.self.now) (g.L.Link.told c.args.link.now).left c.args.self.now.framing
+          c.args.limit
           c.loop-end.reader c.window.result.now (window_of c.loop-end.self) (g.L.Link.told c.loop-end.link).left
           c.window.ensures is.framing is.limit is.received c.in-More.next c.in-More.ensures;
       state = came.state ∙ is.state;
@@ -86,7 +96,8 @@ loop-end-preserved g c =
 pub returns-in-Over-clause-gives : goal.returns-in-Over-clause-gives
 returns-in-Over-clause-gives g c =
     let is = c.loop-end.invariant in
-    gives-counted (IsOpen c.args.self.now.framing c.args.limit) (window_of c.args.self.now) (g.L.Link.told c.args.link.now).left
+    gives-counted (IsOpen c.args.self.now.framing c.args.limit) (window_of c.args.self.now)
+    (g.L.Link.told c.args.link.now).left
     (g.L.Link.told c.args.link.now).received c.loop-end.reader.bytes (window_of c.loop-end.self)
     (g.L.Link.told c.loop-end.link).left (g.L.Link.told c.loop-end.link).received is.received is.counts
 
@@ -94,14 +105,16 @@ pub returns-in-Ok-false-clause-gives : goal.returns-in-Ok-false-clause-gives
 returns-in-Ok-false-clause-gives g c =
     let is = c.loop-end.invariant in
     let came = c.gather.ensures in
-    gives-counted (IsOpen c.args.self.now.framing c.args.limit) (window_of c.args.self.now) (g.L.Link.told c.args.link.now).left
+    gives-counted (IsOpen c.args.self.now.framing c.args.limit) (window_of c.args.self.now)
+    (g.L.Link.told c.args.link.now).left
     (g.L.Link.told c.args.link.now).received c.in-More.next.bytes (window_of c.gather.new.self)
     (g.L.Link.told c.gather.new.link).left (g.L.Link.told c.gather.new.link).received
     (body-goes-on (window_of c.args.self.now) (g.L.Link.told c.args.link.now).left c.args.self.now.framing c.args.limit
     c.loop-end.reader c.window.result.now (window_of c.loop-end.self) (g.L.Link.told c.loop-end.link).left
     c.window.ensures is.framing is.limit is.received c.in-More.next
     (window_of c.gather.new.self) (g.L.Link.told c.gather.new.link).left c.in-More.ensures came.gave)
-    (counts-more (IsOpen c.args.self.now.framing c.args.limit) (window_of c.args.self.now) (g.L.Link.told c.args.link.now).left
+    (counts-more (IsOpen c.args.self.now.framing c.args.limit) (window_of c.args.self.now)
+    (g.L.Link.told c.args.link.now).left
     (g.L.Link.told c.args.link.now).received c.loop-end.reader.bytes (window_of c.loop-end.self) c.in-More.next.bytes
     (window_of c.gather.new.self) (g.L.Link.told c.loop-end.link).received (g.L.Link.told c.gather.new.link).received
     (body-read (window_of c.args.self.now) (g.L.Link.told c.args.link.now).left c.args.self.now.framing c.args.limit
@@ -118,14 +131,16 @@ pub returns-in-Err-clause-gives : goal.returns-in-Err-clause-gives
 returns-in-Err-clause-gives g c =
     let is = c.loop-end.invariant in
     let came = c.gather.ensures in
-    gives-counted (IsOpen c.args.self.now.framing c.args.limit) (window_of c.args.self.now) (g.L.Link.told c.args.link.now).left
+    gives-counted (IsOpen c.args.self.now.framing c.args.limit) (window_of c.args.self.now)
+    (g.L.Link.told c.args.link.now).left
     (g.L.Link.told c.args.link.now).received c.in-More.next.bytes (window_of c.gather.new.self)
     (g.L.Link.told c.gather.new.link).left (g.L.Link.told c.gather.new.link).received
     (body-goes-on (window_of c.args.self.now) (g.L.Link.told c.args.link.now).left c.args.self.now.framing c.args.limit
     c.loop-end.reader c.window.result.now (window_of c.loop-end.self) (g.L.Link.told c.loop-end.link).left
     c.window.ensures is.framing is.limit is.received c.in-More.next
     (window_of c.gather.new.self) (g.L.Link.told c.gather.new.link).left c.in-More.ensures came.gave)
-    (counts-more (IsOpen c.args.self.now.framing c.args.limit) (window_of c.args.self.now) (g.L.Link.told c.args.link.now).left
+    (counts-more (IsOpen c.args.self.now.framing c.args.limit) (window_of c.args.self.now)
+    (g.L.Link.told c.args.link.now).left
     (g.L.Link.told c.args.link.now).received c.loop-end.reader.bytes (window_of c.loop-end.self) c.in-More.next.bytes
     (window_of c.gather.new.self) (g.L.Link.told c.loop-end.link).received (g.L.Link.told c.gather.new.link).received
     (body-read (window_of c.args.self.now) (g.L.Link.told c.args.link.now).left c.args.self.now.framing c.args.limit
@@ -140,13 +155,15 @@ returns-in-Err-clause-gives g c =
 
 pub returns-in_err-reader-clause-gives : goal.returns-in_err-reader-clause-gives
 returns-in_err-reader-clause-gives g c =
-    gives-none (IsOpen c.args.self.now.framing c.args.limit) _ (g.L.Link.told c.args.link.now).left (g.L.Link.told c.args.link.now).received
+    gives-none (IsOpen c.args.self.now.framing c.args.limit) _ (g.L.Link.told c.args.link.now).left
+    (g.L.Link.told c.args.link.now).received
 
 pub loop-end-init : goal.loop-end-init
 loop-end-init g c = record {
   received = rw c.in_ok-reader.ensures (receives-none (window_of c.args.self.now) (g.L.Link.told c.args.link.now).left);
   counts = rw c.in_ok-reader.ensures
-      (counts-none (IsOpen c.args.self.now.framing c.args.limit) (window_of c.args.self.now) (g.L.Link.told c.args.link.now).left
+      (counts-none (IsOpen c.args.self.now.framing c.args.limit) (window_of c.args.self.now)
+      (g.L.Link.told c.args.link.now).left
       (g.L.Link.told c.args.link.now).received);
   framing = rw c.in_ok-reader.ensures refl;
   limit = rw c.in_ok-reader.ensures refl;

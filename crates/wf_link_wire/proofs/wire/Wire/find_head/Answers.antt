@@ -1,7 +1,8 @@
 use Rattle.std.proofs.Common.{◌∙◌, ◌+◌, ◌≤◌, length, arith, refl}
 use Rattle.wf_http1.specs.Answers.{IsUnfinished, most_bytes}
 use Rattle.wf_link_wire.specs.Wires.{window_of}
-use Rattle.wf_link_wire.proofs.HeadLemmas.{finds-bad, finds-end, finds-fault, finds-head, finds-long, head-goes-on, head-read, head-waits}
+use Rattle.wf_link_wire.proofs.HeadLemmas.{finds-bad, finds-end, finds-fault, finds-head, finds-long, head-goes-on}
+use Rattle.wf_link_wire.proofs.HeadLemmas.{head-read, head-waits}
 use Rattle.wf_link_wire.proofs.WireLemmas.{counts-more, counts-none, few-none, gives-few, receives-none}
 use Rattle.wf_link_wire.proofs.wire.Wire.find_head.Goals as goal
 
@@ -52,7 +53,8 @@ loop-head-preserved g c =
     omega (arith, received.few, c.min.ensures, c.seen_bytes.ensures.value, c.seen_bytes.ensures.few) in
     let counts = counts-more IsUnfinished (window_of c.args.self.now) (g.L.Link.told c.args.link.now).left
     (g.L.Link.told c.args.link.now).received c.loop-head.reader (window_of c.loop-head.self) c.in-More.next
-    (window_of c.refill.new.self) (g.L.Link.told c.loop-head.link).received (g.L.Link.told c.refill.new.link).received read
+    (window_of c.refill.new.self) (g.L.Link.told c.loop-head.link).received (g.L.Link.told c.refill.new.link).received
+    read
     received.received c.loop-head.invariant.counts
     (head-waits (window_of c.args.self.now) (g.L.Link.told c.args.link.now).left c.loop-head.reader
     c.window.result.now (window_of c.loop-head.self) (g.L.Link.told c.loop-head.link).left c.in_ok-head.field-0
@@ -64,14 +66,16 @@ loop-head-preserved g c =
       counts = counts;
       few = gives-few IsUnfinished (window_of c.args.self.now) (g.L.Link.told c.args.link.now).left
           (g.L.Link.told c.args.link.now).received c.in-More.next (window_of c.refill.new.self)
-          (g.L.Link.told c.refill.new.link).left (g.L.Link.told c.refill.new.link).received (most_bytes + 1) few on counts;
+          (g.L.Link.told c.refill.new.link).left (g.L.Link.told c.refill.new.link).received (most_bytes + 1) few on
+          counts;
       state = received.state ∙ c.loop-head.invariant.state;
       faults = received.cause.quiet ∙ c.loop-head.invariant.faults;
     }
 
 pub returns-in_err-reader-clause-few : goal.returns-in_err-reader-clause-few
 returns-in_err-reader-clause-few g c =
-    few-none IsUnfinished _ (g.L.Link.told c.args.link.now).left (g.L.Link.told c.args.link.now).received (most_bytes + 1)
+    few-none IsUnfinished _ (g.L.Link.told c.args.link.now).left (g.L.Link.told c.args.link.now).received
+    (most_bytes + 1)
 
 pub loop-head-init : goal.loop-head-init
 loop-head-init g c = record {
@@ -79,7 +83,8 @@ loop-head-init g c = record {
   counts = rw c.in_ok-reader.ensures
       (counts-none IsUnfinished (window_of c.args.self.now) (g.L.Link.told c.args.link.now).left
       (g.L.Link.told c.args.link.now).received);
-  few = few-none IsUnfinished _ (g.L.Link.told c.args.link.now).left (g.L.Link.told c.args.link.now).received (most_bytes + 1);
+  few = few-none IsUnfinished _ (g.L.Link.told c.args.link.now).left (g.L.Link.told c.args.link.now).received
+      (most_bytes + 1);
   state = refl;
   faults = refl;
 }
@@ -98,7 +103,8 @@ returns-in-Ok-false-clause-few g c =
     omega (arith, received.few, c.min.ensures, c.seen_bytes.ensures.value, c.seen_bytes.ensures.few) in
     let counts = counts-more IsUnfinished (window_of c.args.self.now) (g.L.Link.told c.args.link.now).left
     (g.L.Link.told c.args.link.now).received c.loop-head.reader (window_of c.loop-head.self) c.in-More.next
-    (window_of c.refill.new.self) (g.L.Link.told c.loop-head.link).received (g.L.Link.told c.refill.new.link).received read
+    (window_of c.refill.new.self) (g.L.Link.told c.loop-head.link).received (g.L.Link.told c.refill.new.link).received
+    read
     received.received c.loop-head.invariant.counts
     (head-waits (window_of c.args.self.now) (g.L.Link.told c.args.link.now).left c.loop-head.reader
     c.window.result.now (window_of c.loop-head.self) (g.L.Link.told c.loop-head.link).left c.in_ok-head.field-0

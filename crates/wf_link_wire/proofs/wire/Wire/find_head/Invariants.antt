@@ -10,7 +10,8 @@ abbrev pub invariant-loop-head : goal.invariant-loop-head
 invariant-loop-head g l = record {
   received : Receives (window_of l.fn.self) (g.L.Link.told l.fn.link).left l.reader (window_of l.self)
       (g.L.Link.told l.link).left;
-  counts : Counts IsUnfinished (window_of l.fn.self) (g.L.Link.told l.fn.link).left (g.L.Link.told l.fn.link).received l.reader
+  counts : Counts IsUnfinished (window_of l.fn.self) (g.L.Link.told l.fn.link).left (g.L.Link.told l.fn.link).received
+      l.reader
       (window_of l.self) (g.L.Link.told l.link).received;
   few : GivesAtMost IsUnfinished (coming_of (g.L.Link.told l.fn.link).left l.fn.self) (g.L.Link.told l.fn.link).left
       (g.L.Link.told l.link).left (g.L.Link.told l.fn.link).received (g.L.Link.told l.link).received (most_bytes + 1);

@@ -79,7 +79,8 @@ returns-in_err-count-clause-before g c =
     let came = c.in_err-count.ensures in
     let now = with_items_is c.loop-count.self.buffer c.receive_behind.new.buffer
     (omega (arith, came.length, ap length c.as_mut_slice.ensures.value, c.loop-count.self.buffer.ok.0)) in
-    gathers-same (g.L.Link.told c.args.link.now).left (g.L.Link.told c.loop-count.link).left c.loop-count.self.buffer.items
+    gathers-same (g.L.Link.told c.args.link.now).left (g.L.Link.told c.loop-count.link).left
+    c.loop-count.self.buffer.items
     c.as_mut_slice.result.now c.receive_behind.new.buffer _ c.loop-count.self.from c.loop-count.self.to c.args.fewest
     is.front
     (omega (arith, ap length now, came.length, ap length c.as_mut_slice.ensures.value, is.some_room)) is.gave is.few

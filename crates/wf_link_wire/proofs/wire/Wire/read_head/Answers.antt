@@ -13,9 +13,11 @@ returns-in-Long-clause-read g c =
     let found = c.in_ok-head.ensures in
     read-long (exchange_of g.L.Link.told c.args.link.now c.args.self.now)
     (exchange_of g.L.Link.told c.close-in-Long.new.link c.close-in-Long.new.self)
-    c.in_ok-head.field-0 (window_of c.find_head.new.self) (g.L.Link.told c.find_head.new.link).left c.in-Long.is found.found
+    c.in_ok-head.field-0 (window_of c.find_head.new.self) (g.L.Link.told c.find_head.new.link).left c.in-Long.is
+    found.found
     (few-on IsUnfinished _ _ _ _ _ _ _ _ refl closed.received found.few) closed.idle (closed.state ∙ found.state)
-    (closed.faults ∙ found.faults ∙ ap (λ (f : Found). faults_found f (g.L.Link.told c.args.link.now).faults) c.in-Long.is)
+    (closed.faults ∙ found.faults ∙ ap (λ (f : Found). faults_found f (g.L.Link.told c.args.link.now).faults)
+    c.in-Long.is)
 
 pub returns-in_ok-framing-in-Head-clause-read : goal.returns-in_ok-framing-in-Head-clause-read
 returns-in_ok-framing-in-Head-clause-read g c =

@@ -6,8 +6,10 @@ use Rattle.wf_link_wire.specs.Wires.{over_link}
 use Rattle.wf_player.specs.Parts.{Plays}
 use Rattle.wf_player.specs.Standings.{standing}
 use Rattle.wf_player.proofs.AskLemmas.{keeps-none, keeps-then, refused, run-to}
-use Rattle.wf_player.proofs.ScriptLemmas.{chosen-came, command-size, command-waited, goes-on, no-ending, round-cut, round-ended, round-next}
-use Rattle.wf_player.proofs.ScriptLemmas.{round-over, round-start, script-cut, script-ended, script-limited, script-next}
+use Rattle.wf_player.proofs.ScriptLemmas.{chosen-came, command-size, command-waited, goes-on, no-ending, round-cut}
+use Rattle.wf_player.proofs.ScriptLemmas.{round-ended, round-next}
+use Rattle.wf_player.proofs.ScriptLemmas.{round-over, round-start, script-cut, script-ended, script-limited}
+use Rattle.wf_player.proofs.ScriptLemmas.{script-next}
 use Rattle.wf_player.proofs.ScriptLemmas.{script-over, script-start, spent-none, spent-then, stands-on, started-came}
 use Rattle.wf_player.proofs.ScriptLemmas.{valid-command}
 use Rattle.wf_player.proofs.player.Player.+script.Goals as goal
@@ -166,8 +168,17 @@ script-command-requires g t c = λ κs live.
     c.command-item.result c.as_slice-command-items.ensures c.requires.valid c.loop-command-test.true
     c.command-item.is in
     let free = sym c.limit_before-limit.ensures ∙ no-ending c.limit_before-limit.result (sym c.is_some.ensures
-    ∙ c.if-is_some.false) in
-    (omega (arith, smaller), search (rules, is.kept.ready, valid, free, goes-on old now c.requires.goes is.spent is.rests))
+    ∙ c.if-is_some.false) in (
+      omega (arith, smaller),
+      search (
+        rules,
+        is.kept.ready,
+        valid,
+        free,
+        goes-on old now c.requires.goes is.spent
+            is.rests,
+      ),
+    )
 
 pub script-returns-in_err-ending-clause-came : goal.script-returns-in_err-ending-clause-came
 script-returns-in_err-ending-clause-came g t c =

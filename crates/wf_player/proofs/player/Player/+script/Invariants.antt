@@ -19,8 +19,8 @@ decreases-repeat g l = 3 * steps_size l.part.now + 3
 abbrev pub decreases-choice : goal.decreases-choice
 decreases-choice g l = 3 * max (steps_size l.part.now) (steps_size l.other.now) + 3
 
--- the commands so far were played, and the others follow; nothing is to come over the link; no more calls were made than
--- the fetches and loads may make; and what plays is as every call leaves it
+-- the commands so far were played, and the others follow; nothing is to come over the link; no more calls were made
+-- than the fetches and loads may make; and what plays is as every call leaves it
 abbrev pub invariant-script-loop-command : goal.invariant-script-loop-command
 invariant-script-loop-command g l = record {
   played : IsAt (over_link g.L.Link.serves) l.command-items l.command-index
