@@ -199,7 +199,7 @@ module _ (Plays : Scenario → List Transcript → List Entry → Type 0) where
   no_scenario-at input input' output output' c c' bytes place status.WriteFault answer p e tells short is =
       inr (inr (inr (e, inl p.cause.1.1)))
   no_scenario-at input input' output output' c c' bytes place status.OutOfMemory answer p e tells short is = inr
-  (inr (inl e))
+      (inr (inl e))
   no_scenario-at input input' output output' c c' bytes place status.InputTooLong answer p e tells short is =
       absurd (omega (arith, p.cause.0, given-short bytes p.bytes input.left input'.left tells p.gave))
 
@@ -244,7 +244,7 @@ module _ (Plays : Scenario → List Transcript → List Entry → Type 0) where
   complete-at input input' output output' c c' bytes scenario status.WriteFault answer p e tells short is =
       inr (inr (inr (e, inl p.cause.1.1)))
   complete-at input input' output output' c c' bytes scenario status.OutOfMemory answer p e tells short is = inr
-  (inr (inl e))
+      (inr (inl e))
   complete-at input input' output output' c c' bytes scenario status.InputTooLong answer p e tells short is =
       absurd (omega (arith, p.cause.0, given-short bytes p.bytes input.left input'.left tells p.gave))
 
@@ -277,8 +277,12 @@ module _ (Plays : Scenario → List Transcript → List Entry → Type 0) where
         ];
         out_of_memory = λ is. cause-at input input' output output' verdict status.OutOfMemory p
             (same is (λ h. memory_write h) ∙ is);
-        bound = record { bytes = p.bytes; gave = p.gave; reason_is = bound-at input input' output output' p.bytes
-            verdict p.cause };
+        bound = record {
+          bytes = p.bytes;
+          gave = p.gave;
+          reason_is = bound-at input input' output output' p.bytes
+              verdict p.cause;
+        };
       }
     where
       ok_write : status.Ok ≡ status.WriteFault → ⊥

@@ -8,8 +8,13 @@ use Rattle.wf_fetch.proofs.http.follow.Goals as goal
 pub invariant_of-level : goal.invariant_of-level
 invariant_of-level c = record {
   valid = rw c.in_ok-boxed.ensures c.in_ok-request.ensures.request;
-  few = rw (c.in_ok-boxed.ensures, c.in_ok-request.ensures.value, c.into_inner.ensures, redirected-count
-      c.args.level.request.value c.args.head c.args.url)
+  few = rw (
+    c.in_ok-boxed.ensures,
+    c.in_ok-request.ensures.value,
+    c.into_inner.ensures,
+    redirected-count
+        c.args.level.request.value c.args.head c.args.url,
+  )
       (omega (arith, c.total_owed.ensures.few, c.args.level.few));
   timely = c.args.level.timely;
 }
