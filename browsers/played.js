@@ -39,11 +39,13 @@ function isPreflight(arrival) {
     && arrival.headers.some((header) => header.name.toLowerCase() === "access-control-request-method");
 }
 
-// Header lines that the servers added themselves are not the scenario's.
+// The line that the servers added themselves, behind those of the scenario, is taken away again.
 function withoutAdded(headers, arrivals) {
   const last = arrivals.filter((arrival) => !isPreflight(arrival)).pop();
-  return last === undefined || !last.uncached ? headers
-    : headers.filter(([name, value]) => !(name.toLowerCase() === "cache-control" && value === "no-store"));
+  const isAdded = ([name, value]) => name.toLowerCase() === "cache-control" && value === "no-store";
+  const isJoined = ([name, value]) => name.toLowerCase() === "cache-control" && value.endsWith(", no-store");
+  return last === undefined || !last.uncached ? headers : headers.filter((header) => !isAdded(header))
+    .map((header) => (isJoined(header) ? [header[0], header[1].slice(0, -", no-store".length)] : header));
 }
 
 // An undecodable image, sound or font is no failure of the network; a script or a style tells its own event.

@@ -19,6 +19,31 @@ const isMedia = (command) => command !== undefined && command.command.load !== u
 
 const siteOf = (url) => hostOf(url).split(".").slice(-2).join(".");
 
+const lastUrlOf = (command) => (command.requests.length === 0 ? null : urlOf(keyOf(command.requests[command.requests.length - 1])));
+
+// Whether the last URL of a sound or a video was one's before, and its answer has no body.
+function wasEmpty(context) {
+  const url = lastUrlOf(context.ours);
+  return url !== null && !(lastAnswer(context) || {}).body
+    && context.before.some(({ engine }) => isMedia(engine) && lastUrlOf(engine) === url);
+}
+
+// The raw bytes that answered an earlier GET of this URL: a browser's HTTP cache may keep them. To other answers the servers
+// add that they are not to be kept.
+function rawBefore(context, url) {
+  const earlier = context.before.flatMap((compared) => (compared.engine ? compared.engine.requests : []));
+  const answer = earlier.some((request) => keyOf(request) === "GET " + url) ? answerTo(context, "GET " + url) : null;
+  return answer === null || answer.raw === undefined ? "" : answer.raw;
+}
+
+// The header by which a browser asks whether what it kept is still so, and the answer's that it repeats.
+const REPEATED = { "if-none-match": "etag", "if-modified-since": "last-modified" };
+
+function lineOf(raw, name) {
+  const found = new RegExp("\\r\\n" + name + ": ([^\\r\\n]*)\\r\\n", "i").exec(raw);
+  return found === null ? null : found[1];
+}
+
 module.exports = [
   {
     name: "set-cookie", browsers: both, section, scenario: "request-heads/cookies-that-answers-set",
@@ -44,7 +69,8 @@ module.exports = [
     name: "opaque-response-blocking", browsers: both, section, scenario: "loads/blocked-by-orb",
     says: "an opaque answer whose bytes are not of its type is kept back",
     explains: (difference, context) => difference.what === "result" && context.ours.result.result === "loaded"
-      && context.command.load !== undefined && context.theirs.reasons.some((reason) => /\bORB\b|_ORB$/.test(reason)),
+      && context.command.load !== undefined && !context.theirs.violations.some(({ enforced }) => enforced)
+      && context.theirs.reasons.some((reason) => /\bORB\b|_ORB$/.test(reason)),
   },
   {
     name: "data-url", browsers: both, section, scenario: "urls/schemes",
@@ -60,6 +86,12 @@ module.exports = [
         .some((command) => command.requests.map(keyOf).includes(difference.browser)),
   },
   {
+    name: "empty-media", browsers: ["chromium"], section, scenario: "loads/empty-media",
+    says: "a sound or a video that was empty is not asked for again",
+    explains: (difference, context) => isMedia(context.ours) && wasEmpty(context)
+      && ((isRequest(difference, "GET ") && difference.browser === null) || difference.what === "result"),
+  },
+  {
     name: "login-prompt", browsers: ["chromium"], section, scenario: "answers/login-asked",
     says: "a 401 with a challenge waits for a login, and a 407 of a server is an error",
     explains: (difference, context) => difference.what === "result" && [401, 407].includes(context.ours.result.status)
@@ -71,5 +103,14 @@ module.exports = [
     explains: (difference, context) => ["result", "reason"].includes(difference.what)
       && valuesOf(lastAnswer(context), "cross-origin-resource-policy").includes("same-site")
       && siteOf(context.asked.url) === siteOf(context.document.url) && documentOrigin(context).split(".").length > 2,
+  },
+  {
+    name: "http-cache", browsers: both, section, scenario: "answers/kept-by-an-http-cache",
+    says: "an answer may be kept by the HTTP cache: it is used again, or the server is asked whether it is still so",
+    explains: (difference, context) => (difference.what === "header" && difference.engine === null
+      && difference.name in REPEATED
+      && difference.browser === lineOf(rawBefore(context, urlOf(difference.request)), REPEATED[difference.name]))
+      || (isRequest(difference, "GET ") && difference.browser === null
+        && /\r\n(Cache-Control: [^\r\n]*max-age|Last-Modified: )/i.test(rawBefore(context, urlOf(difference.engine)))),
   },
 ];
