@@ -1,7 +1,7 @@
 "use strict";
 
 const { isHeader, urlOf, methodOf, hostOf, originOf, documentOrigin, isSecurePage, isLoopback, isAfterDetour,
-  keyOf } = require("./looked.js");
+  keyOf, cookieOf } = require("./looked.js");
 
 const section = "origin-referer-and-cookies";
 const both = ["chromium", "firefox"];
@@ -65,6 +65,8 @@ module.exports = [
     name: "manifest-without-cookies", browsers: both, section, scenario: "request-heads/cookies-of-a-manifest",
     says: "a manifest of the own origin is asked for without cookies",
     explains: (difference, context) => isHeader(difference, "cookie") && difference.browser === null
+      && difference.engine === cookieOf(context, documentOrigin(context))
+      && originOf(urlOf(difference.request)) === documentOrigin(context)
       && context.command.load !== undefined && context.command.load.kind === "manifest"
       && context.command.load.crossorigin !== "use-credentials",
   },

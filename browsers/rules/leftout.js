@@ -1,7 +1,7 @@
 "use strict";
 
-const { isRequest, isHeader, urlOf, hostOf, originOf, answerTo, valuesOf, lastAnswer, keyOf,
-  documentOrigin } = require("./looked.js");
+const { isRequest, isHeader, urlOf, hostOf, originOf, answerTo, valuesOf, lastAnswer, keyOf, documentOrigin, cookieOf,
+  isOwnRequestLess, failsHereAlone, failsThereAlone } = require("./looked.js");
 
 const section = "what-the-engine-leaves-out";
 const both = ["chromium", "firefox"];
@@ -13,6 +13,10 @@ function setBefore(context, host) {
   return requests.filter((request) => hostOf(request.origin) === host)
     .flatMap((request) => valuesOf(answerTo(context, keyOf(request)), "set-cookie"));
 }
+
+// A Cookie that is the scenario's on our side, or none.
+const isCookie = (difference, context) => isHeader(difference, "cookie")
+  && [null, cookieOf(context, urlOf(difference.request))].includes(difference.engine);
 
 const isMedia = (command) => command !== undefined && command.command.load !== undefined
   && ["audio", "video"].includes(command.command.load.kind);
@@ -48,19 +52,19 @@ module.exports = [
   {
     name: "set-cookie", browsers: both, section, scenario: "request-heads/cookies-that-answers-set",
     says: "an answer's Set-Cookie is kept",
-    explains: (difference, context) => isHeader(difference, "cookie")
+    explains: (difference, context) => isCookie(difference, context)
       && setBefore(context, hostOf(urlOf(difference.request))).length > 0,
   },
   {
     name: "same-site-cookies", browsers: ["chromium"], section, scenario: "request-heads/cookies-of-another-site-over-http",
     says: "a cookie of another site that is not SameSite=None and Secure stays",
-    explains: (difference, context) => isHeader(difference, "cookie") && difference.browser === null
+    explains: (difference, context) => isCookie(difference, context) && difference.browser === null
       && urlOf(difference.request).startsWith("http:") && siteOf(urlOf(difference.request)) !== siteOf(context.document.url),
   },
   {
     name: "cookies-by-host", browsers: both, section, scenario: "request-heads/cookies-and-ports",
     says: "a cookie belongs to the host, whatever the port",
-    explains: (difference, context) => isHeader(difference, "cookie") && difference.browser !== null
+    explains: (difference, context) => isCookie(difference, context) && difference.browser !== null
       && difference.browser.startsWith(difference.engine || "")
       && (context.scenario.cookies || []).some(([origin]) => hostOf(origin) === hostOf(urlOf(difference.request))
         && origin !== originOf(urlOf(difference.request))),
@@ -68,28 +72,28 @@ module.exports = [
   {
     name: "opaque-response-blocking", browsers: both, section, scenario: "loads/blocked-by-orb",
     says: "an opaque answer whose bytes are not of its type is kept back",
-    explains: (difference, context) => difference.what === "result" && context.ours.result.result === "loaded"
-      && context.command.load !== undefined && !context.theirs.violations.some(({ enforced }) => enforced)
+    explains: (difference, context) => failsThereAlone(difference) && context.command.load !== undefined && !context.theirs.violations.some(({ enforced }) => enforced)
       && context.theirs.reasons.some((reason) => /\bORB\b|_ORB$/.test(reason)),
   },
   {
     name: "data-url", browsers: both, section, scenario: "urls/schemes",
     says: "a data: URL is answered",
-    explains: (difference, context) => difference.what === "result" && context.ours.result.name === "Scheme"
-      && /^data:/i.test(context.asked.url) && /^(response|loaded)/.test(difference.browser),
+    explains: (difference, context) => failsHereAlone(difference) && context.ours.result.name === "Scheme"
+      && /^data:/i.test(context.asked.url),
   },
   {
     name: "media-asked-again", browsers: ["firefox"], section, scenario: "loads/video", sometimes: true,
     says: "a sound or a video that cannot be decoded is asked for again",
     explains: (difference, context) => isRequest(difference, "GET ") && difference.engine === null
       && [...context.before.map((compared) => compared.engine), context.ours].filter(isMedia)
-        .some((command) => command.requests.map(keyOf).includes(difference.browser)),
+        .some((command) => command.requests.map(keyOf).includes(difference.browser))
+      && context.ours.requests.length > 0,
   },
   {
     name: "empty-media", browsers: ["chromium"], section, scenario: "loads/empty-media",
     says: "a sound or a video that was empty is not asked for again",
     explains: (difference, context) => isMedia(context.ours) && wasEmpty(context)
-      && ((isRequest(difference, "GET ") && difference.browser === null) || difference.what === "result"),
+      && (isOwnRequestLess(difference, context) || failsThereAlone(difference)),
   },
   {
     name: "login-prompt", browsers: ["chromium"], section, scenario: "answers/login-asked",

@@ -24,6 +24,11 @@ function isToldThereOnceMore(difference, context) {
     && countOf(context.theirs.violations, told) === countOf(context.ours.violations, told) + 1;
 }
 
+// Whether what violates a report-only policy is told here at the request and at the response: of one URL, which a response
+// comes from.
+const isToldTwiceHere = (context) => context.ours.requests.length === 1 && !/^http:/.test(context.asked.url)
+  && ["response", "loaded"].includes(context.ours.result.result);
+
 // What is told here at the response of a URL that was upgraded behind the request, and at the request of the http URL.
 function isOfUpgraded(difference, context) {
   if (difference.what !== "violation" || !isReport(difference.engine)) {
@@ -62,12 +67,14 @@ module.exports = [
   {
     name: "report-only-fetch-twice", browsers: ["chromium"], section, scenario: "reports/report-only-failed",
     says: "a fetch asks report-only policies twice at the request, whether a response comes or not",
-    explains: (difference, context) => context.command.fetch !== undefined && isToldThereOnceMore(difference, context),
+    explains: (difference, context) => context.command.fetch !== undefined && isToldThereOnceMore(difference, context)
+      && !isToldTwiceHere(context),
   },
   {
     name: "report-only-media-twice", browsers: ["chromium"], section, scenario: "reports/report-only-redirected-media",
     says: "audio and video ask report-only policies twice at the request, whether a response comes or not",
-    explains: (difference, context) => isMedia(context) && isToldThereOnceMore(difference, context),
+    explains: (difference, context) => isMedia(context) && isToldThereOnceMore(difference, context)
+      && !isToldTwiceHere(context),
   },
   {
     name: "report-only-upgraded-once", browsers: ["chromium"], section, scenario: "reports/report-only-upgraded",
