@@ -31,14 +31,15 @@ function isGiven(header, key, command) {
 
 // The headers of a request by their lower-case names: the spelling and the joined values.
 function headersOf(request) {
-  const headers = new Map();
+  const lines = new Map();
   request.headers.forEach(([name, value]) => {
     const key = name.toLowerCase();
-    const before = headers.get(key);
-    // Blanks at the ends are no part of a value on the wire.
-    headers.set(key, { name, value: before === undefined ? value.trim() : (before.value + ", " + value).trim() });
+    lines.set(key, [...(lines.get(key) || []), { name, value }]);
   });
-  return headers;
+  // Blanks at the ends are no part of a value on the wire. Of equal names the last spelling counts.
+  const joined = (equal) => ({ name: equal[equal.length - 1].name,
+    value: equal.map(({ value }) => value.trim()).join(", ").trim() });
+  return new Map([...lines].map(([key, equal]) => [key, joined(equal)]));
 }
 
 // ---- requests

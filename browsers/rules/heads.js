@@ -11,6 +11,14 @@ const isCorsLoad = (load) => load !== undefined
   && (["font", "manifest"].includes(load.kind) || load.crossorigin !== undefined);
 const isNoCorsPost = (context, difference) => context.asked.mode === "no-cors" && methodOf(difference.request) === "POST";
 
+// Whether the browser's value is that of the lines behind the last empty one of this name.
+function isLeftBehind(difference, context) {
+  const values = (context.asked.headers || []).filter(([name]) => name.toLowerCase() === difference.name)
+    .map(([, value]) => value.trim());
+  return values.length > 1 && values.includes("")
+    && difference.browser === values.slice(values.lastIndexOf("") + 1).join(", ");
+}
+
 module.exports = [
   {
     name: "referrer-to-loopback", browsers: both, section, scenario: "request-heads/referrer-to-an-address",
@@ -75,6 +83,11 @@ module.exports = [
     says: "a script's User-Agent is not taken",
     explains: (difference, context) => isHeader(difference, "user-agent")
       && (context.asked.headers || []).some(([name]) => name.toLowerCase() === "user-agent"),
+  },
+  {
+    name: "empty-line-of-a-request", browsers: ["firefox"], section, scenario: "request-heads/empty-lines",
+    says: "an empty line of several of one name takes those before it away",
+    explains: (difference, context) => difference.what === "header" && isLeftBehind(difference, context),
   },
   {
     name: "spelling-of-range", browsers: ["chromium"], section, scenario: "request-heads/spelling-of-names",

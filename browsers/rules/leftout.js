@@ -109,7 +109,7 @@ module.exports = [
       && siteOf(context.asked.url) === siteOf(context.document.url) && documentOrigin(context).split(".").length > 2,
   },
   {
-    name: "http-cache", browsers: both, section, scenario: "answers/kept-by-an-http-cache",
+    name: "http-cache", browsers: ["chromium"], section, scenario: "answers/kept-by-an-http-cache",
     says: "an answer may be kept by the HTTP cache: it is used again, or the server is asked whether it is still so",
     explains: (difference, context) => (difference.what === "header" && difference.engine === null
       && difference.name in REPEATED
