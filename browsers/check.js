@@ -47,7 +47,11 @@ function readWords(words) {
 function engineOf(name) {
   const text = corpus.textOf(name);
   const scenario = readScenario(text);
-  return { name, scenario, commands: readCommands(printedPlay(text), scenario.documents[0]) };
+  try {
+    return { name, scenario, commands: readCommands(printedPlay(Buffer.from(text)), scenario.documents[0]) };
+  } catch (error) {
+    throw new Error(name + ": " + error.message);
+  }
 }
 
 function comparedWith(engine, played) {

@@ -10,24 +10,36 @@ const { ruleFor } = require("./scripted.js");
 const ADDED = new RegExp("^(user-agent|accept-language|accept-encoding|connection|cache-control|pragma|priority|te|dnt|range"
   + "|upgrade-insecure-requests|sec-.*)$");
 
-// Whether a browser adds a header of this name by itself to a request of a fetch or load, whatever it asks for. What a
-// script gives is not sent with a preflight.
-function isAdded(name, command, method) {
-  const key = name.toLowerCase();
-  const given = ((command.fetch || {}).headers || []).some(([one]) => one.toLowerCase() === key);
-  return !(given && method !== "OPTIONS") && (ADDED.test(key) || (key === "accept" && command.load !== undefined));
+const isOfBrowsers = (key, command) => ADDED.test(key) || (key === "accept" && command.load !== undefined);
+
+// The values that a script gives under this lower-case name.
+function givenOf(key, command) {
+  return ((command.fetch || {}).headers || []).filter(([name]) => name.toLowerCase() === key).map(([, value]) => value.trim());
 }
 
-// The headers of a request that are compared, by their lower-case names: the spelling and the joined values.
-function comparedHeaders(request, command) {
-  const headers = new Map();
-  request.headers.filter(([name]) => !isAdded(name, command, request.method)).forEach(([name, value]) => {
+// Whether a header is never compared: browsers add it by themselves, and the script gives none of its name.
+function isUnasked(name, command) {
+  const key = name.toLowerCase();
+  return isOfBrowsers(key, command) && givenOf(key, command).length === 0;
+}
+
+// Whether this header has a value that the script gave. A script's own may be dropped, and the browser's sent in its place.
+function isGiven(header, key, command) {
+  const lines = header === null ? "" : ", " + header.value + ", ";
+  return header !== null && givenOf(key, command).some((value) => value.includes("${") || lines.includes(", " + value + ", "));
+}
+
+// The headers of a request by their lower-case names: the spelling and the joined values.
+function headersOf(request) {
+  const lines = new Map();
+  request.headers.forEach(([name, value]) => {
     const key = name.toLowerCase();
-    const before = headers.get(key);
-    // Blanks at the ends are no part of a value on the wire.
-    headers.set(key, { name, value: before === undefined ? value.trim() : (before.value + ", " + value).trim() });
+    lines.set(key, [...(lines.get(key) || []), { name, value }]);
   });
-  return headers;
+  // Blanks at the ends are no part of a value on the wire. Of equal names the last spelling counts.
+  const joined = (equal) => ({ name: equal[equal.length - 1].name,
+    value: equal.map(({ value }) => value.trim()).join(", ").trim() });
+  return new Map([...lines].map(([key, equal]) => [key, joined(equal)]));
 }
 
 // ---- requests
@@ -57,10 +69,13 @@ function paired(ours, theirs) {
 }
 
 function headerDifferences(command, ours, theirs) {
-  const [engine, browser] = [comparedHeaders(ours, command), comparedHeaders(theirs, command)];
+  const [engine, browser] = [headersOf(ours), headersOf(theirs)];
   const names = new Set([...engine.keys(), ...browser.keys()]);
   return [...names].flatMap((name) => {
     const [one, other] = [engine.get(name) || null, browser.get(name) || null];
+    if (isOfBrowsers(name, command) && !isGiven(one, name, command) && !isGiven(other, name, command)) {
+      return [];
+    }
     const values = { engine: one && one.value, browser: other && other.value };
     if (values.engine !== values.browser) {
       return [{ what: "header", request: keyOf(ours), name, ...values }];
@@ -186,4 +201,4 @@ function comparePlays(scenario, engine, played) {
   });
 }
 
-module.exports = { comparePlays, violationDifferences, isAdded };
+module.exports = { comparePlays, violationDifferences, isUnasked };

@@ -5,7 +5,7 @@
 
 const fs = require("fs");
 const path = require("path");
-const { isAdded } = require("./compare.js");
+const { isUnasked } = require("./compare.js");
 
 const ROOT = path.join(__dirname, "corpus");
 
@@ -36,7 +36,7 @@ function answers(name, browser) {
 // Stores a play without the headers that no comparison looks at, a command on a line.
 function store(name, played) {
   const trimmed = (request, command) => ({ ...request,
-    headers: request.headers.filter(([header]) => !isAdded(header, command, request.method)) });
+    headers: request.headers.filter(([header]) => !isUnasked(header, command)) });
   const kept = played.commands.map(({ command, ...one }) => ({ ...one,
     requests: one.requests.map((request) => trimmed(request, command)) }));
   const head = "{\"browser\": " + JSON.stringify(played.browser) + ", \"version\": " + JSON.stringify(played.version);

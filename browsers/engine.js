@@ -10,22 +10,29 @@ const { commandsOf, NOTHING } = require("./scenario.js");
 
 const PROGRAM = process.env.FETCHPLAY || path.join(__dirname, "..", "bin", "fetchplay");
 
+// The statuses with which the program refuses its input (docs/rules/command-line.md), and has said so.
+const REFUSALS = [2, 6];
+
 class Refused extends Error {
-  constructor(complaint, status) {
-    super(complaint);
+  constructor() {
+    super("the engine refuses the scenario");
     this.name = "Refused";
-    this.status = status;
   }
 }
 
-// The printed text of the play; `Refused` with the program's own words and status where it plays nothing.
+// The printed text of the play of these bytes. What the program says, also while it is being proved, is seen at once.
 function printedPlay(scenario) {
-  const ran = spawnSync(PROGRAM, ["play"], { input: Buffer.from(scenario, "utf8"), encoding: "latin1", maxBuffer: 1 << 28 });
+  const ran = spawnSync(PROGRAM, ["play"], { input: scenario, encoding: "latin1", maxBuffer: 1 << 28,
+    stdio: ["pipe", "pipe", "inherit"] });
+  // A refusal may come before the input is read to its end, which is an error of writing it, too.
+  if (REFUSALS.includes(ran.status)) {
+    throw new Refused();
+  }
   if (ran.error !== undefined) {
-    throw new Refused(PROGRAM + ": " + ran.error.message, 1);
+    throw new Error(PROGRAM + ": " + ran.error.message);
   }
   if (ran.status !== 0) {
-    throw new Refused(ran.stderr.trim() || PROGRAM + " ended with " + ran.status, ran.status);
+    throw new Error(PROGRAM + " ended with " + (ran.status === null ? ran.signal : "status " + ran.status));
   }
   return ran.stdout;
 }

@@ -41,6 +41,8 @@ const QUIET = {
 };
 
 const AS_THE_ENGINE = {
+  "browser.cache.disk.enable": false,
+  "browser.cache.memory.enable": false,
   "dom.security.https_first": false,
   "dom.security.https_only_mode": false,
   "media.autoplay.default": 0,

@@ -51,7 +51,7 @@ function preparedOf(given) {
     const number = given.first + index;
     const text = textOf(given, number);
     const scenario = readScenario(text);
-    return { number, text, scenario, engine: readCommands(printedPlay(text), scenario.documents[0]) };
+    return { number, text, scenario, engine: readCommands(printedPlay(Buffer.from(text)), scenario.documents[0]) };
   });
 }
 

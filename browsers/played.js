@@ -39,11 +39,13 @@ function isPreflight(arrival) {
     && arrival.headers.some((header) => header.name.toLowerCase() === "access-control-request-method");
 }
 
-// Header lines that the servers added themselves are not the scenario's.
+// The line that the servers added themselves, behind those of the scenario, is taken away again.
 function withoutAdded(headers, arrivals) {
   const last = arrivals.filter((arrival) => !isPreflight(arrival)).pop();
-  return last === undefined || !last.uncached ? headers
-    : headers.filter(([name, value]) => !(name.toLowerCase() === "cache-control" && value === "no-store"));
+  const isAdded = ([name, value]) => name.toLowerCase() === "cache-control" && value === "no-store";
+  const isJoined = ([name, value]) => name.toLowerCase() === "cache-control" && value.endsWith(", no-store");
+  return last === undefined || !last.uncached ? headers : headers.filter((header) => !isAdded(header))
+    .map((header) => (isJoined(header) ? [header[0], header[1].slice(0, -", no-store".length)] : header));
 }
 
 // An undecodable image, sound or font is no failure of the network; a script or a style tells its own event.
@@ -60,10 +62,21 @@ function resultOf(command, seen, arrivals) {
     : { ...seen.told, headers: withoutAdded(seen.told.headers, arrivals) };
 }
 
+// A page's header values have a byte in each character, a scenario's are UTF-8.
+const asBytes = (text) => Buffer.from(text, "utf8").toString("latin1");
+const asText = (bytes) => Buffer.from(bytes, "latin1").toString("utf8");
+
+function withByteValues(command) {
+  const { headers } = command.fetch || {};
+  return headers === undefined ? command
+    : { fetch: { ...command.fetch, headers: headers.map(([name, value]) => [name, asBytes(value)]) } };
+}
+
 // The last result as conditions and templates see it.
 function lastOf(result) {
   if (result.result === "response") {
-    return { type: result.type || "cors", status: result.status, url: result.url, headers: result.headers,
+    return { type: result.type || "cors", status: result.status, url: result.url,
+      headers: result.headers.map(([name, value]) => [name, asText(value)]),
       body: result.body.end === "whole" ? Buffer.from(result.body.hex, "hex").toString("utf8") : null };
   }
   return { ...NOTHING, type: result.result };
@@ -92,7 +105,7 @@ const slept = (seconds) => new Promise((resolve) => setTimeout(resolve, seconds 
 
 async function playCommand(session, servers, policies, command, number) {
   const first = servers.arrivals.length;
-  const seen = await session.perform(command, number);
+  const seen = await session.perform(withByteValues(command), number);
   const arrivals = servers.arrivals.slice(first).filter((arrival) => arrival.own === null);
   const requests = arrivals.map(({ origin, method, target, headers, body }) => ({ origin, method, target, body,
       headers: headers.map((header) => [header.name, header.value]) }));

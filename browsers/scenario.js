@@ -166,10 +166,11 @@ function filled(text, last) {
   return text === undefined ? undefined : text.replace(/\$\{([^}]*)\}/g, (_, word) => valueOfTemplate(word, last));
 }
 
-// A fetch or a load with its templates replaced.
+// A fetch or a load with its templates replaced. An element with an empty URL asks for nothing, so a load of one is made by
+// another text of the same URL.
 function filledCommand(command, last) {
   if (command.load !== undefined) {
-    return { load: { ...command.load, url: filled(command.load.url, last) } };
+    return { load: { ...command.load, url: filled(command.load.url, last) || "#" } };
   }
   const asked = command.fetch;
   const headers = asked.headers === undefined ? undefined

@@ -72,10 +72,10 @@ function originOf(request, scheme) {
   }
 }
 
-// Whether this answer gets a line more, which keeps it out of a browser's cache.
+// Whether this answer gets a line more, which keeps it out of a browser's cache. Raw bytes are sent as they are.
 function isUncached(rule) {
-  return rule.raw === undefined
-    && !(rule.headers || []).some(([name]) => ["cache-control", "pragma", "expires"].includes(name.toLowerCase()));
+  const says = ([name, value]) => name.toLowerCase() === "cache-control" && /\bno-store\b/i.test(value);
+  return rule.raw === undefined && !(rule.headers || []).some(says);
 }
 
 function bytesOf(rule) {

@@ -1,6 +1,6 @@
 "use strict";
 
-const { isRequest, valuesOf, lastAnswer } = require("./looked.js");
+const { isRequest, isOwnRequestMore, failsHereAlone, valuesOf, lastAnswer } = require("./looked.js");
 
 // An absolute URL with a blank in its host.
 const BLANK = /^https?:\/\/[^/?#]* [^/?#]*/i;
@@ -12,7 +12,7 @@ module.exports = [
     says: "ports 4190 and 6679 are open",
     explains: (difference, context) => context.ours.result.name === "BadPort"
       && ["4190", "6679"].includes(new URL(context.asked.url, context.document.url).port)
-      && (isRequest(difference) || difference.what === "result"),
+      && (isOwnRequestMore(difference, context) || failsHereAlone(difference)),
   },
   {
     name: "blank-in-a-host", browsers: ["chromium"], section: "urls", scenario: "urls/blank-in-a-host",

@@ -1,7 +1,7 @@
 "use strict";
 
 const { isHeader, urlOf, methodOf, hostOf, originOf, documentOrigin, isSecurePage, isLoopback, isAfterDetour,
-  keyOf } = require("./looked.js");
+  keyOf, cookieOf } = require("./looked.js");
 
 const section = "origin-referer-and-cookies";
 const both = ["chromium", "firefox"];
@@ -10,6 +10,14 @@ const siteOf = (url) => hostOf(url).split(".").slice(-2).join(".");
 const isCorsLoad = (load) => load !== undefined
   && (["font", "manifest"].includes(load.kind) || load.crossorigin !== undefined);
 const isNoCorsPost = (context, difference) => context.asked.mode === "no-cors" && methodOf(difference.request) === "POST";
+
+// Whether the browser's value is that of the lines behind the last empty one of this name.
+function isLeftBehind(difference, context) {
+  const values = (context.asked.headers || []).filter(([name]) => name.toLowerCase() === difference.name)
+    .map(([, value]) => value.trim());
+  return values.length > 1 && values.includes("")
+    && difference.browser === values.slice(values.lastIndexOf("") + 1).join(", ");
+}
 
 module.exports = [
   {
@@ -65,6 +73,8 @@ module.exports = [
     name: "manifest-without-cookies", browsers: both, section, scenario: "request-heads/cookies-of-a-manifest",
     says: "a manifest of the own origin is asked for without cookies",
     explains: (difference, context) => isHeader(difference, "cookie") && difference.browser === null
+      && difference.engine === cookieOf(context, documentOrigin(context))
+      && originOf(urlOf(difference.request)) === documentOrigin(context)
       && context.command.load !== undefined && context.command.load.kind === "manifest"
       && context.command.load.crossorigin !== "use-credentials",
   },
@@ -73,6 +83,11 @@ module.exports = [
     says: "a script's User-Agent is not taken",
     explains: (difference, context) => isHeader(difference, "user-agent")
       && (context.asked.headers || []).some(([name]) => name.toLowerCase() === "user-agent"),
+  },
+  {
+    name: "empty-line-of-a-request", browsers: ["firefox"], section, scenario: "request-heads/empty-lines",
+    says: "an empty line of several of one name takes those before it away",
+    explains: (difference, context) => difference.what === "header" && isLeftBehind(difference, context),
   },
   {
     name: "spelling-of-range", browsers: ["chromium"], section, scenario: "request-heads/spelling-of-names",

@@ -16,12 +16,30 @@ function isToldOnceMore(difference, context) {
     && countOf(context.theirs.violations, difference.engine) > 0;
 }
 
-// A browser tells once more what the engine tells once.
-function isToldTwice(difference, context) {
-  return difference.what === "violation" && isReport(difference.browser) && difference.engine === null
-    && countOf(context.ours.violations, difference.browser) === 1
-    && countOf(context.theirs.violations, difference.browser) === 2;
+// A browser tells once more what the engine tells.
+function isToldThereOnceMore(difference, context) {
+  const told = difference.browser;
+  return difference.what === "violation" && isReport(told) && difference.engine === null
+    && countOf(context.ours.violations, told) > 0
+    && countOf(context.theirs.violations, told) === countOf(context.ours.violations, told) + 1;
 }
+
+// Whether what violates a report-only policy is told here at the request and at the response: of one URL, which a response
+// comes from.
+const isToldTwiceHere = (context) => context.ours.requests.length === 1 && !/^http:/.test(context.asked.url)
+  && ["response", "loaded"].includes(context.ours.result.result);
+
+// What is told here at the response of a URL that was upgraded behind the request, and at the request of the http URL.
+function isOfUpgraded(difference, context) {
+  if (difference.what !== "violation" || !isReport(difference.engine)) {
+    return false;
+  }
+  const ofHttp = difference.engine.replace(/ https:([^ ]*)$/, " http:$1");
+  return ofHttp !== difference.engine && isOfOwnUrl(difference.engine, context) && countOf(context.theirs.violations, difference.engine) === 0
+    && countOf(context.ours.violations, ofHttp) > 0 && countOf(context.theirs.violations, ofHttp) > 0;
+}
+
+const isMedia = (context) => context.command.load !== undefined && ["audio", "video"].includes(context.command.load.kind);
 
 // A violation of the command's own URL that the browser alone tells, and the reason by it.
 const isAskedMore = (difference, context) => (difference.what === "violation" && difference.engine === null
@@ -49,7 +67,19 @@ module.exports = [
   {
     name: "report-only-fetch-twice", browsers: ["chromium"], section, scenario: "reports/report-only-failed",
     says: "a fetch asks report-only policies twice at the request, whether a response comes or not",
-    explains: (difference, context) => context.command.fetch !== undefined && isToldTwice(difference, context),
+    explains: (difference, context) => context.command.fetch !== undefined && isToldThereOnceMore(difference, context)
+      && !isToldTwiceHere(context),
+  },
+  {
+    name: "report-only-media-twice", browsers: ["chromium"], section, scenario: "reports/report-only-redirected-media",
+    says: "audio and video ask report-only policies twice at the request, whether a response comes or not",
+    explains: (difference, context) => isMedia(context) && isToldThereOnceMore(difference, context)
+      && !isToldTwiceHere(context),
+  },
+  {
+    name: "report-only-upgraded-once", browsers: ["chromium"], section, scenario: "reports/report-only-upgraded",
+    says: "a violation by an upgraded load is told of the http URL alone, at the request",
+    explains: (difference, context) => isOfUpgraded(difference, context),
   },
   {
     name: "report-only-once", browsers: ["firefox"], section, scenario: "reports/report-only-fetch",
