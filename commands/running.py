@@ -3,7 +3,7 @@ import os
 import re
 import subprocess
 
-REFUSED = re.compile(r"fetchplay: scenario refused at (.*)\n?\Z")
+REFUSED = re.compile(r"^fetchplay: scenario refused at (.*)$", re.M)
 ROOT = os.path.normpath(os.path.join(os.path.dirname(os.path.realpath(__file__)), ".."))
 
 
