@@ -1,8 +1,6 @@
 """Warnings: what a scenario may say, and surely is meant otherwise. Each is a place of the text and a sentence."""
 from urllib.parse import urlsplit
 
-from commands.play_text import is_preflight
-
 METHODS = ("DELETE", "GET", "HEAD", "OPTIONS", "POST", "PUT")
 
 
@@ -92,7 +90,7 @@ def place_of(scenario, fetch):
 
 def cookies_elsewhere(scenario, play):
     """A cookie of an origin that is not asked, where another origin of its host is."""
-    asked = {request.origin for request in play.requests() if not is_preflight(request)}
+    asked = {request.origin for request in play.requests()}
     node = scenario.root.member("cookies")
     for index, (origin, _) in enumerate(scenario.data.get("cookies", [])):
         near = sorted(one for one in asked if urlsplit(one).hostname == urlsplit(origin).hostname)

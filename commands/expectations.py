@@ -1,4 +1,5 @@
 """What bin/expect does: plays the scenario of a test, and compares with what the test expects."""
+import functools
 import os
 import re
 
@@ -36,9 +37,14 @@ class Test:
         self.scenario, self.scenario_name = scenario_of(root.member("scenario"), text, path)
 
 
+@functools.lru_cache(None)
+def schema_of_tests():
+    return Schema(SCHEMA)
+
+
 def check(text, root):
     """A test that is no test is refused with its place."""
-    schema = Schema(SCHEMA)
+    schema = schema_of_tests()
     problems = schema.check(root)
     if problems:
         raise Wrong(refusals.of_problem(text, problems[0], schema))

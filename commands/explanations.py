@@ -328,7 +328,7 @@ class Explanation:
         self.rule = "docs/rules/" + way.rule if not way.rule.startswith("../") else "docs/" + way.rule[3:]
         self.header = way.header.format(c=c)
         self.value = c.get(self.header) if self.header else None
-        self.needs = least_headers(c) if key_of(c.result) in ("7", "8", "9", "10", "11") else ""
+        self.needs = least_headers(c) if key_of(c.result) in ("7", "8", "9", "10", "11") else []
 
     def lines(self):
         """As it stands between the lines of a play."""
@@ -336,7 +336,7 @@ class Explanation:
         if self.header:
             value = "is not there" if self.value is None else ": " + self.value
             lines.append("header: %s%s" % (self.header, value if value.startswith(":") else " " + value))
-        needs = ["in all: " + self.needs] if self.needs else []
+        needs = ["in all: " + line for line in self.needs]
         return lines + ["change: " + self.change, *needs, "rule: %s (%s)" % (self.rule, self.way)]
 
     def data(self):
@@ -344,14 +344,15 @@ class Explanation:
 
 
 def least_headers(c):
-    """All that lets a preflighted request pass; empty where no server should send it."""
+    """All that lets a preflighted request pass, of its two answers; nothing where no server should send it."""
     if c.origin == "null":
-        return ""
+        return []
     both = ["Access-Control-Allow-Origin: " + c.origin] + (["Access-Control-Allow-Credentials: true"] if c.includes else [])
     more = [] if c.method in ("GET", "HEAD", "POST") else ["Access-Control-Allow-Methods: " + c.method]
     more += ["Access-Control-Allow-Headers: " + c.asked_headers] if c.asked_headers else []
     quoted = [", ".join("`%s`" % line for line in lines) for lines in (both + more, both)]
-    return "the answer to OPTIONS needs a status of 200 to 299 and %s; the answer to %s then %s" % (quoted[0], c.method, quoted[1])
+    return ["the answer to OPTIONS needs a status of 200 to 299, " + quoted[0],
+            "the answer to %s needs %s" % (c.method, quoted[1])]
 
 
 def key_of(result):

@@ -7,7 +7,6 @@ import selectors
 import socket
 import struct
 import threading
-import time
 
 PIECE = 65536
 CONNECT = 10  # seconds
@@ -106,46 +105,47 @@ def reset(peer):
 
 
 class Carrier:
-    """Carries bytes both ways until both have ended."""
+    """Carries bytes both ways until the program hangs up, which it does when it has what it needs."""
 
     def __init__(self, peer, server, connection, patience):
         self.peer, self.server = peer, server
         self.connection = connection
         self.patience = patience
+        self.has_ended = False  # the server
         self.selector = selectors.DefaultSelector()
-        for one in (peer, server):
-            one.setblocking(True)
-            self.selector.register(one, selectors.EVENT_READ)
+        self.selector.register(peer, selectors.EVENT_READ)
+        self.selector.register(server, selectors.EVENT_READ)
 
     def run(self):
-        end = time.monotonic() + self.patience
+        """A word for how it went."""
         with self.selector:
-            while self.selector.get_map():
-                ready = self.selector.select(max(0, end - time.monotonic()))
+            while True:
+                ready = [key.fileobj for key, _ in self.selector.select(self.patience)]
                 if not ready:
-                    return "hang"
-                for key, _ in ready:
-                    if not self.take(key.fileobj):
-                        return "done"
-                end = time.monotonic() + self.patience
-        return "done"
+                    return "done" if self.has_ended else "hang"
+                if self.server in ready and not self.take_answer():
+                    return "done"
+                if self.peer in ready and not self.take_request():
+                    return "done"
 
-    def take(self, one):
-        """Carries what one end has sent; False where nothing more is of use."""
-        data = one.recv(PIECE)
-        if one is self.peer:
-            self.connection.request += data
-            return self.pass_on(data, self.peer, self.server)
-        self.connection.answer += data
-        return self.pass_on(data, self.server, self.peer) and bool(data)
-
-    def pass_on(self, data, source, target):
-        if data:
-            target.sendall(data)
-            return True
-        self.selector.unregister(source)
+    def take_request(self):
         try:
-            target.shutdown(socket.SHUT_WR)
-        except OSError:  # it is gone
+            data = self.peer.recv(PIECE)
+        except OSError:  # hung up with something unread
+            return False
+        self.connection.request += data
+        if data and not self.has_ended:
+            self.server.sendall(data)
+        return bool(data)
+
+    def take_answer(self):
+        data = self.server.recv(PIECE)
+        self.connection.answer += data
+        self.has_ended = not data
+        if self.has_ended:
+            self.selector.unregister(self.server)
+        try:
+            self.peer.sendall(data) if data else self.peer.shutdown(socket.SHUT_WR)
+        except OSError:  # hung up
             return False
         return True

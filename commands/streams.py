@@ -8,6 +8,8 @@ import sys
 def read(path):
     """All bytes of a file; of standard input where no file is named."""
     if path is None or path == "-":
+        if sys.stdin.isatty():
+            print("(standard input, up to Ctrl-D)", file=sys.stderr)
         return sys.stdin.buffer.read()
     with open(path, "rb") as file:
         return file.read()
