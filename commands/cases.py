@@ -52,6 +52,8 @@ JUMP = [rule(302, [["Location", "https://cdn.test/y"]])]
 
 CORS = {
     "cors/no-rule": scenario(fetch(API + "/cart/"), [rule(200, [OK], path="/cart")]),
+    "cors/preflight-login": scenario(fetch(**PUT), [rule(401)]),
+    "cors/preflight-not-handled": scenario(fetch(**PUT), [rule(405)]),
     "cors/absent-on-error": answered(status=500),
     "cors/absent-on-redirect": scenario(fetch(), JUMP),
     "cors/absent": answered(),

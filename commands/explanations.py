@@ -36,6 +36,12 @@ CORS_CHECK = [
         "the answer is 400, as a TLS port gives it when it is asked in plain; `net` speaks no TLS, and {c.route} was asked "
         "in plain", "", "let the route lead to the server's plain port, or to a side process that ends TLS",
         "../check-your-server.md#what-the-scenario-says"),
+    Way("cors/preflight-login", "7", lambda c: c.allowed_origin is None and c.status in (401, 403, 407),
+        "the answer to the preflight is {c.status}, without CORS headers: a preflight never carries a cookie or Authorization",
+        ALLOW_ORIGIN, "answer OPTIONS before the login is asked for", PREFLIGHT),
+    Way("cors/preflight-not-handled", "7", lambda c: c.allowed_origin is None and c.status in (404, 405, 501),
+        "the answer to the preflight is {c.status}, without CORS headers: the server does not answer OPTIONS at "
+        "{c.request.target}", ALLOW_ORIGIN, "answer OPTIONS at this very URL", PREFLIGHT),
     Way("cors/absent-on-error", "7 12", lambda c: c.allowed_origin is None and c.status >= 400,
         "the answer is {c.status}, and has no Access-Control-Allow-Origin", ALLOW_ORIGIN,
         "send {c.wanted} with errors too: many servers, logins and proxies leave CORS headers out there; then look why it "
