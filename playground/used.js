@@ -121,6 +121,10 @@ async function checkRefusedPlace(browser, check) {
     + '/documents/0/script/0/fetch/mode: one of these belongs here: "cors", "no-cors", "same-origin", "navigate"']);
   check.compare("a refused scenario: the drawing is of before", await browser.value(
     "document.getElementById('diagram').classList.contains('stale')"), true);
+  await setText(browser, SMALL.replace('"rules"', '"rulez"'));
+  await until(browser, "a misspelt key", REFUSED + " && " + WRONG + ".includes(3)");
+  check.compare("a misspelt key: what is said", (await browser.value(PROBLEMS))[0],
+    "line 3: refused at /servers/0: there is no key rulez here");
   await setText(browser, SMALL.replace('"status": 200,', '"status": 200'));
   await until(browser, "no JSON", REFUSED + " && " + WRONG + ".includes(3)");
   check.compare("no JSON: its line", await browser.value(WRONG), [3]);
