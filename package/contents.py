@@ -19,6 +19,12 @@ PROGRAMS = [
 ]
 
 SCRIPTS = [
+    Script("why", "plays a scenario, and says why each fetch came to what it came",
+           ["fiorrudda-why [--net] [--json] [--timeout S] [SCENARIO]"], ["docs/why.md"],
+           ["--net", "--json", "--timeout", "--help"]),
+    Script("expect", "plays tests: scenarios, each beside what it should come to",
+           ["fiorrudda-expect [--net] [--json] [--jobs N] [--timeout S] TEST.."], ["docs/why.md"],
+           ["--net", "--json", "--jobs", "--timeout", "--help"]),
     Script("view", "draws a play as a sequence diagram",
            ["fiorrudda-view [SCENARIO] [-o FILE] [--open]", "fiorrudda-view --text PLAY [-o FILE] [--open]"],
            ["docs/view.md"], ["--text", "-o", "--open", "--help"]),
@@ -39,5 +45,8 @@ FOLDERS = {
 
 # What scripts need of the folders that have checks beside it.
 VIEW = ["page.html", "page.py", "view.css"]
+COMMANDS = ["answers.py", "asking.py", "case.py", "csp.py", "doubts.py", "expectations.py", "explanations.py", "json_text.py",
+            "play_text.py", "refusals.py", "relay.py", "results.py", "running.py", "scenario.py", "schema.py", "streams.py",
+            "told.py"]
 PLAYGROUND = ["page.html", "playground.css", "documents.py", "gate.py", "markdown.py", "page.py", "player.py",
               "questions.py", "serve.py"]

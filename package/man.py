@@ -1,9 +1,16 @@
 """Writes man pages of the repository's documents, in the macros of man(7) with tables by tbl."""
 import re
 
+from package import contents
 from playground import markdown
 
-NAMES = [(re.compile(r"\bbin/(fetchplay|corsserve)\b"), r"\1"), (re.compile(r"\bbin/(view|playground)\b"), r"fiorrudda-\1"),
+
+def one_of(parts):
+    return "|".join(part.name for part in parts)
+
+
+NAMES = [(re.compile(r"\bbin/(%s)\b" % one_of(contents.PROGRAMS)), r"\1"),
+         (re.compile(r"\bbin/(%s)\b" % one_of(contents.SCRIPTS)), r"fiorrudda-\1"),
          (re.compile(r"(?<![\w/.-])(examples|gallery|schema)/"), r"/usr/share/fiorrudda/\1/")]
 WIDTH = 66  # characters of a table
 GAP = 3  # characters between columns

@@ -73,7 +73,8 @@ class Tree:
         for name in ["README.md", "VERSION"]:
             self.copy(os.path.join(self.root, name), os.path.join(SHARE, name))
         for folder, names in (("view", contents.VIEW + view_page.SCRIPTS),
-                              ("playground", contents.PLAYGROUND + playground_page.SCRIPTS)):
+                              ("playground", contents.PLAYGROUND + playground_page.SCRIPTS),
+                              ("commands", contents.COMMANDS)):
             for name in names:
                 self.copy(os.path.join(self.root, folder, name), os.path.join(SHARE, folder, name))
         for script in contents.SCRIPTS:
@@ -116,6 +117,6 @@ class Tree:
         named = [(program.name, program) for program in contents.PROGRAMS]
         named += [("fiorrudda-" + script.name, script) for script in contents.SCRIPTS]
         for name, given in named:
-            files = "-f " if "SCENARIO]" in given.synopsis[0] else ""
+            files = "-f " if any(word in given.synopsis[0] for word in ("SCENARIO]", "TEST")) else ""
             self.write("usr/share/bash-completion/completions/" + name,
                        COMPLETION % {"name": name, "files": files, "words": " ".join(given.words)})

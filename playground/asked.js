@@ -146,17 +146,26 @@ note("end")
 print("fetchplay 1\\nhistory\\ndone")
 `;
 
+// It is killed before the answer, and may take a moment to be gone.
+async function isGone(pid) {
+  for (const end = Date.now() + 10000; isAlive(pid) && Date.now() < end; ) {
+    await new Promise((resolve) => setTimeout(resolve, 20));
+  }
+  return !isAlive(pid);
+}
+
 function isAlive(pid) {
   const file = "/proc/" + pid + "/stat";
   return fs.existsSync(file) && !/\) Z /.test(fs.readFileSync(file, "latin1"));
 }
 
-async function checkLimits(playground, folder, compare) {
+async function checkLimits(playground, folder, seconds, compare) {
   const failure = async (scenario) => JSON.parse((await playground.play(scenario)).body).failure;
-  compare("a play that takes too long", await failure("sleeps"), "the play took longer than 20 seconds, and was stopped");
+  compare("a play that takes too long", await failure("sleeps"),
+    "the play took longer than " + seconds + " seconds, and was stopped");
   const notes = () => fs.readFileSync(path.join(folder, "log"), "latin1").split("\n");
   const child = Number(notes().find((line) => line.startsWith("child ")).split(" ")[1]);
-  compare("what it had started", isAlive(child), false);
+  compare("what it had started is gone", await isGone(child), true);
   compare("a play that writes too much", await failure("writes"),
     "the text of the play is longer than 4194304 bytes, and is not shown");
   compare("a program that fails", await failure("fails"), "fetchplay: out of memory (status 5)");

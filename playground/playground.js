@@ -14,19 +14,21 @@ function localProblems(text) {
   if (faults.length > 0 || root === null) {
     return faults.slice(0, 1);
   }
-  return schemaProblems(schemas, root).map(({ node, sentence }) => {
-    return { start: node.start, end: shownEnd(node), sentence };
+  return schemaProblems(schemas, root).map(({ node, of, sentence }) => {
+    return { start: node.start, end: shownEnd(node), sentence, inside: of === undefined ? null : of.start };
   });
 }
 
 // ---- what the program has said
 
-// The refused place first, and then what is wrong elsewhere; where both are of one place the schema has the sentence.
+// The refused place first, and then what is wrong elsewhere; where both are of one place the schema has the sentence. An
+// object is refused for a key that does not belong there, before any of its keys is looked at: that key is marked then.
 function problemsWith(text, place) {
   const local = localProblems(text);
   const { root } = readJson(text);
-  const range = place === "json" ? local[0] || { start: 0, end: 0 } : rangeOfPlace(root, place) || { start: 0, end: 0 };
-  const same = local.find(({ start }) => start === range.start);
+  const whole = place === "json" ? local[0] || { start: 0, end: 0 } : rangeOfPlace(root, place) || { start: 0, end: 0 };
+  const same = local.find(({ inside }) => inside === whole.start) || local.find(({ start }) => start === whole.start);
+  const range = same || whole;
   const sentence = "refused at " + place + (same === undefined ? "" : ": " + same.sentence);
   return [{ ...range, sentence, refused: true }, ...local.filter((problem) => problem !== same)];
 }

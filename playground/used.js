@@ -4,19 +4,24 @@
 
 const http = require("http");
 
-// Waits until an expression of the page holds, and gives how long that took, or null.
-async function until(browser, expression, patience = 60000) {
-  const start = Date.now();
-  while (Date.now() - start < patience) {
+const STATE = "document.getElementById('state').textContent";
+// What the page says where the program or the server fails: nothing that is awaited then comes.
+const FAILURE = "(document.getElementById('state') || {}).textContent || ''";
+
+// Waits until an expression of the page holds. An error where the page says before it that there is no play, or where
+// nothing comes: then no more is asked of this browser.
+async function until(browser, what, expression, patience = 30000) {
+  for (const end = Date.now() + patience; ; await new Promise((resolve) => setTimeout(resolve, 30))) {
     if (await browser.value(expression) === true) {
-      return Date.now() - start;
+      return;
     }
-    await new Promise((resolve) => setTimeout(resolve, 30));
+    const state = String(await browser.value(FAILURE));
+    if (state.startsWith("There is no play") || Date.now() > end) {
+      throw new Error(what + ": it does not come; the page says: " + state);
+    }
   }
-  return null;
 }
 
-const STATE = "document.getElementById('state').textContent";
 const PLAYED = STATE + " === 'Played.'";
 const REFUSED = STATE + ".startsWith('The program refuses')";
 const AREA = "document.getElementById('editor')";
@@ -36,7 +41,7 @@ const COUNTS = `(() => {
 async function checkFirst(browser, check, address) {
   const start = Date.now();
   await browser.open(address);
-  check.compare("the first play is drawn", await until(browser, PLAYED) !== null, true);
+  await until(browser, "the first play", PLAYED);
   const took = Date.now() - start;
   check.compare("the first play: its marks", (await browser.value(COUNTS))[0] > 10, true);
   return took;
@@ -51,7 +56,7 @@ async function checkQuestions(browser, check, questions) {
       list.value = "${name}";
       list.onchange({ target: list });
     })()`);
-    await until(browser, PLAYED);
+    await until(browser, name, PLAYED);
     const drawn = await browser.value(COUNTS);
     check.compare(name + ": its marks, refusals and entries", counts === null ? drawn[0] > 10 : drawn, counts || true);
     check.compare(name + ": the link", await browser.value("location.hash"), "#gallery/" + name);
@@ -96,12 +101,12 @@ async function setText(browser, text) {
 // By hand: the play of SMALL has one request and one result; without the header of line 3 it is refused at 12 CorsCheck.
 async function checkEditing(browser, check) {
   await setText(browser, SMALL);
-  check.compare("an own scenario: played", await until(browser, PLAYED) !== null, true);
+  await until(browser, "an own scenario", PLAYED);
   check.compare("an own scenario: its marks", await browser.value(COUNTS), [6, 0, 1]);
   await select(browser, '[["Access-Control-Allow-Origin", "*"]]');
   await browser.value("document.getElementById('state').textContent = ''");
   await type(browser, ["[", "]"]);
-  await until(browser, PLAYED);
+  await until(browser, "an edited scenario", PLAYED);
   check.compare("an edited scenario: its marks", await browser.value(COUNTS), [6, 1, 1]);
   check.compare("an edited scenario: its refusal", await browser.value(
     "document.querySelector('#diagram [data-kind=refusal] button').title"), "12 CorsCheck");
@@ -109,20 +114,24 @@ async function checkEditing(browser, check) {
 
 async function checkRefusedPlace(browser, check) {
   await setText(browser, SMALL.replace('"http://b.test/"}', '"http://b.test/", "mode": "CORS"}'));
-  check.compare("a refused scenario: told", await until(browser, REFUSED) !== null, true);
+  await until(browser, "a refused scenario", REFUSED);
   check.compare("a refused scenario: its line", await browser.value(WRONG), [6]);
   check.compare("a refused scenario: what is marked", await browser.value(MARKED), ['"CORS"']);
   check.compare("a refused scenario: what is said", await browser.value(PROBLEMS), ["line 6: refused at "
     + '/documents/0/script/0/fetch/mode: one of these belongs here: "cors", "no-cors", "same-origin", "navigate"']);
   check.compare("a refused scenario: the drawing is of before", await browser.value(
     "document.getElementById('diagram').classList.contains('stale')"), true);
+  await setText(browser, SMALL.replace('"rules"', '"rulez"'));
+  await until(browser, "a misspelt key", REFUSED + " && " + WRONG + ".includes(3)");
+  check.compare("a misspelt key: what is said", (await browser.value(PROBLEMS))[0],
+    "line 3: refused at /servers/0: there is no key rulez here");
   await setText(browser, SMALL.replace('"status": 200,', '"status": 200'));
-  await until(browser, REFUSED + " && " + WRONG + ".includes(3)");
+  await until(browser, "no JSON", REFUSED + " && " + WRONG + ".includes(3)");
   check.compare("no JSON: its line", await browser.value(WRONG), [3]);
   check.compare("no JSON: what is said", await browser.value(PROBLEMS),
     ["line 3: refused at json: a comma belongs here"]);
   await setText(browser, SMALL.replace('"format": 1', '"format": 1.0'));
-  await until(browser, REFUSED + " && " + WRONG + ".includes(1)");
+  await until(browser, "what JSON Schema takes, and the program not", REFUSED + " && " + WRONG + ".includes(1)");
   check.compare("what JSON Schema takes, and the program not", await browser.value(MARKED), ["1.0"]);
 }
 
@@ -146,7 +155,7 @@ async function checkCompletion(browser, check) {
   await browser.press("Enter");
   check.compare("the second mode", await browser.value(AREA + ".value.split('\\n')[5]"),
     '   "script": [{"fetch": {"url": "http://b.test/", "mode": "no-cors"}}]}]}');
-  await until(browser, PLAYED);
+  await until(browser, "the second mode", PLAYED);
   check.compare("its play", await browser.value(
     "document.querySelector('#diagram [data-kind=result] button').title"), "opaque 0, no body");
   await browser.value(AREA + ".focus()");
@@ -158,16 +167,16 @@ async function checkCompletion(browser, check) {
 async function checkLink(browser, check, address) {
   const text = SMALL.replace("hi", "\u00e4\u20ac\ud83d\ude00");
   await setText(browser, text);
-  await until(browser, PLAYED + " && location.hash.startsWith('#z=')");
+  await until(browser, "a scenario to link to", PLAYED + " && location.hash.startsWith('#z=')");
   const link = await browser.value("location.href");
   await browser.open(address + "#gallery/json-post");
-  await until(browser, PLAYED);
+  await until(browser, "a link to a question", PLAYED);
   await browser.open(link);
-  await until(browser, PLAYED);
+  await until(browser, "a link", PLAYED);
   check.compare("a link: its scenario", await browser.value(AREA + ".value"), text);
   check.compare("a link: complaints", await browser.complaints(), []);
   await browser.open(address + "#z=AAAA");
-  await until(browser, STATE + ".startsWith('The link')");
+  await until(browser, "a link that is none", STATE + ".startsWith('The link')");
   check.compare("a link that is none", await browser.value(STATE), "The link holds no scenario that can be read.");
 }
 
@@ -175,7 +184,7 @@ async function checkLink(browser, check, address) {
 
 async function checkTree(browser, check, address) {
   await browser.open(address + "#gallery/star-with-credentials");
-  await until(browser, PLAYED);
+  await until(browser, "the tree", PLAYED);
   const all = await browser.tree();
   const told = (role) => all.filter((one) => one.role === role).map(({ name }) => name);
   const marks = await browser.value(
@@ -226,7 +235,7 @@ async function checkElsewhere(browser, check, address) {
   await new Promise((resolve) => server.listen(0, "127.0.0.1", resolve));
   const page = "http://127.0.0.1:" + server.address().port + "/#" + encodeURIComponent(address);
   await browser.open(page);
-  await until(browser, "window.told !== undefined");
+  await until(browser, "a page of another origin", "window.told !== undefined");
   check.compare("a page of another origin gets nothing", await browser.value("window.told"),
     ["none", "", "none", "", "none", "none", "none", "none"].map((one, index) => (index === 1 || index === 3 ? "none" : one)));
   server.closeAllConnections();

@@ -6,7 +6,7 @@ const NETWORK_ERRORS = [
   [1, "Scheme", "The URL is neither http nor https.", "rules/fetch.md#main-fetch"],
   [2, "BadPort", "The port of the URL is one that browsers block.",
     "rules/mixed-content.md#bad-ports-fetch-section-29-port-blocking"],
-  [3, "Mixed", "The page is secure and the URL is not, so nothing is sent to it.",
+  [3, "Mixed", "The page, or the page around it, is secure and the URL is not, so nothing is sent to it.",
     "rules/mixed-content.md#mixed-content-mixed-content-section-4"],
   [4, "CspRequest", "An enforced policy of the document does not let the request pass.",
     "rules/csp.md#check-of-a-request"],

@@ -120,11 +120,22 @@ function tellingHeaders(event) {
   return (origin === null ? "" : ", Origin " + origin) + held.map((name) => ", with " + name).join("");
 }
 
-function sendStep(event, lane, server) {
-  const kind = isPreflight(event) ? "preflight" : "request";
+// The Referer after a redirect, and where it is another than that of the document's request before.
+function refererText(steps, event) {
+  const referer = headerOf(event, "Referer");
+  const isTold = steps.isRedirected || referer !== steps.referer;
+  steps.referer = referer;
+  return !isTold ? "" : referer === null ? ", no Referer" : ", Referer " + referer;
+}
+
+function sendStep(steps, event) {
+  const label = event.method + " " + event.target;
+  const arrow = { from: steps.lane, to: steps.laneOfServer.get(event.origin) };
+  if (isPreflight(event)) {
+    return { kind: "preflight", ...arrow, label: label + wishOf(event) };
+  }
   const body = event.body === null ? "" : ", " + event.body.length + " bytes";
-  const more = kind === "preflight" ? wishOf(event) : body + tellingHeaders(event);
-  return { kind, from: lane, to: server, label: event.method + " " + event.target + more };
+  return { kind: "request", ...arrow, label: label + body + tellingHeaders(event) + refererText(steps, event) };
 }
 
 function secondsText(count) {
@@ -173,6 +184,8 @@ class Steps {
     this.book = book;
     this.calls = 0;
     this.time = null;
+    this.referer = null;
+    this.isRedirected = false;
     this.all = [];
   }
 
@@ -202,7 +215,7 @@ function addTime(steps, events) {
 function addEvent(steps, event, server) {
   const step = {
     call: () => callStep(event, steps.lane, steps.book),
-    send: () => sendStep(event, steps.lane, steps.laneOfServer.get(event.origin)),
+    send: () => sendStep(steps, event),
     violation: () => violationStep(event, steps.lane),
     result: () => resultStep(event, steps.lane, server),
   }[event.kind]();
@@ -211,12 +224,14 @@ function addEvent(steps, event, server) {
 
 function addRedirect(steps, events, told, request) {
   const target = targetOf(events.slice(told));
+  steps.isRedirected = true;
   steps.add({ kind: "redirect", from: steps.laneOfServer.get(request.origin), to: steps.lane,
     label: "to " + (target === null ? "a URL that is refused" : target) }, request.line, events[told].last);
 }
 
 function addFetch(steps, { start, events }) {
   addTime(steps, events);
+  steps.isRedirected = false;
   const kindOfLoad = start.kind === "load" ? ", " + start.destination : "";
   steps.mark(start.kind, start.kind + " " + start.number + kindOfLoad, start.line);
   let server = steps.lane;

@@ -1,0 +1,179 @@
+"""For each way of the table a scenario whose first fetch, or the one that is named, comes to it."""
+import json
+
+PAGE = "https://shop.test"
+API = "https://api.test"
+OK = ["Access-Control-Allow-Origin", PAGE]
+TRUE = ["Access-Control-Allow-Credentials", "true"]
+INCLUDE = {"credentials": "include"}
+DIGEST = {"sha256": "ungWv48Bz+pBQUDeXa4iI7ADYaOWF3qctBD/YfIAFa0=",  # of abc
+          "sha384": "ywB1P0WjXou1oD1pmsZQBycsMqsO3tFjGotgWkP/W+2AhgcroefMI1i67KE0yCWn"}
+
+
+def rule(status=200, headers=(), body="", **more):
+    return {"status": status, "headers": [list(one) for one in headers], "body": body, **more}
+
+
+def allow(*headers, **more):
+    """The rules of a server: what it answers to OPTIONS, and that all else is allowed."""
+    return [rule(204, [OK, *headers], method="OPTIONS", **more), rule(200, [OK, TRUE])]
+
+
+def scenario(command, rules=None, origin=API, page=PAGE + "/", headers=(), **more):
+    document = {"url": page, "headers": [list(one) for one in headers], "script": command if isinstance(command, list) else [command]}
+    if "top" in more:
+        document["top"] = more.pop("top")
+    servers = [] if rules is None else [{"origin": origin, "rules": rules}]
+    return {"format": 2, "servers": servers + more.pop("servers", []), "documents": [document], **more}
+
+
+def fetch(url=API + "/x", **more):
+    return {"fetch": {"url": url, **more}}
+
+
+def load(kind, url=API + "/x", **more):
+    return {"load": {"kind": kind, "url": url, **more}}
+
+
+def answered(*headers, status=200, body="", **more):
+    """A plain fetch, and its answer."""
+    return scenario(fetch(**more), [rule(status, headers, body)])
+
+
+def raw(text, **more):
+    return scenario(fetch(**more), [{"raw": text}])
+
+
+PUT = {"method": "PUT"}
+NAMED = {"headers": [["X-A", "1"]]}
+SECRET = {"headers": [["Authorization", "Basic YTpi"]]}
+POLICY = "Content-Security-Policy"
+JUMP = [rule(302, [["Location", "https://cdn.test/y"]])]
+
+CORS = {
+    "cors/no-rule": scenario(fetch(API + "/cart/"), [rule(200, [OK], path="/cart")]),
+    "cors/preflight-login": scenario(fetch(**PUT), [rule(401)]),
+    "cors/preflight-not-handled": scenario(fetch(**PUT), [rule(405)]),
+    "cors/absent-on-error": answered(status=500),
+    "cors/absent-on-redirect": scenario(fetch(), JUMP),
+    "cors/absent": answered(),
+    "cors/several": answered(OK, OK),
+    "cors/star-with-credentials": answered(["Access-Control-Allow-Origin", "*"], **INCLUDE),
+    "cors/origin-null": scenario(fetch(), [rule(302, [OK, ["Location", "https://cdn.test/y"]])],
+                                 servers=[{"origin": "https://cdn.test", "rules": [rule(200, [OK])]}]),
+    "cors/written-otherwise": answered(["Access-Control-Allow-Origin", PAGE + "/"]),
+    "cors/other-origin": answered(["Access-Control-Allow-Origin", "https://other.test"]),
+    "cors/credentials-absent": answered(OK, **INCLUDE),
+    "cors/credentials-not-true": answered(OK, ["Access-Control-Allow-Credentials", "True"], **INCLUDE),
+}
+PREFLIGHTS = {
+    "preflight/redirect": scenario(fetch(**PUT), [rule(301, [OK, ["Location", "/x/"]])]),
+    "preflight/login": scenario(fetch(**PUT), [rule(401, [OK])]),
+    "preflight/no-handler": scenario(fetch(**PUT), [rule(405, [OK])]),
+    "preflight/status": scenario(fetch(**PUT), [rule(503, [OK])]),
+    "preflight/list": scenario(fetch(**PUT), allow(["Access-Control-Allow-Methods", "GET PUT"])),
+    "preflight/method-absent": scenario(fetch(**PUT), allow()),
+    "preflight/method-star-with-credentials": scenario(fetch(**PUT, **INCLUDE), allow(TRUE, ["Access-Control-Allow-Methods", "*"])),
+    "preflight/method-in-another-case": scenario(fetch(method="patch"), allow(["Access-Control-Allow-Methods", "PATCH"])),
+    "preflight/method-not-listed": scenario(fetch(**PUT), allow(["Access-Control-Allow-Methods", "GET, POST"])),
+    "preflight/authorization-under-star": scenario(fetch(**SECRET), allow(["Access-Control-Allow-Headers", "*"])),
+    "preflight/header-absent": scenario(fetch(**NAMED), allow()),
+    "preflight/header-star-with-credentials": scenario(fetch(**NAMED, **INCLUDE), allow(TRUE, ["Access-Control-Allow-Headers", "*"])),
+    "preflight/header-not-listed": scenario(fetch(**NAMED), allow(["Access-Control-Allow-Headers", "X-B"])),
+}
+BEFORE_SENDING = {
+    "scheme/host-taken-for-it": scenario(fetch("localhost:8000/x")),
+    "scheme/other": scenario(fetch("ftp://api.test/x")),
+    "port/bad": scenario(fetch("https://api.test:6000/x")),
+    "mixed/top": scenario(fetch("http://api.test/x"), page="http://widget.test/", top="https://news.test/"),
+    "mixed/page": scenario(fetch("http://api.test/x")),
+    "policy/after-redirect": scenario(fetch("/go"), JUMP, PAGE, headers=[[POLICY, "connect-src 'self'"]]),
+    "policy/strict-dynamic": scenario(load("script"), headers=[[POLICY, "script-src 'strict-dynamic' 'nonce-n1'"]]),
+    "policy/nothing-allowed": scenario(fetch(), headers=[[POLICY, "default-src 'none'"]]),
+    "policy/no-word": scenario(fetch(), headers=[[POLICY, "connect-src 'self'"]]),
+    "same-origin/known-host": scenario(fetch("/x", mode="same-origin"), page="http://shop.test/",
+                                       hsts=[{"host": "shop.test", "subdomains": False, "until": 10}]),
+    "same-origin/redirect": scenario(fetch("/go", mode="same-origin"), JUMP, PAGE),
+    "same-origin/other": scenario(fetch(mode="same-origin")),
+    "no-cors/redirect-mode": scenario(fetch(mode="no-cors", redirect="manual")),
+}
+ANSWERS = {
+    "corp/same-origin": scenario(load("image"), [rule(200, [["Cross-Origin-Resource-Policy", "same-origin"]])]),
+    "corp/same-site-scheme": scenario(load("image", "https://img.shop.test/x"), [rule(200, [["Cross-Origin-Resource-Policy", "same-site"]])],
+                                      "https://img.shop.test", page="http://shop.test/"),
+    "corp/same-site": scenario(load("image"), [rule(200, [["Cross-Origin-Resource-Policy", "same-site"]])]),
+    "redirect/mode-error": answered(OK, ["Location", "/y"], status=302, redirect="error"),
+    "redirect/two-locations": answered(OK, ["Location", "/y"], ["Location", "/z"], status=302),
+    "redirect/long-location": answered(OK, ["Location", "/" + "y" * 8192], status=302),
+    "redirect/no-url": answered(OK, ["Location", "http://[::1"], status=302),
+    "redirect/scheme": answered(OK, ["Location", "app://open"], status=302),
+    "redirect/loop": answered(OK, ["Location", "/x"], status=302),
+    "redirect/many": scenario(fetch(API + "/0"), [rule(302, [OK, ["Location", "/%d" % (number + 1)]], path="/%d" % number)
+                                                  for number in range(22)]),
+    "redirect/credentials": answered(OK, ["Location", "https://u:p@cdn.test/"], status=302),
+    "policy/response": scenario(fetch("http://h.test/x"), [rule(200, [["Access-Control-Allow-Origin", "*"]])], "https://h.test",
+                                page="http://shop.test/", headers=[[POLICY, "connect-src http://h.test:80"]],
+                                hsts=[{"host": "h.test", "subdomains": False, "until": 10}]),
+    "type/script": scenario(load("script"), [rule(200, [["Content-Type", "image/png"]])]),
+    "type/nosniff-absent": scenario(load("style"), [rule(200, [["X-Content-Type-Options", "nosniff"]])]),
+    "type/nosniff": scenario(load("script"), [rule(200, [["X-Content-Type-Options", "nosniff"], ["Content-Type", "text/plain"]])]),
+    "integrity/opaque": scenario(load("script", integrity="sha256-" + DIGEST["sha256"]), [rule(200, body="abc")]),
+    "integrity/no-body": answered(OK, status=204, integrity="sha256-" + DIGEST["sha256"]),
+    "integrity/incomplete": answered(OK, ["Content-Length", "9"], body="abc", integrity="sha256-" + DIGEST["sha256"]),
+    "integrity/unpadded": answered(OK, body="abc", integrity="sha256-" + DIGEST["sha256"].rstrip("=")),
+    "integrity/stale-strongest": answered(OK, body="abc", integrity="sha256-%s sha384-AAAA" % DIGEST["sha256"]),
+    "integrity/mismatch": answered(OK, body="abd", integrity="sha256-" + DIGEST["sha256"]),
+    "body/coded": answered(OK, ["Content-Encoding", "gzip"], body="abc"),
+    "head/no-server": scenario(fetch(), [rule()], "https://api.test:8443"),
+    "head/nothing": raw(""),
+    "head/tls": raw("\x15\x03\x01 "),
+    "head/cut": raw("HTTP/1.1 200 OK\r\nA: b\r\n"),
+    "head/bad-line": raw("HTTP/1.1 200 OK\r\nA b\r\n\r\n"),
+    "head/many-lines": raw("HTTP/1.1 200 OK\r\n" + "A: b\r\n" * 129 + "\r\n"),
+    "head/no-status-line": raw("SSH-2.0-OpenSSH_9.2\r\n\r\n"),
+    "head/too-big": raw("HTTP/1.1 200 OK\r\nA: " + "b" * 65536 + "\r\n\r\n"),
+}
+SAID_BYTES = [fetch("/bytes"), fetch("/${body}")]
+REQUESTS = {
+    "request/long-url": scenario(fetch("/" + "x" * 8192)),
+    "request/url-bytes": (scenario(SAID_BYTES, [{"raw": "HTTP/1.1 200 OK\r\nContent-Length: 1\r\n\r\n\u00e9"}], PAGE), "fetch 1"),
+    "request/no-url": scenario(fetch("https://api.test:99999/x")),
+    "request/url-credentials": scenario(fetch("https://u:p@api.test/x")),
+    "request/bad-method": scenario(fetch(method="PU T")),
+    "request/forbidden-method": scenario(fetch(method="TRACE")),
+    "request/body-with-get": scenario(fetch(body="a")),
+    "request/no-cors-method": scenario(fetch(method="PUT", mode="no-cors")),
+    "request/bad-header-name": scenario(fetch(headers=[["X-A:", "1"]])),
+    "request/bad-header-value": scenario(fetch(headers=[["X-A", "1\n2"]])),
+    "request/navigate": scenario(fetch(mode="navigate")),
+    "request/long-body": scenario(fetch(method="POST", body="a" * 65537)),
+    "request/long-headers": scenario(fetch(headers=[["X-A", "a" * 16384]])),
+}
+SEEN = {
+    "seen/no-rule": scenario(fetch("/cart/"), [rule(path="/cart")], PAGE),
+    "seen/opaque": scenario(fetch(mode="no-cors"), [rule()]),
+    "seen/opaqueredirect": scenario(fetch("/go", redirect="manual"), JUMP, PAGE),
+    "seen/body-cut": answered(OK, ["Content-Length", "9"], body="abc"),
+    "seen/body-toobig": scenario(fetch(), [rule(200, [OK], "abc")], body_limit=2),
+    "seen/hidden-headers": answered(OK, ["X-Total", "4"]),
+}
+# Over real connections: what a server answers (bytes), or a word for what else happens; see the check.
+NET = {
+    "cors/tls-port-asked-in-plain": b"HTTP/1.1 400 Bad Request\r\n\r\nplain HTTP request sent to TLS port",
+    "link/no-route": None,
+    "link/bad-address": "nowhere",
+    "link/unknown-name": "no-such-name.invalid:80",
+    "link/refused": "closed",
+    "link/hang": "hang",
+    "link/reset": "reset",
+    "head/tls": b"\x15\x03\x01\x00\x02\x02\x46",
+    "head/nothing": b"",
+    "seen/body-fault": "broken",
+}
+
+
+def scripted():
+    """Each way's name, its scenario as a text, and the name of the fetch."""
+    for name, given in {**CORS, **PREFLIGHTS, **BEFORE_SENDING, **ANSWERS, **REQUESTS, **SEEN}.items():
+        data, which = given if isinstance(given, tuple) else (given, None)
+        yield name, json.dumps(data), which

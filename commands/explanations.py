@@ -1,0 +1,374 @@
+"""Why a fetch came to what it came: one table of ways, the first that holds of a case.
+
+Each network error, each fault and each result that lets a script see less than was sent has its ways, and each way the
+condition that failed, the header that decided, what to change, and the rule's page. In the texts `c` is the case
+(case.py). `commands/check` shows that each way is reached and that no result of any stored play is without one."""
+import re
+from collections import namedtuple
+
+# `results` are numbers of network errors; a fault's has an f before it, and a result that is none of both an s.
+Way = namedtuple("Way", "name results holds condition header change rule")
+
+ALLOW_ORIGIN = "Access-Control-Allow-Origin"
+ALLOW_CREDENTIALS = "Access-Control-Allow-Credentials"
+ALLOW_METHODS = "Access-Control-Allow-Methods"
+ALLOW_HEADERS = "Access-Control-Allow-Headers"
+CORS = "cors.md#the-cors-check"
+PREFLIGHT = "preflight.md#the-six-checks-of-the-answer"
+REDIRECTS = "redirects.md#the-ten-steps"
+BODY = "final-checks.md#4-to-6-the-body"
+TYPES = "final-checks.md#2-and-3-types"
+FAULTS = "requests.md#faults"
+HEAD = "answers.md#the-head"
+
+
+def always(c):
+    return True
+
+
+CORS_CHECK = [
+    Way("cors/no-rule", "7 12", lambda c: c.has_no_rule,
+        "the scenario's server {c.request.origin} has no rule for {c.request.method} {c.request.target}, so the answer is "
+        "an empty 404 without CORS headers; {c.nearest_rule}", "",
+        "add a rule for this request, or ask for a path that has one", CORS),
+    Way("cors/tls-port-asked-in-plain", "7 12",
+        lambda c: c.is_net and c.status == 400 and c.request.origin.startswith("https:") and c.allowed_origin is None,
+        "the answer is 400, as a TLS port gives it when it is asked in plain; `net` speaks no TLS, and {c.route} was asked "
+        "in plain", "", "let the route lead to the server's plain port, or to a side process that ends TLS",
+        "../check-your-server.md#what-the-scenario-says"),
+    Way("cors/preflight-login", "7", lambda c: c.allowed_origin is None and c.status in (401, 403, 407),
+        "the answer to the preflight is {c.status}, without CORS headers: a preflight never carries a cookie or Authorization",
+        ALLOW_ORIGIN, "answer OPTIONS before the login is asked for", PREFLIGHT),
+    Way("cors/preflight-not-handled", "7", lambda c: c.allowed_origin is None and c.status in (404, 405, 501),
+        "the answer to the preflight is {c.status}, without CORS headers: the server does not answer OPTIONS at "
+        "{c.request.target}", ALLOW_ORIGIN, "answer OPTIONS at this very URL", PREFLIGHT),
+    Way("cors/absent-on-error", "7 12", lambda c: c.allowed_origin is None and c.status >= 400,
+        "the answer is {c.status}, and has no Access-Control-Allow-Origin", ALLOW_ORIGIN,
+        "send {c.wanted} with errors too: many servers, logins and proxies leave CORS headers out there; then look why it "
+        "is {c.status}", CORS),
+    Way("cors/absent-on-redirect", "7 12", lambda c: c.allowed_origin is None and c.is_redirect,
+        "the answer redirects ({c.status}) to {c.location}, and has no Access-Control-Allow-Origin", ALLOW_ORIGIN,
+        "ask for the last URL itself; or send {c.wanted} with the redirect too: each answer of a chain is checked",
+        "redirects.md"),
+    Way("cors/absent", "7 12", lambda c: c.allowed_origin is None,
+        "the answer has no Access-Control-Allow-Origin", ALLOW_ORIGIN, "send {c.wanted}", CORS),
+    Way("cors/several", "7 12", lambda c: "," in c.allowed_origin,
+        "the answer has several values of Access-Control-Allow-Origin, which are joined to one that is no origin",
+        ALLOW_ORIGIN, "send it once, with one value: {c.wanted}; look for a proxy that adds its own", CORS),
+    Way("cors/star-with-credentials", "7 12", lambda c: c.allowed_origin == "*" and c.includes,
+        "Access-Control-Allow-Origin is `*`, which passes no request with credentials", ALLOW_ORIGIN,
+        "send {c.wanted}; and `Vary: Origin`, where several origins ask", CORS),
+    Way("cors/origin-null", "7 12", lambda c: c.origin == "null" and c.allowed_origin != "null",
+        "the request says `Origin: null`, since a redirect led it from another origin to this one, and the answer allows "
+        "`{c.allowed_origin}`", ALLOW_ORIGIN,
+        "let the page ask for {c.url} itself, or redirect within one origin; `*` passes it where no credentials go along",
+        "redirects.md#origin-null"),
+    Way("cors/written-otherwise", "7 12", lambda c: c.allowed_origin != c.origin and c.is_alike(),
+        "`{c.allowed_origin}` is not `{c.origin}`, byte for byte, as the request says its origin", ALLOW_ORIGIN,
+        "send {c.wanted}: scheme, ://, host, and the port where it is not the scheme's default; no slash, no blank, no "
+        "quotes", CORS),
+    Way("cors/other-origin", "7 12", lambda c: c.allowed_origin != c.origin,
+        "the answer allows `{c.allowed_origin}`, and the request is of `{c.origin}`", ALLOW_ORIGIN,
+        "send {c.wanted}, where the server trusts this origin; and `Vary: Origin`, where several origins ask", CORS),
+    Way("cors/credentials-absent", "7 12", lambda c: c.allowed_credentials is None,
+        "the request has credentials, and the answer has no Access-Control-Allow-Credentials", ALLOW_CREDENTIALS,
+        "send `Access-Control-Allow-Credentials: true`; or ask without `credentials` `include`", CORS),
+    Way("cors/credentials-not-true", "7 12", lambda c: c.allowed_credentials != "true",
+        "Access-Control-Allow-Credentials is `{c.allowed_credentials}`, and not `true`", ALLOW_CREDENTIALS,
+        "send `Access-Control-Allow-Credentials: true` once, in lower case", CORS),
+]
+
+PREFLIGHTS = [
+    Way("preflight/redirect", "8", lambda c: c.is_redirect,
+        "the answer to the preflight redirects ({c.status}) to {c.location}, and preflights are not followed", "Location",
+        "ask for the URL to which it redirects; look for https, a slash at the end, or a login", PREFLIGHT),
+    Way("preflight/login", "8", lambda c: c.status in (401, 403, 407),
+        "the answer to the preflight is {c.status}: a preflight never carries a cookie or Authorization", "",
+        "answer OPTIONS with 204 before the login is asked for", PREFLIGHT),
+    Way("preflight/no-handler", "8", lambda c: c.status in (404, 405, 501),
+        "the answer to the preflight is {c.status}: the server does not answer OPTIONS at {c.request.target}", "",
+        "answer OPTIONS at this very URL with 204", PREFLIGHT),
+    Way("preflight/status", "8", always,
+        "the answer to the preflight is {c.status}, which is none of 200 to 299", "",
+        "answer OPTIONS at this very URL with 204", PREFLIGHT),
+    Way("preflight/list", "9", lambda c: c.bad_item is not None,
+        "`{c.list_item}` in {c.list_name} is no token", "{c.list_name}",
+        "put commas between the items, and no quotes, colons or blanks into one: `GET, PUT`", PREFLIGHT),
+    Way("preflight/method-absent", "10", lambda c: not c.methods,
+        "the answer to the preflight has no Access-Control-Allow-Methods, and {c.method} is none of GET, HEAD and POST",
+        ALLOW_METHODS, "send `Access-Control-Allow-Methods: {c.method}`", PREFLIGHT),
+    Way("preflight/method-star-with-credentials", "10", lambda c: "*" in c.methods and c.includes,
+        "Access-Control-Allow-Methods is `*`, which covers no method of a request with credentials", ALLOW_METHODS,
+        "list the method: `Access-Control-Allow-Methods: {c.method}`", PREFLIGHT),
+    Way("preflight/method-in-another-case", "10", lambda c: c.same_method != "",
+        "Access-Control-Allow-Methods has `{c.same_method}`, and the request's method is `{c.method}`: the case counts",
+        ALLOW_METHODS, "list `{c.method}`, in this case; or have the page ask for it in capitals", PREFLIGHT),
+    Way("preflight/method-not-listed", "10", always,
+        "Access-Control-Allow-Methods does not have {c.method}", ALLOW_METHODS,
+        "list it: `Access-Control-Allow-Methods: {c.method}`", PREFLIGHT),
+    Way("preflight/authorization-under-star", "11", lambda c: c.result.detail == "authorization" and "*" in c.names,
+        "`*` in Access-Control-Allow-Headers does not cover Authorization", ALLOW_HEADERS,
+        "list it by its name: `Access-Control-Allow-Headers: Authorization`", PREFLIGHT),
+    Way("preflight/header-absent", "11", lambda c: not c.names,
+        "the answer to the preflight has no Access-Control-Allow-Headers, and the request has {c.result.detail}",
+        ALLOW_HEADERS, "send `Access-Control-Allow-Headers: {c.asked_headers}`", PREFLIGHT),
+    Way("preflight/header-star-with-credentials", "11", lambda c: "*" in c.names and c.includes,
+        "Access-Control-Allow-Headers is `*`, which covers no header of a request with credentials", ALLOW_HEADERS,
+        "list the names: `Access-Control-Allow-Headers: {c.asked_headers}`", PREFLIGHT),
+    Way("preflight/header-not-listed", "11", always,
+        "Access-Control-Allow-Headers does not have {c.result.detail}", ALLOW_HEADERS,
+        "list it: `Access-Control-Allow-Headers: {c.asked_headers}`", PREFLIGHT),
+]
+
+BEFORE_SENDING = [
+    Way("scheme/host-taken-for-it", "1", lambda c: re.match(r"\s*[A-Za-z0-9.-]+:\d+", c.command.url) is not None,
+        "`{c.command.url}` is read as a URL of the scheme `{c.scheme}`: without // the host stands where a scheme does", "",
+        "write the scheme: http://{c.command.url}", "fetch.md#main-fetch"),
+    Way("scheme/other", "1", always, "the URL's scheme is `{c.scheme}`, and neither http nor https", "",
+        "ask for an http or https URL", "fetch.md#main-fetch"),
+    Way("port/bad", "2", always, "browsers block the port {c.port} of {c.url}{c.where}", "",
+        "let the server listen at another port, such as 443, 8080 or 8443",
+        "mixed-content.md#bad-ports-fetch-section-29-port-blocking"),
+    Way("mixed/top", "3", lambda c: c.is_embedded and not c.page_origin.startswith("https:"),
+        "the page at the top, {c.top_origin}, is secure, and {c.url}{c.where} is not: what is embedded may not be laxer", "",
+        "serve {c.url} over https", "mixed-content.md#mixed-content-mixed-content-section-4"),
+    Way("mixed/page", "3", always,
+        "the page {c.page_origin} is secure, and {c.url}{c.where} is not, so nothing is sent to it", "",
+        "ask for it over https; that the host is a known one (HSTS) comes too late for this",
+        "mixed-content.md#mixed-content-mixed-content-section-4"),
+    Way("policy/after-redirect", "4", lambda c: c.is_redirected,
+        "policy {c.policy_number} has `{c.directive_text}`, and no word of it matches {c.url}, where the redirect leads", "",
+        "add {c.url_origin} to {c.directive[0]} of this policy of the page; the path of a word does not count after a "
+        "redirect", "csp.md#check-of-a-request"),
+    Way("policy/strict-dynamic", "4", lambda c: "'strict-dynamic'" in [word.lower() for word in c.directive[1]],
+        "policy {c.policy_number} has `{c.directive_text}`: with 'strict-dynamic' a script that a parser inserted passes by its "
+        "nonce or hash alone", "", "give the script the policy's nonce; or let a script that has one insert it",
+        "csp.md#check-of-a-request"),
+    Way("policy/nothing-allowed", "4", lambda c: [word.lower() for word in c.directive[1]] in ([], ["'none'"]),
+        "policy {c.policy_number} has `{c.directive_text}`, which lets nothing pass", "",
+        "write `{c.violated.directive} {c.url_origin}` into this policy of the page", "csp.md#check-of-a-request"),
+    Way("policy/no-word", "4", always,
+        "policy {c.policy_number} has `{c.directive_text}`, and no word of it matches {c.url}", "",
+        "add {c.url_origin} to {c.directive[0]} of this policy of the page", "csp.md#check-of-a-request"),
+    Way("same-origin/known-host", "5", lambda c: c.is_known_host and not c.is_redirected,
+        "the host is a known one (HSTS), so the URL becomes https, which is another origin than {c.page_origin}; and the mode "
+        "is same-origin", "", "serve the page over https, too", "fetch.md#main-fetch"),
+    Way("same-origin/redirect", "5", lambda c: c.is_redirected,
+        "the mode is same-origin, and the redirect leads to another origin, {c.url_origin}", "Location",
+        "redirect within {c.page_origin}; or ask in mode cors", "fetch.md#main-fetch"),
+    Way("same-origin/other", "5", always,
+        "the mode is same-origin, and {c.url} is of another origin than {c.page_origin}", "",
+        "ask in mode cors, and have the server send its CORS headers", "fetch.md#main-fetch"),
+    Way("no-cors/redirect-mode", "6", always,
+        "the mode is no-cors, {c.url}{c.where} is of another origin, and the redirect mode is "
+        "`{c.command.options[redirect]}`, not follow", "", "ask with `redirect` `follow`, or in mode cors", "redirects.md"),
+]
+
+ANSWERS = [
+    Way("corp/same-origin", "13", lambda c: c.get("Cross-Origin-Resource-Policy") == "same-origin",
+        "Cross-Origin-Resource-Policy is `same-origin`, and {c.request.origin} is another origin than {c.page_origin}",
+        "Cross-Origin-Resource-Policy", "send `cross-origin`, or `same-site` for pages of the same site; or ask in mode cors",
+        "cors.md#cross-origin-resource-policy"),
+    Way("corp/same-site-scheme", "13", lambda c: c.page_origin.startswith("http:") and c.request.origin.startswith("https:")
+        and c.is_same_site(),
+        "Cross-Origin-Resource-Policy is `same-site`, and the page is not of https while {c.request.origin} is",
+        "Cross-Origin-Resource-Policy", "serve the page over https; or send `cross-origin`",
+        "cors.md#cross-origin-resource-policy"),
+    Way("corp/same-site", "13", always,
+        "Cross-Origin-Resource-Policy is `same-site`, and {c.request.origin} is of another site than {c.page_origin}",
+        "Cross-Origin-Resource-Policy", "send `cross-origin`; or ask in mode cors", "cors.md#cross-origin-resource-policy"),
+    Way("redirect/mode-error", "14", always,
+        "the answer redirects ({c.status}) to {c.location}, and the redirect mode is error", "Location",
+        "ask for that URL itself, or with `redirect` `follow`", "redirects.md"),
+    Way("redirect/two-locations", "15", lambda c: len(c.head.values("Location")) > 1,
+        "the answer has Location twice", "Location", "send it once: not by the program and by the proxy", REDIRECTS),
+    Way("redirect/long-location", "15", lambda c: len(c.location or "") > 8000,
+        "the Location gives a URL of more than 8,192 bytes", "", "send a shorter one", REDIRECTS),
+    Way("redirect/no-url", "15", always, "the Location `{c.location}` gives no URL", "Location",
+        "send a URL, whole or relative, in UTF-8", REDIRECTS),
+    Way("redirect/scheme", "16", always, "the redirect leads to `{c.location}`, which is neither http nor https", "Location",
+        "lead to an http or https URL: others are not followed", REDIRECTS),
+    Way("redirect/loop", "17", lambda c: len({c.whole(request) for request, _ in c.chain}) < len(c.chain),
+        "twenty redirects were followed, and the chain comes back to where it was", "Location",
+        "look for a loop: a login that waits for a cookie which is never sent, http and https that lead to each other",
+        REDIRECTS),
+    Way("redirect/many", "17", always, "twenty redirects were followed, and this is one more", "Location",
+        "shorten the chain", REDIRECTS),
+    Way("redirect/credentials", "18", always,
+        "the redirect leads to another origin by a URL with a user name or a password", "Location",
+        "take them out of the Location", REDIRECTS),
+    Way("policy/response", "19", always,
+        "policy {c.policy_number} has `{c.directive_text}`, and no word of it matches the URL of the response, {c.url}", "",
+        "leave out the port 80 of the word: the URL became https", "final-checks.md#1-the-policies"),
+    Way("type/script", "20", always, "the type of the answer is `{c.essence}`, which no script may have", "Content-Type",
+        "send `Content-Type: text/javascript`", TYPES),
+    Way("type/nosniff-absent", "21", lambda c: not c.essence,
+        "the answer says `nosniff`, and has no type", "Content-Type", "send `Content-Type: {c.right_type}`", TYPES),
+    Way("type/nosniff", "21", always,
+        "the answer says `nosniff`, and its type is `{c.essence}`, which a {c.kind} may not have", "Content-Type",
+        "send `Content-Type: {c.right_type}` once: of several the last counts", TYPES),
+    Way("integrity/opaque", "22", lambda c: c.is_opaque,
+        "the response is opaque, since it is of another origin and the mode is no-cors: there is no body to match", "",
+        "add `crossorigin` to the element, or ask in mode cors; and have the server send its CORS headers", BODY),
+    Way("integrity/no-body", "22", lambda c: not c.has_body,
+        "an answer with the status {c.status} to {c.request.method} has no body that could match", "",
+        "send the body with 200; or leave the integrity text out", BODY),
+    Way("integrity/incomplete", "22", lambda c: c.is_cut,
+        "the body did not come whole", "Content-Length", "send all of it, and its right length", BODY),
+    Way("integrity/unpadded", "22", lambda c: any(c.digest(c.strongest).rstrip("=") == value for value in
+                                                 c.digests.get(c.strongest, [])),
+        "the {c.strongest} of the integrity text has lost its padding", "", "write it whole: `{c.right_digest}`",
+        "integrity.md"),
+    Way("integrity/stale-strongest", "22", lambda c: any(c.digest(name) in values for name, values in c.digests.items()),
+        "a weaker digest of the integrity text matches, and the {c.strongest} does not: the strongest alone counts", "",
+        "make the {c.strongest} anew: `{c.right_digest}`", "integrity.md"),
+    Way("integrity/mismatch", "22", always,
+        "the body that came is not the one of the integrity text", "", "make the digest anew of the bytes as they are sent: "
+        "`{c.right_digest}`", BODY),
+    Way("body/coded", "23", always, "the body is coded, and this engine decodes none: requests say "
+        "`Accept-Encoding: identity`", "Content-Encoding", "send it uncoded to such requests", BODY),
+]
+
+LINKS = [
+    Way("link/no-route", "24", lambda c: c.route is None, "no route of the scenario is for {c.request.origin}", "",
+        "add one: [\"{c.request.origin}\", \"127.0.0.1:8000\"]; scheme and port must be these",
+        "../check-your-server.md#what-the-scenario-says"),
+    Way("link/bad-address", "24", lambda c: c.link == "bad-address",
+        "the route's address `{c.route}` is none: a host or an IP address, a colon and a port", "",
+        "write it so: 127.0.0.1:8000", "../check-your-server.md#what-the-scenario-says"),
+    Way("link/unknown-name", "24", lambda c: c.link == "unknown-name",
+        "the name in the route's address `{c.route}` is not known here", "",
+        "write an IP address, or a name that this machine can look up", "../check-your-server.md#what-the-scenario-says"),
+    Way("link/refused", "24", lambda c: c.link == "refused", "nothing listens at {c.route}", "",
+        "start the server, or mend the port of the route", "../check-your-server.md#what-the-scenario-says"),
+    Way("link/hang", "24", lambda c: c.link == "hang",
+        "the server at {c.route} took the request, and nothing more came until the time limit", "",
+        "look why it does not answer; --timeout gives it longer", "../check-your-server.md#how-to-read-what-it-prints"),
+    Way("link/reset", "24", always, "the connection to {c.route} broke before the head of the answer was whole", "",
+        "look into the server's log: it ended, or reset the connection", "../check-your-server.md#how-to-read-what-it-prints"),
+    Way("head/no-server", "25", lambda c: not c.is_net and c.answer.server is None,
+        "the scenario has no server {c.request.origin}: {c.near_server}", "",
+        "add a server of this origin; scheme and port must be these", "../scenario.md#servers"),
+    Way("head/nothing", "25", lambda c: c.link_problem == "nothing", "the server closed the connection without an answer", "",
+        "look into the server's log", HEAD),
+    Way("head/tls", "25", lambda c: c.link_problem == "tls", "the server speaks TLS there, and was asked in plain", "",
+        "let the route lead to its plain port, or to a side process that ends TLS",
+        "../check-your-server.md#what-the-scenario-says"),
+    Way("head/cut", "25", lambda c: c.link_problem == "cut", "the answer ends before its head does", "",
+        "end the head with an empty line", HEAD),
+    Way("head/bad-line", "25", lambda c: c.link_problem == "bad-line",
+        "a header line of the answer is none: a token, a colon right behind it, and a value without control bytes", "",
+        "mend the line; none may be folded", HEAD),
+    Way("head/many-lines", "25", lambda c: c.link_problem == "many-lines", "the answer has more than 128 header lines", "",
+        "send fewer", HEAD),
+    Way("head/no-status-line", "25", always,
+        "the answer begins with `{c.first_bytes}`, and not with the status line of HTTP/1.1 or HTTP/1.0", "",
+        "look whether an HTTP server listens there", HEAD),
+    Way("head/too-big", "26", always, "the head of the answer is longer than 65,536 bytes", "",
+        "look for a cookie or a policy that grows", HEAD),
+]
+
+REQUESTS = [
+    Way("request/long-url", "f1", lambda c: len(c.command.url) > 8000, "the URL has more than 8,192 bytes", "",
+        "send what is long in the body", FAULTS),
+    Way("request/url-bytes", "f1", lambda c: re.search("[\udc80-\udcff]", c.command.url) is not None,
+        "the bytes that a template puts into the URL are no UTF-8", "", "take the text from a header, or send other bytes",
+        FAULTS),
+    Way("request/no-url", "f1", always, "`{c.command.url}` gives no URL against {c.document[url]}", "",
+        "mend it: a bad host, port or address", FAULTS),
+    Way("request/url-credentials", "f2", always, "the URL has a user name or a password", "",
+        "take it out, and send Authorization", FAULTS),
+    Way("request/bad-method", "f3", always, "the method `{c.command.options[method]}` is no token", "",
+        "write its letters alone", FAULTS),
+    Way("request/forbidden-method", "f4", always, "scripts may not use {c.command.options[method]}", "",
+        "CONNECT, TRACE and TRACK are never sent: use another method", FAULTS),
+    Way("request/body-with-get", "f5", always, "a {c.command.options[method]} has no body, and this one has", "",
+        "use POST or PUT, or put it into the URL", FAULTS),
+    Way("request/no-cors-method", "f6", always,
+        "in mode no-cors the method is GET, HEAD or POST, and not {c.command.options[method]}", "", "ask in mode cors", FAULTS),
+    Way("request/bad-header-name", "f7", lambda c: not re.fullmatch(r"[!#$%&'*+\-.^_`|~0-9A-Za-z]+", c.bad_name),
+        "the header name `{c.bad_name}` is no token", "", "write its letters alone, without colon and blanks", FAULTS),
+    Way("request/bad-header-value", "f7", always, "the value of {c.bad_name} has a line end or a zero byte in it", "",
+        "take it out", FAULTS),
+    Way("request/navigate", "f8", always, "scripts may not use the mode navigate", "", "use cors, no-cors or same-origin",
+        FAULTS),
+    Way("request/long-body", "f9", lambda c: len((c.command.body or "").encode("utf-8", "replace")) > 65536,
+        "the body has more than 65,536 bytes", "", "send less at once", FAULTS),
+    Way("request/long-headers", "f9", always, "the method and the headers have more than 16,384 bytes together", "",
+        "send less at once", FAULTS),
+]
+
+SEEN = [
+    Way("seen/no-rule", "s", lambda c: c.has_no_rule and c.result.type in ("basic", "loaded", "opaque"),
+        "the scenario's server {c.request.origin} has no rule for {c.request.method} {c.request.target}, so the answer is "
+        "an empty 404; {c.nearest_rule}", "", "add a rule for this request, or ask for a path that has one",
+        "../scenario.md#servers"),
+    Way("seen/opaque", "s", lambda c: c.result.type == "opaque",
+        "the mode is no-cors and the answer of another origin, so the script sees nothing of it: not its status {c.status}, "
+        "no header, no body", "", "ask in mode cors, and have the server send {c.cors_headers}", "responses.md#types"),
+    Way("seen/opaqueredirect", "s", lambda c: c.result.type == "opaqueredirect",
+        "the answer redirects ({c.status}), and the redirect mode is manual: the script does not see where to", "Location",
+        "ask with `redirect` `follow`: the URL of the response is the last one", "responses.md#types"),
+    Way("seen/body-cut", "s", lambda c: c.result.ending == "cut",
+        "the body ends before the end that its head announced, or does not fit it", "Content-Length",
+        "send all of it, and its right length", "answers.md#the-body"),
+    Way("seen/body-fault", "s", lambda c: c.result.ending == "fault", "the connection broke in the middle of the body", "",
+        "look into the server's log", "answers.md#the-body"),
+    Way("seen/body-toobig", "s", lambda c: c.result.ending == "toobig", "the body is longer than the scenario's body limit",
+        "", "set `body_limit`, in format 2", "answers.md#the-body"),
+    Way("seen/hidden-headers", "s", lambda c: c.result.type == "cors" and c.hidden_by_cors != "",
+        "the script does not see these headers of the answer: {c.hidden_by_cors}", "Access-Control-Expose-Headers",
+        "where it needs them send `Access-Control-Expose-Headers: {c.hidden_by_cors}`", "responses.md#exposed-names"),
+]
+
+TABLE = CORS_CHECK + PREFLIGHTS + BEFORE_SENDING + ANSWERS + LINKS + REQUESTS + SEEN
+
+
+class Explanation:
+    """A way that holds of a case, with its texts filled in."""
+
+    def __init__(self, way, c):
+        self.way = way.name
+        self.condition = way.condition.format(c=c)
+        self.change = way.change.format(c=c)
+        self.rule = "docs/rules/" + way.rule if not way.rule.startswith("../") else "docs/" + way.rule[3:]
+        self.header = way.header.format(c=c)
+        self.value = c.get(self.header) if self.header else None
+        self.needs = least_headers(c) if key_of(c.result) in ("7", "8", "9", "10", "11") else []
+
+    def lines(self):
+        """As it stands between the lines of a play."""
+        lines = ["why: " + self.condition]
+        if self.header:
+            value = "is not there" if self.value is None else ": " + self.value
+            lines.append("header: %s%s" % (self.header, value if value.startswith(":") else " " + value))
+        needs = ["in all: " + line for line in self.needs]
+        return lines + ["change: " + self.change, *needs, "rule: %s (%s)" % (self.rule, self.way)]
+
+    def data(self):
+        return dict(self.__dict__)
+
+
+def least_headers(c):
+    """All that lets a preflighted request pass, of its two answers; nothing where no server should send it."""
+    if c.origin == "null":
+        return []
+    both = ["Access-Control-Allow-Origin: " + c.origin] + (["Access-Control-Allow-Credentials: true"] if c.includes else [])
+    more = [] if c.method in ("GET", "HEAD", "POST") else ["Access-Control-Allow-Methods: " + c.method]
+    more += ["Access-Control-Allow-Headers: " + c.asked_headers] if c.asked_headers else []
+    quoted = [", ".join("`%s`" % line for line in lines) for lines in (both + more, both)]
+    return ["the answer to OPTIONS needs a status of 200 to 299, " + quoted[0],
+            "the answer to %s needs %s" % (c.method, quoted[1])]
+
+
+def key_of(result):
+    if not result.is_refused():
+        return "s"
+    return ("f%d" if result.is_fault else "%d") % result.number
+
+
+def explain(case):
+    """The explanation of a case; None where nothing is to be said of it."""
+    key = key_of(case.result)
+    way = next((way for way in TABLE if key in way.results.split() and way.holds(case)), None)
+    return None if way is None else Explanation(way, case)

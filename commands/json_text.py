@@ -1,0 +1,291 @@
+"""Reads a JSON text to a tree whose nodes have their places, or says in one sentence what is wrong and what to change.
+
+What is taken is what the program takes: RFC 8259 in UTF-8, nested no more than 127 deep. A place is a number of characters
+from the beginning."""
+import re
+
+DEEPEST = 127
+BLANKS = re.compile(r"[ \t\n\r]*")
+NUMBER = re.compile(r"-?(?:0|[1-9][0-9]*)(?:\.[0-9]+)?(?:[eE][-+]?[0-9]+)?")
+WORD = re.compile(r"""[^\s{}\[\],:;"']+""")
+SURROGATE = re.compile("[\ud800-\udfff]")
+PLAIN = re.compile(r'[^"\\\x00-\x1f]*')
+ESCAPE = re.compile(r'\\(?:["\\/bfnrt]|u[0-9a-fA-F]{4})')
+WORDS = {"true": True, "false": False, "null": None}
+MEANT = {"True": "true", "TRUE": "true", "yes": "true", "False": "false", "FALSE": "false", "no": "false"}
+SHORT = {"b": "\b", "f": "\f", "n": "\n", "r": "\r", "t": "\t"}
+CURLY = "\u201c\u201d\u201e\u201f\u00ab\u00bb"
+SINGLE = "'`\u2018\u2019"
+EXAMPLE = '{"format": 1, "documents": []}'
+
+
+class Fault(Exception):
+    """What is wrong at a place of the text, and what to change, in a sentence."""
+
+    def __init__(self, place, sentence):
+        super().__init__(sentence)
+        self.place = place
+        self.sentence = sentence
+
+
+class Node:
+    """A value of the text: `kind` is object, list, string, number or word. An object has `members`, pairs of a key's node
+    and a value's; a list has `items`; any other has a `value`, and `text`, as it is written."""
+
+    __slots__ = ("kind", "start", "end", "members", "items", "value", "text")
+
+    def __init__(self, kind, start):
+        self.kind = kind
+        self.start = start
+        self.end = start
+        self.members = []
+        self.items = []
+        self.value = None
+        self.text = ""
+
+    def is_whole(self):
+        """Whether it is a number that the program takes as a whole one."""
+        return self.kind == "number" and not re.search(r"[.eE]", self.text) and self.text != "-0"
+
+    def member(self, name):
+        """The value of a key; of one that comes twice the last one counts."""
+        found = [value for key, value in self.members if key.value == name]
+        return found[-1] if found else None
+
+    def plain(self):
+        """The value as Python has it."""
+        if self.kind == "object":
+            return {key.value: value.plain() for key, value in self.members}
+        if self.kind == "list":
+            return [item.plain() for item in self.items]
+        return self.value
+
+
+def decoded(data):
+    """The text of bytes."""
+    if data[:2] in (b"\xff\xfe", b"\xfe\xff"):
+        raise Fault(0, "this is UTF-16: save the file as UTF-8")
+    if data[:3] == b"\xef\xbb\xbf":
+        raise Fault(0, "the file begins with a byte order mark (BOM): save it as UTF-8 without one")
+    try:
+        return data.decode("utf-8")
+    except UnicodeDecodeError as error:
+        place = len(data[:error.start].decode("utf-8"))
+        raise Fault(place, "the byte 0x%02x is no UTF-8 here: save the file as UTF-8" % data[error.start]) from error
+
+
+def place_of(text, at):
+    """The line and the column, from 1."""
+    return text.count("\n", 0, at) + 1, at - text.rfind("\n", 0, at)
+
+
+class Reader:
+    def __init__(self, text):
+        self.text = text
+        self.at = 0
+        self.depth = 0
+
+    def whole(self, what):
+        if not self.sign():
+            raise Fault(0, "the file is empty: %s is an object, such as %s" % (what, EXAMPLE))
+        root = self.value()
+        if self.sign() == ",":
+            raise Fault(self.at, "%s ends before this comma: take out what follows" % what)
+        if self.sign():
+            raise Fault(self.at, "%s ends before this: take out what follows, or a closing sign before it" % what)
+        return root
+
+    def sign(self):
+        """The next sign behind blanks; an empty text at the end."""
+        self.at = BLANKS.match(self.text, self.at).end()
+        self.refuse_comment()
+        return self.text[self.at:self.at + 1]
+
+    def refuse_comment(self):
+        if self.text.startswith(("//", "/*", "#"), self.at):
+            raise Fault(self.at, "JSON has no comments: take this one out")
+
+    def value(self):
+        sign = self.sign()
+        if sign in ("{", "["):
+            return self.nested(sign)
+        if sign == '"':
+            return self.string()
+        if sign in CURLY or sign in SINGLE:
+            self.refuse_quote(sign)
+        return self.scalar(sign)
+
+    def nested(self, sign):
+        self.depth += 1
+        if self.depth > DEEPEST:
+            raise Fault(self.at, "lists and objects stand more than %d deep in each other here" % DEEPEST)
+        node = self.object() if sign == "{" else self.list()
+        self.depth -= 1
+        return node
+
+    def refuse_quote(self, sign):
+        """What is in other quotes than double ones."""
+        if not sign:
+            raise Fault(len(self.text), "the text ends, and a value is missing")
+        found = re.compile(r"[%s]([^\n%s]{0,60})[%s]" % ((re.escape(SINGLE + CURLY),) * 3)).match(self.text, self.at)
+        more = ': write "%s"' % found.group(1).replace('"', '\\"') if found else ""
+        raise Fault(self.at, "a text stands in straight double quotes" + more)
+
+    def scalar(self, sign):
+        node = Node("word", self.at)
+        found = WORD.match(self.text, self.at)
+        node.text = found.group() if found else ""
+        node.end = found.end() if found else self.at
+        if NUMBER.fullmatch(node.text):
+            self.number(node)
+        elif node.text in WORDS:
+            node.value = WORDS[node.text]
+        else:
+            raise Fault(self.at, self.no_value(sign, node.text))
+        self.at = node.end
+        return node
+
+    @staticmethod
+    def number(node):
+        node.kind = "number"
+        node.value = int(node.text) if node.is_whole() else float(node.text)
+        if node.value in (float("inf"), float("-inf")):
+            raise Fault(node.start, "this number is greater than any that is read")
+
+    @staticmethod
+    def no_value(sign, word):
+        """What stands where a value belongs."""
+        if sign in ("}", "]"):
+            return "a value is missing before %s: write one, or take out what leads to it" % sign
+        if sign == ",":
+            return "a value is missing before this comma: take out the comma, or write a value"
+        if sign == ":":
+            return "a colon has no place here: a key, in double quotes, stands before it"
+        if word in MEANT:
+            return "%s is no value: write %s" % (word, MEANT[word])
+        if word in ("None", "undefined", "nil", "NaN", "Infinity", "NULL", "Null"):
+            return "%s is no value: leave the key out" % word
+        if re.match(r"[-+.0-9]", word):
+            return "%s is no number as JSON has it: write its digits alone, such as %s" % (
+                word, re.sub(r"\D", "", word).lstrip("0") or "0")
+        return 'a text stands in double quotes: write "%s"' % word
+
+    # ---- objects and lists
+
+    def object(self):
+        node = Node("object", self.at)
+        self.at += 1
+        self.parts(node, "}", lambda: node.members.append(self.pair()))
+        return node
+
+    def list(self):
+        node = Node("list", self.at)
+        self.at += 1
+        self.parts(node, "]", lambda: node.items.append(self.value()))
+        return node
+
+    def parts(self, node, close, read):
+        """All parts up to the closing sign."""
+        if self.sign() != close:
+            read()
+            while self.goes_on(node, close):
+                read()
+        self.at += 1
+        node.end = self.at
+
+    def goes_on(self, node, close):
+        """Whether a comma follows, and a part behind it; else the closing sign does."""
+        before = self.at
+        sign = self.sign()
+        if sign == close:
+            return False
+        if sign == ",":
+            comma = self.at
+            self.at += 1
+            self.refuse_comma(comma, close)
+            return True
+        raise Fault(before if sign and sign not in "}]" else self.at, self.not_closed(node, sign, close))
+
+    def refuse_comma(self, comma, close):
+        sign = self.sign()
+        if sign == close:
+            raise Fault(comma, "no comma stands before %s: take it out" % close)
+        if sign == ",":
+            raise Fault(self.at, "two commas stand here, with nothing between them: take one out")
+
+    def not_closed(self, node, sign, close):
+        opening = self.text[node.start]
+        line = place_of(self.text, node.start)[0]
+        if not sign:
+            return "the text ends, and the %s of line %d is not closed: add %s" % (opening, line, close)
+        if sign in "}]":
+            return "%s does not close the %s of line %d: write %s before it, or in its place" % (sign, opening, line, close)
+        if sign == ";":
+            return "a comma belongs here, and no ;"
+        return "a comma is missing here, before %s" % self.shown()
+
+    def shown(self):
+        """What stands here, as it is told: a text, or what goes up to a blank or a sign."""
+        return re.compile(r'"[^"\n]{0,40}"|[^\s,:{}\[\]]{1,40}|.').match(self.text, self.at).group()
+
+    def pair(self):
+        sign = self.sign()
+        if sign in CURLY or sign in SINGLE:
+            self.refuse_quote(sign)
+        if sign != '"':
+            word = WORD.match(self.text, self.at)
+            raise Fault(self.at, 'a key stands in double quotes: write "%s"' % word.group() if word
+                        else "a key in double quotes belongs here, not %s" % self.shown())
+        key = self.string()
+        sign = self.sign()
+        if sign == ":":
+            self.at += 1
+            return key, self.value()
+        if sign == "=":
+            raise Fault(self.at, "a colon stands between a key and its value, and no =")
+        raise Fault(key.end, 'a colon and a value are missing behind the key "%s"' % key.value)
+
+    # ---- texts
+
+    def string(self):
+        node = Node("string", self.at)
+        pieces = []
+        self.at += 1
+        while True:
+            found = PLAIN.match(self.text, self.at)
+            pieces.append(found.group())
+            self.at = found.end()
+            if self.text.startswith('"', self.at):
+                break
+            pieces.append(self.escaped(node))
+        self.at += 1
+        node.end = self.at
+        node.text = self.text[node.start:node.end]
+        node.value = "".join(pieces).encode("utf-16", "surrogatepass").decode("utf-16", "surrogatepass")
+        if SURROGATE.search(node.value):
+            raise Fault(node.start, "this text has half of a surrogate pair in it: write the character itself")
+        return node
+
+    def escaped(self, node):
+        found = ESCAPE.match(self.text, self.at)
+        if found is None:
+            raise Fault(*self.no_text(node))
+        self.at = found.end()
+        word = found.group()[1:]
+        return chr(int(word[1:], 16)) if word[0] == "u" else SHORT.get(word, word)
+
+    def no_text(self, node):
+        """What ends a text, or has no place in it."""
+        sign = self.text[self.at:self.at + 1]
+        if sign == "\\":
+            return self.at, "%s is no escape: write \\\\ for a backslash" % self.text[self.at:self.at + 2].rstrip("\n")
+        if sign == "\t":
+            return self.at, "a tab stands in this text: write \\t for it"
+        if sign and sign not in "\r\n":
+            return self.at, "a control character stands in this text: write \\u%04x for it" % ord(sign)
+        return node.start, "this text is not closed in its line: add a double quote, or write \\n for a line break in it"
+
+
+def read(text, what="a scenario"):
+    """The tree of a text."""
+    return Reader(text).whole(what)

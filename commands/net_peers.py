@@ -1,0 +1,56 @@
+"""Servers on the loopback that do what the check of bin/why --net wants: one answer, or none, in one of many ways."""
+import socket
+import struct
+import threading
+
+from commands import cases
+
+
+class Peer:
+    """`kind` is what it answers (bytes), a word for what else it does, an address that is none, or None for no route."""
+
+    def __init__(self, kind):
+        self.kind = kind
+        self.listener = None
+        self.open = []
+        self.address = kind if isinstance(kind, str) else None
+
+    def __enter__(self):
+        if self.kind is None or (isinstance(self.kind, str) and self.kind not in ("closed", "hang", "reset", "broken")):
+            return self
+        self.listener = socket.create_server(("127.0.0.1", 0))
+        self.address = "127.0.0.1:%d" % self.listener.getsockname()[1]
+        if self.kind == "closed":
+            self.listener.close()
+        else:
+            threading.Thread(target=self.serve, daemon=True).start()
+        return self
+
+    def __exit__(self, *error):
+        for one in self.open + ([self.listener] if self.listener and self.kind != "closed" else []):
+            one.close()
+
+    def serve(self):
+        peer, _ = self.listener.accept()
+        text = b""
+        while b"\r\n\r\n" not in text:
+            text += peer.recv(4096)
+        if self.kind == "hang":
+            self.open.append(peer)
+            return
+        peer.sendall(self.said())
+        if self.kind in ("reset", "broken"):
+            peer.setsockopt(socket.SOL_SOCKET, socket.SO_LINGER, struct.pack("ii", 1, 0))
+            threading.Timer(0.3, peer.close).start()
+        else:
+            peer.close()
+
+    def said(self):
+        if self.kind == "broken":
+            return b"HTTP/1.1 200 OK\r\nAccess-Control-Allow-Origin: *\r\nContent-Length: 9\r\n\r\nhi"
+        return b"" if self.kind == "reset" else self.kind
+
+    def scenario(self):
+        origin = cases.API if self.kind != b"" else "https://api.test:8443"
+        routes = [] if self.address is None else [[origin, self.address]]
+        return cases.scenario(cases.fetch(origin + "/x"), routes=routes)

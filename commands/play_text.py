@@ -1,0 +1,239 @@
+"""Reads the text of a play, as docs/rules/printed-text.md has it: the documents with their events, each with its lines, and
+the history. What is no play is refused with its line."""
+import re
+
+RESULT = re.compile(r"result (?:(error|failed) (?:(type-error) )?(\d+) (\w+)(?: (\S+))?|type-error (\d+) (\w+)(?: (\d+))?"
+                    r"|(loaded)|(basic|cors|opaque|opaqueredirect) (\d+) (.*))")
+BODY = re.compile(r"  body (?:(none)|(whole) (\d+): (.*)|(cut|fault) (\d+)|(toobig))")
+HEADER = re.compile(r"  ([^:]+): (.*)")
+
+
+class NoPlay(Exception):
+    """The line that is no line of a play, from 1."""
+
+    def __init__(self, line):
+        super().__init__("line %d is no line of a play" % line)
+        self.line = line
+
+
+class Event:
+    """One event of a document: its kind, its first and last line, from 1, and what its kind has."""
+
+    def __init__(self, kind, line, **parts):
+        self.kind = kind
+        self.line = self.last = line
+        self.__dict__.update(parts)
+
+
+class Result(Event):
+    """What a fetch or a load came to. `type` is that of the last result (docs/scenario.md); of an error or a fault there
+    are `number`, `name` and `detail`, and of a response `status`, `url`, `headers` and the `body`: how it ended, and its
+    bytes where it came whole."""
+
+    def __init__(self, line, found):
+        super().__init__("result", line)
+        error, load_fault, number, name, detail, fault, fault_name, index, loaded, kind, status, url = found.groups()
+        self.is_fault = bool(fault or load_fault)
+        self.number = int(number or fault or 0)
+        self.name = name or fault_name
+        self.detail = detail or index
+        self.type = kind or ("loaded" if loaded else error or "type-error")
+        self.status = int(status or 0)
+        self.url = None if url == "()" else url
+        self.headers = []
+        self.ending, self.body = None, None
+
+    def is_refused(self):
+        return self.number > 0
+
+    def short(self):
+        """As a test names it."""
+        if self.is_refused():
+            return " ".join(filter(None, ["type-error" if self.is_fault else "", str(self.number), self.name, self.detail]))
+        return self.type if self.type == "loaded" else "%s %d" % (self.type, self.status)
+
+
+class Fetch:
+    """A fetch or a load: its number, its kind (of a load), its events up to its result."""
+
+    def __init__(self, document, number, load, line):
+        self.document = document
+        self.number = number
+        self.load = load
+        self.line = line
+        self.events = []
+        self.command = None
+
+    @property
+    def result(self):
+        return self.events[-1]
+
+    @property
+    def name(self):
+        return "%s %d" % ("load" if self.load else "fetch", self.number)
+
+    def of(self, kind):
+        return [event for event in self.events if event.kind == kind]
+
+
+class Document:
+    def __init__(self, number, key, line):
+        self.number = number
+        self.key = key
+        self.line = line
+        self.fetches = []
+        self.ending = None
+
+
+class Play:
+    def __init__(self, lines):
+        self.lines = lines
+        self.documents = []
+        self.history = []
+
+    def fetches(self):
+        return [fetch for document in self.documents for fetch in document.fetches]
+
+    def requests(self):
+        return [event for fetch in self.fetches() for event in fetch.of("send")]
+
+
+def unescaped(text):
+    """The bytes of an escaped text."""
+    return re.sub(rb"\\x([0-9a-f]{2})", lambda found: bytes([int(found.group(1), 16)]), text.encode("latin-1"))
+
+
+def plain(text):
+    """An escaped text, a character for each byte."""
+    return unescaped(text).decode("latin-1")
+
+
+class Reader:
+    def __init__(self, text):
+        if not text.endswith("\n"):
+            raise NoPlay(text.count("\n") + 1)
+        self.lines = text.split("\n")[:-1]
+        self.at = 0
+
+    def line(self):
+        if self.at >= len(self.lines):
+            raise NoPlay(self.at)
+        self.at += 1
+        return self.lines[self.at - 1]
+
+    def refuse(self):
+        raise NoPlay(self.at)
+
+    def take(self, form):
+        """The next line, where it has this form."""
+        found = re.fullmatch(form, self.lines[self.at]) if self.at < len(self.lines) else None
+        self.at += found is not None
+        return found
+
+    def play(self):
+        play = Play(self.lines)
+        if self.line() != "fetchplay 1":
+            self.refuse()
+        while True:
+            found = self.take(r"document (\d+) (.*)")
+            if found is None:
+                break
+            play.documents.append(self.document(Document(int(found.group(1)), found.group(2), self.at)))
+        if self.line() != "history":
+            self.refuse()
+        while self.take(r"\d+ \d+ .*: (?:yes|no|done)"):
+            play.history.append(self.lines[self.at - 1])
+        if self.line() != "done" or self.at != len(self.lines):
+            self.refuse()
+        return play
+
+    def document(self, document):
+        while True:
+            found = self.take(r"(?:fetch (\d+)|load (\d+) (\w+))")
+            if found is None:
+                break
+            number = int(found.group(1) or found.group(2))
+            document.fetches.append(self.fetch(Fetch(document, number, found.group(3), self.at)))
+        found = self.take(r"end (.*)")
+        if found is None:
+            self.at += 1
+            self.refuse()
+        document.ending = found.group(1)
+        return document
+
+    def fetch(self, fetch):
+        while not fetch.events or fetch.events[-1].kind != "result":
+            event = self.event(self.line())
+            event.last = self.at
+            fetch.events.append(event)
+        return fetch
+
+    def event(self, line):
+        word = line.partition(" ")[0]
+        if word == "send":
+            return self.send(line)
+        if word == "call":
+            found = re.fullmatch(r"call (\w+) (.*): (\w+)", line)
+            return Event("call", self.at, op=found.group(1), words=found.group(2).split(" "), reply=found.group(3))
+        if word == "violation":
+            found = re.fullmatch(r"violation (\d+) (enforce|report) (\S+) (.*)", line)
+            return Event("violation", self.at, policy=int(found.group(1)), enforced=found.group(2) == "enforce",
+                         directive=found.group(3), url=found.group(4))
+        return self.result(line)
+
+    def send(self, line):
+        event = Event("send", self.at, origin=line.partition(" ")[2], headers=[], body=None)
+        event.method, target = re.fullmatch(r"  (\S+) (.*) HTTP/1\.1", self.line()).groups()
+        event.target = plain(target)
+        while event.body is None:
+            found = self.take(r"  body (\d+): (.*)")
+            if found:
+                event.body = unescaped(found.group(2))
+                break
+            found = self.take(HEADER)
+            if found is None:
+                break
+            event.headers.append((found.group(1), plain(found.group(2))))
+        return event
+
+    def result(self, line):
+        found = RESULT.fullmatch(line)
+        if found is None:
+            self.refuse()
+        result = Result(self.at, found)
+        if result.is_refused() or result.type == "loaded":
+            return result
+        while True:
+            ending = self.take(BODY)
+            if ending:
+                self.end_body(result, ending)
+                return result
+            header = self.take(HEADER)
+            if header is None:
+                self.at += 1
+                self.refuse()
+            result.headers.append((header.group(1), plain(header.group(2))))
+
+    @staticmethod
+    def end_body(result, found):
+        none, whole, _, text, broken, _, toobig = found.groups()
+        result.ending = none or whole or broken or toobig
+        result.body = unescaped(text) if whole else None
+
+
+def header_of(event, name):
+    """The value of a request's header, or None."""
+    return next((value for own, value in event.headers if own.lower() == name.lower()), None)
+
+
+def is_preflight(event):
+    return event.kind == "send" and event.method == "OPTIONS" and header_of(event, "Access-Control-Request-Method") is not None
+
+
+def read(text):
+    """The play of a text, whose bytes are characters (latin-1)."""
+    reader = Reader(text)
+    try:
+        return reader.play()
+    except (AttributeError, IndexError) as error:
+        raise NoPlay(reader.at) from error

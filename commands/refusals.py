@@ -1,0 +1,304 @@
+"""Why a scenario, or a test, is refused: the line, the column, and in a sentence what is wrong there and what to change; with
+the words that may stand there and what the schema says."""
+import difflib
+import json
+import re
+
+from commands import json_text
+
+ONLY_THE_PROGRAM = [
+    (r"/headers$", "these headers hold more than 16 policies: join some of them"),
+    (r"/(?:url|top)$", "this is no http or https URL without user name and password, and of at most 8,192 bytes"),
+    (r"/hsts/\d+/host$", "this is no domain as URLs have it: lower case, no address, no port"),
+    (r"/(?:origin|cookies/\d+/0|routes/\d+/0)$",
+     "this is no origin as URLs have it: scheme, ://, the host in lower case, and a port that is not the scheme's default"),
+    (r"/cookies/\d+/1$", "a cookie's value has 1 to 4,096 bytes"),
+    (r"/repeat$", "at most eight repeat stand inside each other: this is one more"),
+    (r"/if$", "at most sixteen if stand inside each other: this is one more"),
+]
+FAMILIAR = {"uri": "url", "href": "url", "src": "url", "type": "kind", "withcredentials": "credentials",
+            "sleep": "wait", "delay": "wait", "times": "repeat", "loop": "repeat", "data": "body", "code": "status",
+            "status_code": "status", "verb": "method", "target": "path", "response": "rules", "commands": "script",
+            "steps": "script", "pages": "documents", "version": "format", "cookie": "cookies", "host": "origin"}
+OWNERS = {"server": "a server", "rule": "a rule of a server", "fetch": "the fetch", "load": "the load",
+          "document1": "a document", "document2": "a document", "format1": "the scenario", "format2": "the scenario",
+          "host": "a known host"}
+TYPES = {"object": "an object", "array": "a list", "string": "a text", "integer": "a whole number", "boolean": "true or false"}
+GIVEN = {"object": "an object", "list": "a list", "string": "a text"}
+
+
+class Refusal:
+    """One line that says what to change, with its place; `more` are lines behind it."""
+
+    def __init__(self, text, at, place, sentence, more=()):
+        self.line, self.column = json_text.place_of(text, at)
+        self.place = place
+        self.sentence = sentence
+        self.more = list(more)
+        self.source = text.split("\n")[self.line - 1].rstrip("\r")
+
+    def told(self, name):
+        """The lines that tell it."""
+        first = "%s:%d:%d: %s" % (name, self.line, self.column, self.sentence)
+        source = self.source.replace("\t", " ")
+        start = max(0, self.column - 60)
+        shown = source[start:start + 100]
+        return [first, "    " + shown, "    " + " " * (self.column - 1 - start) + "^",
+                *("  " + line for line in ["place: " + self.place, *self.more])]
+
+    def data(self):
+        return {"line": self.line, "column": self.column, "place": self.place, "sentence": self.sentence, "more": self.more}
+
+
+def of_fault(text, fault):
+    return Refusal(text, fault.place, "json", fault.sentence)
+
+
+def of_place(text, root, place, schema):
+    """For the place that the program refuses."""
+    problems = schema.check(root)
+    near = [one for one in problems if one.place == place] or [one for one in problems if is_near(one.place, place)]
+    node = node_at(root, place)
+    if near:
+        refusal = of_problem(text, near[0], schema)
+        refusal.place = place
+        return refusal
+    sentence = next((sentence for form, sentence in ONLY_THE_PROGRAM if re.search(form, place)), "this is refused here")
+    return Refusal(text, node.start, place, sentence)
+
+
+def of_problem(text, problem, schema):
+    sentence = SENTENCES[problem.kind](problem, schema)
+    return Refusal(text, problem.node.start, problem.place, sentence, more_of(problem))
+
+
+def is_near(one, other):
+    return (one + "/").startswith(other.rstrip("/") + "/") or (other + "/").startswith(one.rstrip("/") + "/")
+
+
+def node_at(root, place):
+    """The node at a place; of a key that is missing the object that lacks it."""
+    node = root
+    for word in filter(None, place.split("/")):
+        if node.kind == "object":
+            inner = node.member(word)
+        else:
+            inner = node.items[int(word)] if word.isdigit() and int(word) < len(node.items) else None
+        if inner is None:
+            break
+        node = inner
+    return node
+
+
+def more_of(problem):
+    """What may stand there, and what the schema says."""
+    lines = []
+    if problem.kind == "word":
+        lines.append("allowed: " + ", ".join(map(shown, problem.wanted)))
+    if problem.kind == "unknown":
+        lines.append("keys here: " + ", ".join(problem.wanted))
+    if problem.described():
+        lines.append("schema: " + problem.described())
+    return lines
+
+
+def shown(value):
+    return json.dumps(value, ensure_ascii=False)
+
+
+def folded(word):
+    return re.sub(r"[-_ ]", "", word).lower()
+
+
+def nearest(word, known):
+    """The known word that is meant, or None."""
+    plain = {folded(one): one for one in known}
+    found = difflib.get_close_matches(folded(word), list(plain), 1, 0.7)
+    meant = FAMILIAR.get(word.lower())
+    return plain[found[0]] if found else meant if meant in known else None
+
+
+# ---- keys
+
+def unknown_key(problem, schema):
+    meant = nearest(problem.name, problem.wanted)
+    if meant is not None:
+        return 'the key "%s" is unknown here: write "%s"' % (problem.name, meant)
+    owner = next((OWNERS[one["is"]] for one in schema.owners(problem.name) if one["is"] in OWNERS), None)
+    if problem.name == "body_limit" or problem.name == "top":
+        return 'the key "%s" is of format 2: write "format": 2' % problem.name
+    if owner is not None:
+        return 'the key "%s" has no place here: it belongs in %s' % (problem.name, owner)
+    return 'the key "%s" is unknown here: take it out' % problem.name
+
+
+def missing_key(problem, schema):
+    return 'the key "%s" is missing in this object: add it' % problem.name
+
+
+def key_beside(problem, schema):
+    return 'the key "%s" does not stand beside "raw", which has the whole answer: take one of them out' % problem.name
+
+
+# ---- values
+
+def other_type(problem, schema):
+    node, wanted = problem.node, problem.wanted
+    if node.kind == "word" and node.value is None:
+        return "null is no value here: leave the key out"
+    given = GIVEN.get(node.kind, node.text)
+    return "%s belongs here, and here is %s: %s" % (TYPES[wanted], given, CHANGES[wanted](node, problem))
+
+
+def change_to_number(node, problem):
+    digits = re.fullmatch(r"\s*(\d+)(?:\.0*|\s*s(?:econds?)?)?\s*", str(node.value))
+    if node.kind == "string" and digits:
+        return "write %s without quotes" % digits.group(1)
+    if node.kind == "number":
+        return "write %d, without a fraction or an exponent" % max(0, round(node.value))
+    return "write its digits alone"
+
+
+def change_to_word(node, problem):
+    meant = {"true": "true", "yes": "true", "1": "true", "false": "false", "no": "false", "0": "false"}
+    word = meant.get(str(node.value).lower())
+    return "write %s without quotes" % word if word else "write one of the two"
+
+
+def change_to_text(node, problem):
+    if problem.is_of("route") or "routes" in problem.path:
+        return 'write the whole address, such as "127.0.0.1:%s"' % (node.text or 8000)
+    if node.kind in ("object", "list"):
+        return "write it as one text: %s" % shown(json.dumps(node.plain(), ensure_ascii=False))[:200]
+    return 'write "%s"' % node.text
+
+
+def change_to_list(node, problem):
+    if node.kind == "object" and problem.path[-1] in ("headers", "cookies", "routes"):
+        return "write a list of pairs: %s" % shown([list(pair) for pair in node.plain().items()])[:200]
+    if node.kind == "string" and isinstance(problem.path[-1], int) and ":" in node.value:
+        name, _, value = node.value.partition(":")
+        return "write a pair: %s" % shown([name.strip(), value.strip()])
+    if node.kind == "string" and isinstance(problem.path[-1], int):
+        return 'each item is a pair in a list of its own, such as [["%s", "..."]]' % node.value
+    return "put it into brackets, [ and ]"
+
+
+def change_to_object(node, problem):
+    if node.kind == "string" and problem.path and problem.path[-1] in ("fetch", "load"):
+        kind = '"kind": "image", ' if problem.path[-1] == "load" else ""
+        return 'write {%s"url": %s}' % (kind, shown(node.value))
+    if node.kind == "list" and len(node.items) == 1:
+        return "take the brackets away"
+    return "write its keys and values between { and }"
+
+
+CHANGES = {"integer": change_to_number, "boolean": change_to_word, "string": change_to_text, "array": change_to_list,
+           "object": change_to_object}
+
+
+def other_word(problem, schema):
+    given = problem.node
+    if given.kind == "word" and given.value is None:
+        return "null is no value here: leave the key out"
+    told = given.text or GIVEN[given.kind]
+    texts = [one for one in problem.wanted if isinstance(one, str) and one]
+    meant = nearest(given.value, texts) if given.kind == "string" and texts else None
+    if problem.path and problem.path[-1] == "format":
+        return "%s is no format: write 1, or 2" % told
+    if meant is not None:
+        return "%s is none of the words that may stand here: write %s" % (told, shown(meant))
+    return "%s is none of the words that may stand here: write one of %s" % (told, ", ".join(map(shown, texts or problem.wanted)))
+
+
+def other_number(problem, schema):
+    least, most = problem.wanted
+    given = problem.node.value
+    return "%d is too %s: write a number from %d to %d" % (given, "small" if given < least else "great", least, most)
+
+
+def other_length(problem, schema):
+    (least, most), count = problem.wanted, len(problem.node.items)
+    if (least, most) == (2, 2):
+        return "a pair has two parts, and here %s: write a list of two" % ("is one" if count == 1 else "are %d" % count)
+    if most is None or count < least:
+        return "at least %d belong here, and these are %d" % (least, count)
+    return "at most %d may stand here, and these are %d: take some out" % (most, count)
+
+
+def other_form(problem, schema):
+    keys = [key.value for key, _ in problem.node.members]
+    if problem.is_of("outcome"):
+        return 'this is none of the forms that may stand here: write a result in words, or {"result": "read"}'
+    commands = [key for key in keys if key in ("fetch", "load", "wait", "repeat", "if")]
+    if problem.is_of("condition"):
+        return 'this is no condition: write ["ok"], ["error"], ["type", "cors"], ["status", 404] or ["body", "done"]'
+    if len(commands) > 1:
+        return "a command has one of the keys %s alone: write a command for each" % " and ".join(commands)
+    if "url" in keys:
+        return 'this is no command: put it into one, {"fetch": {"url": ..}}'
+    return "this is no command: it has one of the keys fetch, load, wait, repeat and if"
+
+
+# ---- texts
+
+def other_text(problem, schema):
+    """A text that does not fit the form of its kind."""
+    value, path = problem.node.value, problem.path
+    for name, advice in ADVICE.items():
+        if problem.is_of(name):
+            return advice(value, problem)
+    if path[-1] in ("url", "top"):
+        return advice_on_url(value)
+    if path[-1] == "host":
+        return advice_on_host(value)
+    if path[-3:-2] == ["headers"] or path[-3:-2] == ["cookies"]:
+        return advice_on_header(value, path[-1])
+    return "this text is not as it must be"
+
+
+def advice_on_origin(value, problem):
+    bare = re.fullmatch(r"([A-Za-z][A-Za-z0-9+.-]*)://([^/?#]*@)?([^/?#@:]*|\[[^\]]*\])(:\d*)?([/?#].*)?", value)
+    if bare is None:
+        if "://" in value or not re.fullmatch(r"[A-Za-z0-9.-]+(:\d+)?/?", value):
+            return 'this is no origin: write scheme, host and port alone, such as "https://b.test:8443"'
+        return "the scheme is missing in this origin: write %s" % shown("https://" + value.rstrip("/").lower())
+    scheme, user, host, port, rest = bare.groups()
+    default = {"http": ":80", "https": ":443"}.get(scheme.lower())
+    if default is None:
+        return "an origin here is of http or https: write %s" % shown("https://" + host.lower() + (port or ""))
+    right = scheme.lower() + "://" + host.lower() + ("" if port in (None, ":", default) else port)
+    wrong = [text for text, holds in [
+        ("the %s at its end" % rest, rest), ("its user name", user), ("the port that its scheme has anyhow", port == default),
+        ("capital letters", (scheme + host).lower() != scheme + host)] if holds]
+    return "an origin is written without %s: write %s" % (" and ".join(wrong) or "this", shown(right))
+
+
+def advice_on_host(value):
+    right = re.sub(r"^[a-z]+://|[:/].*$", "", value.lower())
+    return "a known host is a domain alone, in lower case, no address and not localhost: write %s" % shown(
+        right if "." in right and not re.fullmatch(r"[0-9.]+", right) else "b.test")
+
+
+def advice_on_header(value, part):
+    if part == 0:
+        return "a header's name has no blank, colon or line end: write %s" % shown(re.sub(r"[^!#$%&'*+\-.^_`|~0-9A-Za-z]", "", value) or "X-A")
+    return "a header's value has no blank at its ends, and no line end or zero byte: write %s" % shown(
+        re.sub(r"[\r\n\0]+", " ", value).strip(" \t"))
+
+
+def advice_on_template(value, problem):
+    found = re.search(r"\$\{[^}]*\}?", value).group()
+    return "%s is no template: there are ${status}, ${type}, ${url}, ${body} and ${header:NAME}" % found
+
+
+def advice_on_url(value):
+    if re.match(r"[A-Za-z][A-Za-z0-9+.-]*:", value):
+        return "a document's URL is of http or https: write %s" % shown(re.sub(r"^[A-Za-z0-9+.-]+:/*", "https://", value))
+    return "a document's URL is a whole one: write %s" % shown(
+        "https://" + value.lstrip("/") if re.match(r"/*[a-z0-9-]+\.", value) else "https://a.test/" + value.lstrip("/"))
+
+
+ADVICE = {"origin": advice_on_origin, "template": advice_on_template}
+SENTENCES = {"unknown": unknown_key, "missing": missing_key, "beside": key_beside, "type": other_type, "word": other_word,
+             "number": other_number, "length": other_length, "form": other_form, "text": other_text}

@@ -1,0 +1,151 @@
+"""Passes the connections of a play on to the real servers, and keeps what each of them answered.
+
+For each address of the scenario's routes it listens at a port of the loopback, and the play is led there. How a connection
+ended is passed on: closed is closed, and what failed is reset. A server that is silent for too long is given up."""
+import re
+import selectors
+import socket
+import struct
+import threading
+
+PIECE = 65536
+CONNECT = 10  # seconds
+
+
+class Connection:
+    """One request and its answer, as bytes; `link` says how it went: done, refused, unknown-name, hang, reset."""
+
+    def __init__(self, address):
+        self.address = address
+        self.request = b""
+        self.answer = b""
+        self.link = "done"
+
+
+class Relay:
+    """Use it as a context; `own` are the addresses to play with, by those of the routes."""
+
+    def __init__(self, addresses, patience):
+        self.patience = patience
+        self.connections = []
+        self.own = {}
+        self.listeners = []
+        self.threads = []
+        for address in addresses:
+            if split(address) is not None:
+                listener = socket.create_server(("127.0.0.1", 0), backlog=128)
+                self.own[address] = "127.0.0.1:%d" % listener.getsockname()[1]
+                self.listeners.append((listener, address))
+
+    def __enter__(self):
+        for listener, address in self.listeners:
+            self.start(self.listen, listener, address)
+        return self
+
+    def __exit__(self, *error):
+        for listener, _ in self.listeners:
+            listener.shutdown(socket.SHUT_RDWR)
+            listener.close()
+        for thread in list(self.threads):
+            thread.join()
+
+    def start(self, work, *given):
+        thread = threading.Thread(target=work, args=given, daemon=True)
+        self.threads.append(thread)
+        thread.start()
+
+    def listen(self, listener, address):
+        while True:
+            try:
+                peer, _ = listener.accept()
+            except OSError:  # closed
+                return
+            connection = Connection(address)
+            self.connections.append(connection)
+            self.start(self.carry, peer, connection)
+
+    def carry(self, peer, connection):
+        server = None
+        try:
+            server = connect(connection)
+            if server is None:
+                peer.settimeout(self.patience)
+                connection.request = peer.recv(PIECE)
+            else:
+                connection.link = Carrier(peer, server, connection, self.patience).run()
+        except OSError:
+            connection.link = "reset"
+        if connection.link != "done":
+            reset(peer)
+        for one in filter(None, (peer, server)):
+            one.close()
+
+
+def split(address):
+    """The host and the port of an address; None where it is none."""
+    found = re.fullmatch(r"(\[[0-9A-Fa-f:.]+\]|[^\[\]:\s]+):(\d{1,5})", address)
+    if found is None or int(found.group(2)) > 65535:
+        return None
+    return found.group(1).strip("[]"), int(found.group(2))
+
+
+def connect(connection):
+    try:
+        return socket.create_connection(split(connection.address), CONNECT)
+    except socket.gaierror:
+        connection.link = "unknown-name"
+    except OSError:
+        connection.link = "refused"
+    return None
+
+
+def reset(peer):
+    """Closes it so that the other end sees a failure, and not an end."""
+    peer.setsockopt(socket.SOL_SOCKET, socket.SO_LINGER, struct.pack("ii", 1, 0))
+
+
+class Carrier:
+    """Carries bytes both ways until the program hangs up, which it does when it has what it needs."""
+
+    def __init__(self, peer, server, connection, patience):
+        self.peer, self.server = peer, server
+        self.connection = connection
+        self.patience = patience
+        self.has_ended = False  # the server
+        self.selector = selectors.DefaultSelector()
+        self.selector.register(peer, selectors.EVENT_READ)
+        self.selector.register(server, selectors.EVENT_READ)
+
+    def run(self):
+        """A word for how it went."""
+        with self.selector:
+            while True:
+                ready = [key.fileobj for key, _ in self.selector.select(self.patience)]
+                if not ready:
+                    return "done" if self.has_ended else "hang"
+                if self.server in ready and not self.take_answer():
+                    return "done"
+                if self.peer in ready and not self.take_request():
+                    return "done"
+
+    def take_request(self):
+        try:
+            data = self.peer.recv(PIECE)
+        except OSError:  # hung up with something unread
+            return False
+        self.connection.request += data
+        if data and not self.has_ended:
+            self.server.sendall(data)
+        return bool(data)
+
+    def take_answer(self):
+        data = self.server.recv(PIECE)
+        self.connection.answer += data
+        self.has_ended = not data
+        if self.has_ended:
+            self.selector.unregister(self.server)
+        try:
+            self.peer.sendall(data) if data else self.peer.shutdown(socket.SHUT_WR)
+        except OSError:  # hung up
+            return False
+        return True

@@ -1,0 +1,34 @@
+"""The results as a test names them."""
+import re
+
+NETWORK_ERRORS = ["Scheme", "BadPort", "Mixed", "CspRequest", "SameOriginMode", "NoCorsRedirectMode", "PreflightCors",
+                  "PreflightStatus", "PreflightList", "PreflightMethod", "PreflightHeader", "CorsCheck", "Corp",
+                  "RedirectMode", "BadLocation", "RedirectScheme", "TooManyRedirects", "RedirectCredentials", "CspResponse",
+                  "Mime", "NoSniff", "Integrity", "Coding", "LinkFault", "BadHead", "HeadTooBig"]
+FAULTS = ["BadUrl", "UrlCredentials", "BadMethod", "ForbiddenMethod", "BodyWithGet", "NoCorsMethod", "BadHeader",
+          "NavigateMode", "TooLong"]
+TYPES = ["basic", "cors", "opaque", "opaqueredirect", "loaded", "failed", "type-error"]
+WORDS = ["read", "refused"] + TYPES + NETWORK_ERRORS + FAULTS
+
+
+def is_met(wanted, result):
+    """Whether a result is what a test wants of it."""
+    if wanted == "read":
+        return result.type in ("basic", "cors", "loaded")
+    if wanted == "refused":
+        return result.is_refused()
+    got = result.short().split()
+    if result.is_refused() and result.type == "failed":
+        got = ["failed"] + got
+    words = wanted.split()
+    return any(got[start:start + len(words)] == words for start in range(len(got) - len(words) + 1))
+
+
+def unknown_word(wanted):
+    """The first word of a result that no result has, or None."""
+    words = wanted.split()
+    free = len(words) > 1 and words[-2] in ("PreflightHeader", "BadHeader")
+    for word in words[:-1] if free else words:
+        if word not in WORDS and not re.fullmatch(r"\d{1,3}", word):
+            return word
+    return None

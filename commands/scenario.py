@@ -1,0 +1,145 @@
+"""A scenario as it was read, and which command of its scripts each fetch of a play is."""
+import re
+from urllib.parse import urljoin, urlsplit
+
+MOST_COMMANDS = 16384
+FETCH = {"method": "GET", "mode": "cors", "credentials": "same-origin", "redirect": "follow", "headers": [], "body": None,
+         "integrity": ""}
+TEMPLATE = re.compile(r"\$\{(status|type|url|body|header:([^}]*))\}")
+DEFAULT_PORTS = {"http": 80, "https": 443}
+
+
+def origin_of(url):
+    """The serialised origin of an http or https URL, as far as a scenario's own URLs need it; None of another text."""
+    try:
+        parts = urlsplit(url.strip())
+        host, port = parts.hostname, parts.port
+    except ValueError:
+        return None
+    if parts.scheme not in DEFAULT_PORTS or not host:
+        return None
+    host = "[%s]" % host if ":" in host else host
+    return "%s://%s%s" % (parts.scheme, host, "" if port in (None, DEFAULT_PORTS[parts.scheme]) else ":%d" % port)
+
+
+def joined(url, base):
+    """A URL against another; an empty text where there is none."""
+    try:
+        return urljoin(base, url.strip())
+    except ValueError:
+        return ""
+
+
+class Command:
+    """A fetch or a load that a script made: `options` are its keys, with what stands for those that are missing; `url` is
+    its text after templates; `path` leads to it."""
+
+    def __init__(self, path, kind, given, last):
+        self.path = path
+        self.is_load = kind == "load"
+        self.options = {**FETCH, **given} if kind == "fetch" else load_options(given)
+        self.url = filled(given["url"], last)
+        self.body = None if self.options["body"] is None else filled(self.options["body"], last)
+        self.headers = [(name, filled(value, last)) for name, value in self.options["headers"]]
+
+    def includes(self):
+        return self.options["credentials"] == "include"
+
+
+def load_options(given):
+    """Mode and credentials mode of a load, by its kind and its attribute crossorigin."""
+    attribute = given.get("crossorigin")
+    cors = attribute is not None or given["kind"] in ("font", "manifest")
+    include = attribute == "use-credentials" or not cors
+    return {**FETCH, "mode": "cors" if cors else "no-cors", "credentials": "include" if include else "same-origin", **given}
+
+
+def filled(text, last):
+    """A text after its templates are replaced, of bytes; what is not there is empty."""
+    def value(found):
+        word, name = found.groups()
+        if name is not None:
+            values = [value for own, value in getattr(last, "headers", []) if own.lower() == name.lower()]
+            return ", ".join(values).encode("latin-1", "replace").decode("utf-8", "surrogateescape")
+        if word == "body":
+            return (getattr(last, "body", None) or b"").decode("utf-8", "surrogateescape")
+        return {"status": str(getattr(last, "status", 0)), "type": getattr(last, "type", "none"),
+                "url": getattr(last, "url", None) or ""}[word]
+    return TEMPLATE.sub(value, text)
+
+
+def holds(condition, last):
+    """Whether a condition holds of the last result."""
+    word, wanted = condition[0], condition[-1]
+    kind, status = getattr(last, "type", "none"), getattr(last, "status", 0)
+    if word == "ok":
+        return 200 <= status <= 299
+    if word == "error":
+        return kind in ("error", "type-error", "failed")
+    if word == "type":
+        return kind == wanted
+    if word == "status":
+        return status == wanted
+    return getattr(last, "body", None) == wanted.encode("utf-8")
+
+
+class Walk:
+    """Goes through a script as the program does: `step` gives the command of the next fetch or load, by the last result."""
+
+    def __init__(self, script, path):
+        self.last = None
+        self.started = 0
+        self.ahead = self.commands(script, path)
+
+    def step(self):
+        return next(self.ahead, None)
+
+    def commands(self, script, path):
+        for index, command in enumerate(script):
+            self.started += 1
+            if self.started > MOST_COMMANDS:
+                return
+            own = path + [index]
+            kind = next((word for word in ("fetch", "load") if word in command), None)
+            if kind:
+                yield Command(own + [kind], kind, command[kind], self.last)
+            elif "repeat" in command:
+                for _ in range(command["repeat"]):
+                    if self.started > MOST_COMMANDS:
+                        return
+                    yield from self.commands(command["do"], own + ["do"])
+            elif "if" in command:
+                way = "then" if holds(command["if"], self.last) else "else"
+                yield from self.commands(command.get(way, []), own + [way])
+
+
+class Scenario:
+    """`root` is its tree, and `data` the same as Python has it."""
+
+    def __init__(self, root):
+        self.root = root
+        self.data = root.plain()
+
+    def servers(self):
+        return self.data.get("servers", [])
+
+    def server_of(self, origin):
+        """The number of the first server of an origin, or None."""
+        return next((index for index, one in enumerate(self.servers()) if one["origin"] == origin), None)
+
+    def route_of(self, origin):
+        return next((address for own, address in self.data.get("routes", []) if own == origin), None)
+
+    def documents(self):
+        return self.data["documents"]
+
+    def top_of(self, document):
+        return origin_of(document.get("top", document["url"]))
+
+    def attach(self, play):
+        """Gives each fetch of a play its command."""
+        for played, document in zip(play.documents, self.documents()):
+            walk = Walk(document["script"], ["documents", played.number, "script"])
+            for fetch in played.fetches:
+                fetch.command = walk.step()
+                walk.last = fetch.result

@@ -1,0 +1,168 @@
+"""Checks a tree of json_text by a JSON Schema, as far as those of schema/ use one, and tells what does not fit: where, what
+may stand there, and what the schema says of it. Whole numbers are looked at as they are written: 1.0 is none."""
+import json
+import re
+
+KINDS = {"object": "object", "array": "list", "string": "string", "integer": "number", "boolean": "word"}
+
+
+class Problem:
+    """What does not fit. `place` is as the program tells it: keys and numbers after slashes, of a key that does not belong
+    the place of its object. `kind` is unknown, missing, type, word, number, length, text, form or beside; `schemas` are
+    those that hold at the place, and `name` is the key that is about."""
+
+    def __init__(self, kind, node, path, schemas, name=None, wanted=None):
+        self.kind = kind
+        self.node = node
+        self.path = path
+        self.schemas = schemas
+        self.name = name
+        self.wanted = wanted
+
+    @property
+    def place(self):
+        path = self.path + [self.name] if self.kind == "missing" else self.path
+        return "/" + "/".join(map(str, path))
+
+    def described(self):
+        """The schema's sentence."""
+        return next((one["description"] for one in self.schemas if isinstance(one, dict) and "description" in one), "")
+
+    def is_of(self, name):
+        """Whether the definition of this name holds here."""
+        return any(isinstance(one, dict) and one.get("is") == name for one in self.schemas)
+
+
+class Schema:
+    def __init__(self, path):
+        with open(path, encoding="utf-8") as file:
+            self.root = json.load(file)
+        for name, one in self.root["$defs"].items():
+            one["is"] = name
+        self.patterns = {}
+
+    def check(self, root):
+        """The problems of a tree, in the order of their places; one for each node and each key that it lacks."""
+        found = {}
+        for problem in self.problems(root, self.root, []):
+            found.setdefault((problem.node.start, problem.name if problem.kind == "missing" else None), problem)
+        return sorted(found.values(), key=lambda problem: problem.node.start)
+
+    def linked(self, schema):
+        """The schema itself, and what it refers to."""
+        if schema is False or "$ref" not in schema:
+            return [schema]
+        own = {key: value for key, value in schema.items() if key != "$ref"}
+        return [own] + self.linked(self.root["$defs"][schema["$ref"].rpartition("/")[2]])
+
+    def problems(self, node, schema, path):
+        schemas = self.linked(schema)
+        for one in schemas:
+            yield from self.own(node, one, path, schemas)
+
+    def own(self, node, schema, path, schemas):
+        if schema is False:
+            yield Problem("beside", node, path, schemas)
+            return
+        if "type" in schema and not is_of_type(node, schema["type"]):
+            yield Problem("type", node, path, schemas, wanted=schema["type"])
+            return
+        allowed = schema.get("enum", [schema["const"]] if "const" in schema else None)
+        if allowed is not None and not any(is_equal(node, value) for value in allowed):
+            yield Problem("word", node, path, schemas, wanted=allowed)
+        inside = {"object": self.of_object, "list": self.of_list, "string": self.of_text, "number": self.of_number}
+        if node.kind in inside:
+            yield from inside[node.kind](node, schema, path, schemas)
+        yield from self.of_conditions(node, schema, path)
+        yield from self.of_alternatives(node, schema, path, schemas)
+
+    def of_object(self, node, schema, path, schemas):
+        properties = schema.get("properties", {})
+        for key, value in node.members:
+            own = properties.get(key.value)
+            if own is False:
+                yield Problem("beside", key, path, schemas, name=key.value)
+            elif own is None and schema.get("additionalProperties") is False:
+                yield Problem("unknown", key, path, schemas, name=key.value, wanted=list(properties))
+            elif own is None and isinstance(schema.get("additionalProperties"), dict):
+                yield from self.problems(value, schema["additionalProperties"], path + [key.value])
+            elif own is not None and node.member(key.value) is value:
+                yield from self.problems(value, own, path + [key.value])
+        for name in schema.get("required", []):
+            if node.member(name) is None:
+                yield Problem("missing", node, path, self.linked(properties.get(name, {})), name=name)
+
+    def of_list(self, node, schema, path, schemas):
+        least, most = schema.get("minItems", 0), schema.get("maxItems", len(node.items))
+        if not least <= len(node.items) <= most:
+            yield Problem("length", node, path, schemas, wanted=(least, schema.get("maxItems")))
+            return
+        first = schema.get("prefixItems", [])
+        for index, item in enumerate(node.items):
+            own = first[index] if index < len(first) else schema.get("items")
+            if own:
+                yield from self.problems(item, own, path + [index])
+
+    def of_text(self, node, schema, path, schemas):
+        length = len(node.value)
+        if not schema.get("minLength", 0) <= length <= schema.get("maxLength", length) or not self.fits(node.value, schema):
+            yield Problem("text", node, path, schemas)
+
+    def fits(self, text, schema):
+        if "pattern" not in schema:
+            return True
+        if schema["pattern"] not in self.patterns:
+            self.patterns[schema["pattern"]] = re.compile(schema["pattern"])
+        return self.patterns[schema["pattern"]].search(text) is not None
+
+    @staticmethod
+    def of_number(node, schema, path, schemas):
+        least, most = schema.get("minimum", node.value), schema.get("maximum", node.value)
+        if not least <= node.value <= most:
+            yield Problem("number", node, path, schemas, wanted=(least, most))
+
+    def of_conditions(self, node, schema, path):
+        if "if" in schema:
+            holds = not any(self.problems(node, schema["if"], path))
+            branch = schema.get("then" if holds else "else")
+            if branch is not None:
+                yield from self.problems(node, branch, path)
+
+    def of_alternatives(self, node, schema, path, schemas):
+        forms = schema.get("oneOf", [])
+        if not forms or sum(not any(self.problems(node, one, path)) for one in forms) == 1:
+            return
+        meant = [one for one in forms if self.is_meant(node, one)]
+        if len(meant) == 1:
+            yield from self.problems(node, meant[0], path)
+        else:
+            yield Problem("form", node, path, schemas, wanted=forms)
+
+    def is_meant(self, node, form):
+        """Whether a node begins as an alternative does: by a key that it must have, or by its first item."""
+        for one in self.linked(form):
+            if node.kind == "object" and any(key.value in one.get("required", []) for key, _ in node.members):
+                return True
+            first = one["const"][:1] if "const" in one else [part.get("const") for part in one.get("prefixItems", [])[:1]]
+            if node.kind == "list" and node.items and first and is_equal(node.items[0], first[0]):
+                return True
+            if node.kind not in ("object", "list") and one.get("type") and is_of_type(node, one["type"]):
+                return True
+        return False
+
+    def owners(self, name):
+        """The definitions that have this key."""
+        return [one for one in self.root["$defs"].values() if name in one.get("properties", {})]
+
+
+def is_of_type(node, kind):
+    if node.kind != KINDS[kind]:
+        return False
+    return {"integer": node.is_whole(), "boolean": isinstance(node.value, bool)}.get(kind, True)
+
+
+def is_equal(node, value):
+    if isinstance(value, list):
+        return node.kind == "list" and len(node.items) == len(value) and all(map(is_equal, node.items, value))
+    same = node.kind in ("string", "number", "word") and type(node.value) is type(value) and node.value == value
+    return same and (node.kind != "number" or node.is_whole())

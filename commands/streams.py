@@ -1,0 +1,49 @@
+"""What the commands read and print. Where the reader of what is printed is gone nothing more is said."""
+import argparse
+import os
+import signal
+import sys
+
+
+def read(path):
+    """All bytes of a file; of standard input where no file is named."""
+    if path is None or path == "-":
+        if sys.stdin.isatty():
+            print("(standard input, up to Ctrl-D)", file=sys.stderr)
+        return sys.stdin.buffer.read()
+    with open(path, "rb") as file:
+        return file.read()
+
+
+def write(text):
+    sys.stdout.buffer.write(text.encode("utf-8", "surrogateescape"))
+
+
+def complain(status, text):
+    """Says it on standard error, and gives the status."""
+    sys.stdout.flush()
+    sys.stderr.buffer.write((text + "\n").encode("utf-8", "surrogateescape"))
+    return status
+
+
+def run(main):
+    """Ends the program with the status of `main`, also where a pipe is closed or Ctrl-C is pressed."""
+    try:
+        status = main()
+        sys.stdout.flush()
+        sys.stderr.flush()
+    except BrokenPipeError:
+        status = 128 + signal.SIGPIPE
+    except KeyboardInterrupt:
+        status = 128 + signal.SIGINT
+    if status >= 128:
+        os.dup2(os.open(os.devnull, os.O_WRONLY), 1)
+        os.dup2(os.open(os.devnull, os.O_WRONLY), 2)
+    sys.exit(status)
+
+
+def seconds(word):
+    number = float(word)
+    if not 0 < number <= 3600:
+        raise argparse.ArgumentTypeError("more than 0 and at most 3600 seconds")
+    return number

@@ -1,0 +1,96 @@
+"""A play with the answers of the servers and the explanations between its lines. Each line that is not of the play begins
+with `<` or `#`, so the play is what is left without them."""
+from commands import answers
+from commands.case import Case
+from commands.explanations import explain
+
+LONGEST = 200
+
+
+class Told:
+    """All that is known of a play. `answer_of(request)` gives the answer to a request, or None."""
+
+    def __init__(self, scenario, play, answer_of, is_net=False):
+        scenario.attach(play)
+        self.play = play
+        self.cases = []
+        for fetch in play.fetches():
+            exchanges = [(request, answer_of(request)) for request in fetch.of("send")]
+            case = Case(scenario, fetch, exchanges, is_net)
+            case.explanation = explain(case)
+            self.cases.append(case)
+
+    def text(self):
+        """The lines, each with its end."""
+        behind = {}
+        for case in self.cases:
+            for request, answer in case.exchanges:
+                behind.setdefault(request.last, []).extend("< " + line for line in answer_lines(answer))
+            if case.explanation:
+                behind.setdefault(case.result.last, []).extend("# " + line for line in case.explanation.lines())
+        lines = []
+        for number, line in enumerate(self.play.lines, 1):
+            lines += [line] + behind.get(number, [])
+        return "".join(line + "\n" for line in lines)
+
+    def data(self):
+        return [case_data(case) for case in self.cases]
+
+
+def shown(data):
+    """Bytes on one line, as they are where they can be shown, else by their numbers."""
+    text = "".join(chr(byte) if 32 <= byte < 127 else "\\x%02x" % byte for byte in data[:LONGEST])
+    return text + (" ... (%d bytes more)" % (len(data) - LONGEST) if len(data) > LONGEST else "")
+
+
+def answer_lines(answer):
+    """The head as it came, and how long the body is."""
+    if answer is None:
+        return []
+    if answer.head is None:
+        return [shown(answer.data)] if answer.data else ["(nothing came)"]
+    lines = answer.data[:answer.head.end].strip(b"\r\n").splitlines()
+    return [shown(line) for line in lines] + ["(%d bytes follow)" % (len(answer.data) - answer.head.end)]
+
+
+def case_data(case):
+    result = case.result
+    return {
+        "document": case.fetch.document.number, case.fetch.name.split()[0]: case.fetch.number,
+        "line": case.fetch.line, "url": case.command.url, "result": result.short(), "type": result.type,
+        "status": result.status, "headers": result.headers,
+        "body": None if result.body is None else result.body.decode("utf-8", "replace"),
+        "requests": [request_data(request, answer) for request, answer in case.exchanges],
+        "why": case.explanation.data() if case.explanation else None,
+    }
+
+
+def request_data(request, answer):
+    head = answer.head if answer else None
+    return {"origin": request.origin, "method": request.method, "target": request.target, "headers": request.headers,
+            "answer": None if head is None else {"status": head.status, "headers": head.headers}}
+
+
+def scripted(scenario, play):
+    return Told(scenario, play, lambda request: answers.scripted(scenario, request))
+
+
+class Recorded:
+    """The answers that a relay has kept, for the requests of a play: each request takes the first connection that carried it."""
+
+    def __init__(self, scenario, relay):
+        self.scenario = scenario
+        self.left = list(relay.connections)
+
+    def answer_of(self, request):
+        address = self.scenario.route_of(request.origin)
+        head = ("%s %s HTTP/1.1\r\nHost: %s\r\n" % (request.method, request.target, request.origin.partition("://")[2]))
+        for connection in self.left:
+            if connection.address == address and connection.request.startswith(head.encode("latin-1")):
+                self.left.remove(connection)
+                return answers.Answer(connection.answer, link=connection.link)
+        return answers.Answer(b"", link="bad-address" if address is not None else "no-route")
+
+
+def recorded(scenario, play, relay):
+    return Told(scenario, play, Recorded(scenario, relay).answer_of, is_net=True)
