@@ -5,7 +5,7 @@ ghost use Rattle.wf_fetch_acts.specs.Within.{asks, price_of};
 ghost use Rattle.wf_fetch_acts.specs.declared.act.Act.TheVariants.{Ask};
 ghost use Rattle.wf_book.specs.Ops.{InRange};
 ghost use Rattle.wf_link_wire.specs.Wires.{over_link};
-ghost use Rattle.wf_player.specs.Standings.{IsReady, Keeps, world};
+ghost use Rattle.wf_player.specs.Standings.{IsReady, Keeps, KeepsPass, world};
 ghost use Rattle.wf_player.specs.Worlds.{Answers, CanAnswer, IsAsked, IsRefusedCall, Refuses, outside_of};
 
 use crate::lent::Lent;
@@ -31,10 +31,7 @@ fn ask<R: Threads + Wait + Sync, S: Share>(
     ensures fits { IfOk result (λ input. IsTrue (fits (Ask op.now) input)) }
     ensures refused { OnErr result (IsRefusedCall (S.account pass.old).own (S.account pass.new).own
         (S.account pass.old).left (S.account pass.new).left) }
-    ensures few { (S.account pass.old).left ≤ (S.account pass.new).left + 1 }
-    ensures belongs { S.belongs lent.now.share.now pass.new }
-    ensures same { ((S.account pass.new).document ≡ (S.account pass.old).document)
-        × ((S.account pass.new).opening ≡ (S.account pass.old).opening) }
+    ensures kept { KeepsPass S.account (S.belongs lent.now.share.now) 1 pass.old pass.new }
 {
     let op = op.copy(*lent.alloc)?;
     let reply = lent.share.call(lent.rt, *lent.alloc, pass, op)?;
