@@ -71,13 +71,13 @@ def lessons(count):
     allowed = [['Access-Control-Allow-Origin', '*'], ['Access-Control-Allow-Methods', 'PUT'],
                ['Access-Control-Allow-Headers', names], ['Access-Control-Max-Age', '0']]
     fetch = {'fetch': {'url': 'https://b.test/', 'method': 'PUT'}}
-    return scenario([document([{'repeat': 1024, 'do': [fetch]}]) for _ in range(count)],
+    return scenario([document([{'repeat': 1000, 'do': [fetch]}]) for _ in range(count)],
                     servers=[server([{'status': 200, 'headers': allowed}], 'https://b.test')])
 
 
 def redirects(count):
     load = {'load': {'kind': 'image', 'url': '/'}}
-    return scenario([document([{'repeat': 1024, 'do': [load]}]) for _ in range(count)],
+    return scenario([document([{'repeat': 1000, 'do': [load]}]) for _ in range(count)],
                     servers=[server([{'status': 302, 'headers': [['Location', '/']]}])])
 
 
