@@ -1,3 +1,4 @@
+ghost use Rattle.std.specs.Arc.{arc_value};
 ghost use Rattle.std.specs.Prelude.{◌≡◌, ◌≤◌, [], false, None, Ok, IsErr, IsNone};
 ghost use Rattle.std.specs.Io.{ReadsAtMost};
 ghost use Rattle.wf_link.specs.Counts.{HasCause};
@@ -9,6 +10,7 @@ use std::io::{Read, Write};
 use std::marker::Model;
 use std::net::{Net, OpenStream, TcpStream, ToSocketAddrs};
 use std::str;
+use std::sync::Arc;
 use std::time::Duration;
 use wf_link::{Failed, Faults, Link, Routes, Target};
 
@@ -18,13 +20,14 @@ use wf_link::{Failed, Faults, Link, Routes, Target};
 pub struct TcpLink<R: Net> {
     network: R,
     document: u32,
-    routes: Routes,
+    routes: Arc<Routes>,
     stream: Option<R::Stream>,
     tried: u64,
     faults: Faults,
 }
 
 impl<R: Net> Model for TcpLink<R> {
+    ghost use Rattle.std.specs.Arc.{arc_value};
     ghost use Rattle.std.specs.Prelude.{is_some};
     ghost use Rattle.wf_tcp.specs.TcpLink.{TcpLinkState};
 
@@ -32,7 +35,7 @@ impl<R: Net> Model for TcpLink<R> {
 
     ghost view = { λ link. record {
       document = link.document;
-      routes = link.routes;
+      routes = arc_value link.routes;
       is_open = is_some link.stream;
       tried = link.tried;
       faults = link.faults;
@@ -67,8 +70,8 @@ fn send<R: Net>(network: &R, address: &[u8], request: &[u8]) -> Option<R::Stream
 
 impl<R: Net> TcpLink<R> {
     // A link for a document by these routes, with no connection yet.
-    pub(crate) fn new(network: R, document: u32, routes: Routes) -> TcpLink<R>
-        ensures { result ≡ opened document routes }
+    pub(crate) fn new(network: R, document: u32, routes: Arc<Routes>) -> TcpLink<R>
+        ensures { result ≡ opened document (arc_value routes) }
     {
         TcpLink {
             network,

@@ -3,19 +3,21 @@ ghost use Rattle.wf_link.specs.Counts.{grown_by};
 ghost use Rattle.wf_tcp.specs.TcpLink.{opened};
 
 use crate::link::TcpLink;
-use crate::routes::copy_of;
+use crate::routes::shared;
 use std::alloc::Global;
 use std::marker::Model;
 use std::net::Net;
+use std::sync::Arc;
 use wf_link::{Links, Routes};
 use wf_text::OutOfMemory;
 
 /// Links over TCP, seen as how often those taken back had failed. It tells each link that
-/// it makes, and not those that it took back.
+/// it makes, and not those that it took back. Links that are made by the same routes share them.
 #[derive(Drop)]
 pub struct TcpLinks<R: Net> {
     network: R,
     faults: u64,
+    shared: Option<Arc<Routes>>,
 }
 
 impl<R: Net> Model for TcpLinks<R> {
@@ -31,7 +33,11 @@ impl<R: Net> TcpLinks<R> {
     pub fn new(network: R) -> TcpLinks<R>
         ensures { result ≡ 0 }
     {
-        TcpLinks { network, faults: 0 }
+        TcpLinks {
+            network,
+            faults: 0,
+            shared: None,
+        }
     }
 
     /// How often the links taken back had failed.
@@ -54,7 +60,7 @@ where
 
     ghost faults = { λ links. links };
 
-    /// A link for the document, with a copy of the routes, or `OutOfMemory`. It is not connected yet.
+    /// A link for the document by these routes, or `OutOfMemory`. It is not connected yet.
     fn make(
         &mut self,
         alloc: Global,
@@ -64,7 +70,9 @@ where
         ensures made { IfOk result (λ link. link ≡ opened document routes.now) }
         ensures unchanged { self.new ≡ self.old }
     {
-        Ok(TcpLink::new(self.network, document, copy_of(alloc, routes)?))
+        let routes = shared(alloc, self.shared.as_ref(), routes)?;
+        self.shared = Some(Arc::try_clone(&routes)?);
+        Ok(TcpLink::new(self.network, document, routes))
     }
 
     /// Counts the faults of the link, and closes its connection.
