@@ -191,14 +191,19 @@ function compareCommand(scenario, browser, ours, theirs) {
     ...resultDifferences(browser, ours, theirs, statusOf(scenario, ours.requests))];
 }
 
+// One command of both sides, compared.
+function compared(scenario, browser, place, engine, theirs) {
+  return { place, engine, browser: theirs, differences: compareCommand(scenario, browser, engine, theirs) };
+}
+
 // The commands of both sides by their places, each with its differences.
 function comparePlays(scenario, engine, played) {
   const places = [...new Set([...engine, ...played.commands].map((command) => command.place))];
   return places.map((place) => {
     const ours = engine.find((command) => command.place === place);
     const theirs = played.commands.find((command) => command.place === place);
-    return { place, engine: ours, browser: theirs, differences: compareCommand(scenario, played.browser, ours, theirs) };
+    return compared(scenario, played.browser, place, ours, theirs);
   });
 }
 
-module.exports = { comparePlays, violationDifferences, isUnasked };
+module.exports = { comparePlays, compared, violationDifferences, isUnasked };

@@ -17,13 +17,15 @@ function contextOf(scenario, browser, commands, index) {
     ours: engine, theirs, before: commands.slice(0, index) };
 }
 
-// The compared commands, each difference with its rule.
+// One of the compared commands, each difference with its rule.
+function explainedAt(scenario, browser, commands, index) {
+  const context = contextOf(scenario, browser, commands, index);
+  const differences = commands[index].differences.map((difference) => ({ ...difference, rule: ruleFor(difference, context) }));
+  return { ...commands[index], differences };
+}
+
 function explained(scenario, browser, commands) {
-  return commands.map((compared, index) => {
-    const context = contextOf(scenario, browser, commands, index);
-    const differences = compared.differences.map((difference) => ({ ...difference, rule: ruleFor(difference, context) }));
-    return { ...compared, differences };
-  });
+  return commands.map((_, index) => explainedAt(scenario, browser, commands, index));
 }
 
 function unexplained(commands) {
@@ -31,4 +33,4 @@ function unexplained(commands) {
     .map((difference) => ({ place: compared.place, ...difference })));
 }
 
-module.exports = { explained, unexplained };
+module.exports = { explained, explainedAt, unexplained };

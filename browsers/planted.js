@@ -3,8 +3,8 @@
 // Plants differences in the engine's play of a scenario, one at a time: an Origin header changed, a preflight left out, a
 // violation more, and others. No rule may explain one, or the rules are too wide.
 
-const { comparePlays } = require("./compare.js");
-const { explained, unexplained } = require("./explained.js");
+const { comparePlays, compared } = require("./compare.js");
+const { explainedAt } = require("./explained.js");
 const { policiesOf } = require("./scenario.js");
 
 const STRANGER = "https://planted.test";
@@ -70,23 +70,30 @@ function responsesChanged({ result }) {
 
 const KINDS = [requestsChanged, preflightsLeftOut, requestMore, violationsMore, responsesChanged];
 
-// Each changed play of a scenario, with the place of the changed command.
-function plantedPlays(scenario, commands) {
-  return commands.flatMap((command, at) => KINDS.flatMap((kind) => kind(command, scenario.documents[0]))
-    .map((change) => ({ place: command.place, commands: withAt(commands, at, { ...command, ...change }) })));
+// The changed forms of a command.
+function changedForms(command, document) {
+  return KINDS.flatMap((kind) => kind(command, document)).map((change) => ({ ...command, ...change }));
 }
 
-const differencesAt = (compared, place) => compared.find((one) => one.place === place).differences.length;
+// How many differences were planted in a command, and how many of them no rule explains. A change that brings the play no
+// farther from the browser's plants none: the browser differs there by itself.
+function foundAt(scenario, played, plain, at) {
+  const { place, engine, browser, differences } = plain[at];
+  const farther = changedForms(engine, scenario.documents[0])
+    .map((changed) => compared(scenario, played.browser, place, changed, browser))
+    .filter((changed) => changed.differences.length > differences.length);
+  const isFound = (changed) => explainedAt(scenario, played.browser, withAt(plain, at, changed), at).differences
+    .some((difference) => difference.rule === null);
+  return { planted: farther.length, found: farther.filter(isFound).length };
+}
 
-// How many differences were planted, and how many of them no rule explains. A change that brings the play no farther from
-// the browser's plants none: the browser differs there by itself.
+// The same of all commands that both sides have played.
 function foundPlanted(scenario, commands, played) {
   const plain = comparePlays(scenario, commands, played);
-  const compared = plantedPlays(scenario, commands).map((play) => ({ place: play.place,
-    commands: comparePlays(scenario, play.commands, played) }));
-  const farther = compared.filter((play) => differencesAt(play.commands, play.place) > differencesAt(plain, play.place));
-  const found = farther.filter((play) => unexplained(explained(scenario, played.browser, play.commands)).length > 0);
-  return { planted: farther.length, found: found.length };
+  const sums = plain.map((one, at) => (one.engine === undefined || one.browser === undefined ? { planted: 0, found: 0 }
+    : foundAt(scenario, played, plain, at)));
+  return sums.reduce((sum, one) => ({ planted: sum.planted + one.planted, found: sum.found + one.found }),
+    { planted: 0, found: 0 });
 }
 
 module.exports = { foundPlanted };

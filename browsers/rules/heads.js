@@ -95,7 +95,7 @@ module.exports = [
     explains: (difference) => difference.what === "spelling" && difference.name === "range",
   },
   {
-    name: "spelling-of-accept", browsers: ["firefox"], section, scenario: "request-heads/spelling-of-names",
+    name: "spelling-of-accept", browsers: ["firefox"], section, scenario: "request-heads/spelling-of-accept",
     says: "Accept is spelled anew",
     explains: (difference) => difference.what === "spelling" && difference.name === "accept",
   },
