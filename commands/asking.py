@@ -82,9 +82,10 @@ def why(self, name, data, given):
             "warnings": [{"line": line, "column": column, "sentence": sentence} for (line, column), sentence in warnings],
             "fetches": all_told.data()}, indent=1, ensure_ascii=False) + "\n")
         return 0
-    for (line, column), sentence in warnings:
-        streams.write("# warning: %s:%d:%d: %s\n" % (name, line, column, sentence))
-    streams.write(all_told.text())
+    streams.write_lines("# warning: %s:%d:%d: %s" % (name, line, column, sentence) for (line, column), sentence in warnings)
+    for line, own in all_told.pieces():
+        streams.write_play(line)
+        streams.write_lines(own)
     return 0
 
 

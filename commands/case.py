@@ -10,8 +10,6 @@ from commands.play_text import header_of, is_preflight
 from commands.scenario import joined, origin_of
 
 ALGORITHMS = ("sha256", "sha384", "sha512")
-BAD_URL_LENGTH = 8192
-CORS_HEADERS = {"cache-control", "content-language", "content-length", "content-type", "expires", "last-modified", "pragma"}
 
 
 class Case:
@@ -269,10 +267,6 @@ class Case:
         return [name for name, _ in (self.head.headers if self.head else [])
                 if name.lower() not in seen and not name.lower().startswith("access-control-")]
 
-    @property
-    def hidden_text(self):
-        return ", ".join(dict.fromkeys(self.hidden))
-
     # ---- links
 
     @property
@@ -314,10 +308,6 @@ class Case:
     @property
     def bad_name(self):
         return self.bad_header[0]
-
-    @property
-    def bad_value(self):
-        return self.bad_header[1]
 
     # ---- what the table's texts say besides
 

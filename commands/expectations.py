@@ -47,7 +47,8 @@ def check(text, root):
     schema = schema_of_tests()
     problems = schema.check(root)
     if problems:
-        raise Wrong(refusals.of_problem(text, problems[0], schema))
+        first = min(problems, key=lambda problem: problem.kind == "missing")  # that may be a misspelt one
+        raise Wrong(refusals.of_problem(text, first, schema))
     for key, value in root.member("expect").members:
         if key.value in ("sent", "never sent"):
             continue
@@ -63,8 +64,10 @@ def check(text, root):
 
 
 def scenario_of(node, text, path):
+    """The bytes of the scenario, and the name of its file. Of one that stands in the test the places are those of the test."""
     if node.kind == "object":
-        return text[node.start:node.end].encode("utf-8"), "the scenario of %s" % (path or "standard input")
+        before = re.sub(r"[^\n]", " ", text[:node.start])
+        return (before + text[node.start:node.end]).encode("utf-8"), path or "standard input"
     name = os.path.join(os.path.dirname(path or ""), node.value)
     try:
         with open(name, "rb") as file:

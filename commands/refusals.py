@@ -5,6 +5,7 @@ import json
 import re
 
 from commands import json_text
+from commands.streams import CONTROL
 
 ONLY_THE_PROGRAM = [
     (r"/headers$", "these headers hold more than 16 policies: join some of them"),
@@ -40,7 +41,7 @@ class Refusal:
     def told(self, name):
         """The lines that tell it."""
         first = "%s:%d:%d: %s" % (name, self.line, self.column, self.sentence)
-        source = self.source.replace("\t", " ")
+        source = CONTROL.sub(" ", self.source)
         start = max(0, self.column - 60)
         shown = source[start:start + 100]
         return [first, "    " + shown, "    " + " " * (self.column - 1 - start) + "^",
@@ -145,7 +146,7 @@ def key_beside(problem, schema):
 def other_type(problem, schema):
     node, wanted = problem.node, problem.wanted
     if node.kind == "word" and node.value is None:
-        return "null is no value here: leave the key out"
+        return "null is no value here: write one, or leave the key out"
     given = GIVEN.get(node.kind, node.text)
     return "%s belongs here, and here is %s: %s" % (TYPES[wanted], given, CHANGES[wanted](node, problem))
 
@@ -200,7 +201,7 @@ CHANGES = {"integer": change_to_number, "boolean": change_to_word, "string": cha
 def other_word(problem, schema):
     given = problem.node
     if given.kind == "word" and given.value is None:
-        return "null is no value here: leave the key out"
+        return "null is no value here: write one, or leave the key out"
     told = given.text or GIVEN[given.kind]
     texts = [one for one in problem.wanted if isinstance(one, str) and one]
     meant = nearest(given.value, texts) if given.kind == "string" and texts else None

@@ -1,8 +1,18 @@
 """What the commands read and print. Where the reader of what is printed is gone nothing more is said."""
 import argparse
 import os
+import re
 import signal
 import sys
+
+
+# What a terminal takes for an order, or turns lines around.
+CONTROL = re.compile("[\x00-\x1f\x7f-\x9f\u2028-\u202e\u2066-\u2069]")
+
+
+def printable(text):
+    """A line in which control characters are told by their numbers: a server's answer may have any."""
+    return CONTROL.sub(lambda found: "\\x%02x" % ord(found.group()), text)
 
 
 def read(path):
@@ -16,13 +26,24 @@ def read(path):
 
 
 def write(text):
-    sys.stdout.buffer.write(text.encode("utf-8", "surrogateescape"))
+    sys.stdout.buffer.write(text.encode("utf-8", "backslashreplace"))
+
+
+def write_play(line):
+    """A line of a play, as its bytes are."""
+    sys.stdout.buffer.write((line + "\n").encode("latin-1"))
+
+
+def write_lines(lines):
+    """Lines of our own."""
+    write("".join(printable(line) + "\n" for line in lines))
 
 
 def complain(status, text):
     """Says it on standard error, and gives the status."""
     sys.stdout.flush()
-    sys.stderr.buffer.write((text + "\n").encode("utf-8", "surrogateescape"))
+    lines = [printable(line) + "\n" for line in text.split("\n")]
+    sys.stderr.buffer.write("".join(lines).encode("utf-8", "backslashreplace"))
     return status
 
 

@@ -4,7 +4,7 @@ from commands import answers
 from commands.case import Case
 from commands.explanations import explain
 
-LONGEST = 200
+LONGEST = 200  # bytes of a line
 
 
 class Told:
@@ -20,18 +20,16 @@ class Told:
             case.explanation = explain(case)
             self.cases.append(case)
 
-    def text(self):
-        """The lines, each with its end."""
+    def pieces(self):
+        """The lines in order: those of the play, and lists of our own."""
         behind = {}
         for case in self.cases:
             for request, answer in case.exchanges:
                 behind.setdefault(request.last, []).extend("< " + line for line in answer_lines(answer))
             if case.explanation:
                 behind.setdefault(case.result.last, []).extend("# " + line for line in case.explanation.lines())
-        lines = []
         for number, line in enumerate(self.play.lines, 1):
-            lines += [line] + behind.get(number, [])
-        return "".join(line + "\n" for line in lines)
+            yield line, behind.get(number, [])
 
     def data(self):
         return [case_data(case) for case in self.cases]
