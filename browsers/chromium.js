@@ -127,12 +127,17 @@ class Chromium {
     }
   }
 
+  // Removes the profile, also where this program is stopped.
+  forget() {
+    fs.rmSync(this.folder, { recursive: true, force: true, maxRetries: 10, retryDelay: 100 });
+  }
+
   async close() {
     const late = setTimeout(() => this.kill(), 3000);
     await this.ask("Browser.close").catch(() => this.kill());
     await this.gone;
     clearTimeout(late);
-    fs.rmSync(this.folder, { recursive: true, force: true, maxRetries: 10, retryDelay: 100 });
+    this.forget();
   }
 }
 

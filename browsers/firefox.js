@@ -202,13 +202,18 @@ class Firefox {
     }
   }
 
+  // Removes the profile, also where this program is stopped.
+  forget() {
+    fs.rmSync(this.folder, { recursive: true, force: true, maxRetries: 10, retryDelay: 100 });
+  }
+
   async close() {
     const late = setTimeout(() => this.kill(), 5000);
     await this.ask("Marionette:Quit", { flags: ["eForceQuit"] }).catch(() => this.kill());
     await this.gone;
     clearTimeout(late);
     this.socket.destroy();
-    fs.rmSync(this.folder, { recursive: true, force: true, maxRetries: 10, retryDelay: 100 });
+    this.forget();
   }
 }
 

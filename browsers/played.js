@@ -141,7 +141,10 @@ class Player {
   async start() {
     await this.servers.listen();
     this.browser = BROWSERS[this.program.browser].start(this.program, this.servers, this.authority);
-    this.stop = () => this.browser.kill();
+    this.stop = () => {
+      this.browser.kill();
+      this.browser.forget();
+    };
     process.once("exit", this.stop);
   }
 

@@ -23,7 +23,9 @@ const isMedia = (command) => command !== undefined && command.command.load !== u
 
 const siteOf = (url) => hostOf(url).split(".").slice(-2).join(".");
 
-const lastUrlOf = (command) => (command.requests.length === 0 ? null : urlOf(keyOf(command.requests[command.requests.length - 1])));
+function lastUrlOf({ requests }) {
+  return requests.length === 0 ? null : urlOf(keyOf(requests[requests.length - 1]));
+}
 
 // Whether the last URL of a sound or a video was one's before, and its answer has no body.
 function wasEmpty(context) {
@@ -72,7 +74,8 @@ module.exports = [
   {
     name: "opaque-response-blocking", browsers: both, section, scenario: "loads/blocked-by-orb",
     says: "an opaque answer whose bytes are not of its type is kept back",
-    explains: (difference, context) => failsThereAlone(difference) && context.command.load !== undefined && !context.theirs.violations.some(({ enforced }) => enforced)
+    explains: (difference, context) => failsThereAlone(difference) && context.command.load !== undefined
+      && !context.theirs.violations.some(({ enforced }) => enforced)
       && context.theirs.reasons.some((reason) => /\bORB\b|_ORB$/.test(reason)),
   },
   {

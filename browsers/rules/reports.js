@@ -35,7 +35,8 @@ function isOfUpgraded(difference, context) {
     return false;
   }
   const ofHttp = difference.engine.replace(/ https:([^ ]*)$/, " http:$1");
-  return ofHttp !== difference.engine && isOfOwnUrl(difference.engine, context) && countOf(context.theirs.violations, difference.engine) === 0
+  return ofHttp !== difference.engine && isOfOwnUrl(difference.engine, context)
+    && countOf(context.theirs.violations, difference.engine) === 0
     && countOf(context.ours.violations, ofHttp) > 0 && countOf(context.theirs.violations, ofHttp) > 0;
 }
 
