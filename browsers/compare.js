@@ -145,7 +145,7 @@ function responseDifferences(ours, theirs) {
 }
 
 function toldResult(result) {
-  return [result.result, result.status || "", result.name || ""].join(" ").trim();
+  return [result.result, result.status, result.name].filter(Boolean).join(" ");
 }
 
 // These fail in their elements, and not in the network, where the status is not ok.

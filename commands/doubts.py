@@ -54,13 +54,20 @@ def rules_without_use(scenario):
                 yield items[index].start, sentence
 
 
+# The request target that was meant by a path without a slash at its beginning: of a whole URL its own.
+def target_of(path):
+    if "://" not in path:
+        return "/" + path
+    return "/" + path.partition("://")[2].partition("#")[0].partition("/")[2]
+
+
 def no_use(rule, before):
     for index, other in enumerate(before):
         if all(key not in other or other[key] == rule.get(key) for key in ("method", "path")):
             return "rule %d of this server takes all requests of this rule, which stands behind it" % index
     path, method = rule.get("path", "/"), rule.get("method", "GET")
     if not path.startswith("/"):
-        return 'no request has the path "%s": write "/%s"' % (path, path)
+        return 'no request has the path "%s": write "%s"' % (path, target_of(path))
     if "#" in path:
         return 'no request has a # in its path: write "%s"' % path.partition("#")[0]
     if method != method.upper() and method.upper() in METHODS:

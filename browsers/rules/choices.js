@@ -1,6 +1,6 @@
 "use strict";
 
-const { isRequest, isOwnRequestMore, failsHereAlone, valuesOf, lastAnswer } = require("./looked.js");
+const { isRequest, isOwnRequestMore, failsHereAlone, valuesOf, lastAnswer, portOf } = require("./looked.js");
 
 // An absolute URL with a blank in its host.
 const BLANK = /^https?:\/\/[^/?#]* [^/?#]*/i;
@@ -11,7 +11,7 @@ module.exports = [
     scenario: "urls/ports-that-chromium-opens",
     says: "ports 4190 and 6679 are open",
     explains: (difference, context) => context.ours.result.name === "BadPort"
-      && ["4190", "6679"].includes(new URL(context.asked.url, context.document.url).port)
+      && ["4190", "6679"].includes(portOf(context.asked.url, context.document.url))
       && (isOwnRequestMore(difference, context) || failsHereAlone(difference)),
   },
   {

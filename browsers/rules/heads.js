@@ -1,7 +1,7 @@
 "use strict";
 
 const { isHeader, urlOf, methodOf, hostOf, originOf, documentOrigin, isSecurePage, isLoopback, isAfterDetour,
-  keyOf, cookieOf } = require("./looked.js");
+  keyOf, cookieOf, referrerPolicyOf } = require("./looked.js");
 
 const section = "origin-referer-and-cookies";
 const both = ["chromium", "firefox"];
@@ -10,6 +10,15 @@ const siteOf = (url) => hostOf(url).split(".").slice(-2).join(".");
 const isCorsLoad = (load) => load !== undefined
   && (["font", "manifest"].includes(load.kind) || load.crossorigin !== undefined);
 const isNoCorsPost = (context, difference) => context.asked.mode === "no-cors" && methodOf(difference.request) === "POST";
+
+// The three cases in which a referrer policy makes the Origin of a no-cors request null (docs/rules/request-head.md).
+function isNullByPolicy(context, key) {
+  const policy = referrerPolicyOf(context, key);
+  const isDowngrade = isSecurePage(context) && !urlOf(key).startsWith("https:");
+  return policy === "no-referrer"
+    || (policy === "same-origin" && originOf(urlOf(key)) !== documentOrigin(context))
+    || (isDowngrade && ["no-referrer-when-downgrade", "strict-origin", "strict-origin-when-cross-origin"].includes(policy));
+}
 
 // Whether the browser's value is that of the lines behind the last empty one of this name.
 function isLeftBehind(difference, context) {
@@ -31,6 +40,7 @@ module.exports = [
     says: "no policy tells another site more than the page's origin",
     explains: (difference, context) => isHeader(difference, "referer") && difference.engine !== null
       && difference.browser === originOf(difference.engine) + "/"
+      && ["unsafe-url", "no-referrer-when-downgrade"].includes(referrerPolicyOf(context, difference.request))
       && siteOf(difference.engine) !== siteOf(urlOf(difference.request)),
   },
   {
@@ -45,7 +55,7 @@ module.exports = [
     says: "no referrer policy makes the Origin of a no-cors request null",
     explains: (difference, context) => isHeader(difference, "origin") && difference.engine === "null"
       && difference.browser === documentOrigin(context) && context.asked.mode === "no-cors"
-      && !isAfterDetour(context, difference.request),
+      && isNullByPolicy(context, difference.request) && !isAfterDetour(context, difference.request),
   },
   {
     name: "origin-without-a-referrer", browsers: ["firefox"], section, scenario: "request-heads/post-without-a-referrer",

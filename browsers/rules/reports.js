@@ -12,7 +12,7 @@ const countOf = (violations, told) => violations.filter((one) => [one.policy, on
 // The engine tells a report-only policy at the response once more; a browser does not.
 function isToldOnceMore(difference, context) {
   return difference.what === "violation" && isReport(difference.engine) && difference.browser === null
-    && countOf(context.ours.violations, difference.engine) > countOf(context.theirs.violations, difference.engine)
+    && countOf(context.ours.violations, difference.engine) === countOf(context.theirs.violations, difference.engine) + 1
     && countOf(context.theirs.violations, difference.engine) > 0;
 }
 
