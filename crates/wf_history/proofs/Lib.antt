@@ -1,0 +1,5 @@
+pub mod CallLemmas
+pub mod ListLemmas
+pub mod ShortLemmas
+pub mod TestLemmas
+pub mod WordLemmas

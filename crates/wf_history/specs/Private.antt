@@ -1,0 +1,2 @@
+-- What the crate's private contracts alone cite: how the words of a line are read.
+pub mod Reading
