@@ -6,7 +6,7 @@ use Rattle.std.proofs.lemmas.List.Folds.{list_all-append}
 use Rattle.std.proofs.lemmas.List.Splits.{join_with_byte-slice_split}
 use Rattle.std.proofs.lemmas.Slice.Eq.{bytes_eq-Decides}
 use Rattle.std.specs.Prelude.{◌==◌, ◌&&◌, not, bytes_eq, decimal, if◌then◌else◌, option_and_then, option_map, IfOk}
-use Rattle.std.specs.List.{join_with_byte, list_all, slice_split}
+use Rattle.std.specs.List.{join_with_byte, list_all}
 use Rattle.wf_text.specs.Tokens.{is_token}
 use Rattle.wf_text.specs.declared.memory.OutOfMemory.{OutOfMemory}
 use Rattle.wf_book.specs.declared.entry.Entry.{Entry}
@@ -28,7 +28,7 @@ use Rattle.wf_history.specs.Private.Reading.{lesson_of, list_in, match_in, metho
 use Rattle.wf_history.specs.Private.Reading.{question_of, reply_in, subdomains_in, tail, tail_in, time_in, words_in}
 use Rattle.wf_history.proofs.ListLemmas.{list-lacks, list-read, list-writes, method-lacks, method-read, method-writes}
 use Rattle.wf_history.proofs.ListLemmas.{split-join, word-lacks}
-use Rattle.wf_history.proofs.TestLemmas.{and-both, and-left, and-right, choose, chosen, done, mapped}
+use Rattle.wf_history.proofs.TestLemmas.{and-both, chosen, done, mapped}
 use Rattle.wf_history.proofs.WordLemmas.{credentials-read, credentials-writes, lacks, number-lacks, number-read}
 use Rattle.wf_history.proofs.WordLemmas.{number-writes, reply-read, reply-writes, subdomains-read, subdomains-writes}
 use Rattle.wf_history.proofs.WordLemmas.{time-read, time-writes}
@@ -126,7 +126,7 @@ tail-read : (now : ℕ) (reply : Reply) → now < 2 ^ 48 → tail_in (tail_words
 tail-read now reply small = rw (time-read now small, reply-read reply) refl
 
 -- three words
-three : (a b c : Bool) → (a && b && c) ≡ true → (a ≡ true) × (b ≡ true) × (c ≡ true)
+pub three : (a b c : Bool) → (a && b && c) ≡ true → (a ≡ true) × (b ≡ true) × (c ≡ true)
 three true true c e = (refl, refl, e)
 three true false c e = cc
 three false b c e = cc
@@ -136,7 +136,7 @@ all-three true true c x y z = z
 all-three true false c x y z = cc
 all-three false b c x y z = cc
 
-five : (a b c d f : Bool) → (a && b && c && d && f) ≡ true
+pub five : (a b c d f : Bool) → (a && b && c && d && f) ≡ true
     → (a ≡ true) × (b ≡ true) × (c ≡ true) × (d ≡ true) × (f ≡ true)
 five true true true true f e = (refl, refl, refl, refl, e)
 five true true true false f e = cc
@@ -160,8 +160,12 @@ note-read : (host : List ℕ) (sts : Sts) (now : ℕ) (reply : Reply) → now < 
     → note_in (host ∷ decimal sts.age ∷ subdomains_text sts.subdomains ∷ tail_words now reply)
     ≡ Some (call (Note host sts now) (tail now reply))
 note-read host sts now reply small age word =
-    rw (word, number-read 281474976710655 sts.age (omega (arith, age)) (omega (arith, age)),
-      subdomains-read sts.subdomains, tail-read now reply small) refl
+    rw (
+      word,
+      number-read 281474976710655 sts.age (omega (arith, age)) (omega (arith, age)),
+      subdomains-read sts.subdomains,
+      tail-read now reply small,
+    ) refl
 
 covers-read : (question : Question) (now : ℕ) (reply : Reply) → now < 2 ^ 48 → has_words (Covers question now) ≡ true
     → covers_in (question.key ∷ question.origin ∷ credentials_text question.include ∷ method_text question.method
@@ -170,8 +174,15 @@ covers-read : (question : Question) (now : ℕ) (reply : Reply) → now < 2 ^ 48
 covers-read question now reply small valid =
     let is = five (is_word question.key) (is_word question.origin) (is_method question.method)
     (list_all is_token question.names) (is_word question.url) valid in
-    rw (is.0, is.1, is.4, credentials-read question.include, tail-read now reply small,
-      method-read question.method is.2, list-read question.names is.3) refl
+    rw (
+      is.0,
+      is.1,
+      is.4,
+      credentials-read question.include,
+      tail-read now reply small,
+      method-read question.method is.2,
+      list-read question.names is.3,
+    ) refl
 
 learn-read : (lesson : Lesson) (now : ℕ) (reply : Reply) → now < 2 ^ 48 → lesson.age ≤ 7200
     → has_words (Learn lesson now) ≡ true
@@ -181,9 +192,16 @@ learn-read : (lesson : Lesson) (now : ℕ) (reply : Reply) → now < 2 ^ 48 → 
 learn-read lesson now reply small age valid =
     let is = five (is_word lesson.key) (is_word lesson.origin) (list_all is_token lesson.methods)
     (list_all is_token lesson.names) (is_word lesson.url) valid in
-    rw (is.0, is.1, is.4, credentials-read lesson.include,
-      number-read 7200 lesson.age (omega (arith, age)) (omega (arith, age)), tail-read now reply small,
-      list-read lesson.methods is.2, list-read lesson.names is.3) refl
+    rw (
+      is.0,
+      is.1,
+      is.4,
+      credentials-read lesson.include,
+      number-read 7200 lesson.age (omega (arith, age)) (omega (arith, age)),
+      tail-read now reply small,
+      list-read lesson.methods is.2,
+      list-read lesson.names is.3,
+    ) refl
 
 clear-read : (key origin url : List ℕ) (now : ℕ) (reply : Reply) → now < 2 ^ 48
     → (is_word key && is_word origin && is_word url) ≡ true
@@ -200,9 +218,11 @@ call-read (Clear key origin url now) reply range valid = clear-read key origin u
 
 entry-read : (entry : Entry) → IsEntry entry → entry_in (words_of entry) ≡ Some entry
 entry-read entry is =
-    rw (number-read 18446744073709551615 entry.turn (omega (arith, is.turn)) is.turn,
+    rw (
+      number-read 18446744073709551615 entry.turn (omega (arith, is.turn)) is.turn,
       number-read 4294967295 entry.document (omega (arith, is.document)) (omega (arith, is.document)),
-      call-read entry.op entry.reply is.op is.words) refl
+      call-read entry.op entry.reply is.op is.words,
+    ) refl
 
 -- ---- no word has a space
 
@@ -490,15 +510,15 @@ call-writes (name ∷ words) said e =
     let asks = if bytes_eq name (codes "covers") then covers_in words else learns in
     let notes = if bytes_eq name (codes "note") then note_in words else asks in
     elim (named name (codes "match") said (match_in words) notes e) [
-      inl is ↦ with-name (codes "match") name words said is.0 (match-writes words said is.1)
+      | inl is ↦ with-name (codes "match") name words said is.0 (match-writes words said is.1)
       | inr e ↦ elim (named name (codes "note") said (note_in words) asks e) [
-        inl is ↦ with-name (codes "note") name words said is.0 (note-writes words said is.1)
+        | inl is ↦ with-name (codes "note") name words said is.0 (note-writes words said is.1)
         | inr e ↦ elim (named name (codes "covers") said (covers_in words) learns e) [
-          inl is ↦ with-name (codes "covers") name words said is.0 (covers-writes words said is.1)
+          | inl is ↦ with-name (codes "covers") name words said is.0 (covers-writes words said is.1)
           | inr e ↦ elim (named name (codes "learn") said (learn_in words) clears e) [
-            inl is ↦ with-name (codes "learn") name words said is.0 (learn-writes words said is.1)
+            | inl is ↦ with-name (codes "learn") name words said is.0 (learn-writes words said is.1)
             | inr e ↦ elim (named name (codes "clear") said (clear_in words) None e) [
-              inl is ↦ with-name (codes "clear") name words said is.0 (clear-writes words said is.1)
+              | inl is ↦ with-name (codes "clear") name words said is.0 (clear-writes words said is.1)
               | inr e ↦ cc
             ]
           ]

@@ -1,14 +1,13 @@
 -- Methods and lists of tokens are read as what they write.
-use Rattle.std.proofs.Common.{◌≡◌, ◌≢◌, ◌<◌, ℕ, Bool, true, false, List, [], ◌∷◌, ◌++◌, length, codes, refl, ap, sym, ◌∙◌}
-use Rattle.std.proofs.Common.{arith, Option, Some, None, ◌⊎◌, inl, inr}
+use Rattle.std.proofs.Common.{◌≡◌, ℕ, Bool, true, false, List, [], ◌∷◌, ◌++◌, length, codes, refl, ap, sym, ◌∙◌}
+use Rattle.std.proofs.Common.{arith, Option, Some, None}
 use Rattle.std.proofs.lemmas.Bool.Decides.{nat_tests}
-use Rattle.std.proofs.lemmas.Grind.{common_steps}
 use Rattle.std.proofs.lemmas.List.{append-nil}
 use Rattle.std.proofs.lemmas.List.Elements.{All-cons, All-nil}
 use Rattle.std.proofs.lemmas.List.Folds.{list_all-append}
 use Rattle.std.proofs.lemmas.List.Splits.{join_with_byte-slice_split, length-slice_split, slice_split_at, slice_split_none}
 use Rattle.std.proofs.lemmas.Slice.Eq.{bytes_eq-Decides}
-use Rattle.std.specs.Prelude.{◌==◌, ◌&&◌, not, bytes_eq, if◌then◌else◌}
+use Rattle.std.specs.Prelude.{◌==◌, not, bytes_eq, if◌then◌else◌}
 use Rattle.std.specs.List.{All, join_with_byte, list_all, slice_split}
 use Rattle.wf_text.specs.Tokens.{is_tchar, is_token}
 use Rattle.wf_print.specs.Calls.{comma_texts, list_text, method_text}
@@ -31,6 +30,7 @@ no-tchar byte other none is = by (other == byte) (eqb-tells other byte)
   where
     eqb-tells : (a b : ℕ) → (a == b) ≡ true → a ≡ b
     eqb-tells a b e = grind (arith, nat_tests)
+
     by : (b : Bool) → (b ≡ true → other ≡ byte) → not b ≡ true
     by true same = absurd (let e : is_tchar byte ≡ true = ap is_tchar (sym (same refl)) ∙ is in cc)
     by false same = refl
@@ -102,6 +102,7 @@ method-writes word method e = by (bytes_eq word (codes "()")) (bytes_eq-Decides 
         let same : Some word ≡ method = cc in
         record { text = ap method_text (sym same); valid = ap is_method (sym same) ∙ is }
     token false is e = absurd (cc)
+
     by : (b : Bool) → (b ≡ true → word ≡ codes "()")
         → (if b then Some None else if is_token word then Some (Some word) else None) ≡ Some method
         → WritesMethod word method
@@ -135,10 +136,12 @@ list-writes word tokens e = by (bytes_eq word (codes "()")) (bytes_eq-Decides wo
   where
     parts : List (List ℕ)
     parts = slice_split (λ byte. byte == 44) word
+
     text-of : (all : List (List ℕ)) → join_with_byte 44 all ≡ word → list_all is_token all ≡ true
         → (all ≡ [] → ⊥) → list_text all ≡ word
     text-of [] is each some = absurd (some refl)
     text-of (text ∷ texts) is each some = sym (joined text texts) ∙ is
+
     by : (b : Bool) → (b ≡ true → word ≡ codes "()") → (if b then Some [] else tokens_in parts) ≡ Some tokens
         → WritesList word tokens
     by true same e =

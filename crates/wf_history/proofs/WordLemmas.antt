@@ -1,5 +1,5 @@
 -- Words are read as what they write: numbers, times, replies, methods and lists.
-use Rattle.std.proofs.Common.{◌≡◌, ◌≢◌, ◌≤◌, ◌<◌, ◌^◌, ℕ, suc, Bool, true, false, List, [], ◌∷◌, ◌++◌, length, get_or, take}
+use Rattle.std.proofs.Common.{◌≡◌, ◌≤◌, ◌<◌, ◌^◌, ℕ, suc, Bool, true, false, List, [], ◌∷◌, ◌++◌, length, get_or}
 use Rattle.std.proofs.Common.{codes, refl, ap, sym, ◌∙◌, arith, eq-eqb, length-append, length-take, Option, Some, None, ◌⊎◌, inl, inr, zero}
 use Rattle.std.proofs.lemmas.Bool.Decides.{Decides-eqb, nat_tests}
 use Rattle.std.proofs.lemmas.Fmt.{decimal-digits_value, decimal_nonempty, digits_decimal, digits_value-decimal}
@@ -36,8 +36,10 @@ is-in-range byte e = grind (arith, nat_tests)
 digits-test : IsDigitsTest AreDigits
 digits-test = record {
   empty = refl;
-  parts = λ byte text e. (in-range byte (and-left (is_ascii_digit byte) (list_all is_ascii_digit text) e),
-      and-right (is_ascii_digit byte) (list_all is_ascii_digit text) e);
+  parts = λ byte text e. (
+    in-range byte (and-left (is_ascii_digit byte) (list_all is_ascii_digit text) e),
+    and-right (is_ascii_digit byte) (list_all is_ascii_digit text) e,
+  );
   more = λ byte text in_range e. and-both (is_ascii_digit byte) (list_all is_ascii_digit text) (is-in-range byte in_range) e;
 }
 
@@ -75,9 +77,11 @@ number-text word e =
     let digits = and-left (is_digits word) (length word == 1 || not (begins_with_zero word)) front in
     let plain = and-right (is_digits word) (length word == 1 || not (begins_with_zero word)) front in
     let some = filled word (and-left (not (length word == 0)) (list_all is_ascii_digit word) digits) in
-    let below : digits_value 10 word < 2 ^ 64 = omega (arith, small) in
-    (decimal-digits_value model word (and-right (not (length word == 0)) (list_all is_ascii_digit word) digits) some
-    (zero-alone word plain some) below, below)
+    let below : digits_value 10 word < 2 ^ 64 = omega (arith, small) in (
+      decimal-digits_value model word (and-right (not (length word == 0)) (list_all is_ascii_digit word) digits) some
+          (zero-alone word plain some) below,
+      below,
+    )
 
 pub number-writes : (most : ℕ) (word : List ℕ) (n : ℕ) → number_up_to most word ≡ Some n → Writes most word n
 number-writes most word n e =
@@ -173,9 +177,10 @@ pub time-writes : (word : List ℕ) (n : ℕ) → time_in word ≡ Some n
 time-writes word n e =
     let front = before_first (λ b. b == 58) word in
     let is = chosen (length front + 1 == length word) (number_up_to 281474976710655 front) n e in
-    let written = number-writes 281474976710655 front n is.1 in
-    (ap (λ (l : List ℕ). l ++ codes ":") written.text ∙ ends-in-colon word (grind (arith, nat_tests, is.0)),
-    omega (arith, written.few))
+    let written = number-writes 281474976710655 front n is.1 in (
+      ap (λ (l : List ℕ). l ++ codes ":") written.text ∙ ends-in-colon word (grind (arith, nat_tests, is.0)),
+      omega (arith, written.few),
+    )
 
 pub time-read : (n : ℕ) → n < 2 ^ 48 → time_in (decimal n ++ codes ":") ≡ Some n
 time-read n small =
@@ -203,11 +208,11 @@ pub reply-writes : (word : List ℕ) (reply : Reply) → reply_in word ≡ Some 
 reply-writes word reply e =
     elim (named word (codes "yes") Yes reply (if bytes_eq word (codes "no") then Some No
     else if bytes_eq word (codes "done") then Some Done else None) e) [
-      inl is ↦ ap reply_text (sym is.1) ∙ is.0
+      | inl is ↦ ap reply_text (sym is.1) ∙ is.0
       | inr other ↦ elim (named word (codes "no") No reply (if bytes_eq word (codes "done") then Some Done else None) other) [
-        inl is ↦ ap reply_text (sym is.1) ∙ is.0
+        | inl is ↦ ap reply_text (sym is.1) ∙ is.0
         | inr last ↦ elim (named word (codes "done") Done reply None last) [
-          inl is ↦ ap reply_text (sym is.1) ∙ is.0
+          | inl is ↦ ap reply_text (sym is.1) ∙ is.0
           | inr none ↦ cc
         ]
       ]
@@ -222,9 +227,9 @@ pub credentials-writes : (word : List ℕ) (include : Bool) → credentials_in w
     → credentials_text include ≡ word
 credentials-writes word include e =
     elim (named word (codes "include") true include (if bytes_eq word (codes "other") then Some false else None) e) [
-      inl is ↦ ap credentials_text (sym is.1) ∙ is.0
+      | inl is ↦ ap credentials_text (sym is.1) ∙ is.0
       | inr other ↦ elim (named word (codes "other") false include None other) [
-        inl is ↦ ap credentials_text (sym is.1) ∙ is.0
+        | inl is ↦ ap credentials_text (sym is.1) ∙ is.0
         | inr none ↦ cc
       ]
     ]
@@ -237,9 +242,9 @@ pub subdomains-writes : (word : List ℕ) (subdomains : Bool) → subdomains_in 
     → subdomains_text subdomains ≡ word
 subdomains-writes word subdomains e =
     elim (named word (codes "sub") true subdomains (if bytes_eq word (codes "exact") then Some false else None) e) [
-      inl is ↦ ap subdomains_text (sym is.1) ∙ is.0
+      | inl is ↦ ap subdomains_text (sym is.1) ∙ is.0
       | inr other ↦ elim (named word (codes "exact") false subdomains None other) [
-        inl is ↦ ap subdomains_text (sym is.1) ∙ is.0
+        | inl is ↦ ap subdomains_text (sym is.1) ∙ is.0
         | inr none ↦ cc
       ]
     ]

@@ -1,2 +1,3 @@
 -- What the crate's private contracts alone cite: how the words of a line are read.
+pub mod Cuts
 pub mod Reading

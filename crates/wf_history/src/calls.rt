@@ -110,7 +110,17 @@ fn covers_in(alloc: Global, words: &[&[u8]]) -> Result<Option<Call>, OutOfMemory
 fn learn_in(alloc: Global, words: &[&[u8]]) -> Result<Option<Call>, OutOfMemory>
     ensures { IfOk result (λ call. call ≡ spec.learn_in (map (λ word. word.now) words.now)) }
 {
-    let [key, origin, credentials, age, methods, names, url, rest @ ..] = words else {
+    let [
+        key,
+        origin,
+        credentials,
+        age,
+        methods,
+        names,
+        url,
+        rest @ ..,
+    ] = words
+    else {
         return Ok(None);
     };
     if !(is_word(key) && is_word(origin) && is_word(url)) {

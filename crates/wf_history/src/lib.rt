@@ -3,9 +3,13 @@
 
 mod calls;
 mod entry;
+mod history;
+mod laws;
 mod lists;
 mod numbers;
 mod tail;
 mod words;
 
 pub use entry::read_entry;
+pub use history::{Reading, read_history};
+pub use laws::law_one_reading;

@@ -1,5 +1,5 @@
 -- How the words of a history's line are read.
-use Rattle.std.specs.Prelude.{ℕ, ◌+◌, ◌==◌, ◌&&◌, ◌||◌, ◌^◌, Bool, true, false, not, nat_le, List, [], ◌∷◌, length, codes}
+use Rattle.std.specs.Prelude.{ℕ, ◌+◌, ◌==◌, ◌&&◌, ◌||◌, Bool, true, false, not, nat_le, List, [], ◌∷◌, length, codes}
 use Rattle.std.specs.Prelude.{bytes_eq, Option, Some, None, option_map, option_and_then, if◌then◌else◌}
 use Rattle.std.specs.List.{before_first, list_all, slice_split}
 use Rattle.std.specs.Str.Parse.{digits_value}
