@@ -30,8 +30,8 @@ fn add_entries(text: &mut Bytes, entries: &[Entry]) -> Result<(), OutOfMemory>
     Ok(())
 }
 
-// The text of entries.
-pub(crate) fn text_of_entries(alloc: Global, entries: &[Entry]) -> Result<Bytes, OutOfMemory>
+/// The text of entries: a line for each.
+pub fn text_of_entries(alloc: Global, entries: &[Entry]) -> Result<Bytes, OutOfMemory>
     ensures { IfOk result (λ text. text ≡ flat_map spec.entry_line entries.now) }
 {
     let mut text = Bytes::new(alloc);

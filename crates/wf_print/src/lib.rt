@@ -11,6 +11,7 @@ mod play;
 mod summary;
 
 pub use failure::Failure;
+pub use history::text_of_entries;
 pub use laws::law_one_history;
-pub use play::{has_text, write_play};
+pub use play::{has_text, text_of, write_play};
 pub use summary::write_summary;

@@ -42,8 +42,8 @@ fn add_events(text: &mut Bytes, events: &[Event]) -> Result<(), OutOfMemory>
     Ok(())
 }
 
-// The text of a document.
-fn text_of(alloc: Global, transcript: &Transcript) -> Result<Bytes, OutOfMemory>
+/// The text of a document: its number and key, its events in order, and how it ended.
+pub fn text_of(alloc: Global, transcript: &Transcript) -> Result<Bytes, OutOfMemory>
     ensures { IfOk result (λ text. text ≡ spec.transcript_text transcript.now) }
 {
     let mut text = Bytes::of(alloc, b"document ")?;

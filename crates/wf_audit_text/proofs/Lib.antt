@@ -1,0 +1,8 @@
+pub mod CallLemmas
+pub mod FrameLemmas
+pub mod LineLemmas
+pub mod ListLemmas
+pub mod OneLemmas
+pub mod ShortLemmas
+pub mod TestLemmas
+pub mod WordLemmas

@@ -1,0 +1,67 @@
+-- The history in the printed text of a play: its lines, and the entries that they tell (the output of `fetchplay play`).
+use Rattle.std.specs.Prelude.{◌≡◌, ◌≢◌, ℕ, zero, suc, ◌==◌, not, IsTrue, List, [], ◌∷◌, ◌++◌, take, codes, Some}
+use Rattle.std.specs.List.{All, flat_map, list_all, slice_get}
+use Rattle.wf_text.specs.Ascii.{line_feed}
+use Rattle.wf_book.specs.declared.entry.Entry.{Entry}
+use Rattle.wf_script_events.specs.Lines.{line}
+use Rattle.wf_audit_text.specs.declared.history.Reading.{Reading}
+use Rattle.wf_audit_text.specs.declared.history.Reading.TheVariants.{Entries, Fault}
+use Rattle.wf_audit_text.specs.Entries.{IsLineOf}
+
+-- ---- lines
+
+-- a text that a line can have before its LF: it has no LF
+abbrev pub IsLine : List ℕ → Type 0
+IsLine text = IsTrue (list_all (λ byte. not (byte == line_feed)) text)
+
+-- lines, each with its LF
+abbrev pub lined : List (List ℕ) → List ℕ
+lined lines = flat_map line lines
+
+-- the line before the first entry
+abbrev pub heading : List ℕ
+heading = codes "history"
+
+-- The text is lines of which the first `history` stands after these, and the last is `done`; between them are these.
+pub record HasLines (play : List ℕ) (before lines : List (List ℕ)) : Type 0 where
+  pub before_are : All IsLine before
+  pub first : All (λ text. text ≢ heading) before
+  pub lines_are : All IsLine lines
+  pub text_is : play ≡ lined before ++ (line heading ++ (lined lines ++ line (codes "done")))
+
+-- ---- entries
+
+-- the lines are those of the entries, one by one
+abbrev pub AreLinesOf : List (List ℕ) → List Entry → Type 0
+AreLinesOf [] [] = Unit {0}
+AreLinesOf [] (entry ∷ history) = ⊥
+AreLinesOf (text ∷ lines) [] = ⊥
+AreLinesOf (text ∷ lines) (entry ∷ history) = IsLineOf text entry × AreLinesOf lines history
+
+-- The lines of the text between `history` and `done` are those of these entries.
+pub record Holds (play : List ℕ) (history : List Entry) : Type 0 where
+  pub before : List (List ℕ)
+  pub lines : List (List ℕ)
+  pub has : HasLines play before lines
+  pub entries : AreLinesOf lines history
+
+-- So many lines after `history` are those of entries, and the next is of none.
+pub record FailsAfter (play : List ℕ) (count : ℕ) : Type 0 where
+  pub before : List (List ℕ)
+  pub lines : List (List ℕ)
+  pub has : HasLines play before lines
+  pub good : List Entry
+  pub entries : AreLinesOf (take count lines) good
+  pub text : List ℕ
+  pub next : slice_get lines count ≡ Some text
+  pub bad : (entry : Entry) → ¬ (IsLineOf text entry)
+
+-- no history at 0, where the text has not such lines; else the first line that is none of an entry, counted from 1
+abbrev pub HasFault : List ℕ → ℕ → Type 0
+HasFault play zero = (before lines : List (List ℕ)) → ¬ (HasLines play before lines)
+HasFault play (suc count) = FailsAfter play count
+
+-- what the text is read as
+abbrev pub IsRead : List ℕ → Reading → Type 0
+IsRead play (Entries history) = Holds play history
+IsRead play (Fault number) = HasFault play number

@@ -1,0 +1,41 @@
+ghost use Rattle.std.specs.Prelude.{◌≡◌, map, IfOk};
+ghost use Rattle.wf_audit_text.specs.Entries.{IsReading};
+ghost use Rattle.wf_audit_text.specs.Private.Reading as spec;
+
+use crate::calls::call_in;
+use crate::numbers::number_up_to;
+use std::alloc::Global;
+use wf_book::Entry;
+use wf_text::{OutOfMemory, parts_between};
+
+// The words of an entry's line.
+fn entry_in(alloc: Global, words: &[&[u8]]) -> Result<Option<Entry>, OutOfMemory>
+    ensures { IfOk result (λ entry. entry ≡ spec.entry_in (map (λ word. word.now) words.now)) }
+{
+    let [turn, document, rest @ ..] = words else {
+        return Ok(None);
+    };
+    let Some(turn) = number_up_to(u64::MAX, turn) else {
+        return Ok(None);
+    };
+    let Some(document) = number_up_to(4_294_967_295, document) else {
+        return Ok(None);
+    };
+    let Some(call) = call_in(alloc, rest)? else {
+        return Ok(None);
+    };
+    Ok(Some(Entry {
+        turn,
+        document: document as u32,
+        op: call.op,
+        reply: call.reply,
+    }))
+}
+
+/// The entry whose line a text is, its LF aside. `None` exactly where there is no such entry.
+pub fn read_entry(alloc: Global, text: &[u8]) -> Result<Option<Entry>, OutOfMemory>
+    ensures { IfOk result (IsReading text.now) }
+{
+    let words = parts_between(alloc, text, b' ')?;
+    entry_in(alloc, words.as_slice())
+}

@@ -1,0 +1,11 @@
+ghost use Rattle.wf_audit_text.specs.Laws.{HoldsOne};
+
+use wf_print::law_one_history;
+
+/// A law: the printed text of a play holds one history. It rests on the law that two histories with one text are one.
+/// The call does nothing.
+pub fn law_one_reading()
+    ensures { HoldsOne }
+{
+    law_one_history();
+}

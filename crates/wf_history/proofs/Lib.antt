@@ -1,7 +1,0 @@
-pub mod CallLemmas
-pub mod LineLemmas
-pub mod ListLemmas
-pub mod OneLemmas
-pub mod ShortLemmas
-pub mod TestLemmas
-pub mod WordLemmas

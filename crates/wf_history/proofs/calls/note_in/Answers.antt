@@ -1,5 +1,0 @@
-use Rattle.wf_history.proofs.ShortLemmas.{note-short}
-use Rattle.wf_history.proofs.calls.note_in.Goals as goal
-
-pub returns-in_default : goal.returns-in_default
-returns-in_default c = note-short (λ word. word.now) c.args.words.now c.in_default.len_below

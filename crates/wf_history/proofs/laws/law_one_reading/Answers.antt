@@ -1,5 +1,0 @@
-use Rattle.wf_history.proofs.OneLemmas.{one-text}
-use Rattle.wf_history.proofs.laws.law_one_reading.Goals as goal
-
-pub returns : goal.returns
-returns c = one-text c.law_one_history.ensures

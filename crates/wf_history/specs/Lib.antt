@@ -1,4 +1,0 @@
-pub mod Entries
-pub mod Histories
-pub mod Laws
-pub mod Private

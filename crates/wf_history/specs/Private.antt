@@ -1,3 +1,0 @@
--- What the crate's private contracts alone cite: how the words of a line are read.
-pub mod Cuts
-pub mod Reading
