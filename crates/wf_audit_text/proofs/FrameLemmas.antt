@@ -45,8 +45,13 @@ pub too-short : (input number rest : List ℕ) (n : ℕ) → IsCut input number 
 too-short input number rest n cut some few scenario play is =
     let same : Some n ≡ Some (length scenario) = sym some ∙ read input number rest scenario play cut is in
     let count : n ≡ length scenario = cc in
-    omega (arith, few, count, ap length (one-frame input number rest scenario play cut is).1,
-      length-append scenario play)
+    omega (
+      arith,
+      few,
+      count,
+      ap length (one-frame input number rest scenario play cut is).1,
+      length-append scenario play,
+    )
 
 pub frame-is : (input number rest : List ℕ) (n : ℕ) → IsCut input number rest → number_up_to 4194304 number ≡ Some n
     → n ≤ length rest → IsFramed input (take n rest) (drop n rest)

@@ -1,0 +1,2 @@
+pub mod OpLemmas
+pub mod TapeLemmas
