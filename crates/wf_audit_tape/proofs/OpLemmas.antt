@@ -1,6 +1,6 @@
 -- Two ops are one exactly where their parts are.
-use Rattle.std.proofs.Common.{◌≡◌, ℕ, Bool, true, false, List, [], ◌∷◌, length, suc, refl, ap, sym, ◌∙◌, arith, Option, Some, None}
-use Rattle.std.proofs.lemmas.Bool.Decides.{Decides-eqb, nat_tests}
+use Rattle.std.proofs.Common.{◌≡◌, ℕ, Bool, true, false, List, [], ◌∷◌, length, suc, refl, ap, sym, ◌∙◌, Option, Some, None}
+use Rattle.std.proofs.lemmas.Bool.Decides.{Decides-eqb}
 use Rattle.std.proofs.lemmas.Slice.Eq.{bytes_eq-Decides}
 use Rattle.std.specs.Prelude.{◌==◌, ◌&&◌, bytes_eq}
 use Rattle.wf_book.specs.declared.op.Op.{Op}

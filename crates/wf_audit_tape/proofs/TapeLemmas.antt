@@ -1,12 +1,10 @@
 -- Calls that a history replies to, and stray ones.
-use Rattle.std.proofs.Common.{◌≡◌, ◌≢◌, ◌≤◌, ◌<◌, ◌+◌, ◌-◌, ℕ, zero, suc, Bool, true, false, cond, List, [], ◌∷◌, ◌++◌, length, take}
+use Rattle.std.proofs.Common.{◌≡◌, ◌≢◌, ◌≤◌, ◌<◌, ◌+◌, ℕ, zero, suc, Bool, true, false, cond, List, [], ◌∷◌, ◌++◌, length, take}
 use Rattle.std.proofs.Common.{drop, get_or, refl, ap, sym, subst, ◌∙◌, arith, append_assoc, length-append, length-drop, length-take}
-use Rattle.std.proofs.Common.{Option, Some, None, Result, Ok, Err, add-one, add-zero}
+use Rattle.std.proofs.Common.{Option, Some, None, Result, Ok, Err}
 use Rattle.std.proofs.lemmas.Bool.Decides.{Decides-eqb, nat_tests}
 use Rattle.std.proofs.lemmas.Grind.{common_steps}
 use Rattle.std.proofs.lemmas.List.{append-nil, take-append-drop, take_at, get_or-append-add}
-use Rattle.std.proofs.lemmas.List.Folds.{list_any-append}
-use Rattle.std.proofs.lemmas.List.Sums.{passes_at_first, split_at_first, take_while-cons}
 use Rattle.std.proofs.lemmas.Option.{get_or_from_slice_get}
 use Rattle.std.proofs.lemmas.Slice.Eq.{bytes_eq-Decides}
 use Rattle.std.specs.Prelude.{◌==◌, ◌&&◌, ◌||◌, not, filter, map, nat_lt, position, bytes_eq, IfOk, MatchBool}
@@ -17,13 +15,13 @@ use Rattle.wf_book.specs.declared.entry.Entry.{Entry}
 use Rattle.wf_book.specs.declared.op.Op.{Op}
 use Rattle.wf_book.specs.declared.op.Op.TheVariants.{Match, Note, Covers, Learn, Clear}
 use Rattle.wf_book.specs.declared.op.Reply.{Reply}
-use Rattle.wf_book.specs.declared.op.Reply.TheVariants.{Yes, No, Done}
+use Rattle.wf_book.specs.declared.op.Reply.TheVariants.{Done}
 use Rattle.wf_book.specs.Book.{after, reply, yes_or_no}
-use Rattle.wf_book.specs.Entries.{Extends, Legal, LegalFrom, StartsWith, book_after, entries_of, entry}
+use Rattle.wf_book.specs.Entries.{Extends, Legal, LegalFrom, book_after, entries_of, entry}
 use Rattle.wf_book.specs.Ops.{is_answer, is_question}
 use Rattle.wf_book.proofs.EntryLemmas.{entries_of-append, entries_of-snoc_other, entries_of-snoc_same}
 use Rattle.wf_hsts.specs.declared.hosts.KnownHost.{KnownHost}
-use Rattle.wf_hsts.specs.Hosts.{known_host, matches_host, noted, stands_for, with_room, without}
+use Rattle.wf_hsts.specs.Hosts.{known_host, matches_host, noted, stands_for}
 use Rattle.wf_precache.specs.declared.entry.Allowed.{Allowed}
 use Rattle.wf_precache.specs.declared.entry.Allowed.TheVariants.{Method, HeaderName}
 use Rattle.wf_precache.specs.declared.entry.CacheEntry.{CacheEntry}
@@ -33,7 +31,7 @@ use Rattle.wf_precache.specs.Entries.{allows, covered, has_match, has_method_mat
 use Rattle.wf_precache.specs.Entries.{is_of}
 use Rattle.wf_precache.specs.Keys as keys
 use Rattle.wf_precache.specs.Keys.{Keyed}
-use Rattle.wf_audit_history.specs.Legality.{AreRight, IsRight}
+use Rattle.wf_audit_history.specs.Legality.{AreRight}
 use Rattle.wf_audit_tape.specs.Private.Calls.{IsNext, IsNone, IsPassed, IsStrayed}
 use Rattle.wf_audit_tape.specs.Tapes.{account_of, asks_nothing, before_stray, first_op, IsParted, IsTape, IsUsedUp, lacks_method}
 use Rattle.wf_audit_tape.specs.Tapes.{seen_on}
@@ -129,6 +127,7 @@ covers-none question now entries none = by question.method question.names
   where
     some : (n : ℕ) → (suc n == 0) ≡ false
     some n = grind (arith, nat_tests)
+
     by : (method : Option (List ℕ)) (names : List (List ℕ))
         → (has_method_match question now entries method
         && list_all (λ name. has_match question now entries (HeaderName name)) names)
@@ -166,10 +165,16 @@ before-done book (Clear key origin url now) = refl
 
 pub strays-legal : (book : Book) (document turn : ℕ) (ops : List Op) → LegalFrom book turn (stray_entries document turn ops)
 strays-legal book document turn [] = tt
-strays-legal book document turn (op ∷ ops) =
-    (omega arith, before-done book op, (omega arith, stray-replied book op,
+strays-legal book document turn (op ∷ ops) = (
+  omega arith,
+  before-done book op,
+  (
+    omega arith,
+    stray-replied book op,
     subst (λ (n : ℕ). LegalFrom (after (after book (before_stray op)) op) n (stray_entries document (turn + 2) ops))
-    (sums turn) (strays-legal (after (after book (before_stray op)) op) document (turn + 2) ops)))
+        (sums turn) (strays-legal (after (after book (before_stray op)) op) document (turn + 2) ops),
+  ),
+)
   where
     sums : (n : ℕ) → n + 2 ≡ (n + 1) + 1
     sums n = omega arith
@@ -177,11 +182,13 @@ strays-legal book document turn (op ∷ ops) =
 pub right-legal : (book : Book) (turn : ℕ) (history more : List Entry) → AreRight book turn history
     → LegalFrom (book_after book history) (turn + length history) more → LegalFrom book turn (history ++ more)
 right-legal book turn [] more are legal = subst (λ (n : ℕ). LegalFrom book n more) (omega arith) legal
-right-legal book turn (e ∷ history) more are legal =
-    (omega (arith, are.0.turn_is), are.0.reply_is,
-    subst (λ (n : ℕ). LegalFrom (after book e.op) n (history ++ more)) (ap (λ (n : ℕ). n + 1) (sym are.0.turn_is))
-    (right-legal (after book e.op) (turn + 1) history more are.1
-    (subst (λ (n : ℕ). LegalFrom (book_after (after book e.op) history) n more) (omega arith) legal)))
+right-legal book turn (e ∷ history) more are legal = (
+  omega (arith, are.0.turn_is),
+  are.0.reply_is,
+  subst (λ (n : ℕ). LegalFrom (after book e.op) n (history ++ more)) (ap (λ (n : ℕ). n + 1) (sym are.0.turn_is))
+      (right-legal (after book e.op) (turn + 1) history more are.1
+      (subst (λ (n : ℕ). LegalFrom (book_after (after book e.op) history) n more) (omega arith) legal)),
+)
 
 pub right-take : (book : Book) (turn n : ℕ) (history : List Entry) → AreRight book turn history
     → AreRight book turn (take n history)
@@ -233,8 +240,18 @@ record First {X : Type 0} (p : X → Bool) (xs : List X) : Type 0 where
   pub passes : p one ≡ true
   pub count : position_or_len p xs ≡ length front
 
+at-once : {X : Type 0} (p : X → Bool) (x : X) (xs : List X) → p x ≡ true → position_or_len p (x ∷ xs) ≡ 0
+at-once p x xs is = rw is refl
+
+one-later : {X : Type 0} (p : X → Bool) (x : X) (xs : List X) → p x ≡ false
+    → position_or_len p (x ∷ xs) ≡ 1 + position_or_len p xs
+one-later p x xs is = rw is refl
+
+none-more : {X : Type 0} (p : X → Bool) (x : X) (xs : List X) → p x ≡ false → filter p xs ≡ [] → filter p (x ∷ xs) ≡ []
+none-more p x xs is none = rw is none
+
 first-of : {X : Type 0} (p : X → Bool) (xs : List X) → position_or_len p xs < length xs → First p xs
-first-of {X = X} p [] below = absurd (omega (arith, below))
+first-of p [] below = absurd (omega (arith, below))
 first-of {X = X} p (x ∷ xs) below = by (p x) refl (first-of p xs)
   where
     by : (b : Bool) → p x ≡ b → (position_or_len p xs < length xs → First p xs) → First p (x ∷ xs)
@@ -245,17 +262,17 @@ first-of {X = X} p (x ∷ xs) below = by (p x) refl (first-of p xs)
       is = refl;
       none = refl;
       passes = is;
-      count = rw is refl;
+      count = at-once p x xs is;
     }
     by false is rest =
-        let step : position_or_len p (x ∷ xs) ≡ 1 + position_or_len p xs = rw is refl in
+        let step = one-later p x xs is in
         let more = rest (omega (arith, below, step)) in
         record {
           front = x ∷ more.front;
           one = more.one;
           back = more.back;
           is = ap (λ (l : List X). x ∷ l) more.is;
-          none = rw is more.none;
+          none = none-more p x more.front is more.none;
           passes = more.passes;
           count = step ∙ omega (arith, more.count);
         }
@@ -289,8 +306,14 @@ next-some tape index some =
 pub next-within : (tape : Tape) (index : ℕ) → tape.at ≤ length tape.history → IsNext tape index
     → index < length tape.history
 next-within tape index within next =
-    omega (arith, within, next.index_is, ap length next.rest_is, length-drop tape.at tape.history,
-      length-append next.between (next.entry ∷ next.back))
+    omega (
+      arith,
+      within,
+      next.index_is,
+      ap length next.rest_is,
+      length-drop tape.at tape.history,
+      length-append next.between (next.entry ∷ next.back),
+    )
 
 whole : (tape : Tape) (index : ℕ) (next : IsNext tape index)
     → tape.history ≡ take tape.at tape.history ++ (next.between ++ next.entry ∷ next.back)
@@ -454,11 +477,15 @@ strayed-kind tape op said new strayed = ap is_answer strayed.reply_is ∙ stray-
 
 -- ---- whether all was used
 
+tested : (ops : List Op) (b c : Bool) → b ≡ c → MatchBool c (ops ≡ []) (ops ≢ []) → MatchBool b (ops ≡ []) (ops ≢ [])
+tested ops b c e is = subst (λ (x : Bool). MatchBool x (ops ≡ []) (ops ≢ [])) (sym e) is
+
+more-than-none : (n : ℕ) → (suc n == 0) ≡ false
+more-than-none n = grind (arith, nat_tests)
+
 pub empty-by : (ops : List Op) (b : Bool) → b ≡ (length ops == 0) → MatchBool b (ops ≡ []) (ops ≢ [])
-empty-by [] b e = subst (λ (x : Bool). MatchBool x ([] ≡ []) ([] ≢ [])) (sym e) refl
-empty-by (op ∷ ops) b e =
-    let zero-less : (length (op ∷ ops) == 0) ≡ false = grind (arith, nat_tests) in
-    subst (λ (x : Bool). MatchBool x (op ∷ ops ≡ []) (op ∷ ops ≢ [])) (sym (e ∙ zero-less)) (λ same. cc)
+empty-by [] b e = tested [] b true e refl
+empty-by (op ∷ ops) b e = tested (op ∷ ops) b false (e ∙ more-than-none (length ops)) (λ same. cc)
 
 pub next-left : (tape : Tape) (index : ℕ) → IsNext tape index → IsUsedUp tape → ⊥
 next-left tape index next used =

@@ -75,6 +75,14 @@ fn next_of(document: u32, entries: &[Entry]) -> Option<usize>
     entries.iter().position(|entry| entry.document == document)
 }
 
+// The entry at an index.
+fn entry_in(entries: &[Entry], index: usize) -> &Entry
+    requires { index < length entries.now }
+    ensures { slice_get entries.now index ≡ Some result.now }
+{
+    &entries[index]
+}
+
 impl<'a> TapePass<'a> {
     /// The pass of a document, over a history that the opening book gives. It takes no memory.
     pub fn new(
@@ -114,7 +122,8 @@ impl<'a> TapePass<'a> {
 
     // Whether no call was a stray.
     fn is_on_tape(&self) -> bool
-        ensures { MatchBool result (self.now.strays ≡ []) (self.now.strays ≢ []) }
+        ensures tape { spec.IsTape self.now }
+        ensures on { MatchBool result (self.now.strays ≡ []) (self.now.strays ≢ []) }
     {
         self.strays.as_slice().is_empty()
     }
@@ -124,7 +133,7 @@ impl<'a> TapePass<'a> {
         requires { index < length self.now.history }
         ensures { slice_get self.now.history index ≡ Some result.now }
     {
-        &self.history[index]
+        entry_in(self.history, index)
     }
 
     /// Whether the calls that were made are the document's entries of the history.

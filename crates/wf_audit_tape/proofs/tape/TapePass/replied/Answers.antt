@@ -5,21 +5,23 @@ use Rattle.wf_audit_tape.proofs.OpLemmas.{op-equal, op-other}
 use Rattle.wf_audit_tape.proofs.TapeLemmas.{differs, next-within, passes}
 use Rattle.wf_audit_tape.proofs.tape.TapePass.replied.Goals as goal
 
-pub entry_at-requires : goal.entry_at-requires
-entry_at-requires c =
+pub entry_at-entry-requires : goal.entry_at-entry-requires
+entry_at-entry-requires c =
     next-within c.args.self.now c.in_ok-index.index c.requires.within c.in_ok-index.ensures
 
 pub returns-then-not-same_op : goal.returns-then-not-same_op
-returns-then-not-same_op c =
-    (refl, differs c.args.self.now c.in_ok-index.index c.entry_at.result.now c.args.op.now c.requires.within
-    c.in_ok-index.ensures
-    (sym (get_or_from_slice_get c.args.self.now.history c.in_ok-index.index c.entry_at.result.now
-    c.entry_at.result.now c.entry_at.ensures))
-    (op-other c.entry_at.result.now.op c.args.op.now c.same_op.result c.same_op.ensures c.if-not-same_op.true))
+returns-then-not-same_op c = (
+  refl,
+  differs c.args.self.now c.in_ok-index.index c.entry_at-entry.result.now c.args.op.now c.requires.within
+      c.in_ok-index.ensures
+      (sym (get_or_from_slice_get c.args.self.now.history c.in_ok-index.index c.entry_at-entry.result.now
+      c.entry_at-entry.result.now c.entry_at-entry.ensures))
+      (op-other c.entry_at-entry.result.now.op c.args.op.now c.same_op.result c.same_op.ensures c.if-not-same_op.true),
+)
 
 pub returns : goal.returns
 returns c =
-    passes c.args.self.now _ c.in_ok-index.index c.entry_at.result.now c.args.op.now c.requires
-    c.if-not-is_on_tape.ensures c.in_ok-index.ensures c.entry_at.ensures
-    (op-equal c.entry_at.result.now.op c.args.op.now c.same_op.result c.same_op.ensures c.if-not-same_op.false)
+    passes c.args.self.now _ c.in_ok-index.index c.entry_at-entry.result.now c.args.op.now c.requires
+    c.if-not-is_on_tape.ensures.on c.in_ok-index.ensures c.entry_at-entry.ensures
+    (op-equal c.entry_at-entry.result.now.op c.args.op.now c.same_op.result c.same_op.ensures c.if-not-same_op.false)
     (ap (λ (t : Tape). record t { at = c.in_ok-index.index + 1 }) c.self.view_is)
