@@ -1,0 +1,6 @@
+pub mod Readers
+pub mod Standings
+pub mod Sessions
+pub mod Feeding
+pub mod Asking
+pub mod Private

@@ -1,0 +1,22 @@
+// A whole fetch that touches nothing: it says what is to be done next, and is told what came of it, bytes in any pieces.
+#![tactic(auto)]
+
+mod asking;
+mod document;
+mod ending;
+mod feeding;
+mod going;
+mod reading;
+mod session;
+mod taking;
+
+pub use document::Document;
+pub use feeding::Fed;
+pub use reading::{Bodies, Reader};
+pub use session::{Session, Stand, Waiting, Went};
+
+#[cfg(test)]
+mod tests {
+    #[test]
+    fn none() {}
+}

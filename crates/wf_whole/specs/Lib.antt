@@ -1,0 +1,5 @@
+pub mod Settings
+pub mod Asked
+pub mod Beginning
+pub mod Parts
+pub mod Amounts
