@@ -1,5 +1,5 @@
 -- What it comes to where a fetch asks the book.
-use Rattle.std.specs.Prelude.{◌≡◌, ◌&&◌, ◌^◌, ◌⊎◌, Bool, true, false, nat_le, nat_lt, Option, Some, None}
+use Rattle.std.specs.Prelude.{◌≡◌, ◌&&◌, ◌^◌, ◌⊎◌, Bool, false, nat_le, nat_lt, Option, Some, None}
 use Rattle.wf_act.specs.declared.act.Act.{Act}
 use Rattle.wf_act.specs.declared.act.Act.TheVariants.{Ask}
 use Rattle.wf_act.specs.declared.act.Input.{Input}
@@ -7,6 +7,7 @@ use Rattle.wf_act.specs.declared.act.Input.TheVariants.{Replied, Told}
 use Rattle.wf_book.specs.Book.{after, reply}
 use Rattle.wf_book.specs.declared.book.Book.{Book}
 use Rattle.wf_book.specs.declared.op.Op.{Op}
+use Rattle.wf_book.specs.declared.op.Reply.{Reply}
 use Rattle.wf_book.specs.declared.op.Op.TheVariants.{Match, Note, Covers, Learn, Clear}
 use Rattle.wf_sansio.specs.Sessions.{Goes, act_of}
 use Rattle.wf_sansio.specs.Standings.{Standing, first_act}
@@ -45,6 +46,16 @@ abbrev pub BookAfter : Option Act → Went → Book → Book → Type 0
 BookAfter first went.On old new = new ≡ book_after old first
 BookAfter first went.NotAwaited old new = new ≡ old
 BookAfter first went.OutOfMemory old new = (new ≡ old) ⊎ (new ≡ book_after old first)
+
+-- the book's reply, where it was asked and the fetch went on
+abbrev pub reply_where : Went → Reply → Option Reply
+reply_where went.On reply = Some reply
+reply_where went.NotAwaited reply = None
+reply_where went.OutOfMemory reply = None
+
+abbrev pub reply_told : Went → Book → Option Act → Option Reply
+reply_told went book (Some (Ask op)) = reply_where went (reply book op)
+reply_told went book _ = None
 
 -- how a call went that asks this book, where the fetch asks one
 abbrev pub Asks : Book → Option Standing → Went → Option Standing → Type 0

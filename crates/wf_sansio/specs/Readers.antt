@@ -1,5 +1,5 @@
 -- What reads the bytes that an act awaits.
-use Rattle.std.specs.Prelude.{Bool, true, false, List, []}
+use Rattle.std.specs.Prelude.{Bool, true, false, []}
 use Rattle.wf_act.specs.declared.act.Act.{Act}
 use Rattle.wf_act.specs.declared.act.Act.TheVariants as act
 use Rattle.wf_act.specs.declared.act.Input.{Input}

@@ -77,6 +77,7 @@ impl Session {
     }
 
     /// The connection failed: the request could not be sent, or no more bytes can be received.
+    #[tactic(auto, using(crate::proofs::EndingLemmas::fault_suits))]
     pub fn failed(&mut self, alloc: Global) -> Went
         ensures { spec.Fails (standing_of self.old) result (standing_of self.new) }
     {

@@ -10,13 +10,8 @@ mod reading;
 mod session;
 mod taking;
 
+pub use asking::Replied;
 pub use document::Document;
 pub use feeding::Fed;
 pub use reading::{Bodies, Reader};
 pub use session::{Session, Stand, Waiting, Went};
-
-#[cfg(test)]
-mod tests {
-    #[test]
-    fn none() {}
-}

@@ -8,6 +8,8 @@ use Rattle.wf_book.specs.declared.op.Op.TheVariants.{Match, Note, Covers, Learn,
 use Rattle.wf_hsts.specs.declared.sts.Sts.{Sts}
 use Rattle.wf_precache.specs.declared.question.Lesson.{Lesson}
 use Rattle.wf_precache.specs.declared.question.Question.{Question}
+use Rattle.wf_sansio.specs.Sessions.{act_of, outcome_of}
+use Rattle.wf_sansio.specs.Standings.{Standing}
 use Rattle.wf_types.specs.Errors.{error_number}
 use Rattle.wf_types.specs.declared.hop.Hop.{Hop}
 use Rattle.wf_types.specs.declared.policy.Violation.{Violation}
@@ -134,3 +136,14 @@ abbrev pub amount_of_outcome : Outcome → Amount → Option ℕ
 amount_of_outcome (Answer response) which = response_amount response which
 amount_of_outcome Loaded which = loaded_amount which
 amount_of_outcome (Error error) which = error_amount (error_number error) which
+
+-- ---- sessions
+
+-- of the act that is to be done next, or of the outcome of a fetch that is over
+abbrev pub amount_by : Option Act → Option Outcome → Amount → Option ℕ
+amount_by (Some first) outcome which = amount_of_act first which
+amount_by None (Some outcome) which = amount_of_outcome outcome which
+amount_by None None which = None
+
+abbrev pub amount_of : Option Standing → Amount → Option ℕ
+amount_of standing which = amount_by (act_of standing) (outcome_of standing) which

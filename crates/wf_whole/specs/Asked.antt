@@ -73,8 +73,11 @@ changed made now = record { made = made; now = now }
 
 -- one more header of a `fetch`, its value normalised
 abbrev pub header_added : List ℕ → List ℕ → Asked → Change Asked
-header_added name value (Fetch asked) = changed true (Fetch (record { init = record asked.init {
-    headers = asked.init.headers ++ (record { name = name; value = trimmed http_whitespace value }) ∷ [] } }))
+header_added name value (Fetch asked) = changed true (Fetch (record {
+  init = record asked.init {
+    headers = asked.init.headers ++ (record { name = name; value = trimmed http_whitespace value }) ∷ [];
+  };
+}))
 header_added name value (Load asked) = changed false (Load asked)
 
 -- a text of the kind

@@ -8,6 +8,8 @@ use Rattle.wf_headers.specs.declared.headers.Header.{Header}
 use Rattle.wf_http1.specs.Requests.{request_bytes}
 use Rattle.wf_precache.specs.declared.question.Lesson.{Lesson}
 use Rattle.wf_precache.specs.declared.question.Question.{Question}
+use Rattle.wf_sansio.specs.Sessions.{act_of, outcome_of}
+use Rattle.wf_sansio.specs.Standings.{Standing}
 use Rattle.wf_types.specs.Errors.{error_name}
 use Rattle.wf_types.specs.Names.{directive_name, kind_name}
 use Rattle.wf_types.specs.declared.error.NetError.{NetError}
@@ -123,6 +125,21 @@ text_of_outcome Loaded which at = None
 text_of_outcome (Error error) which at = error_text error which
 
 -- all bytes of the request that an act sends
-abbrev pub request_of : Act → Option (List ℕ)
-request_of (Send hop) = Some (request_bytes hop)
-request_of _ = None
+abbrev pub request_of_act : Act → Option (List ℕ)
+request_of_act (Send hop) = Some (request_bytes hop)
+request_of_act _ = None
+
+-- ---- sessions
+
+-- of the act that is to be done next, or of the outcome of a fetch that is over
+abbrev pub text_by : Option Act → Option Outcome → Part → ℕ → Option (List ℕ)
+text_by (Some first) outcome which at = text_of_act first which at
+text_by None (Some outcome) which at = text_of_outcome outcome which at
+text_by None None which at = None
+
+abbrev pub text_of : Option Standing → Part → ℕ → Option (List ℕ)
+text_of standing which at = text_by (act_of standing) (outcome_of standing) which at
+
+-- all bytes of the request that is to be sent
+abbrev pub request_of : Option Standing → Option (List ℕ)
+request_of standing = option_and_then request_of_act (act_of standing)

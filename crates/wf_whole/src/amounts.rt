@@ -1,11 +1,13 @@
 // What an act or an outcome has, by numbers.
 ghost use Rattle.std.specs.Prelude.{◌≡◌, if◌then◌else◌};
 ghost use Rattle.wf_book.specs.Ops as times;
+ghost use Rattle.wf_sansio.specs.Sessions.{standing_of};
 ghost use Rattle.wf_whole.specs.Amounts as spec;
 
 use wf_act::Act;
 use wf_book::Op;
 use wf_precache::{Lesson, Question};
+use wf_sansio::Session;
 use wf_types::{BodyEnd, Hop, Outcome, Response, Violation};
 
 /// A number that an act or an outcome may have; a test is 1 where it holds, and else 0.
@@ -139,8 +141,8 @@ fn violation_amount(violation: &Violation, which: Amount) -> Option<u64>
     }
 }
 
-/// The number of an act.
-pub fn amount_of_act(act: &Act, which: Amount) -> Option<u64>
+// The number of an act.
+fn amount_of_act(act: &Act, which: Amount) -> Option<u64>
     ensures { result ≡ spec.amount_of_act act.now which }
 {
     match act {
@@ -189,8 +191,8 @@ fn response_amount(response: &Response, which: Amount) -> Option<u64>
     }
 }
 
-/// The number of an outcome.
-pub fn amount_of_outcome(outcome: &Outcome, which: Amount) -> Option<u64>
+// The number of an outcome.
+fn amount_of_outcome(outcome: &Outcome, which: Amount) -> Option<u64>
     ensures { result ≡ spec.amount_of_outcome outcome.now which }
 {
     match (outcome, which) {
@@ -199,5 +201,18 @@ pub fn amount_of_outcome(outcome: &Outcome, which: Amount) -> Option<u64>
         (Outcome::Error(_), Amount::Outcome) => Some(2),
         (Outcome::Error(error), Amount::Error) => Some(u64::from(error.number())),
         _ => None,
+    }
+}
+
+/// The number of the act that is to be done next, or of the outcome of a fetch that is over.
+pub fn amount_of(session: &Session, which: Amount) -> Option<u64>
+    ensures { result ≡ spec.amount_of (standing_of session.now) which }
+{
+    if let Some(act) = session.act() {
+        return amount_of_act(act, which);
+    }
+    match session.outcome() {
+        None => None,
+        Some(outcome) => amount_of_outcome(outcome, which),
     }
 }

@@ -9,14 +9,8 @@ mod choosing;
 mod parts;
 mod settings;
 
-pub use amounts::{Amount, amount_of_act, amount_of_outcome};
+pub use amounts::{Amount, amount_of};
 pub use asked::{Asked, AskedFetch, AskedLoad, Setting, Words};
 pub use beginning::begin;
-pub use parts::{Part, request_of, text_of_act, text_of_outcome};
+pub use parts::{Part, request_of, text_of};
 pub use settings::{PolicyValue, Settings};
-
-#[cfg(test)]
-mod tests {
-    #[test]
-    fn none() {}
-}

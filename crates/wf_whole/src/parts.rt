@@ -1,5 +1,6 @@
 // What an act or an outcome has, by parts.
 ghost use Rattle.std.specs.Prelude.{◌≡◌, ℕ, List, Option, option_map, slice_get, IfOk};
+ghost use Rattle.wf_sansio.specs.Sessions.{standing_of};
 ghost use Rattle.wf_whole.specs.Parts as spec;
 
 use std::alloc::Global;
@@ -8,6 +9,7 @@ use wf_book::Op;
 use wf_headers::HeaderList;
 use wf_http1::write_request;
 use wf_precache::{Lesson, Question};
+use wf_sansio::Session;
 use wf_text::{Bytes, OutOfMemory};
 use wf_types::{BodyEnd, Hop, NetError, Outcome, Response, Violation};
 
@@ -148,8 +150,8 @@ fn violation_text(violation: &Violation, part: Part) -> Option<&[u8]>
     }
 }
 
-/// The text of an act.
-pub fn text_of_act(act: &Act, part: Part, at: usize) -> Option<&[u8]>
+// The text of an act.
+fn text_of_act(act: &Act, part: Part, at: usize) -> Option<&[u8]>
     ensures { option_map (λ text. text.now) result ≡ spec.text_of_act act.now part at }
 {
     match act {
@@ -203,8 +205,8 @@ fn error_text(error: &NetError, part: Part) -> Option<&[u8]>
     }
 }
 
-/// The text of an outcome.
-pub fn text_of_outcome(outcome: &Outcome, part: Part, at: usize) -> Option<&[u8]>
+// The text of an outcome.
+fn text_of_outcome(outcome: &Outcome, part: Part, at: usize) -> Option<&[u8]>
     ensures { option_map (λ text. text.now) result ≡ spec.text_of_outcome outcome.now part at }
 {
     match outcome {
@@ -214,12 +216,35 @@ pub fn text_of_outcome(outcome: &Outcome, part: Part, at: usize) -> Option<&[u8]
     }
 }
 
-/// All bytes of the request that an act sends (RFC 9112, section 3).
-pub fn request_of(alloc: Global, act: &Act) -> Result<Option<Bytes>, OutOfMemory>
-    ensures { IfOk result (λ bytes. bytes ≡ spec.request_of act.now) }
+// All bytes of the request that an act sends.
+fn request_of_act(alloc: Global, act: &Act) -> Result<Option<Bytes>, OutOfMemory>
+    ensures { IfOk result (λ bytes. bytes ≡ spec.request_of_act act.now) }
 {
     match act {
         Act::Send(hop) => Ok(Some(write_request(alloc, hop)?)),
         _ => Ok(None),
+    }
+}
+
+/// The text of the act that is to be done next, or of the outcome of a fetch that is over.
+pub fn text_of(session: &Session, part: Part, at: usize) -> Option<&[u8]>
+    ensures { option_map (λ text. text.now) result ≡ spec.text_of (standing_of session.now) part at }
+{
+    if let Some(act) = session.act() {
+        return text_of_act(act, part, at);
+    }
+    match session.outcome() {
+        None => None,
+        Some(outcome) => text_of_outcome(outcome, part, at),
+    }
+}
+
+/// All bytes of the request that is to be sent (RFC 9112, section 3), if the act sends one.
+pub fn request_of(alloc: Global, session: &Session) -> Result<Option<Bytes>, OutOfMemory>
+    ensures { IfOk result (λ bytes. bytes ≡ spec.request_of (standing_of session.now)) }
+{
+    match session.act() {
+        None => Ok(None),
+        Some(act) => request_of_act(alloc, act),
     }
 }

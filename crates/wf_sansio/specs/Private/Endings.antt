@@ -5,7 +5,7 @@ use Rattle.wf_http1.specs.Bodies.{body_end}
 use Rattle.wf_types.specs.declared.response.BodyEnd.TheVariants as end
 use Rattle.wf_sansio.specs.Feeding.{count_of}
 use Rattle.wf_sansio.specs.declared.reading.Reader.{Reader}
-use Rattle.wf_sansio.specs.declared.reading.Reader.TheVariants.{Idle, Head, Body}
+use Rattle.wf_sansio.specs.declared.reading.Reader.TheVariants.{Body}
 
 -- where the answer ends
 abbrev pub end_of_reader : Reader → Input

@@ -1,5 +1,5 @@
 -- How a call went that brings a piece to a reader.
-use Rattle.std.specs.Prelude.{◌≡◌, ℕ, List, Option, Some, None}
+use Rattle.std.specs.Prelude.{◌≡◌, ℕ, List, Option, None}
 use Rattle.wf_act.specs.declared.act.Act.{Act}
 use Rattle.wf_sansio.specs.Feeding.{FedAt, FedBody, FedHead}
 use Rattle.wf_sansio.specs.Standings.{Standing}

@@ -1,5 +1,5 @@
 -- Where a step of the machine leads.
-use Rattle.std.specs.Prelude.{◌≡◌, ℕ, Some, None, Option}
+use Rattle.std.specs.Prelude.{◌≡◌, Some, None}
 use Rattle.wf_act.specs.Process.{Process, act, ended}
 use Rattle.wf_act.specs.declared.act.Input.{Input}
 use Rattle.wf_fetch.specs.Machine.{rest}
