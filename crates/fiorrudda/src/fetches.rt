@@ -18,7 +18,7 @@ use wf_total::Refusal;
 use wf_types::TypeFault;
 use wf_whole::{Amount, Asked, Part, Settings, amount_of, begin, request_of, text_of};
 
-/// What a fetch does next.
+/// What a fetch does next: nothing, it is over.
 pub const ACT_OVER: u32 = 0;
 
 /// The book is to be asked or told: by `fiorrudda_ask`, or by `fiorrudda_input` with what another book says.

@@ -11,7 +11,7 @@ use std::mem::replace;
 use std::ptr::null_mut;
 use wf_held::Loose;
 
-/// One word that holds a header list or a book, or nothing: all zero it is empty. It is not to be copied, written or
+/// One word that holds a header list, a book, a client, a request or a fetch, or nothing: all zero it is empty. It is not to be copied, written or
 /// read but by the calls below, and it is given to one call at a time, and not twice to one call. What it holds is freed
 /// by `fiorrudda_free`.
 #[repr(C)]
