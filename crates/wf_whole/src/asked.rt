@@ -143,7 +143,7 @@ impl Asked {
             (Asked::Fetch(asked), Words::Integrity) => asked.init.integrity = text,
             (Asked::Load(asked), Words::Integrity) => asked.init.integrity = text,
             (Asked::Load(asked), Words::Nonce) => asked.init.nonce = text,
-            _ => return Ok(false),
+            (Asked::Fetch(_), Words::Nonce) | (Asked::Load(_), Words::Body) => return Ok(false),
         }
         Ok(true)
     }

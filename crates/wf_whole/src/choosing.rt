@@ -31,7 +31,11 @@ pub(crate) fn set_load(init: &mut LoadInit, setting: Setting) -> bool
         Setting::CrossOrigin(crossorigin) => init.crossorigin = crossorigin,
         Setting::Parser(parser) => init.parser = parser,
         Setting::Policy(policy) => init.referrer_policy = policy,
-        _ => return false,
+        Setting::Mode(_)
+        | Setting::Credentials(_)
+        | Setting::Redirect(_)
+        | Setting::ClientReferrer(_)
+        | Setting::Upload(_) => return false,
     }
     true
 }
