@@ -1,4 +1,5 @@
 pub mod Readers
+pub mod CutLaws
 pub mod Standings
 pub mod Sessions
 pub mod Feeding
