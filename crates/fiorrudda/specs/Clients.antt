@@ -3,7 +3,7 @@ use Rattle.std.specs.Prelude.{◌≡◌, ℕ, Bool, List, Option, Some, None, Re
 use Rattle.wf_total.specs.declared.refusal.Refusal.{Refusal}
 use Rattle.wf_types.specs.declared.mode.ReferrerPolicy.{ReferrerPolicy}
 use Rattle.wf_whole.specs.Settings.{cookie_added, settings_of, with_policies}
-use Rattle.wf_whole.specs.declared.settings.Settings.{Settings}
+use Rattle.wf_whole.specs.Setups.{Setup}
 use Rattle.fiorrudda.specs.Calls.{Done, done}
 use Rattle.fiorrudda.specs.Codes.{code_of}
 use Rattle.fiorrudda.specs.Referrers.{policy_numbered}
@@ -12,7 +12,7 @@ use Rattle.fiorrudda.specs.declared.thing.Thing.{Thing}
 use Rattle.fiorrudda.specs.declared.thing.Thing.TheVariants as thing
 
 -- the handle holds the client, or is empty
-abbrev pub IsClientOf : Result Settings Refusal → ℕ → Option Thing → Type 0
+abbrev pub IsClientOf : Result Setup Refusal → ℕ → Option Thing → Type 0
 IsClientOf (Ok settings) code held = (code ≡ OK) × (held ≡ Some (thing.Client settings))
 IsClientOf (Err refusal) code held = (code ≡ code_of refusal) × (held ≡ None)
 
@@ -31,7 +31,7 @@ add_policies value enforced (Some (thing.Client settings)) =
 add_policies value enforced (Some other) = done WRONG_HANDLE (Some other)
 
 -- a client with one more cookie, or as it was
-abbrev pub cookie_done : Settings → Result Settings Refusal → Done
+abbrev pub cookie_done : Setup → Result Setup Refusal → Done
 cookie_done settings (Ok next) = done OK (Some (thing.Client next))
 cookie_done settings (Err refusal) = done (code_of refusal) (Some (thing.Client settings))
 

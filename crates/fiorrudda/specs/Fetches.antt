@@ -16,7 +16,7 @@ use Rattle.wf_whole.specs.Parts.{request_of, text_of}
 use Rattle.wf_whole.specs.declared.amounts.Amount.{Amount}
 use Rattle.wf_whole.specs.declared.asked.Asked.{Asked}
 use Rattle.wf_whole.specs.declared.parts.Part.{Part}
-use Rattle.wf_whole.specs.declared.settings.Settings.{Settings}
+use Rattle.wf_whole.specs.Setups.{Setup}
 use Rattle.fiorrudda.specs.Codes.{IsKept, IsTold}
 use Rattle.fiorrudda.specs.declared.codes.TheConstants.{NO, NO_REQUEST, NO_SUCH_NUMBER, OK, TOO_LATE, WRONG_HANDLE}
 use Rattle.fiorrudda.specs.declared.thing.Thing.{Thing}
@@ -50,7 +50,7 @@ abbrev pub BeginsWhere : Bool → Result Standing TypeFault → ℕ → Option T
 BeginsWhere true begun = BegunAs begun
 BeginsWhere false begun = IsRefused TOO_LATE
 
-abbrev pub BeginsOf : Settings → Asked → ℕ → ℕ → ℕ → Option Thing → ℕ → ℕ → ℕ → ℕ → Type 0
+abbrev pub BeginsOf : Setup → Asked → ℕ → ℕ → ℕ → Option Thing → ℕ → ℕ → ℕ → ℕ → Type 0
 BeginsOf settings asked now limit = BeginsWhere (nat_lt now (2 ^ 48)) (begun_as settings asked now limit)
 
 abbrev pub Begins : Option Thing → Option Thing → ℕ → ℕ → ℕ → Option Thing → ℕ → ℕ → ℕ → ℕ → Type 0

@@ -1,5 +1,5 @@
 -- What is asked for, of texts and choices.
-use Rattle.std.specs.Prelude.{ℕ, Bool, true, false, List, [], ◌∷◌, ◌++◌, Option, Some, None}
+use Rattle.std.specs.Prelude.{ℕ, Bool, true, false, List, [], ◌∷◌, ◌++◌, Option, Some, None, option_map}
 use Rattle.wf_text.specs.Trims.{http_whitespace, trimmed}
 use Rattle.wf_types.specs.declared.init.CrossOrigin.TheVariants.{Absent}
 use Rattle.wf_types.specs.declared.init.Init.{Init}
@@ -20,46 +20,49 @@ use Rattle.wf_whole.specs.declared.asked.Words.TheVariants as words
 -- ---- as it is asked for at first
 
 -- a `fetch` of a URL by a method
-abbrev pub fetch_of : List ℕ → List ℕ → Asked
-fetch_of method url = Fetch (record {
-  init = record {
-    url = url;
-    method = method;
-    mode = Cors;
-    credentials = SameOrigin;
-    redirect = Follow;
-    headers = [];
-    body = None;
-    client_referrer = true;
-    referrer_policy = Empty;
-    integrity = [];
-    upload = false;
-  };
-})
+abbrev pub init_of : List ℕ → List ℕ → Init
+init_of method url = record {
+  url = url;
+  method = method;
+  mode = Cors;
+  credentials = SameOrigin;
+  redirect = Follow;
+  headers = [];
+  body = None;
+  client_referrer = true;
+  referrer_policy = Empty;
+  integrity = [];
+  upload = false;
+}
 
--- a load of a URL by an element of a kind; a `fetch` is none
-abbrev pub load_as : Destination → List ℕ → Asked
-load_as kind url = Load (record {
-  init = record {
-    kind = kind;
-    url = url;
-    crossorigin = Absent;
-    nonce = [];
-    integrity = [];
-    parser = false;
-    referrer_policy = Empty;
-  };
-})
+abbrev pub fetch_of : List ℕ → List ℕ → Asked
+fetch_of method url = Fetch (init_of method url)
+
+-- a load of a URL by an element of a kind
+abbrev pub load_as : Destination → List ℕ → LoadInit
+load_as kind url = record {
+  kind = kind;
+  url = url;
+  crossorigin = Absent;
+  nonce = [];
+  integrity = [];
+  parser = false;
+  referrer_policy = Empty;
+}
+
+-- a `fetch` is none
+abbrev pub load_init_of : Destination → List ℕ → Option LoadInit
+load_init_of destination.Fetch url = None
+load_init_of destination.Image url = Some (load_as destination.Image url)
+load_init_of destination.Audio url = Some (load_as destination.Audio url)
+load_init_of destination.Video url = Some (load_as destination.Video url)
+load_init_of destination.Style url = Some (load_as destination.Style url)
+load_init_of destination.Script url = Some (load_as destination.Script url)
+load_init_of destination.Font url = Some (load_as destination.Font url)
+load_init_of destination.Manifest url = Some (load_as destination.Manifest url)
 
 abbrev pub load_of : Destination → List ℕ → Option Asked
-load_of destination.Fetch url = None
-load_of destination.Image url = Some (load_as destination.Image url)
-load_of destination.Audio url = Some (load_as destination.Audio url)
-load_of destination.Video url = Some (load_as destination.Video url)
-load_of destination.Style url = Some (load_as destination.Style url)
-load_of destination.Script url = Some (load_as destination.Script url)
-load_of destination.Font url = Some (load_as destination.Font url)
-load_of destination.Manifest url = Some (load_as destination.Manifest url)
+load_of kind url = option_map Load (load_init_of kind url)
 
 -- ---- changes
 
@@ -71,25 +74,34 @@ pub record Change (X : Type 0) : Type 0 where
 abbrev pub changed : {X : Type 0} → Bool → X → Change X
 changed made now = record { made = made; now = now }
 
--- one more header of a `fetch`, its value normalised
+-- what is asked for after a change of its init
+abbrev pub changed_to : {X : Type 0} → (X → Asked) → Change X → Change Asked
+changed_to asked change = changed change.made (asked change.now)
+
+-- one more header, its value normalised
+abbrev pub with_header : List ℕ → List ℕ → Init → Init
+with_header name value init = record init {
+  headers = init.headers ++ (record { name = name; value = trimmed http_whitespace value }) ∷ [];
+}
+
 abbrev pub header_added : List ℕ → List ℕ → Asked → Change Asked
-header_added name value (Fetch asked) = changed true (Fetch (record {
-  init = record asked.init {
-    headers = asked.init.headers ++ (record { name = name; value = trimmed http_whitespace value }) ∷ [];
-  };
-}))
-header_added name value (Load asked) = changed false (Load asked)
+header_added name value (Fetch init) = changed true (Fetch (with_header name value init))
+header_added name value (Load init) = changed false (Load init)
 
 -- a text of the kind
+abbrev pub init_text : Words → List ℕ → Init → Change Init
+init_text words.Body text init = changed true (record init { body = Some text })
+init_text words.Integrity text init = changed true (record init { integrity = text })
+init_text words.Nonce text init = changed false init
+
+abbrev pub load_text : Words → List ℕ → LoadInit → Change LoadInit
+load_text words.Body text init = changed false init
+load_text words.Integrity text init = changed true (record init { integrity = text })
+load_text words.Nonce text init = changed true (record init { nonce = text })
+
 abbrev pub text_set : Words → List ℕ → Asked → Change Asked
-text_set words.Body text (Fetch asked) = changed true (Fetch (record { init = record asked.init { body = Some text } }))
-text_set words.Integrity text (Fetch asked) =
-    changed true (Fetch (record { init = record asked.init { integrity = text } }))
-text_set words.Nonce text (Fetch asked) = changed false (Fetch asked)
-text_set words.Body text (Load asked) = changed false (Load asked)
-text_set words.Integrity text (Load asked) =
-    changed true (Load (record { init = record asked.init { integrity = text } }))
-text_set words.Nonce text (Load asked) = changed true (Load (record { init = record asked.init { nonce = text } }))
+text_set which text (Fetch init) = changed_to Fetch (init_text which text init)
+text_set which text (Load init) = changed_to Load (load_text which text init)
 
 -- a choice of a `fetch`
 abbrev pub init_chosen : Setting → Init → Change Init
@@ -110,7 +122,5 @@ load_chosen _ init = changed false init
 
 -- a choice of what is asked for
 abbrev pub chosen : Setting → Asked → Change Asked
-chosen choice (Fetch asked) =
-    changed (init_chosen choice asked.init).made (Fetch (record { init = (init_chosen choice asked.init).now }))
-chosen choice (Load asked) =
-    changed (load_chosen choice asked.init).made (Load (record { init = (load_chosen choice asked.init).now }))
+chosen choice (Fetch init) = changed_to Fetch (init_chosen choice init)
+chosen choice (Load init) = changed_to Load (load_chosen choice init)

@@ -1,3 +1,4 @@
+pub mod Setups
 pub mod Settings
 pub mod Asked
 pub mod Beginning

@@ -5,12 +5,17 @@
 mod amounts;
 mod asked;
 mod beginning;
-mod choosing;
+mod fetch_init;
+mod load_init;
 mod parts;
+mod policy_value;
 mod settings;
 
 pub use amounts::{Amount, amount_of};
-pub use asked::{Asked, AskedFetch, AskedLoad, Setting, Words};
+pub use asked::{Asked, Setting, Words};
 pub use beginning::begin;
+pub use fetch_init::AskedFetch;
+pub use load_init::AskedLoad;
 pub use parts::{Part, request_of, text_of};
-pub use settings::{PolicyValue, Settings};
+pub use policy_value::PolicyValue;
+pub use settings::Settings;

@@ -2,9 +2,10 @@ ghost use Rattle.std.specs.Prelude.{◌≡◌, ◌≢◌, ◌++◌, IfErr, IfOk,
 ghost use Rattle.wf_total.specs.Answers.{Answers};
 ghost use Rattle.wf_total.specs.Reading as reading;
 ghost use Rattle.wf_types.specs.Requests as requests;
-ghost use Rattle.wf_types.specs.Requests.{IsClient};
 
+use crate::policy_value::PolicyValue;
 use std::alloc::Global;
+use std::marker::Model;
 use url::Url;
 use wf_csp::Compiled;
 use wf_csp_text::{Policies, parse_policies};
@@ -17,20 +18,28 @@ use wf_types::{Client, Cookie, Cookies, ReferrerPolicy, policy_or};
 /// How many policies are too many for a document: it is want of memory.
 const TOO_MANY: usize = 4_294_967_296;
 
-/// The value of a Content-Security-Policy header, or of a report-only one.
-#[derive(Drop)]
-pub struct PolicyValue {
-    pub value: Bytes,
-    pub enforced: bool,
-}
-
 /// The settings of a document that fetches: its client, the values of its policies' headers, and its cookies.
 #[derive(Drop)]
 pub struct Settings {
     pub(crate) client: Client,
     pub(crate) policies: Items<PolicyValue>,
     pub(crate) cookies: Cookies,
-    pub ghost valid: { IsClient client },
+}
+
+impl Model for Settings {
+    ghost use Rattle.wf_whole.specs.Setups.{Setup};
+
+    ghost Value = { Setup };
+
+    ghost use Rattle.wf_types.specs.Requests.{IsClient};
+
+    ghost view = { λ settings. record {
+      client = settings.client;
+      policies = settings.policies;
+      cookies = settings.cookies;
+    } };
+
+    ghost invariant = { λ settings. IsClient settings.client };
 }
 
 // The http or https URL that a text gives by itself.
@@ -88,7 +97,7 @@ fn add_all(policies: &mut Policies, more: Policies) -> Result<(), OutOfMemory>
 }
 
 impl Settings {
-    ghost use Rattle.wf_whole.specs.Settings.{cookie_added, document_of, policies_in, settings_of, with_policies};
+    ghost use Rattle.wf_whole.specs.Settings.{cookie_added, policies_in, settings_of, with_policies, IsDocumentOf};
 
     /// The settings of a document of a URL, in a page with that of another at the top, and with a referrer policy (HTML,
     /// section 8.1.3.2, "environment settings object"). It has no policies and no cookies. The empty referrer policy is
@@ -158,7 +167,7 @@ impl Settings {
 
     /// The document of these settings, as a fetch owns one.
     pub(crate) fn document(&self, alloc: Global) -> Result<Document, OutOfMemory>
-        ensures { IfOk result (λ document. document ≡ document_of self.now) }
+        ensures { IfOk result (λ document. IsDocumentOf self.now document) }
     {
         let policies = self.policies(alloc)?;
         if policies.len() >= TOO_MANY {
