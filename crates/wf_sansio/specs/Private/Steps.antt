@@ -1,0 +1,38 @@
+-- Where a step of the machine leads.
+use Rattle.std.specs.Prelude.{◌≡◌, Some, None}
+use Rattle.wf_act.specs.Process.{Process, act, ended}
+use Rattle.wf_act.specs.declared.act.Input.{Input}
+use Rattle.wf_fetch.specs.Machine.{rest}
+use Rattle.wf_fetch.specs.declared.place.Fetching.{Fetching}
+use Rattle.wf_fetch.specs.declared.place.Step.{Step}
+use Rattle.wf_fetch.specs.declared.place.Step.TheVariants.{Going, Over}
+use Rattle.wf_sansio.specs.Readers.{bodies_after}
+use Rattle.wf_sansio.specs.Sessions.{context_at, standing_of}
+use Rattle.wf_sansio.specs.Standings.{begun}
+use Rattle.wf_sansio.specs.declared.document.Document.{Document}
+use Rattle.wf_sansio.specs.declared.reading.Bodies.{Bodies}
+use Rattle.wf_sansio.specs.declared.session.Session.{Session}
+use Rattle.wf_sansio.specs.declared.session.Went.{Went}
+use Rattle.wf_sansio.specs.declared.session.Went.TheVariants as went
+
+-- the step's fetch keeps the act that it asks for
+abbrev pub HasLast : Step → Type 0
+HasLast (Going fetching first) = fetching.last.value ≡ first
+HasLast (Over outcome) = Unit {0}
+
+-- what is left of a document's fetch behind a step
+abbrev pub process_of : Document → Step → Process
+process_of document (Going fetching first) =
+    act fetching.level.request.value first (rest (context_at document fetching.level.now) fetching)
+process_of document (Over outcome) = ended outcome
+
+-- what is left of it once an input came
+abbrev pub rest_of : Document → Fetching → Input → Process
+rest_of document fetching input = rest (context_at document fetching.level.now) fetching input
+
+-- the session's fetch went on from an input, or memory was refused and it is gone
+abbrev pub WentOn : Fetching → Bodies → Input → Session → Went → Session → Type 0
+WentOn fetching bodies input old went.On new =
+    standing_of new ≡ Some (begun (rest_of old.document fetching input) (bodies_after bodies input))
+WentOn fetching bodies input old went.NotAwaited new = ⊥
+WentOn fetching bodies input old went.OutOfMemory new = standing_of new ≡ None

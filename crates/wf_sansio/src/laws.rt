@@ -1,0 +1,12 @@
+ghost use Rattle.wf_sansio.specs.CutLaws.{PiecesJoin};
+
+use wf_http1::{law_one_end, law_one_head};
+
+/// How an answer is cut does not matter: a piece comes to what its two parts come to, one behind the other. So two ways to cut
+/// the same bytes lead a fetch to one place.
+pub fn law_pieces_join()
+    ensures { PiecesJoin }
+{
+    law_one_head();
+    law_one_end();
+}
