@@ -73,10 +73,11 @@ heads_join : HasOneHead → HasOneEnd → (standing next joined : Standing) (fro
     → Says bytes (length standing.read) whole
     → HeadGoes (behind standing front) (length back) first used (Some next)
     → HeadGoes standing (length (front ++ back)) whole all (Some joined) → Joined next joined front used all
-heads_join one end standing next joined front back bytes used all (head.More a) (head.More b) says_a says_b goes_a goes_b =
-    (let e : Some (record standing { read = b }) ≡ Some (record standing { read = a }) =
-        ap (λ (r : List ℕ). Some (record standing { read = r })) (says_b.0 ∙ sym says_a.0) in cc,
-    omega (arith, length-append front back, goes_a.0, goes_b.0))
+heads_join one end standing next joined front back bytes used all (head.More a) (head.More b) says_a says_b goes_a goes_b = (
+  let e : Some (record standing { read = b }) ≡ Some (record standing { read = a }) =
+      ap (λ (r : List ℕ). Some (record standing { read = r })) (says_b.0 ∙ sym says_a.0) in cc,
+  omega (arith, length-append front back, goes_a.0, goes_b.0),
+)
 heads_join one end standing next joined front back bytes used all (head.More a) (head.Final h n) says_a says_b goes_a goes_b =
     absurd (no_final bytes h (length standing.read + n) says_b says_a.1)
 heads_join one end standing next joined front back bytes used all (head.More a) head.Bad says_a says_b goes_a goes_b =
@@ -87,9 +88,9 @@ heads_join one end standing next joined front back bytes used all (head.Final h 
     absurd (no_final bytes h (length standing.read + length front + n) says_a says_b.1)
 heads_join one end standing next joined front back bytes used all (head.Final h n) (head.Final i m) says_a says_b goes_a goes_b =
     let same : (h ≡ i) × (length standing.read + length front + n ≡ length standing.read + m) =
-        one bytes h i (length standing.read + length front + n) (length standing.read + m) says_a says_b in
+    one bytes h i (length standing.read + length front + n) (length standing.read + m) says_a says_b in
     let e : Some (gone_on standing (HeadIs h)) ≡ Some (gone_on standing (HeadIs i)) =
-        ap (λ (it : Head). Some (gone_on standing (HeadIs it))) same.0 in
+    ap (λ (it : Head). Some (gone_on standing (HeadIs it))) same.0 in
     (cc (goes_a.1, goes_b.1, e), omega (arith, same.1, goes_a.0, goes_b.0))
 heads_join one end standing next joined front back bytes used all (head.Final h n) head.Bad says_a says_b goes_a goes_b =
     absurd (apart_bad end bytes h (length standing.read + length front + n) says_a says_b)
@@ -140,28 +141,30 @@ bodies_join : (standing next joined : Standing) (front back : List ℕ) (used al
     → (used ≡ length back) → (all ≡ length (front ++ back))
     → BodyGoes (behind standing front) first (Some next) → BodyGoes standing whole (Some joined)
     → Joined next joined front used all
-bodies_join standing next joined front back used all (body.More a) (body.More b) fed_a fed_b used_a used_b goes_a goes_b =
-    (let bytes_a : a.bytes ≡ (standing.read ++ front) ++ back = ap (λ r. r.bytes) fed_a.0 in
-    let bytes_b : b.bytes ≡ standing.read ++ (front ++ back) = ap (λ r. r.bytes) fed_b.0 in
-    let e : Some (record standing { read = b.bytes }) ≡ Some (record standing { read = a.bytes }) =
-        ap (λ (r : List ℕ). Some (record standing { read = r }))
-        (bytes_b ∙ sym (append_assoc standing.read front back) ∙ sym bytes_a) in
-    cc (goes_a, goes_b, e),
-    omega (arith, length-append front back, used_a, used_b))
+bodies_join standing next joined front back used all (body.More a) (body.More b) fed_a fed_b used_a used_b goes_a goes_b = (
+  let bytes_a : a.bytes ≡ (standing.read ++ front) ++ back = ap (λ r. r.bytes) fed_a.0 in
+      let bytes_b : b.bytes ≡ standing.read ++ (front ++ back) = ap (λ r. r.bytes) fed_b.0 in
+      let e : Some (record standing { read = b.bytes }) ≡ Some (record standing { read = a.bytes }) =
+      ap (λ (r : List ℕ). Some (record standing { read = r }))
+      (bytes_b ∙ sym (append_assoc standing.read front back) ∙ sym bytes_a) in
+      cc (goes_a, goes_b, e),
+  omega (arith, length-append front back, used_a, used_b),
+)
 bodies_join standing next joined front back used all (body.More a) (body.Over end) fed_a fed_b used_a used_b goes_a goes_b =
     absurd (fed_a.1 end (subst (λ (b : List ℕ). IsDecided standing.bodies.framing standing.bodies.limit b end)
     (sym (append_assoc standing.read front back)) fed_b))
 bodies_join standing next joined front back used all (body.Over end) (body.More b) fed_a fed_b used_a used_b goes_a goes_b =
     absurd (fed_b.1 end (subst (λ (b : List ℕ). IsDecided standing.bodies.framing standing.bodies.limit b end)
     (append_assoc standing.read front back) fed_a))
-bodies_join standing next joined front back used all (body.Over a) (body.Over b) fed_a fed_b used_a used_b goes_a goes_b =
-    (let same : a ≡ b = one_body standing.bodies.framing standing.bodies.limit (standing.read ++ (front ++ back)) a b
-        (subst (λ (b : List ℕ). IsDecided standing.bodies.framing standing.bodies.limit b a)
-        (append_assoc standing.read front back) fed_a) fed_b in
-    let e : Some (gone_on standing (BodyIs a)) ≡ Some (gone_on standing (BodyIs b)) =
-        ap (λ (it : BodyEnd). Some (gone_on standing (BodyIs it))) same in
-    cc (goes_a, goes_b, e),
-    omega (arith, length-append front back, used_a, used_b))
+bodies_join standing next joined front back used all (body.Over a) (body.Over b) fed_a fed_b used_a used_b goes_a goes_b = (
+  let same : a ≡ b = one_body standing.bodies.framing standing.bodies.limit (standing.read ++ (front ++ back)) a b
+      (subst (λ (b : List ℕ). IsDecided standing.bodies.framing standing.bodies.limit b a)
+      (append_assoc standing.read front back) fed_a) fed_b in
+      let e : Some (gone_on standing (BodyIs a)) ≡ Some (gone_on standing (BodyIs b)) =
+      ap (λ (it : BodyEnd). Some (gone_on standing (BodyIs it))) same in
+      cc (goes_a, goes_b, e),
+  omega (arith, length-append front back, used_a, used_b),
+)
 
 body_pieces : (standing next joined : Standing) (front back : List ℕ) (used all : ℕ)
     → FedBody (behind standing front) back used (Some next) → FedBody standing (front ++ back) all (Some joined)
