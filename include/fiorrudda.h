@@ -153,7 +153,7 @@ extern "C" {
 
 #define FIORRUDDA_REQUEST_NONCE 2u
 
-// What a fetch does next.
+// What a fetch does next: nothing, it is over.
 #define FIORRUDDA_ACT_OVER 0u
 
 // The book is to be asked or told: by `fiorrudda_ask`, or by `fiorrudda_input` with what another book says.
@@ -281,9 +281,9 @@ extern "C" {
 // How many methods it learns.
 #define FIORRUDDA_NUMBER_METHODS 15u
 
-// One word that holds a header list or a book, or nothing: all zero it is empty. It is not to be copied, written or
-// read but by the calls below, and it is given to one call at a time, and not twice to one call. What it holds is
-// freed by `fiorrudda_free`.
+// One word that holds a header list, a book, a client, a request or a fetch, or nothing: all zero it is empty. It is
+// not to be copied, written or read but by the calls below, and it is given to one call at a time, and not twice to
+// one call. What it holds is freed by `fiorrudda_free`.
 typedef struct fiorrudda_handle {
     void *at;
 } fiorrudda_handle;
