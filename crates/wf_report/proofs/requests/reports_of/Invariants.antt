@@ -1,0 +1,10 @@
+use Rattle.std.proofs.Common.{◌≡◌, ◌++◌, length}
+use Rattle.wf_report.specs.Private.Queues.{reports_left}
+use Rattle.wf_report.specs.Reports.{report_requests}
+use Rattle.wf_report.proofs.requests.reports_of.Given as goal
+
+abbrev pub invariant-loop-reports : goal.invariant-loop-reports
+invariant-loop-reports l = report_requests l.document l.events ≡ l.reports ++ reports_left l.queue
+
+abbrev pub decreases-loop-reports : goal.decreases-loop-reports
+decreases-loop-reports l = length (reports_left l.queue)

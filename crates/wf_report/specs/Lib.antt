@@ -1,0 +1,5 @@
+pub mod Delivering
+pub mod Laws
+pub mod Private
+pub mod Reporting
+pub mod Reports
