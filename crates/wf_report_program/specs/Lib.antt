@@ -1,0 +1,5 @@
+pub mod Plays
+pub mod Program
+pub mod Statuses
+pub mod Text
+pub mod Words
