@@ -14,10 +14,11 @@ const { prefsFor } = require("./firefox-prefs.js");
 
 const NAMES = process.env.FIREFOX ? [process.env.FIREFOX] : ["firefox-esr", "firefox"];
 const PATIENCE = 90000; // milliseconds
+const START = 60000; // milliseconds until Marionette must listen, and greet
 const SETTLE = 60; // milliseconds until the last events of a command are there
 
 function versionOf(name) {
-  const ran = spawnSync(name, ["--version"], { encoding: "utf8" });
+  const ran = spawnSync(name, ["--version"], { encoding: "utf8", timeout: START });
   const found = ran.status === 0 ? /[0-9]+(\.[0-9]+)+(esr)?/.exec(ran.stdout) : null;
   return found === null ? null : found[0];
 }
@@ -97,24 +98,38 @@ class Firefox {
     const words = ["--headless", "--no-remote", "--marionette", "--remote-allow-system-access", "--profile", this.folder];
     this.process = spawn(program.name, words, { stdio: "ignore", detached: true,
       env: { ...process.env, MOZ_CRASHREPORTER_DISABLE: "1", MOZ_REMOTE_SETTINGS_DEVTOOLS: "1", HOME: this.folder } });
-    this.gone = new Promise((resolve) => this.process.on("exit", resolve));
-    this.process.on("error", () => {});
+    this.ended = null; // or why the browser is gone
+    this.gone = new Promise((resolve) => {
+      this.process.on("exit", (status, signal) => this.end(resolve, "it ended with " + (signal || "status " + status)));
+      this.process.on("error", (error) => this.end(resolve, error.message));
+    });
     this.containers = 0;
     this.asked = new Map();
     this.count = 0;
     this.rest = Buffer.alloc(0);
   }
 
+  // The browser is gone, for this reason: what was asked of it is not answered any more.
+  end(resolve, why) {
+    this.ended = this.ended || why;
+    this.asked.forEach((answered) => answered([1, 0, { message: this.ended }, null]));
+    this.asked.clear();
+    resolve();
+  }
+
   // The port that Marionette has taken, once it has said so in the profile.
   async port() {
     const file = path.join(this.folder, "MarionetteActivePort");
-    for (let until = Date.now() + PATIENCE; Date.now() < until;) {
+    for (let until = Date.now() + START; Date.now() < until;) {
+      if (this.ended !== null) {
+        throw new Error("firefox does not start: " + this.ended);
+      }
       if (fs.existsSync(file) && fs.readFileSync(file, "utf8").trim() !== "") {
         return Number(fs.readFileSync(file, "utf8"));
       }
       await new Promise((resolve) => setTimeout(resolve, 20));
     }
-    throw new Error("firefox does not start");
+    throw new Error("firefox does not start: it did not listen within " + START / 1000 + " s");
   }
 
   take(bytes) {
@@ -139,6 +154,9 @@ class Firefox {
   }
 
   ask(method, params = {}) {
+    if (this.ended !== null || this.socket === undefined) {
+      return Promise.reject(new Error("firefox: " + method + ": " + (this.ended || "it has not started")));
+    }
     this.count += 1;
     const id = this.count;
     return new Promise((resolve, reject) => {
@@ -154,8 +172,11 @@ class Firefox {
 
   async start() {
     const port = await this.port();
-    const greeted = new Promise((resolve) => {
+    const greeted = new Promise((resolve, reject) => {
       this.greeted = resolve;
+      const late = () => reject(new Error("firefox does not start: it did not greet within " + START / 1000 + " s"));
+      setTimeout(late, START).unref();
+      this.gone.then(() => reject(new Error("firefox does not start: " + this.ended)));
     });
     this.socket = net.connect(port, "127.0.0.1");
     this.socket.on("error", () => {});
@@ -212,7 +233,9 @@ class Firefox {
     await this.ask("Marionette:Quit", { flags: ["eForceQuit"] }).catch(() => this.kill());
     await this.gone;
     clearTimeout(late);
-    this.socket.destroy();
+    if (this.socket !== undefined) {
+      this.socket.destroy();
+    }
     this.forget();
   }
 }
@@ -266,6 +289,9 @@ class Session {
       const there = await this.browser.value("document.title !== '' && location.href").catch(() => null);
       if (there === page.url.href) {
         return;
+      }
+      if (this.browser.ended !== null) {
+        throw new Error("firefox: " + this.browser.ended);
       }
       await new Promise((resolve) => setTimeout(resolve, 10));
     }

@@ -20,19 +20,21 @@ function withHeaderChanged(request, name, value) {
 
 const REQUEST_CHANGES = [
   (request) => withHeaderChanged(request, "Origin", STRANGER),
+  (request) => withHeaderChanged(request, "Origin", "null"),
   (request) => withHeaderChanged(request, "Referer", STRANGER + "/"),
+  (request, document) => withHeaderChanged(request, "Referer", document.url.replace(/#.*$/, "")),
   (request) => withHeaderChanged(request, "Cookie", "planted=1"),
   (request) => ({ ...request, headers: [...request.headers, ["X-Planted", "1"]] }),
   (request) => ({ ...request, body: request.body + "00" }),
 ];
 
-function requestsChanged({ requests }) {
-  const plays = requests.flatMap((request, at) => REQUEST_CHANGES.map((change) => change(request))
+function requestsChanged({ requests }, document) {
+  const plays = requests.flatMap((request, at) => REQUEST_CHANGES.map((change) => change(request, document))
     .filter((changed) => changed !== null).map((changed) => withAt(requests, at, changed)));
   return plays.map((changed) => ({ requests: changed }));
 }
 
-// ---- a request left out, and one more
+// ---- a request left out, a preflight more, and a request more
 
 const isPreflight = (request) => request.method === "OPTIONS"
   && request.headers.some(([name]) => name === "Access-Control-Request-Method");
@@ -41,8 +43,25 @@ function preflightsLeftOut({ requests }) {
   return requests.filter(isPreflight).map((left) => ({ requests: requests.filter((request) => request !== left) }));
 }
 
+const preflightOf = ({ origin, target, method }, own) => ({ origin, target, method: "OPTIONS", body: "",
+  headers: [["Access-Control-Request-Method", method], ["Origin", own]] });
+
+// Before each request that has none.
+function preflightsMore({ requests }, document) {
+  const own = new URL(document.url).origin;
+  const hasNone = (request, at) => !isPreflight(request) && (at === 0 || !isPreflight(requests[at - 1]));
+  return requests.flatMap((request, at) => (hasNone(request, at)
+    ? [{ requests: [...requests.slice(0, at), preflightOf(request, own), ...requests.slice(at)] }] : []));
+}
+
 function requestMore({ requests }) {
   return [{ requests: [...requests, { origin: STRANGER, method: "GET", target: "/", headers: [], body: "" }] }];
+}
+
+// ---- a violation less
+
+function violationsLess({ violations }) {
+  return violations.map((less) => ({ violations: violations.filter((violation) => violation !== less) }));
 }
 
 // ---- a violation more: of a stranger's URL, and of the own one by another directive
@@ -66,9 +85,23 @@ function responsesChanged({ result }) {
   return result.result !== "response" ? [] : RESPONSE_CHANGES.map((change) => ({ result: { ...result, ...change } }));
 }
 
+// ---- what the script read becomes a network error, each in turn (docs/rules/printed-text.md)
+
+const ERRORS = ["Scheme", "BadPort", "Mixed", "CspRequest", "SameOriginMode", "NoCorsRedirectMode", "PreflightCors",
+  "PreflightStatus", "PreflightList", "PreflightMethod", "PreflightHeader", "CorsCheck", "Corp", "RedirectMode", "BadLocation",
+  "RedirectScheme", "TooManyRedirects", "RedirectCredentials", "CspResponse", "Mime", "NoSniff", "Integrity", "Coding",
+  "LinkFault", "BadHead", "HeadTooBig"];
+
+function errorsForAnswers({ result, command }) {
+  const read = ["response", "loaded"].includes(result.result);
+  return !read ? [] : ERRORS.map((name) => ({ result: { result: command.load === undefined ? "error" : "failed",
+    fault: false, number: null, name, header: null } }));
+}
+
 // ---- all of it
 
-const KINDS = [requestsChanged, preflightsLeftOut, requestMore, violationsMore, responsesChanged];
+const KINDS = [requestsChanged, preflightsLeftOut, preflightsMore, requestMore, violationsLess, violationsMore,
+  responsesChanged, errorsForAnswers];
 
 // The changed forms of a command.
 function changedForms(command, document) {

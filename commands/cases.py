@@ -155,6 +155,7 @@ SEEN = {
     "seen/opaqueredirect": scenario(fetch("/go", redirect="manual"), JUMP, PAGE),
     "seen/body-cut": answered(OK, ["Content-Length", "9"], body="abc"),
     "seen/body-toobig": scenario(fetch(), [rule(200, [OK], "abc")], body_limit=2),
+    "seen/star-with-credentials": answered(OK, TRUE, ["Access-Control-Expose-Headers", "*"], ["X-Total", "4"], **INCLUDE),
     "seen/hidden-headers": answered(OK, ["X-Total", "4"]),
 }
 # Over real connections: what a server answers (bytes), or a word for what else happens; see the check.

@@ -316,6 +316,12 @@ SEEN = [
         "look into the server's log", "answers.md#the-body"),
     Way("seen/body-toobig", "s", lambda c: c.result.ending == "toobig", "the body is longer than the scenario's body limit",
         "", "set `body_limit`, in format 2", "answers.md#the-body"),
+    Way("seen/star-with-credentials", "s",
+        lambda c: c.result.type == "cors" and c.hidden_by_cors != "" and c.includes
+        and "*" in [one.strip() for one in (c.get("Access-Control-Expose-Headers") or "").split(",")],
+        "with credentials `*` is a plain name and exposes nothing: the script does not see {c.hidden_by_cors}",
+        "Access-Control-Expose-Headers", "name them: `Access-Control-Expose-Headers: {c.hidden_by_cors}`",
+        "responses.md#exposed-names"),
     Way("seen/hidden-headers", "s", lambda c: c.result.type == "cors" and c.hidden_by_cors != "",
         "the script does not see these headers of the answer: {c.hidden_by_cors}", "Access-Control-Expose-Headers",
         "where it needs them send `Access-Control-Expose-Headers: {c.hidden_by_cors}`", "responses.md#exposed-names"),

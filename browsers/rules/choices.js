@@ -1,9 +1,17 @@
 "use strict";
 
-const { isRequest, isOwnRequestMore, failsHereAlone, valuesOf, lastAnswer, portOf } = require("./looked.js");
+const { isRequest, keyOf, isOwnRequestMore, failsHereAlone, valuesOf, lastAnswer, portOf } = require("./looked.js");
 
 // An absolute URL with a blank in its host.
 const BLANK = /^https?:\/\/[^/?#]* [^/?#]*/i;
+
+const encoded = (url) => url.replaceAll("|", "%7C");
+
+// Whether the other side sends this request, too, with the pipes of its URL written otherwise.
+function isPairedByPipe(difference, context) {
+  const other = difference.engine === null ? context.ours : context.theirs;
+  return other.requests.some((request) => encoded(keyOf(request)) === encoded(difference.engine || difference.browser));
+}
 
 module.exports = [
   {
@@ -26,7 +34,7 @@ module.exports = [
     name: "pipe-in-a-path", browsers: ["chromium"], section: "urls", scenario: "urls/pipe-in-a-path",
     says: "a | in a path is encoded",
     explains: (difference, context) => (context.asked.url || "").includes("|")
-      && ((isRequest(difference) && (difference.engine || difference.browser).match(/\||%7C/) !== null)
-        || difference.what === "url"),
+      && ((isRequest(difference) && isPairedByPipe(difference, context))
+        || (difference.what === "url" && difference.browser === encoded(difference.engine))),
   },
 ];

@@ -11,6 +11,13 @@ const isCorsLoad = (load) => load !== undefined
   && (["font", "manifest"].includes(load.kind) || load.crossorigin !== undefined);
 const isNoCorsPost = (context, difference) => context.asked.mode === "no-cors" && methodOf(difference.request) === "POST";
 
+// Whether an earlier request has a shorter Referer: what is cut stays so.
+function isCutBefore(difference, context) {
+  const at = context.ours.requests.findIndex((request) => keyOf(request) === difference.request);
+  return context.ours.requests.slice(0, Math.max(at, 0)).some(({ headers }) => headers
+    .some(([name, value]) => name === "Referer" && value.length < difference.engine.length));
+}
+
 // The three cases in which a referrer policy makes the Origin of a no-cors request null (docs/rules/request-head.md).
 function isNullByPolicy(context, key) {
   const policy = referrerPolicyOf(context, key);
@@ -39,7 +46,7 @@ module.exports = [
     name: "referrer-cut-across-sites", browsers: ["firefox"], section, scenario: "request-heads/policy-unsafe-url",
     says: "no policy tells another site more than the page's origin",
     explains: (difference, context) => isHeader(difference, "referer") && difference.engine !== null
-      && difference.browser === originOf(difference.engine) + "/"
+      && !isCutBefore(difference, context) && difference.browser === originOf(difference.engine) + "/"
       && ["unsafe-url", "no-referrer-when-downgrade"].includes(referrerPolicyOf(context, difference.request))
       && siteOf(difference.engine) !== siteOf(urlOf(difference.request)),
   },

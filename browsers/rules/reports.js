@@ -24,10 +24,12 @@ function isToldThereOnceMore(difference, context) {
     && countOf(context.theirs.violations, told) === countOf(context.ours.violations, told) + 1;
 }
 
-// Whether what violates a report-only policy is told here at the request and at the response: of one URL, which a response
-// comes from.
-const isToldTwiceHere = (context) => context.ours.requests.length === 1 && !/^http:/.test(context.asked.url)
-  && ["response", "loaded"].includes(context.ours.result.result);
+// Whether what violates a report-only policy is told here at each request and at the response, or all of it but one.
+function isToldTwiceHere(difference, context) {
+  const sent = context.ours.requests.filter((request) => request.method !== "OPTIONS").length;
+  return !/^http:/.test(context.asked.url) && ["response", "loaded"].includes(context.ours.result.result)
+    && countOf(context.ours.violations, difference.browser) >= sent;
+}
 
 // What is told here at the response of a URL that was upgraded behind the request, and at the request of the http URL.
 function isOfUpgraded(difference, context) {
@@ -57,7 +59,7 @@ module.exports = [
     name: "policy-before-port", browsers: ["chromium", "firefox"], section, scenario: "reports/bad-port-and-policy",
     says: "policies are asked before bad ports and mixed content",
     explains: (difference, context) => ["BadPort", "Mixed"].includes(context.ours.result.name)
-      && isAskedMore(difference, context),
+      && isAskedMore(difference, context) && (difference.what === "reason" || !isReport(difference.browser)),
   },
   {
     name: "report-only-load-once", browsers: ["chromium"], section, scenario: "reports/report-only-image",
@@ -69,13 +71,13 @@ module.exports = [
     name: "report-only-fetch-twice", browsers: ["chromium"], section, scenario: "reports/report-only-failed",
     says: "a fetch asks report-only policies twice at the request, whether a response comes or not",
     explains: (difference, context) => context.command.fetch !== undefined && isToldThereOnceMore(difference, context)
-      && !isToldTwiceHere(context),
+      && !isToldTwiceHere(difference, context),
   },
   {
     name: "report-only-media-twice", browsers: ["chromium"], section, scenario: "reports/report-only-redirected-media",
     says: "audio and video ask report-only policies twice at the request, whether a response comes or not",
     explains: (difference, context) => isMedia(context) && isToldThereOnceMore(difference, context)
-      && !isToldTwiceHere(context),
+      && !isToldTwiceHere(difference, context),
   },
   {
     name: "report-only-upgraded-once", browsers: ["chromium"], section, scenario: "reports/report-only-upgraded",

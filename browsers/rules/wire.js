@@ -76,7 +76,7 @@ module.exports = [
   takenRule("blank-before-a-colon", both, "a line with a blank before its colon is no fault", /\r\n[^\r\n: ]+ :/),
   takenRule("line-without-a-colon", both, "a line without a colon is dropped", /\r\n[^\r\n:]+\r\n/),
   ruleOf("head-that-ends-early", both, "a head that ends early is taken", (difference, context) => failsHereAlone(difference)
-    && context.ours.result.name === "BadHead" && !(lastText(context) || "\r\n\r\n").includes("\r\n\r\n")),
+    && context.ours.result.name === "BadHead" && !/\n\r?\n/.test(lastText(context) || "\n\n")),
   takenRule("other-versions", both, "other versions of HTTP/1 and 2 are taken", /^HTTP\/(1\.[2-9]|2\.0) /),
   takenRule("status-99", both, "the status 99 is taken", /^HTTP\/1\.1 99 /),
   takenRule("status-1000", ["chromium"], "the status 1000 is taken", /^HTTP\/1\.1 1000 /),
