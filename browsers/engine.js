@@ -69,11 +69,15 @@ function lastOf(result) {
   return { ...NOTHING, type: result.fault && result.result === "error" ? "type-error" : result.result };
 }
 
+const violationsOf = (events) => events.filter((event) => event.kind === "violation")
+  .map(({ policy, enforced, directive, url }) => ({ policy, enforced, directive, url }));
+
+// `behindLast`: the violations that are told behind the last request, at its response where there is one.
 function commandOf(events) {
   const of = (kind) => events.filter((event) => event.kind === kind);
-  return { requests: of("send").map(requestOf), calls: of("call"),
-    violations: of("violation").map(({ policy, enforced, directive, url }) => ({ policy, enforced, directive, url })),
-    result: resultOf(of("result")[0]) };
+  const last = events.map((event) => event.kind).lastIndexOf("send");
+  return { requests: of("send").map(requestOf), calls: of("call"), violations: violationsOf(events),
+    behindLast: violationsOf(events.slice(last + 1)), result: resultOf(of("result")[0]) };
 }
 
 // The fetches and loads of the one document, each with the place of its command in the script.

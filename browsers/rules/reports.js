@@ -24,12 +24,9 @@ function isToldThereOnceMore(difference, context) {
     && countOf(context.theirs.violations, told) === countOf(context.ours.violations, told) + 1;
 }
 
-// Whether what violates a report-only policy is told here at each request and at the response, or all of it but one.
-function isToldTwiceHere(difference, context) {
-  const sent = context.ours.requests.filter((request) => request.method !== "OPTIONS").length;
-  return !/^http:/.test(context.asked.url) && ["response", "loaded"].includes(context.ours.result.result)
-    && countOf(context.ours.violations, difference.browser) >= sent;
-}
+// Whether what violates a report-only policy is told here at the response as well.
+const isToldAtResponse = (difference, context) => ["response", "loaded"].includes(context.ours.result.result)
+  && countOf(context.ours.behindLast, difference.browser) > 0;
 
 // What is told here at the response of a URL that was upgraded behind the request, and at the request of the http URL.
 function isOfUpgraded(difference, context) {
@@ -71,13 +68,13 @@ module.exports = [
     name: "report-only-fetch-twice", browsers: ["chromium"], section, scenario: "reports/report-only-failed",
     says: "a fetch asks report-only policies twice at the request, whether a response comes or not",
     explains: (difference, context) => context.command.fetch !== undefined && isToldThereOnceMore(difference, context)
-      && !isToldTwiceHere(difference, context),
+      && !isToldAtResponse(difference, context),
   },
   {
     name: "report-only-media-twice", browsers: ["chromium"], section, scenario: "reports/report-only-redirected-media",
     says: "audio and video ask report-only policies twice at the request, whether a response comes or not",
     explains: (difference, context) => isMedia(context) && isToldThereOnceMore(difference, context)
-      && !isToldTwiceHere(difference, context),
+      && !isToldAtResponse(difference, context),
   },
   {
     name: "report-only-upgraded-once", browsers: ["chromium"], section, scenario: "reports/report-only-upgraded",
