@@ -184,22 +184,37 @@ async function playIn(program, scenario, kept = () => {}) {
   }
 }
 
+// A scenario that one browser did not play to its end, behind others, is played once more by a browser of its own.
+async function playAgain(program, key, scenario, played, failed) {
+  try {
+    await played(key, await playIn(program, scenario));
+  } catch (error) {
+    failed(key, error);
+  }
+}
+
 // Plays scenarios in one browser until none is left. After a failure comes a fresh browser.
 async function playRest(program, rest, played, failed) {
   while (rest.length > 0) {
     const player = new Player(program);
-    let key;
+    let playing = null; // a scenario with its key
+    let isLeft = false;
     try {
       await player.start();
       while (rest.length > 0) {
-        const [next, scenario] = rest.shift();
-        key = next;
-        await played(key, await player.play(scenario, true));
+        playing = rest.shift();
+        await played(playing[0], await player.play(playing[1], true));
       }
     } catch (error) {
-      failed(key, error);
+      isLeft = playing !== null;
+      if (!isLeft) {
+        failed(undefined, error);
+      }
     } finally {
       await player.close();
+    }
+    if (isLeft) {
+      await playAgain(program, ...playing, played, failed);
     }
   }
 }
