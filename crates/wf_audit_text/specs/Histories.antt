@@ -1,4 +1,4 @@
--- The history in the printed text of a play: its lines, and the entries that they tell (the output of `fetchplay play`).
+-- The history in the printed text of a play: its lines, and the entries that they tell (what `fetchplay play` writes).
 use Rattle.std.specs.Prelude.{◌≡◌, ◌≢◌, ℕ, zero, suc, ◌==◌, not, IsTrue, List, [], ◌∷◌, ◌++◌, take, codes, Some}
 use Rattle.std.specs.List.{All, flat_map, list_all, slice_get}
 use Rattle.wf_text.specs.Ascii.{line_feed}

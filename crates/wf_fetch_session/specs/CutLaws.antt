@@ -3,8 +3,8 @@ use Rattle.std.specs.Prelude.{◌≡◌, ℕ, ◌+◌, List, ◌++◌, length, S
 use Rattle.wf_fetch_session.specs.Feeding.{FedAt}
 use Rattle.wf_fetch_session.specs.Standings.{Standing, first_act}
 
--- A piece comes to what its two parts come to, one behind the other, where the first leaves the fetch reading; and as many
--- bytes of it are read.
+-- A piece comes to what its two parts come to, one behind the other, where the first leaves the fetch reading; and as
+-- many bytes of it are read.
 abbrev pub PiecesJoin : Type 0
 PiecesJoin =
     (standing next joined : Standing) (front back : List ℕ) (used all : ℕ)

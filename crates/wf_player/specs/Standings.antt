@@ -33,7 +33,7 @@ pub record MayGoOn {State : Type 0} (old : Standing State) : Type 0 where
   pub fetches : old.progress.fetches ≤ most_fetches
   pub rests : IsAtEnd old.world.exchange.left
 
--- Each fetch or load that has started between two moments has made no more calls than one may.
+-- The fetches and loads that have started between two moments have made no more calls, all together, than so many may.
 pub record HasSpent {State : Type 0} (old new : Standing State) : Type 0 where
   pub calls : old.world.left + old.progress.fetches * most_asks ≤ new.world.left + new.progress.fetches * most_asks
   pub fetches : new.progress.fetches ≤ most_fetches

@@ -76,7 +76,7 @@ pub record IsAsked (document : ℕ) (op : Op) (input : Input) (own own' : List E
   pub own_is : own' ≡ own ++ entry ∷ []
   pub left_is : left ≡ left' + 1
 
--- Memory was refused: no call was made.
+-- Memory was refused: no entry more is the document's own. Of the calls that are left some may be used up.
 pub record IsRefusedCall (own own' : List Entry) (left left' : ℕ) : Type 0 where
   pub own_is : own' ≡ own
   pub fewer : left' ≤ left

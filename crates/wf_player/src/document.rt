@@ -134,9 +134,10 @@ fn run_document<R: Threads + Wait + Sync, S: Share, L: Link>(
 ///
 /// What the transcript shows is the document's run over a tape of what the world answers: the reply to a call
 /// of the book is that of the entry which the call added to the pass's own; heads and bodies are those of the
-/// link's answers, where it tells them, and its count of faults rises by one with each fault of the tape. At the
-/// end the link is hung up. The ending `Memory` is for want of memory: what was shown then begins such a run, the calls
-/// that were made are those on the way, the key may be empty and the clock is any number.
+/// link's answers, where it tells its state, and its count of faults rises by one with each fault of the tape.
+/// At another ending than `Memory` nothing is to come over the link, where it tells that. `Memory` is for want of
+/// memory: what was shown then begins such a run, the calls that were made are those on the way, an answer may be
+/// read in part, the key may be empty and the clock is any number.
 pub fn drive<R: Threads + Wait + Sync, S: Share, L: Link>(
     rt: &R,
     alloc: Global,

@@ -124,8 +124,9 @@ impl<R: Threads + Wait + Sync, S: Share, L: Link> Player<'_, '_, '_, '_, '_, R, 
 ///
 /// Its events and its outcome are those of the fetch over a tape of what the world answers: the reply to a
 /// call of the book is that of the entry which the call added to the pass's own; heads and bodies are those of
-/// the link's answers, where it tells them, and its count of faults rises by one with each fault of the tape.
-/// At the end the link is hung up. Where memory was refused the calls that were made by then stay made.
+/// the link's answers, where it tells its state, and its count of faults rises by one with each fault of the
+/// tape. At an outcome nothing is to come over the link, where it tells that. Where memory was refused the calls
+/// that were made by then stay made, and an answer may be read in part.
 pub fn drive_fetch<R: Threads + Wait + Sync, S: Share, L: Link>(
     rt: &R,
     alloc: Global,

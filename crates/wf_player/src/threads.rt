@@ -144,13 +144,13 @@ fn listed(alloc: Global, transcripts: Vec<Transcript>) -> Result<Transcripts, Ou
     Ok(list)
 }
 
-/// Plays the documents of a scenario, each on its own seat and in a thread of its own where one can be
-/// made, from a time in seconds on, which is at most 2^40. There is one seat for each document, in their
-/// order, whose pass is for the document of that number and has 129,024 calls left.
+/// Plays the documents of a scenario, each on its own seat, from a time in seconds on, which is at most 2^40.
+/// There is one seat for each document, in their order, whose pass is for the document of that number and has
+/// 129,024 calls left.
 ///
 /// The transcripts come in the order of the documents. Each, with its document's seat before and after the
-/// play, is that of a run as `drive` makes one. A document that is refused memory ends with the ending
-/// `Memory`, and the others go on. `OutOfMemory` where memory was refused outside of the documents' runs: then
+/// play, is that of a run as `drive` makes one, but that bytes may be left over its link. A document that is
+/// refused memory ends with the ending `Memory`. `OutOfMemory` where memory was refused outside of the documents' runs: then
 /// none was played and the seats are as they were, or all were played, and the calls that they made stay made.
 pub fn play_all<R: Threads + Wait + Sync, S: Share + Sync, L: Link + Send + Drop>(
     rt: &R,

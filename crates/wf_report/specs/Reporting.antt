@@ -22,8 +22,8 @@ abbrev pub report_played : Setting → Request → Next → Next
 report_played lent request next progress =
     embed (fetch (at_time lent progress.clock) request) (λ came. showing (Result came) next) (fetch_started progress)
 
--- the reports, in order, up to a limit: 1,024 of them were played, or the lines of their events are longer than 8,388,608
--- bytes. A report counts as a fetch of the run
+-- the reports, in order, up to a limit: 1,024 of them were played, or the lines of their events are longer than
+-- 8,388,608 bytes. A report counts as a fetch of the run
 abbrev pub reports_played : Setting → List Request → Next → Next
 reports_played lent [] next progress = next progress
 reports_played lent (request ∷ requests) next progress =
