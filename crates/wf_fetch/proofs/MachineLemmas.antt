@@ -35,11 +35,9 @@ use Rattle.wf_fetch_acts.specs.Process.{Process, act, began, fits, followed, run
 use Rattle.wf_fetch.specs.declared.place.Fetching.{Fetching}
 use Rattle.wf_fetch.specs.declared.place.Step.{Step}
 use Rattle.wf_fetch.specs.declared.place.Step.TheVariants.{Going, Over}
-use Rattle.wf_fetch.specs.declared.lent.Lent.{Lent}
 use Rattle.wf_fetch.specs.declared.place.Level.{Level}
 use Rattle.wf_fetch.specs.Fetch.{again, ends, finished, onward_of}
 use Rattle.wf_fetch.specs.HttpFetch.{answered, judged}
-use Rattle.wf_fetch.specs.Lending.{lent_at}
 use Rattle.wf_fetch.specs.Machine.{Does, Leads, RunsAs, at_level, clears, next_of, rest, rest_of}
 use Rattle.wf_fetch.specs.MainFetch.{main_fetch, unless_violated}
 use Rattle.wf_fetch.specs.PreflightFetch.{after_covers, names_of, preflight_answered, preflight_judged}
@@ -99,26 +97,12 @@ pub leads-same : (context : Context) (result : Result Step OutOfMemory) (p q : P
 leads-same context result p q same leads = subst (λ (r : Process). Leads context result r) (sym same) leads
 
 -- what is done with a level that was changed is done with what it was changed to
-pub leads-changed : (lent : Lent) (result : Result Step OutOfMemory) (level changed : Level) (request : Request)
+pub leads-changed : (context : Context) (result : Result Step OutOfMemory) (level changed : Level) (request : Request)
     (rule : Onward → Context → Then → Request → Process)
-    → changed.request.value ≡ request → changed.owed ≡ level.owed → changed.owes ≡ level.owes → changed.now ≡ level.now
-    → Leads (lent_at lent changed.now) result (at_level (lent_at lent changed.now) changed rule)
-    → Leads (lent_at lent level.now) result
-    (rule (onward_of (lent_at lent level.now) request) (lent_at lent level.now)
-    (next_of (lent_at lent level.now) level.owed level.owes) request)
-leads-changed lent result level changed request rule r o w n leads =
-    subst (λ (now : ℕ). Leads (lent_at lent now) result
-    (rule (onward_of (lent_at lent now) request) (lent_at lent now) (next_of (lent_at lent now) level.owed level.owes)
-    request)) n
-    (subst (λ (owes : Bool). Leads (lent_at lent changed.now) result
-    (rule (onward_of (lent_at lent changed.now) request) (lent_at lent changed.now)
-    (next_of (lent_at lent changed.now) level.owed owes) request)) w
-    (subst (λ (owed : ℕ). Leads (lent_at lent changed.now) result
-    (rule (onward_of (lent_at lent changed.now) request) (lent_at lent changed.now)
-    (next_of (lent_at lent changed.now) owed changed.owes) request)) o
-    (subst (λ (made : Request). Leads (lent_at lent changed.now) result
-    (rule (onward_of (lent_at lent changed.now) made) (lent_at lent changed.now)
-    (next_of (lent_at lent changed.now) changed.owed changed.owes) made)) r leads)))
+    → changed.request.value ≡ request → changed.owed ≡ level.owed → changed.owes ≡ level.owes
+    → Leads context result (at_level context changed rule)
+    → Leads context result (rule (onward_of context request) context (next_of context level.owed level.owes) request)
+leads-changed context result level changed request rule r o w leads = rw (sym r, sym o, sym w) leads
 
 -- an upgrade leaves the redirect count
 secured-redirects : (yes : Bool) (request : Request) → (secured_where yes request).redirects ≡ request.redirects

@@ -1,6 +1,5 @@
 pub mod Fetch
 pub mod HttpFetch
-pub mod Lending
 pub mod Machine
 pub mod MainFetch
 pub mod PreflightFetch

@@ -78,7 +78,7 @@ rest context fetching = rest_at context fetching.level fetching.place
 -- The step asks for what the process does first, at the time of the context, and goes on as it does.
 pub record IsGoing (context : Context) (fetching : Fetching) (first : Act) (whole : Process) : Type 0 where
   pub last : fetching.last.value ≡ first
-  pub now : fetching.level.now ≡ context.now
+  pub now : fetching.now ≡ context.now
   pub plain : IsPlain first
   pub process : whole ≡ act fetching.level.request.value first (rest context fetching)
 
@@ -105,4 +105,4 @@ RunsAs context (Over outcome) runs = (tape : List Input) → runs tape ≡ recor
 -- the level with another request
 abbrev pub IsLevelWith : Request → Level → Level → Type 0
 IsLevelWith request level made =
-    (made.request.value ≡ request) × (made.owed ≡ level.owed) × (made.owes ≡ level.owes) × (made.now ≡ level.now)
+    (made.request.value ≡ request) × (made.owed ≡ level.owed) × (made.owes ≡ level.owes)

@@ -5,12 +5,11 @@ ghost use Rattle.wf_fetch_answers.specs.Following.{redirected_request as after_r
 ghost use Rattle.wf_fetch_answers.specs.Redirects.{redirection as redirection_of};
 ghost use Rattle.wf_fetch.specs.Fetch.{onward_of};
 ghost use Rattle.wf_fetch.specs.HttpFetch as spec;
-ghost use Rattle.wf_fetch.specs.Lending.{lent_at};
 ghost use Rattle.wf_fetch.specs.Machine.{Leads, at_level, next_of};
 ghost use Rattle.wf_fetch.specs.Ready.{IsReady};
-ghost use Rattle.wf_fetch.specs.Then.{Context};
+ghost use Rattle.wf_fetch.specs.Then.{Context as Lent};
 
-use crate::lent::Lent;
+use crate::context::Context;
 use crate::main_fetch::begin;
 use crate::place::{Level, Place, Step, boxed};
 use crate::steps::{finish, going, refused};
@@ -24,101 +23,101 @@ use wf_text::OutOfMemory;
 use wf_types::{Head, NetError, Request};
 
 // HTTP fetch: the request is sent (step 4.3).
-pub(crate) fn send(alloc: Global, lent: &Lent<'_>, level: Level) -> Result<Step, OutOfMemory>
+pub(crate) fn send(alloc: Global, context: &Context<'_>, level: Level) -> Result<Step, OutOfMemory>
     requires { IsReady level.request.value }
-    ensures { Leads (lent_at lent.now level.now) result
-        (at_level (lent_at lent.now level.now) level spec.http_fetch) }
+    ensures { Leads context.now result
+        (at_level context.now level spec.http_fetch) }
 {
-    let hop = hop_of(alloc, &level.request, lent.cookies)?;
-    Ok(going(lent, level, Place::Sending, Act::Send(hop)))
+    let hop = hop_of(alloc, &level.request, context.cookies)?;
+    Ok(going(context, level, Place::Sending, Act::Send(hop)))
 }
 
 // The head of the answer is read, unless the link failed.
 pub(crate) fn read_head(
     alloc: Global,
-    lent: &Lent<'_>,
+    context: &Context<'_>,
     level: Level,
     sent: bool,
 ) -> Result<Step, OutOfMemory>
     requires { IsReady level.request.value }
-    ensures { Leads (lent_at lent.now level.now) result
-        (at_level (lent_at lent.now level.now) level (λ onward context next request.
+    ensures { Leads context.now result
+        (at_level context.now level (λ onward context next request.
         spec.read_head onward context next request sent)) }
 {
     if sent {
-        Ok(going(lent, level, Place::HeadReading, Act::ReadHead))
+        Ok(going(context, level, Place::HeadReading, Act::ReadHead))
     } else {
-        refused(alloc, lent, level, NetError::LinkFault)
+        refused(alloc, context, level, NetError::LinkFault)
     }
 }
 
 // The head of the answer has come, or a network error: a known host is noted before the head is judged.
 pub(crate) fn answered(
     alloc: Global,
-    lent: &Lent<'_>,
+    context: &Context<'_>,
     level: Level,
     came: Result<Head, NetError>,
 ) -> Result<Step, OutOfMemory>
-    requires client { IsClient lent.now.client.now }
+    requires client { IsClient context.now.client }
     requires ready { IsReady level.request.value }
-    ensures { Leads (lent_at lent.now level.now) result
-        (at_level (lent_at lent.now level.now) level (λ onward context next request.
+    ensures { Leads context.now result
+        (at_level context.now level (λ onward context next request.
         spec.answered onward context next request came)) }
 {
     let head = match came {
-        Err(error) => return refused(alloc, lent, level, error),
+        Err(error) => return refused(alloc, context, level, error),
         Ok(head) => head,
     };
-    match note_of(alloc, &level.request, &head, level.now)? {
-        None => judge(alloc, lent, level, head),
-        Some(op) => Ok(going(lent, level, Place::Noting(head), Act::Ask(op))),
+    match note_of(alloc, &level.request, &head, context.time)? {
+        None => judge(alloc, context, level, head),
+        Some(op) => Ok(going(context, level, Place::Noting(head), Act::Ask(op))),
     }
 }
 
 // The answer is judged (HTTP fetch, steps 4.4, 5 and 6): it is refused, goes on as a redirect, or is the response.
 pub(crate) fn judge(
     alloc: Global,
-    lent: &Lent<'_>,
+    context: &Context<'_>,
     level: Level,
     head: Head,
 ) -> Result<Step, OutOfMemory>
-    requires client { IsClient lent.now.client.now }
+    requires client { IsClient context.now.client }
     requires ready { IsReady level.request.value }
-    ensures { Leads (lent_at lent.now level.now) result
-        (at_level (lent_at lent.now level.now) level (λ onward context next request.
+    ensures { Leads context.now result
+        (at_level context.now level (λ onward context next request.
         spec.judged onward next request head (refusal_of request head))) }
 {
     if let Some(error) = refusal_after(alloc, &level.request, &head)? {
-        return refused(alloc, lent, level, error);
+        return refused(alloc, context, level, error);
     }
-    redirect(alloc, lent, level, head)
+    redirect(alloc, context, level, head)
 }
 
 // HTTP-redirect fetch: the answer is the response (step 4), is refused (steps 5 to 10), or main fetch goes on at the
 // new URL (step 22).
 pub(crate) fn redirect(
     alloc: Global,
-    lent: &Lent<'_>,
+    context: &Context<'_>,
     level: Level,
     head: Head,
 ) -> Result<Step, OutOfMemory>
-    requires client { IsClient lent.now.client.now }
+    requires client { IsClient context.now.client }
     requires ready { IsReady level.request.value }
-    ensures { Leads (lent_at lent.now level.now) result
-        (at_level (lent_at lent.now level.now) level (λ onward context next request.
+    ensures { Leads context.now result
+        (at_level context.now level (λ onward context next request.
         spec.redirected onward next request head (redirection_of request head))) }
 {
     match redirection(alloc, &level.request, &head)? {
-        Redirection::Stays => finish(alloc, lent, level, head),
-        Redirection::Refuses(error) => refused(alloc, lent, level, error),
-        Redirection::Goes(url) => follow(alloc, lent, level, head, url),
+        Redirection::Stays => finish(alloc, context, level, head),
+        Redirection::Refuses(error) => refused(alloc, context, level, error),
+        Redirection::Goes(url) => follow(alloc, context, level, head, url),
     }
 }
 
 // How many levels owe a clear, with this one.
 fn total_owed(owed: u32, owes: bool) -> u32
     requires { owed ≤ most_redirects }
-    ensures same { (context : Context) → next_of context result false ≡ next_of context owed owes }
+    ensures same { (context : Lent) → next_of context result false ≡ next_of context owed owes }
     ensures few { result ≤ owed + 1 }
 {
     if owes { owed + 1 } else { owed }
@@ -127,31 +126,29 @@ fn total_owed(owed: u32, owes: bool) -> u32
 // A redirect is followed to a URL: main fetch again, for the request after it.
 pub(crate) fn follow(
     alloc: Global,
-    lent: &Lent<'_>,
+    context: &Context<'_>,
     level: Level,
     head: Head,
     url: Url,
 ) -> Result<Step, OutOfMemory>
-    requires client { IsClient lent.now.client.now }
+    requires client { IsClient context.now.client }
     requires few { level.request.value.redirects < most_redirects }
     requires http { IsTrue (is_http_url url) }
     requires ready { IsReady level.request.value }
-    ensures { Leads (lent_at lent.now level.now) result
-        (onward_of (lent_at lent.now level.now) level.request.value
-        (next_of (lent_at lent.now level.now) level.owed level.owes) (after_redirect level.request.value head url)) }
+    ensures { Leads context.now result
+        (onward_of context.now level.request.value
+        (next_of context.now level.owed level.owes) (after_redirect level.request.value head url)) }
 {
     let Level {
         request,
         owed,
         owes,
-        now,
     } = level;
     let request = redirected(alloc, Box::into_inner(request), &head, url)?;
     let level = Level {
         request: boxed(alloc, request)?,
         owed: total_owed(owed, owes),
         owes: false,
-        now,
     };
-    begin(alloc, lent, level)
+    begin(alloc, context, level)
 }

@@ -1,8 +1,8 @@
 // A fetch, as a machine that is resumed, against the main fetch of the Fetch Standard.
 #![tactic(auto)]
 
+mod context;
 mod http;
-mod lent;
 mod main_fetch;
 mod place;
 mod preflight;

@@ -11,16 +11,14 @@ use wf_fetch_answers::Ended;
 use wf_text::OutOfMemory;
 use wf_types::{Head, NetError, Outcome, Request, Response};
 
-/// The request as it is now, how many outer levels owe a clear, whether this one does, and the time.
+/// The request as it is now, how many outer levels owe a clear, and whether this one does.
 #[derive(Drop)]
 pub struct Level {
     pub(crate) request: Box<Request>,
     pub(crate) owed: u32,
     pub(crate) owes: bool,
-    pub(crate) now: u64,
     pub ghost valid: { IsRequest request.value },
     pub ghost few: { owed ≤ request.value.redirects },
-    pub ghost timely: { now < 2 ^ 48 },
 }
 
 // A request in a place of its own, so that a level is moved at little cost.
@@ -66,12 +64,14 @@ pub enum Place {
     Clearing(NetError),
 }
 
-/// A fetch that waits for an input: the level it is at, the place there, and the act that it asked for.
+/// A fetch that waits for an input: its time, the level it is at, the place there, and the act that it asked for.
 #[derive(Drop)]
 pub struct Fetching {
+    pub(crate) now: u64,
     pub(crate) level: Level,
     pub(crate) place: Place,
     pub(crate) last: Snapshot<Act>,
+    pub ghost timely: { now < 2 ^ 48 },
     pub ghost ready: { IsTrue (is_ready_at place level.request.value) },
     pub ghost fresh: { owes_early place level.owes ≡ false },
 }

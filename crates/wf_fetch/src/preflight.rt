@@ -1,13 +1,12 @@
 ghost use Rattle.std.specs.Prelude.{◌≡◌, false, IfOk};
 ghost use Rattle.wf_cors.specs.Verdict.{verdict as verdict_of};
 ghost use Rattle.wf_types.specs.Requests.{IsRequest, serialized_request_origin};
-ghost use Rattle.wf_fetch.specs.Lending.{lent_at};
 ghost use Rattle.wf_fetch.specs.Machine.{Leads, at_level};
 ghost use Rattle.wf_fetch.specs.PreflightFetch as spec;
 ghost use Rattle.wf_fetch.specs.Ready.{IsReady};
 
+use crate::context::Context;
 use crate::http::send;
-use crate::lent::Lent;
 use crate::place::{Level, Place, Step};
 use crate::steps::{going, refused};
 use std::alloc::Global;
@@ -19,68 +18,72 @@ use wf_text::OutOfMemory;
 use wf_types::{Head, NetError, Request, serialized_origin};
 
 // HTTP fetch with a CORS-preflight: the preflight cache is asked (step 4.1). From here on the level owes a clear.
-pub(crate) fn ask_cache(alloc: Global, lent: &Lent<'_>, level: Level) -> Result<Step, OutOfMemory>
+pub(crate) fn ask_cache(
+    alloc: Global,
+    context: &Context<'_>,
+    level: Level,
+) -> Result<Step, OutOfMemory>
     requires ready { IsReady level.request.value }
     requires owes { level.owes ≡ false }
-    ensures { Leads (lent_at lent.now level.now) result
-        (at_level (lent_at lent.now level.now) level spec.with_preflight) }
+    ensures { Leads context.now result
+        (at_level context.now level spec.with_preflight) }
 {
-    let op = covers_of(alloc, lent.client, &level.request, level.now)?;
+    let op = covers_of(alloc, context.client, &level.request, context.time)?;
     let mut level = level;
     level.owes = true;
-    Ok(going(lent, level, Place::Covering, Act::Ask(op)))
+    Ok(going(context, level, Place::Covering, Act::Ask(op)))
 }
 
 // The preflight cache covers the request, or a preflight goes before it.
 pub(crate) fn covered(
     alloc: Global,
-    lent: &Lent<'_>,
+    context: &Context<'_>,
     level: Level,
     yes: bool,
 ) -> Result<Step, OutOfMemory>
     requires { IsReady level.request.value }
-    ensures { Leads (lent_at lent.now level.now) result
-        (at_level (lent_at lent.now level.now) level (λ onward context next request.
+    ensures { Leads context.now result
+        (at_level context.now level (λ onward context next request.
         spec.covered_or_not onward context next request yes)) }
 {
     if yes {
-        send(alloc, lent, level)
+        send(alloc, context, level)
     } else {
-        send_preflight(alloc, lent, level)
+        send_preflight(alloc, context, level)
     }
 }
 
 // "CORS-preflight fetch": the preflight is sent (step 6).
 pub(crate) fn send_preflight(
     alloc: Global,
-    lent: &Lent<'_>,
+    context: &Context<'_>,
     level: Level,
 ) -> Result<Step, OutOfMemory>
     requires { IsReady level.request.value }
-    ensures { Leads (lent_at lent.now level.now) result
-        (at_level (lent_at lent.now level.now) level spec.preflight_fetch) }
+    ensures { Leads context.now result
+        (at_level context.now level spec.preflight_fetch) }
 {
     let names = unsafe_names(alloc, &level.request.headers)?;
     let hop = preflight_of(alloc, &level.request, &names)?;
-    Ok(going(lent, level, Place::PreflightSending, Act::Send(hop)))
+    Ok(going(context, level, Place::PreflightSending, Act::Send(hop)))
 }
 
 // The head of the answer to the preflight is read, unless the link failed.
 pub(crate) fn read_preflight_head(
     alloc: Global,
-    lent: &Lent<'_>,
+    context: &Context<'_>,
     level: Level,
     sent: bool,
 ) -> Result<Step, OutOfMemory>
     requires { IsReady level.request.value }
-    ensures { Leads (lent_at lent.now level.now) result
-        (at_level (lent_at lent.now level.now) level (λ onward context next request.
+    ensures { Leads context.now result
+        (at_level context.now level (λ onward context next request.
         spec.read_preflight_head onward context next request sent)) }
 {
     if sent {
-        Ok(going(lent, level, Place::PreflightReading, Act::ReadHead))
+        Ok(going(context, level, Place::PreflightReading, Act::ReadHead))
     } else {
-        refused(alloc, lent, level, NetError::LinkFault)
+        refused(alloc, context, level, NetError::LinkFault)
     }
 }
 
@@ -98,40 +101,45 @@ fn verdict_on(alloc: Global, request: &Request, head: &Head) -> Result<Checked, 
 // The head of the answer to the preflight has come, or a network error: a known host is noted by it too.
 pub(crate) fn preflight_answered(
     alloc: Global,
-    lent: &Lent<'_>,
+    context: &Context<'_>,
     level: Level,
     came: Result<Head, NetError>,
 ) -> Result<Step, OutOfMemory>
     requires { IsReady level.request.value }
-    ensures { Leads (lent_at lent.now level.now) result
-        (at_level (lent_at lent.now level.now) level (λ onward context next request.
+    ensures { Leads context.now result
+        (at_level context.now level (λ onward context next request.
         spec.preflight_answered onward context next request came)) }
 {
     let head = match came {
-        Err(error) => return refused(alloc, lent, level, error),
+        Err(error) => return refused(alloc, context, level, error),
         Ok(head) => head,
     };
     let checked = verdict_on(alloc, &level.request, &head)?;
-    match note_of(alloc, &level.request, &head, level.now)? {
-        None => judge_preflight(alloc, lent, level, checked),
-        Some(op) => Ok(going(lent, level, Place::PreflightNoting(checked), Act::Ask(op))),
+    match note_of(alloc, &level.request, &head, context.time)? {
+        None => judge_preflight(alloc, context, level, checked),
+        Some(op) => Ok(going(
+            context,
+            level,
+            Place::PreflightNoting(checked),
+            Act::Ask(op),
+        )),
     }
 }
 
 // The verdict on the answer to the preflight: what it allows is learned (CORS-preflight fetch, steps 7.12 to 7.15).
 pub(crate) fn judge_preflight(
     alloc: Global,
-    lent: &Lent<'_>,
+    context: &Context<'_>,
     level: Level,
     checked: Checked,
 ) -> Result<Step, OutOfMemory>
     requires { IsReady level.request.value }
-    ensures { Leads (lent_at lent.now level.now) result
-        (at_level (lent_at lent.now level.now) level (λ onward context next request.
+    ensures { Leads context.now result
+        (at_level context.now level (λ onward context next request.
         spec.preflight_judged onward context next request checked)) }
 {
     match checked {
-        Checked::Refused(error) => refused(alloc, lent, level, error),
+        Checked::Refused(error) => refused(alloc, context, level, error),
         Checked::Pass {
             age,
             methods,
@@ -139,14 +147,14 @@ pub(crate) fn judge_preflight(
         } => {
             let op = learn_of(
                 alloc,
-                lent.client,
+                context.client,
                 &level.request,
                 age,
                 methods,
                 names,
-                level.now,
+                context.time,
             )?;
-            Ok(going(lent, level, Place::Learning, Act::Ask(op)))
+            Ok(going(context, level, Place::Learning, Act::Ask(op)))
         }
     }
 }

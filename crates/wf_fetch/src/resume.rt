@@ -1,14 +1,13 @@
 ghost use Rattle.std.specs.Prelude.{◌≡◌, ◌∷◌, ◌<◌, ◌^◌, IfOk, IsTrue};
 ghost use Rattle.wf_fetch_acts.specs.Process.{fits, run};
 ghost use Rattle.wf_fetch.specs.Fetch.{fetch};
-ghost use Rattle.wf_fetch.specs.Lending.{lent_at};
 ghost use Rattle.wf_fetch.specs.Machine.{Leads, RunsAs, rest, rest_of};
 ghost use Rattle.wf_fetch.specs.Then as spec;
 ghost use Rattle.wf_fetch.specs.Then.{context_of};
 ghost use Rattle.wf_types.specs.Requests.{IsClient, IsRequest};
 
+use crate::context::Context;
 use crate::http::{answered, judge, read_head, send};
-use crate::lent::Lent;
 use crate::main_fetch::{begin, matched, tell_blocks, tell_reports};
 use crate::place::{Fetching, Level, Place, Step, boxed};
 use crate::preflight::{covered, judge_preflight, preflight_answered, read_preflight_head};
@@ -76,18 +75,18 @@ impl Fetching {
         ensures runs { IfOk result (λ step. RunsAs (context_of client.now policies.now cookies.now now) step
             (run (fetch (context_of client.now policies.now cookies.now now) request))) }
     {
-        let lent = Lent {
+        let context = Context {
             client,
             policies,
             cookies,
+            time: now,
         };
         let level = Level {
             request: boxed(alloc, request)?,
             owed: 0,
             owes: false,
-            now,
         };
-        begin(alloc, &lent, level)
+        begin(alloc, &context, level)
     }
 
     /// Goes on from the input that followed the last act, with the client, the policies and the cookies that
@@ -103,48 +102,50 @@ impl Fetching {
     ) -> Result<Step, OutOfMemory>
         requires client { IsClient client.now }
         requires fits { IsTrue (fits self.last.value input) }
-        ensures process { Leads (context_of client.now policies.now cookies.now self.level.now) result
-            (rest (context_of client.now policies.now cookies.now self.level.now) self input) }
-        ensures runs { IfOk result (λ step. RunsAs (context_of client.now policies.now cookies.now self.level.now)
-            step (λ tape. rest_of (context_of client.now policies.now cookies.now self.level.now) self
+        ensures process { Leads (context_of client.now policies.now cookies.now self.now) result
+            (rest (context_of client.now policies.now cookies.now self.now) self input) }
+        ensures runs { IfOk result (λ step. RunsAs (context_of client.now policies.now cookies.now self.now)
+            step (λ tape. rest_of (context_of client.now policies.now cookies.now self.now) self
             (input ∷ tape))) }
     {
-        let lent = Lent {
+        let context = Context {
             client,
             policies,
             cookies,
+            time: self.now,
         };
-        self.go_on(alloc, &lent, input)
+        self.go_on(alloc, &context, input)
     }
 
     // Goes on from an input, whatever it is. It is called once, by `resume`, and a fetch is large to hand over.
     #[inline(always)]
-    fn go_on(self, alloc: Global, lent: &Lent<'_>, input: Input) -> Result<Step, OutOfMemory>
-        requires { IsClient lent.now.client.now }
-        ensures { Leads (lent_at lent.now self.level.now) result (rest (lent_at lent.now self.level.now) self input) }
+    fn go_on(self, alloc: Global, context: &Context<'_>, input: Input) -> Result<Step, OutOfMemory>
+        requires { IsClient context.now.client }
+        ensures { Leads context.now result (rest context.now self input) }
     {
         let Fetching {
+            now: _,
             level,
             place,
             last: _,
         } = self;
         match place {
-            Place::Reporting(violations, at) => tell_reports(alloc, lent, level, violations, at),
-            Place::Blocking(violations, at) => tell_blocks(alloc, lent, level, violations, at),
-            Place::Matching => matched(alloc, lent, level, said_yes(&input)),
-            Place::Covering => covered(alloc, lent, level, said_yes(&input)),
-            Place::PreflightSending => read_preflight_head(alloc, lent, level, was_sent(&input)),
-            Place::PreflightReading => preflight_answered(alloc, lent, level, head_of(input)),
-            Place::PreflightNoting(checked) => judge_preflight(alloc, lent, level, checked),
-            Place::Learning => send(alloc, lent, level),
-            Place::Sending => read_head(alloc, lent, level, was_sent(&input)),
-            Place::HeadReading => answered(alloc, lent, level, head_of(input)),
-            Place::Noting(head) => judge(alloc, lent, level, head),
+            Place::Reporting(violations, at) => tell_reports(alloc, context, level, violations, at),
+            Place::Blocking(violations, at) => tell_blocks(alloc, context, level, violations, at),
+            Place::Matching => matched(alloc, context, level, said_yes(&input)),
+            Place::Covering => covered(alloc, context, level, said_yes(&input)),
+            Place::PreflightSending => read_preflight_head(alloc, context, level, was_sent(&input)),
+            Place::PreflightReading => preflight_answered(alloc, context, level, head_of(input)),
+            Place::PreflightNoting(checked) => judge_preflight(alloc, context, level, checked),
+            Place::Learning => send(alloc, context, level),
+            Place::Sending => read_head(alloc, context, level, was_sent(&input)),
+            Place::HeadReading => answered(alloc, context, level, head_of(input)),
+            Place::Noting(head) => judge(alloc, context, level, head),
             Place::Ending(violations, at, ended) => tell_at_end(
-                alloc, lent, level, violations, at, ended,
+                alloc, context, level, violations, at, ended,
             ),
             Place::BodyReading(response) => body_read(alloc, level, response, body_of(input)),
-            Place::Clearing(error) => refused(alloc, lent, level, error),
+            Place::Clearing(error) => refused(alloc, context, level, error),
         }
     }
 }

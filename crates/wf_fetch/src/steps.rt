@@ -7,10 +7,9 @@ ghost use Rattle.wf_fetch_answers.specs.Endings.{after_body as outcome_of};
 ghost use Rattle.wf_fetch.specs.Fetch.{ends};
 ghost use Rattle.wf_fetch.specs.Machine.{Does, Leads, next_of, rest_at};
 ghost use Rattle.wf_fetch.specs.Ready.{is_ready_at, owes_early};
-ghost use Rattle.wf_fetch.specs.Lending.{lent_at};
-ghost use Rattle.wf_fetch.specs.Then.{Context, tell_all, then_ask};
+ghost use Rattle.wf_fetch.specs.Then.{Context as Lent, tell_all, then_ask};
 
-use crate::lent::Lent;
+use crate::context::Context;
 use crate::place::{Fetching, Level, Place, Step};
 use std::alloc::Global;
 use std::snapshot::Snapshot;
@@ -35,22 +34,28 @@ pub(crate) fn copied(alloc: Global, violation: &Violation) -> Result<Violation, 
 }
 
 // It asks for an act at a place of the level, and waits.
-pub(crate) fn going(lent: &Lent<'_>, level: Level, place: Place, act: Act) -> Step
+pub(crate) fn going(context: &Context<'_>, level: Level, place: Place, act: Act) -> Step
     requires ready { IsTrue (is_ready_at place level.request.value) }
     requires fresh { owes_early place level.owes ≡ false }
     requires plain { IsPlain act }
-    ensures { Does (lent_at lent.now level.now) result
-        (acting level.request.value act (rest_at (lent_at lent.now level.now) level place)) }
+    ensures { Does context.now result
+        (acting level.request.value act (rest_at context.now level place)) }
 {
     let last = Snapshot::of(&act);
-    Step::Going(Fetching { level, place, last }, act)
+    let fetching = Fetching {
+        now: context.time,
+        level,
+        place,
+        last,
+    };
+    Step::Going(fetching, act)
 }
 
 // How many clears are owed after the next one.
 #[tactic(auto, using(crate::proofs::MachineLemmas::clear_first))]
 fn one_less(owed: u32, owes: bool) -> u32
     requires { owes ≡ false → 0 < owed }
-    ensures clears { (context : Context) (request : Request) (error : AnError)
+    ensures clears { (context : Lent) (request : Request) (error : AnError)
         → next_of context owed owes request (Err error)
         ≡ then_ask request (clear_at context.client request context.now)
         (next_of context result false request (Err error)) }
@@ -63,78 +68,81 @@ fn one_less(owed: u32, owes: bool) -> u32
 // the outcome.
 pub(crate) fn refused(
     alloc: Global,
-    lent: &Lent<'_>,
+    context: &Context<'_>,
     level: Level,
     error: NetError,
 ) -> Result<Step, OutOfMemory>
-    ensures { Leads (lent_at lent.now level.now) result
-        (next_of (lent_at lent.now level.now) level.owed level.owes level.request.value (Err error)) }
+    ensures { Leads context.now result
+        (next_of context.now level.owed level.owes level.request.value (Err error)) }
 {
     let Level {
         request,
         owed,
         owes,
-        now,
     } = level;
     if !owes && owed == 0 {
         return Ok(Step::Over(Outcome::Error(error)));
     }
-    let op = clear_of(alloc, lent.client, &request, now)?;
+    let op = clear_of(alloc, context.client, &request, context.time)?;
     let level = Level {
         request,
         owed: one_less(owed, owes),
         owes: false,
-        now,
     };
-    Ok(going(lent, level, Place::Clearing(error), Act::Ask(op)))
+    Ok(going(context, level, Place::Clearing(error), Act::Ask(op)))
 }
 
 // The fetch is over, or the body is read.
-fn end(lent: &Lent<'_>, level: Level, ended: Ended) -> Step
-    ensures { Does (lent_at lent.now level.now) result (ends level.request.value ended) }
+fn end(context: &Context<'_>, level: Level, ended: Ended) -> Step
+    ensures { Does context.now result (ends level.request.value ended) }
 {
     match ended {
         Ended::Over(outcome) => Step::Over(outcome),
-        Ended::Reads(response) => going(lent, level, Place::BodyReading(response), Act::ReadBody),
+        Ended::Reads(response) => going(
+            context,
+            level,
+            Place::BodyReading(response),
+            Act::ReadBody,
+        ),
     }
 }
 
 // The violations from a place on are told, and then the fetch ends so.
 pub(crate) fn tell_at_end(
     alloc: Global,
-    lent: &Lent<'_>,
+    context: &Context<'_>,
     level: Level,
     violations: Violations,
     at: usize,
     ended: Ended,
 ) -> Result<Step, OutOfMemory>
-    ensures { Leads (lent_at lent.now level.now) result
+    ensures { Leads context.now result
         (tell_all level.request.value (drop at violations) (ends level.request.value ended)) }
 {
     if at >= violations.len() {
-        return Ok(end(lent, level, ended));
+        return Ok(end(context, level, ended));
     }
     let violation = copied(alloc, violations.at(at))?;
     let place = Place::Ending(violations, at + 1, ended);
-    Ok(going(lent, level, place, Act::Tell(violation)))
+    Ok(going(context, level, place, Act::Tell(violation)))
 }
 
 // The response: the policies that it violates are told, and then it is blocked, handed over, or its
 // body is read (main fetch, steps 14 to 23).
 pub(crate) fn finish(
     alloc: Global,
-    lent: &Lent<'_>,
+    context: &Context<'_>,
     level: Level,
     head: Head,
 ) -> Result<Step, OutOfMemory>
-    ensures { Leads (lent_at lent.now level.now) result
-        (next_of (lent_at lent.now level.now) level.owed level.owes level.request.value (Ok head)) }
+    ensures { Leads context.now result
+        (next_of context.now level.owed level.owes level.request.value (Ok head)) }
 {
-    let (violations, blocked) = lent
+    let (violations, blocked) = context
         .policies
-        .check_response(alloc, &level.request, &lent.client.origin)?;
+        .check_response(alloc, &level.request, &context.client.origin)?;
     let end = ended(alloc, &level.request, head, blocked)?;
-    tell_at_end(alloc, lent, level, violations, 0, end)
+    tell_at_end(alloc, context, level, violations, 0, end)
 }
 
 // The body is at its end, and the fetch over.
@@ -144,7 +152,7 @@ pub(crate) fn body_read(
     response: Response,
     end: BodyEnd,
 ) -> Result<Step, OutOfMemory>
-    ensures { (context : Context) → Leads context result
+    ensures { (context : Lent) → Leads context result
         (ended_with (outcome_of level.request.value response end)) }
 {
     let outcome = after_body(alloc, &level.request, response, end)?;

@@ -31,7 +31,7 @@ bytes_of (reader.Body reading) = reading.bytes
 -- where a fetch of a document stands that waits for what comes of an act
 abbrev pub stands_at : Document → Fetching → Act → List ℕ → Bodies → Standing
 stands_at document fetching first read bodies = record {
-  process = act fetching.level.request.value first (rest (context_at document fetching.level.now) fetching);
+  process = act fetching.level.request.value first (rest (context_at document fetching.now) fetching);
   read = read;
   bodies = bodies;
 }

@@ -233,7 +233,7 @@ module _ {State : Type 0} (by : Answering State) where
       module _ (new : Standing State) where
         -- one act further
         pub fetching-went : (at : Step)
-            → WentOn by (at_time now.terms.lent fetching.level.now) fetching first now at new
+            → WentOn by (at_time now.terms.lent fetching.now) fetching first now at new
             → IsFetching (count + 1) new at
         unfolding acts-here asks-here trace-here
         fetching-went at x =
@@ -242,8 +242,8 @@ module _ {State : Type 0} (by : Answering State) where
             let does : Does context at (rest context fetching x.input) =
             subst (λ (n : ℕ). Does (at_time old.terms.lent n) at (rest (at_time old.terms.lent n) fetching x.input))
             is.does.now
-            (subst (λ (t : Terms). Does (at_time t.lent fetching.level.now) at
-            (rest (at_time t.lent fetching.level.now) fetching x.input)) is.same x.does) in
+            (subst (λ (t : Terms). Does (at_time t.lent fetching.now) at
+            (rest (at_time t.lent fetching.now) fetching x.input)) is.same x.does) in
             record {
               same = x.same ∙ is.same;
               process = rest context fetching x.input;
@@ -270,7 +270,7 @@ module _ {State : Type 0} (by : Answering State) where
             }
 
         -- memory was refused at this act
-        pub fetching-cut : FetchCut by (from_act (at_time now.terms.lent fetching.level.now) fetching first) now new
+        pub fetching-cut : FetchCut by (from_act (at_time now.terms.lent fetching.now) fetching first) now new
             → FetchCut by whole old new
         unfolding trace-here
         fetching-cut x =
@@ -278,7 +278,7 @@ module _ {State : Type 0} (by : Answering State) where
             subst (λ (n : ℕ). on (from_act (at_time old.terms.lent n) fetching first) now.world x.tape
             (x.made ++ x.missed) x.place x.last) is.does.now
             (subst (λ (t : Terms). LeadsOn by t.limit t.document
-            (from_act (at_time t.lent fetching.level.now) fetching first) now.world x.tape (x.made ++ x.missed)
+            (from_act (at_time t.lent fetching.now) fetching first) now.world x.tape (x.made ++ x.missed)
             x.place x.last) is.same x.trace) in
             record {
               same = x.same ∙ is.same;

@@ -51,8 +51,8 @@ fn take_on<R: Threads + Wait + Sync, S: Share>(
 ) -> Result<Step, OutOfMemory>
     requires client { IsClient lent.now.client.now }
     requires fits { IsTrue (fits fetching.last.value input) }
-    ensures process { Leads (at_time (setting_of lent.now) fetching.level.now) result
-        (rest (at_time (setting_of lent.now) fetching.level.now) fetching input) }
+    ensures process { Leads (at_time (setting_of lent.now) fetching.now) result
+        (rest (at_time (setting_of lent.now) fetching.now) fetching input) }
     ensures noted { OnOk result (running.new ≡ after_events (events_of act input) running.old) }
     ensures cut { OnErr result (PartNoted act input running.old running.new) }
 {
@@ -67,7 +67,7 @@ impl<R: Threads + Wait + Sync, S: Share, L: Link> Player<'_, '_, '_, '_, '_, R, 
         requires ready { IsReady S.belongs self.old }
         requires waits { fetching.last.value ≡ act }
         requires can { CanAnswer act (world S.account L.told self.old).left }
-        ensures went { GoesOn (over_link L.serves) (at_time (setting_of self.old.lent.now) fetching.level.now) fetching
+        ensures went { GoesOn (over_link L.serves) (at_time (setting_of self.old.lent.now) fetching.now) fetching
             act (standing S.account L.told self.old) result (standing S.account L.told self.new) }
         ensures few { (world S.account L.told self.old).left
             ≤ (world S.account L.told self.new).left + price_of asks act }

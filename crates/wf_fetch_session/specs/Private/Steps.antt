@@ -23,12 +23,12 @@ HasLast (Over outcome) = Unit {0}
 -- what is left of a document's fetch behind a step
 abbrev pub process_of : Document → Step → Process
 process_of document (Going fetching first) =
-    act fetching.level.request.value first (rest (context_at document fetching.level.now) fetching)
+    act fetching.level.request.value first (rest (context_at document fetching.now) fetching)
 process_of document (Over outcome) = ended outcome
 
 -- what is left of it once an input came
 abbrev pub rest_of : Document → Fetching → Input → Process
-rest_of document fetching input = rest (context_at document fetching.level.now) fetching input
+rest_of document fetching input = rest (context_at document fetching.now) fetching input
 
 -- the session's fetch went on from an input, or memory was refused and it is gone
 abbrev pub WentOn : Fetching → Bodies → Input → Session → Went → Session → Type 0

@@ -1,6 +1,5 @@
 use Rattle.std.proofs.Common.{arith, false, sym}
 use Rattle.wf_fetch_answers.specs.Following.{redirected_request}
-use Rattle.wf_fetch.specs.Lending.{lent_at}
 use Rattle.wf_fetch.specs.Machine.{next_of}
 use Rattle.wf_fetch.proofs.MachineLemmas.{goes-on, redirected-count}
 use Rattle.wf_fetch.proofs.http.follow.Goals as goal
@@ -16,12 +15,11 @@ invariant_of-level c = record {
         c.args.level.request.value c.args.head c.args.url,
   )
       (omega (arith, c.total_owed.ensures.few, c.args.level.few));
-  timely = c.args.level.timely;
 }
 
 pub returns : goal.returns
 returns c =
-    let context = lent_at c.args.lent.now c.args.level.now in
+    let context = c.args.context.now in
     let next = next_of context c.args.level.owed c.args.level.owes in
     goes-on context c.begin.result c.args.level.request.value.redirects c.in_ok-boxed.field-0.value
     (redirected_request c.args.level.request.value c.args.head c.args.url) (next_of context c.total_owed.result false)

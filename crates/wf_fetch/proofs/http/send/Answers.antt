@@ -1,7 +1,8 @@
-use Rattle.std.proofs.Common.{IsTrue, subst, sym}
+use Rattle.std.proofs.Common.{IsTrue, ap, subst, sym}
 use Rattle.wf_text.proofs.SpaceLemmas.{token-lacks_space}
 use Rattle.wf_text.specs.Ascii.{lacks_space}
 use Rattle.wf_types.specs.declared.hop.Hop.{Hop}
+use Rattle.wf_fetch.specs.Then.{Context}
 use Rattle.wf_fetch.proofs.http.send.Goals as goal
 
 pub going-requires-clause-plain : goal.going-requires-clause-plain
@@ -13,4 +14,6 @@ going-requires-clause-plain c = (
 )
 
 pub returns : goal.returns
-returns c = rw (c.in_ok-hop.ensures.hop, c.deref.ensures) at c.going.ensures
+returns c =
+    let cookies = ap (λ (x : Context). x.cookies) c.context.view_is in
+    rw (c.in_ok-hop.ensures.hop, c.deref.ensures, cookies) at c.going.ensures

@@ -1,16 +1,17 @@
 use Rattle.std.proofs.Common.{◌∙◌, ap, sym}
 use Rattle.wf_fetch.specs.Fetch.{onward_of}
-use Rattle.wf_fetch.specs.Lending.{lent_at}
 use Rattle.wf_fetch.specs.Machine.{next_of}
 use Rattle.wf_fetch.specs.MainFetch.{matched_by}
+use Rattle.wf_fetch.specs.Then.{Context}
 use Rattle.wf_fetch.proofs.MachineLemmas.{does-same}
 use Rattle.wf_fetch.proofs.main_fetch.ask_host.Goals as goal
 
 pub returns-in-Some : goal.returns-in-Some
 returns-in-Some c =
-    let context = lent_at c.args.lent.now c.args.level.now in
+    let context = c.args.context.now in
+    let time = ap (λ (x : Context). x.now) c.context.view_is in
     does-same context c.going.result _ _
     (ap (matched_by (onward_of context c.args.level.request.value) context
     (next_of context c.args.level.owed c.args.level.owes) c.args.level.request.value)
-    (sym (rw c.deref.ensures at c.in_ok-match_of.ensures.value) ∙ c.in-Some.is))
+    (sym (rw (c.deref.ensures, time) at c.in_ok-match_of.ensures.value) ∙ c.in-Some.is))
     c.going.ensures

@@ -1,6 +1,5 @@
 use Rattle.std.proofs.Common.{Err, ap}
 use Rattle.wf_types.specs.declared.error.NetError.TheVariants.{CspRequest}
-use Rattle.wf_fetch.specs.Lending.{lent_at}
 use Rattle.wf_fetch.specs.Machine.{next_of}
 use Rattle.wf_fetch.specs.Then.{tell_all}
 use Rattle.wf_fetch.proofs.MachineLemmas.{does-same, drop-found}
@@ -8,7 +7,7 @@ use Rattle.wf_fetch.proofs.main_fetch.tell_blocks.Goals as goal
 
 pub returns : goal.returns
 returns c =
-    let context = lent_at c.args.lent.now c.args.level.now in
+    let context = c.args.context.now in
     let next = next_of context c.args.level.owed c.args.level.owes in
     does-same context c.going.result _ _
     (ap (λ left. tell_all c.args.level.request.value left (next c.args.level.request.value (Err CspRequest)))

@@ -1,7 +1,6 @@
 use Rattle.std.proofs.Common.{◌∙◌, ap, arith, sym}
 use Rattle.wf_fetch_rules.specs.Upgrading.{upgraded}
 use Rattle.wf_fetch.specs.Fetch.{onward_of}
-use Rattle.wf_fetch.specs.Lending.{lent_at}
 use Rattle.wf_fetch.specs.Machine.{next_of}
 use Rattle.wf_fetch.specs.MainFetch.{checked}
 use Rattle.wf_fetch.specs.Then.{tell_all}
@@ -11,7 +10,7 @@ use Rattle.wf_fetch.proofs.main_fetch.tell_reports.Goals as goal
 
 pub returns-then-at-len : goal.returns-then-at-len
 returns-then-at-len c =
-    let context = lent_at c.args.lent.now c.args.level.now in
+    let context = c.args.context.now in
     let next = next_of context c.args.level.owed c.args.level.owes in
     let onward = onward_of context c.args.level.request.value in
     let made = upgraded context.client context.policies c.args.level.request.value in
@@ -22,7 +21,7 @@ returns-then-at-len c =
 
 pub returns : goal.returns
 returns c =
-    let context = lent_at c.args.lent.now c.args.level.now in
+    let context = c.args.context.now in
     let next = next_of context c.args.level.owed c.args.level.owes in
     let made = upgraded context.client context.policies c.args.level.request.value in
     let changed = c.in_ok-upgraded_level.ensures.value in
@@ -33,5 +32,5 @@ returns c =
     ∙ ap (λ onward. checked onward context next made)
     (onward-same context c.args.level.request.value made
     (sym (upgraded-redirects context.client context.policies c.args.level.request.value))))
-    (leads-changed c.args.lent.now c.check.result c.args.level c.in_ok-upgraded_level.field-0 made checked
-    changed.0 changed.1 changed.2 changed.3 c.check.ensures)
+    (leads-changed context c.check.result c.args.level c.in_ok-upgraded_level.field-0 made checked
+    changed.0 changed.1 changed.2 c.check.ensures)

@@ -1,13 +1,12 @@
 use Rattle.std.proofs.Common.{ap}
 use Rattle.wf_fetch.specs.Fetch.{ends}
-use Rattle.wf_fetch.specs.Lending.{lent_at}
 use Rattle.wf_fetch.specs.Then.{tell_all}
 use Rattle.wf_fetch.proofs.MachineLemmas.{does-same, drop-found}
 use Rattle.wf_fetch.proofs.steps.tell_at_end.Goals as goal
 
 pub returns : goal.returns
 returns c =
-    let context = lent_at c.args.lent.now c.args.level.now in
+    let context = c.args.context.now in
     does-same context c.going.result _ _
     (ap (λ left. tell_all c.args.level.request.value left (ends c.args.level.request.value c.args.ended))
     (drop-found c.args.violations c.args.at c.at.result.now c.at.ensures))

@@ -14,7 +14,7 @@ returns-in_err-input-clause-went g c =
     let me = c.args.self.now in
     let old = standing g.S.Share.account g.L.Link.told me in
     let new = standing g.S.Share.account g.L.Link.told c.answer.new.self in
-    let context = at_time (setting_of me.lent.now) c.args.fetching.level.now in
+    let context = at_time (setting_of me.lent.now) c.args.fetching.now in
     refused (λ r. GoesOn by context c.args.fetching c.args.act old r new) c.from_residual.result
     c.from_residual.ensures.0
     (λ one. act-refused by context c.args.fetching c.args.act old new
@@ -28,7 +28,7 @@ returns-in_err-step-clause-went g c =
     let old = standing g.S.Share.account g.L.Link.told me in
     let last = run-to c.answer.new.self c.take_on.new.running in
     let new = standing g.S.Share.account g.L.Link.told last in
-    let context = at_time (setting_of me.lent.now) c.args.fetching.level.now in
+    let context = at_time (setting_of me.lent.now) c.args.fetching.now in
     let input = c.in_ok-input.input in
     let noted : PartNoted c.args.act input me.running.now c.take_on.new.running =
     subst (λ (a : Act). PartNoted a input me.running.now c.take_on.new.running) c.into_inner-act.ensures
