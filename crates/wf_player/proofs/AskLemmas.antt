@@ -124,10 +124,10 @@ end-left (byte ∷ window) (Some rest) end = absurd (cc)
 
 -- ---- what calls leave
 
-module _ {R S L P : Type 0} (account : P → Account) (belongs : S → P → Type 0) where
-  pub keeps-then : (a b c : Player R S L P) → Keeps account belongs a b → Keeps account belongs b c
+module _ {R S L P : Type 0} {account : P → Account} {belongs : S → P → Type 0} where
+  pub keeps-then : {a b c : Player R S L P} → Keeps account belongs a b → Keeps account belongs b c
       → Keeps account belongs a c
-  keeps-then a b c x y = record {
+  keeps-then x y = record {
     lent = y.lent ∙ x.lent;
     pass = y.pass ∙ x.pass;
     link = y.link ∙ x.link;
@@ -138,8 +138,8 @@ module _ {R S L P : Type 0} (account : P → Account) (belongs : S → P → Typ
     ready = y.ready;
   }
 
-  pub keeps-none : (a : Player R S L P) → IsReady belongs a → Keeps account belongs a a
-  keeps-none a ready = record {
+  pub keeps-none : {a : Player R S L P} → IsReady belongs a → Keeps account belongs a a
+  keeps-none ready = record {
     lent = refl;
     pass = refl;
     link = refl;
@@ -151,14 +151,14 @@ module _ {R S L P : Type 0} (account : P → Account) (belongs : S → P → Typ
   }
 
   -- so a run goes by the same still
-  pub same-terms : (a b : Player R S L P) → Keeps account belongs a b → terms_of account b ≡ terms_of account a
-  same-terms a b x = rw (x.lent, x.document) refl
+  pub same-terms : {a b : Player R S L P} → Keeps account belongs a b → terms_of account b ≡ terms_of account a
+  same-terms x = rw (x.lent, x.document) refl
 
   -- and the pass is as a call leaves it that was lent it
-  pub keeps-pass : (a b : Player R S L P) (most : ℕ) → Keeps account belongs a b
+  pub keeps-pass : {a b : Player R S L P} {most : ℕ} → Keeps account belongs a b
       → (account a.pass.now).left ≤ (account b.pass.now).left + most
       → KeepsPass account (belongs a.lent.now.share.now) most a.pass.now b.pass.now
-  keeps-pass a b most x few = record {
+  keeps-pass {b = b} x few = record {
     belongs_to = subst (λ (l : Bor (Lent R S)). belongs l.now.share.now b.pass.now) x.lent x.ready.belongs_to;
     document = x.document;
     opening = x.opening;

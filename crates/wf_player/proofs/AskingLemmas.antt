@@ -9,7 +9,7 @@ use Rattle.wf_script_events.specs.declared.events.Ending.{Ending}
 use Rattle.wf_script_events.specs.declared.events.Ending.TheVariants.{Commands, Memory}
 use Rattle.wf_script_events.specs.declared.events.Event.{Event}
 use Rattle.wf_script_run.specs.Filling.{is_plain, with_cuts}
-use Rattle.wf_script_run.specs.Runs.{Next, Progress, after_events, asked, at_time, embed, fault_event, fetch_started}
+use Rattle.wf_script_run.specs.Runs.{Next, Progress, after_events, asked, at_time, fault_event, fetch_started}
 use Rattle.wf_script_run.specs.Runs.{fetch_limit, fetched, filled_init, last_of, limit_before, load_event}
 use Rattle.wf_script_run.specs.Runs.{outcome_event}
 use Rattle.wf_script_run.specs.Runs.{own_limit, showing, start_event, started}
@@ -75,9 +75,9 @@ settles-outcome destination.Fetch came a b hung = hung
 settles-outcome kind came a b hung = settles-load came a b hung
 
 -- a standing, part by part
-pub stands-as : {State : Type 0} (a b : Standing State) → b.terms ≡ a.terms → b.world ≡ a.world
+pub stands-as : {State : Type 0} {a b : Standing State} → b.terms ≡ a.terms → b.world ≡ a.world
     → b.progress ≡ a.progress → b ≡ a
-stands-as a b same still kept = rw (same, still, kept) refl
+stands-as same still kept = rw (same, still, kept) refl
 
 -- no ending is no want of memory
 pub no-memory : let e : Option Ending = None in e ≢ Some Memory
@@ -98,8 +98,7 @@ module _ {State : Type 0} (by : Answering State) where
   request-fault kind made fault one a b is tells same still noted rests = record {
     played = subst (λ (m : Result Request TypeFault). PlayedTo by (λ (next : Next). fetched a.terms.lent kind m next
         a.progress) a (λ next. next b.progress) b) (sym is)
-        (played-event by (fault_event kind fault) a b same
-        (noted ∙ ap (λ (e : Event). after_events (e ∷ []) a.progress) tells)
+        (played-event same (noted ∙ ap (λ (e : Event). after_events (e ∷ []) a.progress) tells)
         (subst (λ (w : World State). Settles (fault_event kind fault) a.world w) (sym still)
         (settles-fault kind fault a.world)));
     rests = subst (λ (w : World State). IsAtEnd w.exchange.left) (sym still) rests;
@@ -117,9 +116,7 @@ module _ {State : Type 0} (by : Answering State) where
       subst (λ (m : Result Request TypeFault). PlayedTo by
       (λ (next : Next). fetched a.terms.lent kind m next a.progress)
       a (λ next. showing (outcome_event kind outcome) next b.progress) b) (sym is)
-      (played-inside by (λ (next : Outcome → Next). embed (fetch (at_time a.terms.lent a.progress.clock) request) next
-      a.progress) (λ next. next outcome b.progress) (onward kind) a b
-      (played-fetch by (fetch (at_time a.terms.lent a.progress.clock) request) a b outcome x))
+      (played-inside (onward kind) (played-fetch x))
 
   -- which is shown, and the rest of the answer is hung up
   pub request-ended : (kind : Destination) (made : Result Request TypeFault) (request : Request) (one : Event)
@@ -129,11 +126,8 @@ module _ {State : Type 0} (by : Answering State) where
       → IsAtEnd c.world.exchange.left → HasPlayed by (λ lent. fetched lent kind made) a None c
   unfolding onward
   request-ended kind made request one a b c outcome is tells x same noted hung rests = record {
-    played = played-then by (λ (next : Next). fetched a.terms.lent kind made next a.progress)
-        (λ next. onward kind next outcome b.progress) (λ next. next c.progress) a b c
-        (request-came kind made request a b outcome is x)
-        (played-event by (outcome_event kind outcome) b c same
-        (noted ∙ ap (λ (e : Event). after_events (e ∷ []) b.progress) tells)
+    played = played-then (request-came kind made request a b outcome is x)
+        (played-event same (noted ∙ ap (λ (e : Event). after_events (e ∷ []) b.progress) tells)
         (settles-outcome kind outcome b.world c.world hung));
     rests = rests;
     told = no-memory;
@@ -146,9 +140,7 @@ module _ {State : Type 0} (by : Answering State) where
   unfolding onward
   request-cut kind made request a b is x =
       subst (λ (m : Result Request TypeFault). WasCut by (λ lent. fetched lent kind m) a b) (sym is)
-      (cut-inside by (λ (next : Outcome → Next). embed (fetch (at_time a.terms.lent a.progress.clock) request) next
-      a.progress) (onward kind) a b
-      (cut-fetch by (fetch (at_time a.terms.lent a.progress.clock) request) a b x))
+      (cut-inside (onward kind) (cut-fetch x))
 
   -- or for its outcome
   pub request-unshown : (kind : Destination) (made : Result Request TypeFault) (request : Request)
@@ -157,9 +149,7 @@ module _ {State : Type 0} (by : Answering State) where
       → WasCut by (λ lent. fetched lent kind made) a c
   request-unshown kind made request a b c outcome is x kept =
       subst (λ (s : Standing State). WasCut by (λ lent. fetched lent kind made) a s) (sym kept)
-      (played-cut by (λ (next : Next). fetched a.terms.lent kind made next a.progress)
-      (λ next. onward kind next outcome b.progress) a b b (request-came kind made request a b outcome is x)
-      (cut-here by (λ (next : Next). onward kind next outcome b.progress) b))
+      (played-cut (request-came kind made request a b outcome is x) cut-here)
 
   -- ---- what the calls answer
 
@@ -171,7 +161,7 @@ module _ {State : Type 0} (by : Answering State) where
   fault-came kind made fault one a b (Ok done) is tells same still noted kept rests =
       request-fault kind made fault one a b is tells same still noted rests
   fault-came kind made fault one a b (Err memory) is tells same still noted kept rests =
-      rule-unbegun by (λ lent. fetched lent kind made) a b (stands-as a b same still kept)
+      rule-unbegun (λ lent. fetched lent kind made) (stands-as same still kept)
 
   pub outcome-came : (kind : Destination) (made : Result Request TypeFault) (request : Request) (one : Event)
       (a b c : Standing State) (time : ℕ) (outcome : Outcome) (result : Result ⊤ OutOfMemory) → made ≡ Ok request
@@ -221,15 +211,12 @@ module _ {State : Type 0} (by : Answering State) where
       → b.progress ≡ after_events (start_event kind a.progress.fetches ∷ []) (fetch_started (started a.progress))
       → PlaysUnended by (λ lent. fetched lent kind made) b result c → PlaysUnended by (asking kind made) a result c
   asked-came kind made a b c (Ok done) same still noted x = record {
-    played = played-then by (λ (next : Next). asking kind made a.terms.lent next a.progress)
-        (λ next. fetched b.terms.lent kind made next b.progress) (λ next. next c.progress) a b c
-        (asked-begun kind made a b same still noted) x.played;
+    played = played-then (asked-begun kind made a b same still noted) x.played;
     rests = x.rests;
     told = x.told;
   }
   asked-came kind made a b c (Err refused) same still noted x =
-      played-cut by (λ (next : Next). asking kind made a.terms.lent next a.progress)
-      (λ next. fetched b.terms.lent kind made next b.progress) a b c (asked-begun kind made a b same still noted) x
+      played-cut (asked-begun kind made a b same still noted) x
 
 -- what the script asks for is what is asked
 pub asked-as : {State : Type 0} (by : Answering State) (kind : Destination) (made : Result Request TypeFault)

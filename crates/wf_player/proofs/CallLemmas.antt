@@ -11,7 +11,7 @@ use Rattle.wf_script_events.specs.declared.events.Event.TheVariants as event
 use Rattle.wf_script_run.specs.Play.{Play}
 use Rattle.wf_script_run.specs.Traces.{PlayTrace, stop, shown, stepped}
 use Rattle.wf_link_wire.specs.Exchanges.{Answering}
-use Rattle.wf_player.specs.Worlds.{Answers, Outside, Settles, World}
+use Rattle.wf_player.specs.Worlds.{Answers, IsHungUp, Outside, Settles, World}
 
 -- Between two worlds these entries were added, each of them the document's, and the calls left fell by as many.
 pub record Calls {State : Type 0} (document : ℕ) (a b : World State) : Type 0 where
@@ -26,50 +26,47 @@ all-append P [] b x y = y
 all-append P (e ∷ es) b x y = (x.0, all-append P es b x.1 y)
 
 module _ {State : Type 0} (by : Answering State) (limit document : ℕ) where
-  calls-alike : (a b : World State) → b.own ≡ a.own → b.left ≡ a.left → Calls document a b
-  calls-alike a b own left = record {
+  calls-alike : {a b : World State} → b.own ≡ a.own → b.left ≡ a.left → Calls document a b
+  calls-alike {a = a} own left = record {
     more = [];
     own = own ∙ sym (append-nil a.own);
     named = tt;
     fell = omega (arith, left);
   }
 
-  calls-act : (a b : World State) (first : Act) (input : Input) → Answers by limit document a first input b
+  calls-same : {a b : World State} → b ≡ a → Calls document a b
+  calls-same is = calls-alike (ap (λ (w : World State). w.own) is) (ap (λ (w : World State). w.left) is)
+
+  calls-hung : {a b : World State} → IsHungUp a b → Calls document a b
+  calls-hung is = calls-alike (ap (λ (o : Outside State). o.own) is.outside_is)
+      (ap (λ (o : Outside State). o.left) is.outside_is)
+
+  calls-act : {a b : World State} (first : Act) (input : Input) → Answers by limit document a first input b
       → Calls document a b
-  calls-act a b (Ask op) input is = record {
+  calls-act (Ask op) input is = record {
     more = is.asked.entry ∷ [];
     own = is.asked.own_is;
     named = (is.asked.document_is, tt);
     fell = omega (arith, is.asked.left_is);
   }
-  calls-act a b (Send hop) input is = calls-alike a b is.1.own_is is.1.left_is
-  calls-act a b ReadHead input is = calls-alike a b is.own_is is.left_is
-  calls-act a b ReadBody input is = calls-alike a b is.own_is is.left_is
-  calls-act a b (Tell violation) input is =
-      calls-alike a b (ap (λ (w : World State). w.own) is.1) (ap (λ (w : World State). w.left) is.1)
+  calls-act (Send hop) input is = calls-alike is.1.own_is is.1.left_is
+  calls-act ReadHead input is = calls-alike is.own_is is.left_is
+  calls-act ReadBody input is = calls-alike is.own_is is.left_is
+  calls-act (Tell violation) input is = calls-same is.1
 
-  calls-event : (a b : World State) (shown : Event) → Settles shown a b → Calls document a b
-  calls-event a b (event.Result outcome) is = calls-alike a b (ap (λ (o : Outside State). o.own) is.outside_is)
-      (ap (λ (o : Outside State). o.left) is.outside_is)
-  calls-event a b (event.Fetch n) is =
-      calls-alike a b (ap (λ (w : World State). w.own) is) (ap (λ (w : World State). w.left) is)
-  calls-event a b (event.Load n kind) is =
-      calls-alike a b (ap (λ (w : World State). w.own) is) (ap (λ (w : World State). w.left) is)
-  calls-event a b (event.Call op reply) is =
-      calls-alike a b (ap (λ (w : World State). w.own) is) (ap (λ (w : World State). w.left) is)
-  calls-event a b (event.Sent hop) is =
-      calls-alike a b (ap (λ (w : World State). w.own) is) (ap (λ (w : World State). w.left) is)
-  calls-event a b (event.Told violation) is =
-      calls-alike a b (ap (λ (w : World State). w.own) is) (ap (λ (w : World State). w.left) is)
-  calls-event a b (event.LoadFailed error) is = calls-alike a b (ap (λ (o : Outside State). o.own) is.outside_is)
-      (ap (λ (o : Outside State). o.left) is.outside_is)
-  calls-event a b (event.TypeError fault) is =
-      calls-alike a b (ap (λ (w : World State). w.own) is) (ap (λ (w : World State). w.left) is)
-  calls-event a b (event.LoadError fault) is =
-      calls-alike a b (ap (λ (w : World State). w.own) is) (ap (λ (w : World State). w.left) is)
+  calls-event : {a b : World State} (shown : Event) → Settles shown a b → Calls document a b
+  calls-event (event.Result outcome) is = calls-hung is
+  calls-event (event.LoadFailed error) is = calls-hung is
+  calls-event (event.Fetch n) is = calls-same is
+  calls-event (event.Load n kind) is = calls-same is
+  calls-event (event.Call op reply) is = calls-same is
+  calls-event (event.Sent hop) is = calls-same is
+  calls-event (event.Told violation) is = calls-same is
+  calls-event (event.TypeError fault) is = calls-same is
+  calls-event (event.LoadError fault) is = calls-same is
 
-  calls-then : (a b c : World State) → Calls document a b → Calls document b c → Calls document a c
-  calls-then a b c x y = record {
+  calls-then : {a b c : World State} → Calls document a b → Calls document b c → Calls document a c
+  calls-then {a = a} x y = record {
     more = x.more ++ y.more;
     own = y.own ∙ ap (λ (l : List Entry). l ++ y.more) x.own ∙ append_assoc a.own x.more y.more;
     named = all-append (λ (e : Entry). e.document ≡ document) x.more y.more x.named y.named;
@@ -79,8 +76,6 @@ module _ {State : Type 0} (by : Answering State) (limit document : ℕ) where
   -- over a trace
   pub trace-calls : {p q : Play} {a b : World State} {t : List Input} {e : List Event}
       → PlayTrace (Answers by limit document) Settles p a t e q b → Calls document a b
-  trace-calls {a = a} stop = calls-alike a a refl refl
-  trace-calls {a = a} {b = b} (shown {mid = mid} one is x) =
-      calls-then a mid b (calls-event a mid one is) (trace-calls x)
-  trace-calls {a = a} {b = b} (stepped {mid = mid} request first after input is fit x) =
-      calls-then a mid b (calls-act a mid first input is) (trace-calls x)
+  trace-calls stop = calls-alike refl refl
+  trace-calls (shown one is x) = calls-then (calls-event one is) (trace-calls x)
+  trace-calls (stepped request first after input is fit x) = calls-then (calls-act first input is) (trace-calls x)

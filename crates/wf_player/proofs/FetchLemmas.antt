@@ -140,12 +140,6 @@ module _ {State : Type 0} (by : Answering State) where
         left = refuses-none (outside_of new.world);
       }
 
-      -- and the fetch goes on
-      pub act-went : (at : Step) → new.progress ≡ after_events (events_of first input) old.progress
-          → Does context at (rest context fetching input) → WentOn by context fetching first old at new
-      act-went at noted does =
-          record { same = same; input = input; fit = fit; came = came; noted = noted; does = does }
-
   -- ---- the loop
 
   module _ (old : Standing State) (time : ℕ) (request : Request) where

@@ -1,9 +1,13 @@
 -- Parts of a run, one after another.
-use Rattle.std.proofs.Common.{ℕ, List, [], ◌∷◌, ◌++◌, refl, ap, sym, subst, ◌∙◌, ◌≡◌, ◌≢◌, arith}
-use Rattle.std.proofs.Common.{append_assoc}
+use Rattle.std.proofs.Common.{List, [], ◌∷◌, ◌++◌, refl, ap, sym, subst, ◌∙◌, ◌≡◌, arith}
+use Rattle.std.proofs.Common.{append_assoc, Option, Result, Ok, Err}
+use Rattle.std.specs.Prelude.{⊤}
+use Rattle.std.specs.Result.{IsErr}
 use Rattle.std.proofs.lemmas.List.{append-nil}
 use Rattle.wf_fetch_acts.specs.Process.{Process}
+use Rattle.wf_script_events.specs.declared.events.Ending.{Ending}
 use Rattle.wf_script_events.specs.declared.events.Event.{Event}
+use Rattle.wf_text.specs.declared.memory.OutOfMemory.{OutOfMemory}
 use Rattle.wf_script_run.specs.Play.{Play}
 use Rattle.wf_script_run.specs.Runs.{Next, Progress, after_events, embed, showing}
 use Rattle.wf_script_run.specs.Traces.{shown}
@@ -13,17 +17,17 @@ use Rattle.wf_script_run.proofs.PlayLemmas.{play-append}
 use Rattle.wf_types.specs.declared.response.Outcome.{Outcome}
 use Rattle.wf_link_wire.specs.Exchanges.{Answering}
 use Rattle.wf_player.specs.Driving.{FetchCut, FetchedTo}
-use Rattle.wf_player.specs.Parts.{CutShort, PlayedTo, PlaysOn, Rule, WasCut}
+use Rattle.wf_player.specs.Parts.{CutShort, PlayedTo, Plays, PlaysOn, PlaysUnended, Rule, WasCut}
 use Rattle.wf_player.specs.Standings.{Standing, Terms}
 use Rattle.wf_player.specs.Worlds.{Answers, Settles, outside_of}
 use Rattle.wf_player.proofs.AskLemmas.{refuses-none}
 
-module _ {State : Type 0} (by : Answering State) where
+module _ {State : Type 0} {by : Answering State} where
   -- ---- parts that were played
 
   -- nothing
-  pub played-none : {N : Type 0} (part : N → Play) (a : Standing State) → PlayedTo by part a part a
-  played-none part a = record {
+  pub played-none : {N : Type 0} {part : N → Play} {a : Standing State} → PlayedTo by part a part a
+  played-none {a = a} = record {
     same = refl;
     tape = [];
     made = [];
@@ -32,9 +36,9 @@ module _ {State : Type 0} (by : Answering State) where
   }
 
   -- one part, and then the next
-  pub played-then : {N : Type 0} (part middle last : N → Play) (a b c : Standing State)
+  pub played-then : {N : Type 0} {part middle last : N → Play} {a b c : Standing State}
       → PlayedTo by part a middle b → PlayedTo by middle b last c → PlayedTo by part a last c
-  played-then part middle last a b c x y = record {
+  played-then {middle = middle} {last = last} {a = a} {b = b} {c = c} x y = record {
     same = y.same ∙ x.same;
     tape = x.tape ++ y.tape;
     made = x.made ++ y.made;
@@ -45,16 +49,16 @@ module _ {State : Type 0} (by : Answering State) where
   }
 
   -- inside a larger one
-  pub played-inside : {N M : Type 0} (part last : N → Play) (f : M → N) (a b : Standing State)
+  pub played-inside : {N M : Type 0} {part last : N → Play} {a b : Standing State} (f : M → N)
       → PlayedTo by part a last b → PlayedTo by (λ m. part (f m)) a (λ m. last (f m)) b
-  played-inside part last f a b x =
+  played-inside f x =
       record { same = x.same; tape = x.tape; made = x.made; added = x.added; trace = λ m. x.trace (f m) }
 
   -- an event, and what the world comes to with it
-  pub played-event : (event : Event) (a b : Standing State) → b.terms ≡ a.terms
+  pub played-event : {event : Event} {a b : Standing State} → b.terms ≡ a.terms
       → b.progress ≡ after_events (event ∷ []) a.progress → Settles event a.world b.world
       → PlayedTo by (λ (next : Next). showing event next a.progress) a (λ next. next b.progress) b
-  played-event event a b same noted settled = record {
+  played-event {event = event} {a = a} {b = b} same noted settled = record {
     same = same;
     tape = [];
     made = event ∷ [];
@@ -64,9 +68,9 @@ module _ {State : Type 0} (by : Answering State) where
   }
 
   -- a fetch
-  pub played-fetch : (whole : Process) (a b : Standing State) (outcome : Outcome) → FetchedTo by whole a outcome b
+  pub played-fetch : {whole : Process} {a b : Standing State} {outcome : Outcome} → FetchedTo by whole a outcome b
       → PlayedTo by (λ (next : Outcome → Next). embed whole next a.progress) a (λ next. next outcome b.progress) b
-  played-fetch whole a b outcome x = record {
+  played-fetch {whole = whole} {a = a} {b = b} {outcome = outcome} x = record {
     same = x.same;
     tape = x.tape;
     made = x.made;
@@ -78,8 +82,8 @@ module _ {State : Type 0} (by : Answering State) where
 
   -- ---- parts that were cut short
 
-  pub cut-here : {N : Type 0} (part : N → Play) (a : Standing State) → CutShort by part a a
-  cut-here part a = record {
+  pub cut-here : {N : Type 0} {part : N → Play} {a : Standing State} → CutShort by part a a
+  cut-here {part = part} {a = a} = record {
     same = refl;
     tape = [];
     made = [];
@@ -92,9 +96,9 @@ module _ {State : Type 0} (by : Answering State) where
     left = refuses-none (outside_of a.world);
   }
 
-  pub played-cut : {N : Type 0} (part middle : N → Play) (a b c : Standing State) → PlayedTo by part a middle b
+  pub played-cut : {N : Type 0} {part middle : N → Play} {a b c : Standing State} → PlayedTo by part a middle b
       → CutShort by middle b c → CutShort by part a c
-  played-cut part middle a b c x y = record {
+  played-cut {part = part} {middle = middle} {a = a} {b = b} x y = record {
     same = y.same ∙ x.same;
     tape = x.tape ++ y.tape;
     made = x.made ++ y.made;
@@ -111,9 +115,9 @@ module _ {State : Type 0} (by : Answering State) where
     left = y.left;
   }
 
-  pub cut-inside : {N M : Type 0} (part : N → Play) (f : M → N) (a b : Standing State) → CutShort by part a b
+  pub cut-inside : {N M : Type 0} {part : N → Play} {a b : Standing State} (f : M → N) → CutShort by part a b
       → CutShort by (λ m. part (f m)) a b
-  cut-inside part f a b x = record {
+  cut-inside f x = record {
     same = x.same;
     tape = x.tape;
     made = x.made;
@@ -127,9 +131,9 @@ module _ {State : Type 0} (by : Answering State) where
   }
 
   -- a fetch
-  pub cut-fetch : (whole : Process) (a b : Standing State) → FetchCut by whole a b
+  pub cut-fetch : {whole : Process} {a b : Standing State} → FetchCut by whole a b
       → CutShort by (λ (next : Outcome → Next). embed whole next a.progress) a b
-  cut-fetch whole a b x = record {
+  cut-fetch {a = a} x = record {
     same = x.same;
     tape = x.tape;
     made = x.made;
@@ -144,14 +148,17 @@ module _ {State : Type 0} (by : Answering State) where
 
   -- ---- rules
 
-  -- memory was refused before the rule began
-  pub rule-unbegun : (rule : Rule) (a b : Standing State) → b ≡ a → WasCut by rule a b
-  rule-unbegun rule a b kept =
-      subst (λ (s : Standing State). WasCut by rule a s) (sym kept)
-      (cut-here (λ (next : Next). rule a.terms.lent next a.progress) a)
+  -- a call that passes on want of memory
+  pub plays-refused : (rule : Rule) {a b : Standing State} (result : Result (Option Ending) OutOfMemory) → IsErr result
+      → WasCut by rule a b → Plays by rule a result b
+  plays-refused rule (Ok value) is x = absurd cc
+  plays-refused rule (Err one) is x = x
 
-  -- a first part of the rule was played, and then memory was refused in the rest of it
-  pub rule-cut : (rule : Rule) (middle : Next → Play) (a b c : Standing State)
-      → PlayedTo by (λ next. rule a.terms.lent next a.progress) a middle b → CutShort by middle b c
-      → WasCut by rule a c
-  rule-cut rule middle a b c x y = played-cut (λ (next : Next). rule a.terms.lent next a.progress) middle a b c x y
+  pub unended-refused : (rule : Rule) {a b : Standing State} (result : Result ⊤ OutOfMemory) → IsErr result
+      → WasCut by rule a b → PlaysUnended by rule a result b
+  unended-refused rule (Ok value) is x = absurd cc
+  unended-refused rule (Err one) is x = x
+
+  -- memory was refused before the rule began
+  pub rule-unbegun : (rule : Rule) {a b : Standing State} → b ≡ a → WasCut by rule a b
+  rule-unbegun rule kept = rw kept cut-here

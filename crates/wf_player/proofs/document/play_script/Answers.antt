@@ -55,7 +55,7 @@ pub returns-clause-pass : goal.returns-clause-pass
 returns-clause-pass g c =
     moved (λ p. KeepsPass g.S.Share.account (g.S.Share.belongs c.args.lent.now.share.now) most_calls c.args.pass.now p)
     c.script.new.self.pass.now _ (search rules)
-    (keeps-pass g.S.Share.account g.S.Share.belongs _ c.script.new.self most_calls c.script.ensures.kept (omega (
+    (keeps-pass c.script.ensures.kept (omega (
       arith,
       c.script.ensures.spent.calls,
       c.script.ensures.spent.fetches,

@@ -51,8 +51,7 @@ pub returns-in_err-outcome-clause-pass : goal.returns-in_err-outcome-clause-pass
 returns-in_err-outcome-clause-pass g c =
     let last = c.fetch.new.self in
     moved (λ p. KeepsPass g.S.Share.account (g.S.Share.belongs c.args.share.now) most_asks c.args.pass.now p)
-    last.pass.now _ (search rules) (keeps-pass g.S.Share.account g.S.Share.belongs _ last most_asks
-    c.fetch.ensures.kept c.fetch.ensures.few)
+    last.pass.now _ (search rules) (keeps-pass c.fetch.ensures.kept c.fetch.ensures.few)
 
 pub returns-clause-came : goal.returns-clause-came
 returns-clause-came g c =
@@ -92,5 +91,4 @@ pub returns-clause-pass : goal.returns-clause-pass
 returns-clause-pass g c =
     let last = c.fetch.new.self in
     moved (λ p. KeepsPass g.S.Share.account (g.S.Share.belongs c.args.share.now) most_asks c.args.pass.now p)
-    last.pass.now _ (search rules) (keeps-pass g.S.Share.account g.S.Share.belongs _ last most_asks
-    c.fetch.ensures.kept c.fetch.ensures.few)
+    last.pass.now _ (search rules) (keeps-pass c.fetch.ensures.kept c.fetch.ensures.few)

@@ -10,40 +10,45 @@ use Rattle.wf_player.proofs.SeatLemmas.{none-played, written}
 use Rattle.wf_player.proofs.threads.play_all.Goals as goal
 
 pub returns-in_err-transcripts-clause-documents : goal.returns-in_err-transcripts-clause-documents
-returns-in_err-transcripts-clause-documents g c =
-    documents-before (seat_of g.S.Share.account g.L.Link.told)
+returns-in_err-transcripts-clause-documents g c = documents-before (seat_of g.S.Share.account g.L.Link.told)
     c.args.scenario.now c.args.seats.now.items c.requires.seats
 
 pub returns-in_err-rows-clause-documents : goal.returns-in_err-rows-clause-documents
 returns-in_err-rows-clause-documents g c =
-    rw c.in_err-rows.ensures.err (documents-before
-    (seat_of g.S.Share.account g.L.Link.told)
+    rw c.in_err-rows.ensures.err (documents-before (seat_of g.S.Share.account g.L.Link.told)
     c.args.scenario.now c.args.seats.now.items c.requires.seats)
 
 pub play_rows-requires-clause-rows : goal.play_rows-requires-clause-rows
 play_rows-requires-clause-rows g c κs within =
-    let seen = seat_of g.S.Share.account g.L.Link.told in
-    rw c.as_mut_slice.ensures.value (ready (g.S.Share.belongs c.args.share.now) seen c.args.scenario.now
-    c.in_ok-rows.rows.items c.args.seats.now.items c.in_ok-rows.ensures.ok.0 c.requires.seats c.requires.belong)
+    rw c.as_mut_slice.ensures.value (ready (g.S.Share.belongs c.args.share.now)
+    (seat_of g.S.Share.account g.L.Link.told) c.args.scenario.now c.in_ok-rows.rows.items c.args.seats.now.items
+    c.in_ok-rows.ensures.ok.0 c.requires.seats c.requires.belong)
 
-pub returns-clause-played : goal.returns-clause-played
-returns-clause-played g c =
+pub returns : goal.returns
+returns g c =
     let seen = seat_of g.S.Share.account g.L.Link.told in
     let belongs = g.S.Share.belongs c.args.share.now in
     let by = over_link g.L.Link.serves in
+    let scenario = c.args.scenario.now in
+    let olds = c.args.seats.now.items in let news = c.from_rows.new.seats.items in
+    let made = c.from_rows.new.transcripts.items in
     let w = c.as_mut_slice.ensures in let f = c.from_rows.ensures in
-    let long = ap length (sym w.value) ∙ w.len in
     let kept : length c.play_rows.new.rows ≡ length c.in_ok-rows.rows.items = c.play_rows.auto.rows ∙ ap length w.value
     in
-    let same = written c.in_ok-rows.rows.len c.play_rows.new.rows c.in_ok-rows.rows.items kept long in
-    made-list (λ (l : List Transcript). EachDocument (IsPlayed by c.args.scenario.now c.args.base) 0
-    c.args.scenario.now.documents (map seen c.args.seats.now.items) (map seen c.from_rows.new.seats.items) l)
-    c.listed.result
-    c.from_rows.new.transcripts.items c.listed.ensures
-    (played-back belongs seen by c.args.scenario.now c.args.base c.in_ok-rows.rows.items c.play_rows.new.rows
-    c.args.seats.now.items c.from_rows.new.seats.items c.from_rows.new.transcripts.items c.in_ok-rows.ensures.ok.0
-    (f.seats ∙ ap seatings_of same) (f.transcripts ∙ ap transcripts_of same) kept c.requires.seats
-    (λ i d lt. rw (← w.value) (c.play_rows.ensures i d (rw w.value lt))))
+    let same = written c.in_ok-rows.rows.len c.play_rows.new.rows c.in_ok-rows.rows.items kept
+    (ap length (sym w.value) ∙ w.len) in
+    let played = played-back belongs seen by scenario c.args.base c.in_ok-rows.rows.items c.play_rows.new.rows olds news
+    made c.in_ok-rows.ensures.ok.0 (f.seats ∙ ap seatings_of same) (f.transcripts ∙ ap transcripts_of same) kept
+    c.requires.seats (λ i d lt. rw (← w.value) (c.play_rows.ensures i d (rw w.value lt))) in
+    record {
+      played = made-list (λ (l : List Transcript). EachDocument (IsPlayed by scenario c.args.base) 0 scenario.documents
+          (map seen olds) (map seen news) l) c.listed.result made c.listed.ensures played;
+      refused = on-err c.listed.result (inr (record { transcripts = made; played = played }));
+      belong = rw (f.seats ∙ ap seatings_of same) (belong-back belongs seen by scenario c.args.base
+          c.in_ok-rows.rows.items c.play_rows.new.rows kept
+          (λ i d lt. rw (← w.value) (c.play_rows.ensures i d (rw w.value lt))));
+      documents = documents-after seen by scenario c.args.base olds news made played;
+    }
 
 pub returns-in_err-rows-clause-refused : goal.returns-in_err-rows-clause-refused
 returns-in_err-rows-clause-refused g c =
@@ -54,55 +59,6 @@ returns-in_err-rows-clause-refused g c =
 
 pub returns-in_err-transcripts-clause-refused : goal.returns-in_err-transcripts-clause-refused
 returns-in_err-transcripts-clause-refused g c =
-    let seen = seat_of g.S.Share.account g.L.Link.told in
-    on-err c.from_residual.result (none-played (over_link g.L.Link.serves) c.args.scenario.now c.args.base
-    (map seen c.args.seats.now.items) (map seen c.args.seats.now.items) refl)
-
-pub returns-clause-refused : goal.returns-clause-refused
-returns-clause-refused g c =
-    let seen = seat_of g.S.Share.account g.L.Link.told in
-    let belongs = g.S.Share.belongs c.args.share.now in
-    let by = over_link g.L.Link.serves in
-    let w = c.as_mut_slice.ensures in let f = c.from_rows.ensures in
-    let long = ap length (sym w.value) ∙ w.len in
-    let kept : length c.play_rows.new.rows ≡ length c.in_ok-rows.rows.items = c.play_rows.auto.rows ∙ ap length w.value
-    in
-    let same = written c.in_ok-rows.rows.len c.play_rows.new.rows c.in_ok-rows.rows.items kept long in
-    on-err c.listed.result (inr (record {
-      transcripts = c.from_rows.new.transcripts.items;
-      played = played-back belongs seen by c.args.scenario.now c.args.base c.in_ok-rows.rows.items c.play_rows.new.rows
-          c.args.seats.now.items c.from_rows.new.seats.items c.from_rows.new.transcripts.items c.in_ok-rows.ensures.ok.0
-          (f.seats ∙ ap seatings_of same) (f.transcripts ∙ ap transcripts_of same) kept c.requires.seats
-          (λ i d lt. rw (← w.value) (c.play_rows.ensures i d (rw w.value lt)));
-    }))
-
-pub returns-clause-belong : goal.returns-clause-belong
-returns-clause-belong g c =
-    let seen = seat_of g.S.Share.account g.L.Link.told in
-    let belongs = g.S.Share.belongs c.args.share.now in
-    let by = over_link g.L.Link.serves in
-    let w = c.as_mut_slice.ensures in let f = c.from_rows.ensures in
-    let long = ap length (sym w.value) ∙ w.len in
-    let kept : length c.play_rows.new.rows ≡ length c.in_ok-rows.rows.items = c.play_rows.auto.rows ∙ ap length w.value
-    in
-    let same = written c.in_ok-rows.rows.len c.play_rows.new.rows c.in_ok-rows.rows.items kept long in
-    rw (f.seats ∙ ap seatings_of same) (belong-back belongs seen by c.args.scenario.now c.args.base
-    c.in_ok-rows.rows.items c.play_rows.new.rows kept
-    (λ i d lt. rw (← w.value) (c.play_rows.ensures i d (rw w.value lt))))
-
-pub returns-clause-documents : goal.returns-clause-documents
-returns-clause-documents g c =
-    let seen = seat_of g.S.Share.account g.L.Link.told in
-    let belongs = g.S.Share.belongs c.args.share.now in
-    let by = over_link g.L.Link.serves in
-    let w = c.as_mut_slice.ensures in let f = c.from_rows.ensures in
-    let long = ap length (sym w.value) ∙ w.len in
-    let kept : length c.play_rows.new.rows ≡ length c.in_ok-rows.rows.items = c.play_rows.auto.rows ∙ ap length w.value
-    in
-    let same = written c.in_ok-rows.rows.len c.play_rows.new.rows c.in_ok-rows.rows.items kept long in
-    documents-after seen by c.args.scenario.now c.args.base c.args.seats.now.items c.from_rows.new.seats.items
-    c.from_rows.new.transcripts.items
-    (played-back belongs seen by c.args.scenario.now c.args.base c.in_ok-rows.rows.items c.play_rows.new.rows
-    c.args.seats.now.items c.from_rows.new.seats.items c.from_rows.new.transcripts.items c.in_ok-rows.ensures.ok.0
-    (f.seats ∙ ap seatings_of same) (f.transcripts ∙ ap transcripts_of same) kept c.requires.seats
-    (λ i d lt. rw (← w.value) (c.play_rows.ensures i d (rw w.value lt))))
+    let olds = map (seat_of g.S.Share.account g.L.Link.told) c.args.seats.now.items in
+    on-err c.from_residual.result (none-played (over_link g.L.Link.serves) c.args.scenario.now c.args.base olds olds
+    refl)

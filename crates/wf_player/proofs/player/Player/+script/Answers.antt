@@ -3,14 +3,14 @@ use Rattle.wf_script_commands.specs.Commands.{step_of}
 use Rattle.wf_script_run.specs.Results.{holds}
 use Rattle.wf_script_run.specs.Runs.{chosen, command_started, repeated, script_run, started, waited}
 use Rattle.wf_link_wire.specs.Wires.{over_link}
-use Rattle.wf_player.specs.Parts.{Plays}
 use Rattle.wf_player.specs.Standings.{standing}
-use Rattle.wf_player.proofs.AskLemmas.{keeps-none, keeps-then, refused, run-to}
+use Rattle.wf_player.proofs.AskLemmas.{keeps-none, keeps-then, run-to}
+use Rattle.wf_player.proofs.PartLemmas.{played-none, plays-refused}
 use Rattle.wf_player.proofs.ScriptLemmas.{chosen-came, command-size, command-waited, goes-on, no-ending, round-cut}
 use Rattle.wf_player.proofs.ScriptLemmas.{round-ended, round-next}
 use Rattle.wf_player.proofs.ScriptLemmas.{round-over, round-start, script-cut, script-ended, script-limited}
 use Rattle.wf_player.proofs.ScriptLemmas.{script-next}
-use Rattle.wf_player.proofs.ScriptLemmas.{script-over, script-start, spent-none, spent-then, stands-on, started-came}
+use Rattle.wf_player.proofs.ScriptLemmas.{script-over, spent-none, spent-then, stands-on, started-came}
 use Rattle.wf_player.proofs.ScriptLemmas.{valid-command}
 use Rattle.wf_player.proofs.player.Player.+script.Goals as goal
 
@@ -32,20 +32,15 @@ choice-returns-else-holds-clause-came g t c =
 pub command-returns-in_err-fetch_command-in-Fetch-clause-came :
     goal.command-returns-in_err-fetch_command-in-Fetch-clause-came
 command-returns-in_err-fetch_command-in-Fetch-clause-came g t c =
-    let old = standing g.S.Share.account g.L.Link.told c.args.self.now in
-    let new = standing g.S.Share.account g.L.Link.told c.fetch_command.new.self in
-    refused (λ r. Plays (over_link g.L.Link.serves) (λ lent. command_started lent (step_of c.args.command.now)) old r
-    new) c.from_residual.result c.from_residual.ensures.0
-    (λ one. rw c.in-Fetch.is c.in_err-fetch_command-in-Fetch.ensures.came)
+    plays-refused (λ lent. command_started lent (step_of c.args.command.now)) c.from_residual.result
+    c.from_residual.ensures.0 (rw c.in-Fetch.is c.in_err-fetch_command-in-Fetch.ensures.came)
 
 pub command-returns-in_err-load_command-in-Load-clause-came :
     goal.command-returns-in_err-load_command-in-Load-clause-came
 command-returns-in_err-load_command-in-Load-clause-came g t c =
-    let old = standing g.S.Share.account g.L.Link.told c.args.self.now in
-    let new = standing g.S.Share.account g.L.Link.told c.load_command.new.self in
-    refused (λ r. Plays (over_link g.L.Link.serves) (λ lent. command_started lent (step_of c.args.command.now)) old r
-    new) c.from_residual-in_err-load_command-in-Load.result c.from_residual-in_err-load_command-in-Load.ensures.0
-    (λ one. rw c.in-Load.is c.in_err-load_command-in-Load.ensures.came)
+    plays-refused (λ lent. command_started lent (step_of c.args.command.now))
+    c.from_residual-in_err-load_command-in-Load.result c.from_residual-in_err-load_command-in-Load.ensures.0
+    (rw c.in-Load.is c.in_err-load_command-in-Load.ensures.came)
 
 pub command-returns-in_ok-fetch_command-in-Fetch-clause-came :
     goal.command-returns-in_ok-fetch_command-in-Fetch-clause-came
@@ -92,8 +87,8 @@ repeat-loop-i-init g t c =
     record {
       played = round-start (over_link g.L.Link.serves) c.args.times c.args.part.now old;
       rests = c.requires.goes.rests;
-      spent = spent-none old c.requires.goes;
-      kept = keeps-none g.S.Share.account g.S.Share.belongs c.args.self.now c.requires.ready;
+      spent = spent-none c.requires.goes;
+      kept = keeps-none c.requires.ready;
     }
 
 pub repeat-returns-in_err-ending-clause-came : goal.repeat-returns-in_err-ending-clause-came
@@ -102,9 +97,9 @@ repeat-returns-in_err-ending-clause-came g t c =
     let old = standing g.S.Share.account g.L.Link.told c.args.self.now in
     let now = standing g.S.Share.account g.L.Link.told c.loop-i.self in
     let new = standing g.S.Share.account g.L.Link.told c.script.new.self in
-    refused (λ r. Plays by (λ lent. repeated c.args.times (script_run lent c.args.part.now)) old r new)
-    c.from_residual.result c.from_residual.ensures.0
-    (λ one. round-cut by c.args.times c.args.part.now c.loop-i._i old now c.loop-i-test.true c.loop-i.invariant.played
+    plays-refused (λ lent. repeated c.args.times (script_run lent c.args.part.now)) c.from_residual.result
+    c.from_residual.ensures.0
+    (round-cut by c.args.times c.args.part.now c.loop-i._i old now c.loop-i-test.true c.loop-i.invariant.played
     new c.in_err-ending.ensures.came)
 
 pub repeat-returns-then-is_some-clause-came : goal.repeat-returns-then-is_some-clause-came
@@ -125,9 +120,8 @@ repeat-loop-i-preserved g t c =
           c.loop-i-test.true c.loop-i.invariant.played c.in_ok-ending.ending new
           (sym c.is_some.ensures ∙ c.if-is_some.false) c.in_ok-ending.ensures.came;
       rests = c.in_ok-ending.ensures.came.rests;
-      spent = spent-then old now new c.loop-i.invariant.spent c.in_ok-ending.ensures.spent;
-      kept = keeps-then g.S.Share.account g.S.Share.belongs c.args.self.now c.loop-i.self c.script.new.self
-          c.loop-i.invariant.kept c.in_ok-ending.ensures.kept;
+      spent = spent-then c.loop-i.invariant.spent c.in_ok-ending.ensures.spent;
+      kept = keeps-then c.loop-i.invariant.kept c.in_ok-ending.ensures.kept;
     }
 
 pub repeat-returns-clause-came : goal.repeat-returns-clause-came
@@ -140,12 +134,11 @@ repeat-returns-clause-came g t c =
 
 pub script-loop-command-init : goal.script-loop-command-init
 script-loop-command-init g t c =
-    let old = standing g.S.Share.account g.L.Link.told c.args.self.now in
     record {
-      played = script-start (over_link g.L.Link.serves) c.as_slice-command-items.result.now old;
+      played = played-none;
       rests = c.requires.goes.rests;
-      spent = spent-none old c.requires.goes;
-      kept = keeps-none g.S.Share.account g.S.Share.belongs c.args.self.now c.requires.ready;
+      spent = spent-none c.requires.goes;
+      kept = keeps-none c.requires.ready;
     }
 
 pub script-returns-then-is_some-clause-came : goal.script-returns-then-is_some-clause-came
@@ -159,25 +152,13 @@ script-returns-then-is_some-clause-came g t c =
 
 pub script-command-requires : goal.script-command-requires
 script-command-requires g t c = λ κs live.
-    let old = standing g.S.Share.account g.L.Link.told c.args.self.now in
-    let now = standing g.S.Share.account g.L.Link.told c.loop-command.self in
     let is = c.loop-command.invariant in
-    let smaller = command-size c.as_slice-command-items.result.now c.args.script.now c.loop-command.command-index
-    c.command-item.result c.as_slice-command-items.ensures c.loop-command-test.true c.command-item.is in
-    let valid = valid-command c.as_slice-command-items.result.now c.args.script.now c.loop-command.command-index
-    c.command-item.result c.as_slice-command-items.ensures c.requires.valid c.loop-command-test.true
-    c.command-item.is in
-    let free = sym c.limit_before-limit.ensures ∙ no-ending c.limit_before-limit.result (sym c.is_some.ensures
-    ∙ c.if-is_some.false) in (
+    let items = c.as_slice-command-items.result.now in let same = c.as_slice-command-items.ensures in
+    let smaller = command-size items same c.loop-command-test.true c.command-item.is in
+    let valid = valid-command items same c.requires.valid c.loop-command-test.true c.command-item.is in
+    let free = sym c.limit_before-limit.ensures ∙ no-ending (sym c.is_some.ensures ∙ c.if-is_some.false) in (
       omega (arith, smaller),
-      search (
-        rules,
-        is.kept.ready,
-        valid,
-        free,
-        goes-on old now c.requires.goes is.spent
-            is.rests,
-      ),
+      search (rules, is.kept.ready, valid, free, goes-on c.requires.goes is.spent is.rests),
     )
 
 pub script-returns-in_err-ending-clause-came : goal.script-returns-in_err-ending-clause-came
@@ -186,9 +167,8 @@ script-returns-in_err-ending-clause-came g t c =
     let old = standing g.S.Share.account g.L.Link.told c.args.self.now in
     let now = standing g.S.Share.account g.L.Link.told c.loop-command.self in
     let new = standing g.S.Share.account g.L.Link.told c.command.new.self in
-    refused (λ r. Plays by (λ lent. script_run lent c.args.script.now) old r new) c.from_residual.result
-    c.from_residual.ensures.0
-    (λ one. script-cut by c.args.script.now c.as_slice-command-items.result.now c.loop-command.command-index
+    plays-refused (λ lent. script_run lent c.args.script.now) c.from_residual.result c.from_residual.ensures.0
+    (script-cut by c.args.script.now c.as_slice-command-items.result.now c.loop-command.command-index
     c.command-item.result c.limit_before-limit.result old now c.as_slice-command-items.ensures
     c.loop-command-test.true c.command-item.is c.limit_before-limit.ensures c.loop-command.invariant.played
     (sym c.is_some.ensures ∙ c.if-is_some.false) new c.in_err-ending.ensures.came)
@@ -216,9 +196,8 @@ script-loop-command-preserved g t c =
           c.loop-command.invariant.played (sym c.is_some.ensures ∙ c.if-is_some.false) c.in_ok-ending.ending new
           (sym c.is_some-in-loop-command.ensures ∙ c.if-is_some-2.false) c.in_ok-ending.ensures.came;
       rests = c.in_ok-ending.ensures.came.rests;
-      spent = spent-then old now new c.loop-command.invariant.spent c.in_ok-ending.ensures.spent;
-      kept = keeps-then g.S.Share.account g.S.Share.belongs c.args.self.now c.loop-command.self c.command.new.self
-          c.loop-command.invariant.kept c.in_ok-ending.ensures.kept;
+      spent = spent-then c.loop-command.invariant.spent c.in_ok-ending.ensures.spent;
+      kept = keeps-then c.loop-command.invariant.kept c.in_ok-ending.ensures.kept;
     }
 
 pub script-returns-clause-came : goal.script-returns-clause-came

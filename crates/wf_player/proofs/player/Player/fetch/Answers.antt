@@ -22,7 +22,7 @@ pub loop-step-init : goal.loop-step-init
 loop-step-init g c = record {
   fetching = fetching-start (over_link g.L.Link.serves) (standing g.S.Share.account g.L.Link.told c.args.self.now)
       c.args.now c.args.request c.in_ok-step.step c.in_ok-step.ensures.process c.requires.timely;
-  kept = keeps-none g.S.Share.account g.S.Share.belongs c.args.self.now c.requires.ready;
+  kept = keeps-none c.requires.ready;
 }
 
 pub overflow_add-acts : goal.overflow_add-acts
@@ -66,6 +66,5 @@ loop-step-preserved g c =
     record {
       fetching = fetching-went by old c.args.now c.args.request c.loop-step.acts now c.in-Going.fetching
           c.in-Going.act here new c.in_ok-step-in-Going.step c.in_ok-step-in-Going.ensures.went;
-      kept = keeps-then g.S.Share.account g.S.Share.belongs c.args.self.now c.loop-step.self c.go_on.new.self
-          c.loop-step.invariant.kept c.in_ok-step-in-Going.ensures.kept;
+      kept = keeps-then c.loop-step.invariant.kept c.in_ok-step-in-Going.ensures.kept;
     }

@@ -18,7 +18,7 @@ returns-in_err-input-clause-went g c =
     refused (λ r. GoesOn by context c.args.fetching c.args.act old r new) c.from_residual.result
     c.from_residual.ensures.0
     (λ one. act-refused by context c.args.fetching c.args.act old new
-    (same-terms g.S.Share.account g.S.Share.belongs me c.answer.new.self c.answer.ensures.kept) c.answer.ensures.run
+    (same-terms c.answer.ensures.kept) c.answer.ensures.run
     c.in_err-input.ensures.refused)
 
 pub returns-in_err-step-clause-went : goal.returns-in_err-step-clause-went
@@ -37,5 +37,5 @@ returns-in_err-step-clause-went g c =
     refused (λ r. GoesOn by context c.args.fetching c.args.act old r new) c.from_residual-in_err-step.result
     c.from_residual-in_err-step.ensures.0
     (λ one. act-cut by context c.args.fetching c.args.act old new
-    (same-terms g.S.Share.account g.S.Share.belongs me c.answer.new.self c.answer.ensures.kept) input
+    (same-terms c.answer.ensures.kept) input
     c.in_ok-input.ensures.fits c.in_ok-input.ensures.came noted)

@@ -4,20 +4,15 @@ use Rattle.wf_script_run.specs.Results.{lent_result}
 use Rattle.wf_script_run.specs.Runs.{command_started, filled_load}
 use Rattle.wf_send.specs.Loading.{new_load}
 use Rattle.wf_link_wire.specs.Wires.{over_link}
-use Rattle.wf_player.specs.Parts.{PlaysUnended}
 use Rattle.wf_player.specs.Standings.{standing}
-use Rattle.wf_player.proofs.AskLemmas.{refused}
 use Rattle.wf_player.proofs.AskingLemmas.{asked-as}
-use Rattle.wf_player.proofs.PartLemmas.{rule-unbegun}
+use Rattle.wf_player.proofs.PartLemmas.{rule-unbegun, unended-refused}
 use Rattle.wf_player.proofs.player.Player.load_command.Goals as goal
 
 pub returns-in_err-made-clause-came : goal.returns-in_err-made-clause-came
 returns-in_err-made-clause-came g c =
-    let by = over_link g.L.Link.serves in
-    let old = standing g.S.Share.account g.L.Link.told c.args.self.now in
-    refused (λ r. PlaysUnended by (λ lent. command_started lent (load c.args.init.now)) old r old)
-    c.from_residual.result c.from_residual.ensures.0
-    (λ one. rule-unbegun by (λ lent. command_started lent (load c.args.init.now)) old old refl)
+    unended-refused _ c.from_residual.result c.from_residual.ensures.0
+    (rule-unbegun (λ lent. command_started lent (load c.args.init.now)) refl)
 
 pub returns-clause-came : goal.returns-clause-came
 returns-clause-came g c =

@@ -33,7 +33,7 @@ returns-in_ok-outcome-in-Ok-clause-came g c =
     (standing g.S.Share.account g.L.Link.told c.fetch.new.self) (standing g.S.Share.account g.L.Link.told last)
     c.now-now.result c.in_ok-outcome-in-Ok.outcome c.end_fetch.result c.in-Ok.is c.outcome_event.ensures
     c.now-now.ensures.now c.in_ok-outcome-in-Ok.ensures.came
-    (same-terms g.S.Share.account g.S.Share.belongs c.fetch.new.self last c.end_fetch.ensures.kept)
+    (same-terms c.end_fetch.ensures.kept)
     c.end_fetch.ensures.outside c.end_fetch.ensures.ended
     (on-ok c.end_fetch.result (λ it. end-left (window_of last.wire.now) (g.L.Link.told last.link.now).left it.1.end)
     c.end_fetch.ensures.ended)
