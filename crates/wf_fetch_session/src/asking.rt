@@ -6,9 +6,8 @@ ghost use Rattle.wf_fetch_session.specs.Asking as spec;
 ghost use Rattle.wf_fetch_session.specs.Asking.{BookAfter, reply_told, reply_where};
 ghost use Rattle.wf_fetch_session.specs.Sessions.{act_of, standing_of};
 
-use crate::session::{Session, Stand, Waiting, Went};
+use crate::session::{Session, Waiting, Went};
 use std::alloc::Global;
-use std::mem::replace;
 use wf_book::{Book, Op, Reply};
 use wf_fetch_acts::{Act, Input};
 
@@ -76,7 +75,7 @@ impl Session {
         if !self.asks() {
             return unanswered(Went::NotAwaited);
         }
-        let Stand::Waits(waiting) = replace(&mut self.stand, Stand::Gone) else {
+        let Some(waiting) = self.lift() else {
             return unanswered(Went::NotAwaited);
         };
         let Waiting {

@@ -5,9 +5,8 @@ ghost use Rattle.wf_fetch_session.specs.Private.Endings.{end_of_reader, fault_of
 ghost use Rattle.wf_fetch_session.specs.Sessions.{standing_of};
 
 use crate::reading::{Reader, fitted};
-use crate::session::{Session, Stand, Waiting, Went};
+use crate::session::{Session, Waiting, Went};
 use std::alloc::Global;
-use std::mem::replace;
 use wf_fetch_acts::{Act, Input};
 use wf_text::OutOfMemory;
 use wf_types::BodyEnd;
@@ -51,7 +50,7 @@ impl Session {
         if !self.reads() {
             return Went::NotAwaited;
         }
-        let Stand::Waits(waiting) = replace(&mut self.stand, Stand::Gone) else {
+        let Some(waiting) = self.lift() else {
             return Went::NotAwaited;
         };
         let Waiting {
@@ -84,7 +83,7 @@ impl Session {
         if !self.may_fail() {
             return Went::NotAwaited;
         }
-        let Stand::Waits(waiting) = replace(&mut self.stand, Stand::Gone) else {
+        let Some(waiting) = self.lift() else {
             return Went::NotAwaited;
         };
         let Waiting {

@@ -10,7 +10,6 @@ ghost use Rattle.wf_fetch_session.specs.Sessions.{bytes_of, stands_at, standing_
 use crate::reading::{Bodies, Reader, fitted};
 use crate::session::{Session, Stand, Waiting, Went};
 use std::alloc::Global;
-use std::mem::replace;
 use wf_fetch::Fetching;
 use wf_fetch_acts::{Act, Input};
 use wf_http1::{BodyReader, BodyStep, HeadReader, HeadStep};
@@ -47,12 +46,12 @@ impl Session {
         requires framed { bodies_read reader bodies ≡ bodies }
         ensures { standing_of self.new ≡ Some (stands_at self.old.document fetching act (bytes_of reader) bodies) }
     {
-        self.stand = Stand::Waits(Waiting {
+        self.settle(Stand::Waits(Waiting {
             fetching,
             act,
             reader,
             bodies,
-        });
+        }));
     }
 
     // Feeds a reader of heads, and goes on from a head that is decided.
@@ -69,7 +68,7 @@ impl Session {
             result.used (standing_of self.new) }
     {
         let Ok(step) = reader.feed(alloc, piece) else {
-            self.stand = Stand::Gone;
+            self.settle(Stand::Gone);
             return fed_by(Went::OutOfMemory, 0);
         };
         match step {
@@ -117,7 +116,7 @@ impl Session {
             }
             BodyStep::Over(end) => {
                 let Ok(end) = fitted(alloc, end) else {
-                    self.stand = Stand::Gone;
+                    self.settle(Stand::Gone);
                     return fed_by(Went::OutOfMemory, 0);
                 };
                 fed_by(
@@ -156,7 +155,7 @@ impl Session {
         if !self.reads() {
             return fed_by(Went::NotAwaited, 0);
         }
-        let Stand::Waits(waiting) = replace(&mut self.stand, Stand::Gone) else {
+        let Some(waiting) = self.lift() else {
             return fed_by(Went::NotAwaited, 0);
         };
         self.feed_reader(alloc, waiting, piece)

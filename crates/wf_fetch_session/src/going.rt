@@ -72,11 +72,11 @@ impl Session {
     {
         match resumed(alloc, &self.document, fetching, bodies, input) {
             Ok(stand) => {
-                self.stand = stand;
+                self.settle(stand);
                 Went::On
             }
             Err(_) => {
-                self.stand = Stand::Gone;
+                self.settle(Stand::Gone);
                 Went::OutOfMemory
             }
         }

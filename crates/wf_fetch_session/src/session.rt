@@ -1,9 +1,10 @@
 // A fetch between two calls.
-ghost use Rattle.std.specs.Prelude.{◌≡◌, IsTrue, option_map};
+ghost use Rattle.std.specs.Prelude.{◌≡◌, IsTrue, None, MatchOption, option_map};
 ghost use Rattle.wf_fetch_session.specs.Readers.{bodies_read, suits};
 
 use crate::document::Document;
 use crate::reading::{Bodies, Reader};
+use std::mem::replace;
 use wf_fetch::Fetching;
 use wf_fetch_acts::{Act, Input, fits};
 use wf_types::Outcome;
@@ -69,6 +70,27 @@ impl Session {
         match &self.stand {
             Stand::Ends(outcome, _) => Some(outcome),
             Stand::Waits(_) | Stand::Gone => None,
+        }
+    }
+
+    // Has the fetch stand there. No other function lets go of where it stood.
+    pub(crate) fn settle(&mut self, stand: Stand)
+        ensures stand { self.new.stand ≡ stand }
+        ensures document { self.new.document ≡ self.old.document }
+    {
+        self.stand = stand;
+    }
+
+    // Takes out the fetch that waits. It is gone until it is settled again.
+    pub(crate) fn lift(&mut self) -> Option<Waiting>
+        ensures lifted { MatchOption result (act_of (standing_of self.old) ≡ None)
+            (λ waiting. self.old.stand ≡ Stand.Waits waiting) }
+        ensures gone { self.new.stand ≡ Stand.Gone }
+        ensures document { self.new.document ≡ self.old.document }
+    {
+        match replace(&mut self.stand, Stand::Gone) {
+            Stand::Waits(waiting) => Some(waiting),
+            Stand::Ends(_, _) | Stand::Gone => None,
         }
     }
 

@@ -9,9 +9,8 @@ ghost use Rattle.wf_types.specs.Requests.{IsRequest};
 use crate::document::Document;
 use crate::going::stand_of;
 use crate::reading::Bodies;
-use crate::session::{Session, Stand, Went};
+use crate::session::{Session, Went};
 use std::alloc::Global;
-use std::mem::replace;
 use wf_book::Reply;
 use wf_fetch::Fetching;
 use wf_fetch_acts::Input;
@@ -57,7 +56,7 @@ impl Session {
         if !self.awaits(&input) {
             return Went::NotAwaited;
         }
-        let Stand::Waits(waiting) = replace(&mut self.stand, Stand::Gone) else {
+        let Some(waiting) = self.lift() else {
             return Went::NotAwaited;
         };
         self.go_on(alloc, waiting.fetching, waiting.bodies, input)
