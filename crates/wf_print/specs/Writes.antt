@@ -1,4 +1,4 @@
--- What a call that writes a text to a sink tells of its answer (private contracts).
+-- What a call that writes a text to a sink tells of its answer (the output of the programs).
 use Rattle.std.specs.Prelude.{◌≡◌, ℕ, ◌≤◌, List, Result, Err, OnOk, OnErr}
 use Rattle.wf_link.specs.Counts.{Rose}
 use Rattle.wf_link.specs.Sinks.{SinkTold, Took, TookPart}

@@ -2,7 +2,7 @@ use Rattle.std.proofs.Common.{length}
 use Rattle.std.specs.List.{flat_map}
 use Rattle.wf_print.specs.Text as spec
 use Rattle.wf_print.proofs.WriteLemmas.{Onward}
-use Rattle.wf_print.proofs.play.put_entries.Given as goal
+use Rattle.wf_print.proofs.play.write_entries.Given as goal
 
 abbrev pub invariant-loop-rest : goal.invariant-loop-rest
 invariant-loop-rest g l =
