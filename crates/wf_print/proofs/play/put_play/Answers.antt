@@ -24,19 +24,22 @@ returns-in_err-write_text-2 g c =
     writes-failed c.from_residual-in_err-write_text-2.result c.from_residual-in_err-write_text-2.ensures.1
     (writes-before (codes "done\n")
     (writes-before (flat_map spec.entry_line c.args.history.now)
-    (writes-append (writes-append c.in_ok-write_text.ensures c.in_ok-put_transcripts.ensures) c.in_err-write_text-2.ensures)))
+    (writes-append (writes-append c.in_ok-write_text.ensures c.in_ok-put_transcripts.ensures)
+    c.in_err-write_text-2.ensures)))
 
 pub returns-in_err-write_entries : goal.returns-in_err-write_entries
 returns-in_err-write_entries g c =
     writes-failed c.from_residual-in_err-write_entries.result c.from_residual-in_err-write_entries.ensures.1
     (writes-before (codes "done\n")
     (writes-append
-    (writes-append (writes-append c.in_ok-write_text.ensures c.in_ok-put_transcripts.ensures) c.in_ok-write_text-2.ensures)
+    (writes-append (writes-append c.in_ok-write_text.ensures c.in_ok-put_transcripts.ensures)
+    c.in_ok-write_text-2.ensures)
     c.in_err-write_entries.ensures))
 
 pub returns : goal.returns
 returns g c =
     writes-append
     (writes-append
-    (writes-append (writes-append c.in_ok-write_text.ensures c.in_ok-put_transcripts.ensures) c.in_ok-write_text-2.ensures)
+    (writes-append (writes-append c.in_ok-write_text.ensures c.in_ok-put_transcripts.ensures)
+    c.in_ok-write_text-2.ensures)
     c.in_ok-write_entries.ensures) c.write_text-3.ensures
