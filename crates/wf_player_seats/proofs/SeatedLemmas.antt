@@ -10,10 +10,10 @@ use Rattle.wf_player.specs.Seats.{AreSeated, Seat}
 use Rattle.wf_player.specs.declared.seating.Seating.{Seating}
 use Rattle.wf_script_values.specs.declared.scenario.Scenario.{Scenario}
 use Rattle.wf_turn.specs.declared.pass.TurnPass.{TurnPass}
-use Rattle.wf_player_play.specs.Passes.{IsNew}
+use Rattle.wf_player_seats.specs.Passes.{IsNew}
 use Rattle.wf_iso.specs.Plays.{opening_book}
-use Rattle.wf_player_play.specs.Private.Seated.{links_in, passes_in, seat_seen}
-use Rattle.wf_player_play.proofs.PlayLemmas.{map-map, unmap}
+use Rattle.wf_player_seats.specs.Seated.{links_in, passes_in, seat_seen}
+use Rattle.wf_player_seats.proofs.ListLemmas.{map-map, unmap}
 use Rattle.wf_link.specs.Links.{Told}
 
 -- as many items as numbers

@@ -1,9 +1,9 @@
 use Rattle.std.proofs.Common.{List, [], ◌∷◌, ◌++◌, ◌∙◌, append_assoc, ap, arith, length-append, map, refl, sym}
 use Rattle.std.proofs.lemmas.List.{append-nil, map_push}
 use Rattle.wf_turn.specs.declared.pass.TurnPass.{TurnPass}
-use Rattle.wf_player_play.specs.Private.Seated.{links_in}
-use Rattle.wf_player_play.proofs.LinkLemmas.{faults_one, taken_none, taken_one}
-use Rattle.wf_player_play.proofs.seats.unseat.Goals as goal
+use Rattle.wf_player_seats.specs.Seated.{links_in}
+use Rattle.wf_player_seats.proofs.LendingLemmas.{faults_one, taken_none, taken_one}
+use Rattle.wf_player_seats.proofs.seats.unseat.Goals as goal
 use Rattle.wf_link.specs.Links.{faults_told}
 
 pub loop-seating-init : goal.loop-seating-init

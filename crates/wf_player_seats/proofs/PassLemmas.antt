@@ -7,7 +7,7 @@ use Rattle.std.proofs.lemmas.Bool.Decides.{eqb_tells}
 use Rattle.std.proofs.lemmas.List.Sums.{sum_by-cons, sum_by_push}
 use Rattle.wf_link.specs.Links.{IsTold}
 use Rattle.wf_turn.specs.Counts.{times}
-use Rattle.wf_player_play.specs.Links.{AreOpened}
+use Rattle.wf_player_seats.specs.Links.{AreOpened}
 
 -- a number more
 pub range-more : (from count end : ℕ) → from + count ≡ end

@@ -1,15 +1,17 @@
 // Passes of the shared book.
 ghost use Rattle.std.specs.Prelude.{◌≡◌, ◌≤◌, ◌<◌, [], IfOk};
 ghost use Rattle.wf_turn.specs.Passes.{IsOneHistory, IsWhole, left_of, made_of, opening_of, own_of};
-ghost use Rattle.wf_player_play.specs.Passes.{ArePasses, IsFirst};
+ghost use Rattle.wf_player_seats.specs.Passes.{ArePasses, IsFirst};
 
 use std::alloc::Global;
 use wf_book::Book;
 use wf_text::OutOfMemory;
 use wf_turn::{TurnBook, TurnPass};
 
-// Passes for so many documents, in order.
-pub(crate) fn passes_of(
+/// Makes passes of a shared book for so many documents, in order, at most 128. The first pass of the book, on which no call
+/// was made and which has made no other pass, has made just these then. Where memory is refused those that were made are
+/// gone, and the book cannot be closed.
+pub fn passes_of(
     alloc: Global,
     book: &TurnBook,
     first: &mut TurnPass,

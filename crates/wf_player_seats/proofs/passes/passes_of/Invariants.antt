@@ -2,8 +2,8 @@ use Rattle.std.proofs.Common.{◌≡◌, ℕ, ◌≤◌, map, vec_capacity, vec_
 use Rattle.std.specs.List.{All, range_with_len}
 use Rattle.wf_turn.specs.Counts.{times}
 use Rattle.wf_turn.specs.Passes.{made_of, opening_of}
-use Rattle.wf_player_play.specs.Passes.{IsFirst, IsNew}
-use Rattle.wf_player_play.proofs.passes.passes_of.Given as goal
+use Rattle.wf_player_seats.specs.Passes.{IsFirst, IsNew}
+use Rattle.wf_player_seats.proofs.passes.passes_of.Given as goal
 
 -- the documents so far have their passes
 abbrev pub invariant-loop-number : goal.invariant-loop-number

@@ -1,9 +1,9 @@
 use Rattle.std.proofs.Common.{◌≡◌, ◌+◌, ◌≤◌, ◌++◌, length, map, vec_capacity, vec_len}
 use Rattle.std.specs.Vec.Iter.{into_iter_len}
-use Rattle.wf_player_play.specs.Links.{grown_by_all}
-use Rattle.wf_player_play.specs.Private.Lendings.{AreTaken}
-use Rattle.wf_player_play.specs.Private.Seated.{links_in}
-use Rattle.wf_player_play.proofs.seats.unseat.Given as goal
+use Rattle.wf_player_seats.specs.Links.{grown_by_all}
+use Rattle.wf_player_seats.specs.Lendings.{AreTaken}
+use Rattle.wf_player_seats.specs.Seated.{links_in}
+use Rattle.wf_player_seats.proofs.seats.unseat.Given as goal
 use Rattle.wf_link.specs.Links.{faults_told}
 
 -- the passes and the links of the seats so far are back

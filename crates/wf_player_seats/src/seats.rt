@@ -1,9 +1,9 @@
 // The seats of the documents: each has a pass of the shared book, and a link.
 ghost use Rattle.std.specs.Prelude.{◌≡◌, ◌≤◌, ◌+◌, ◌++◌, [], length, map, option_map, vec_capacity, vec_len, OnOk};
 ghost use Rattle.wf_link.specs.Links.{faults_told};
-ghost use Rattle.wf_player_play.specs.Links.{AreOpened, for_documents, grown_by_all};
-ghost use Rattle.wf_player_play.specs.Private.Lendings.{AreTaken, out_more};
-ghost use Rattle.wf_player_play.specs.Private.Seated.{links_in};
+ghost use Rattle.wf_player_seats.specs.Links.{AreOpened, for_documents, grown_by_all};
+ghost use Rattle.wf_player_seats.specs.Lendings.{AreTaken, out_more};
+ghost use Rattle.wf_player_seats.specs.Seated.{links_in};
 
 use std::alloc::Global;
 use wf_link::{Links, Routes};
@@ -11,8 +11,10 @@ use wf_player::Seating;
 use wf_text::OutOfMemory;
 use wf_turn::TurnPass;
 
-// Makes the link of each document by these routes, in order, and puts it beside the document's pass.
-pub(crate) fn seat_all<N: Links>(
+/// Seats the documents of these passes, at most 128: makes the link of each by these routes, in order, and puts it beside
+/// the pass. There are no seats yet, and there is room for as many. Where a link cannot be made, those made before have
+/// their seats.
+pub fn seat_all<N: Links>(
     alloc: Global,
     routes: &Routes,
     passes: Vec<TurnPass>,
@@ -38,8 +40,9 @@ pub(crate) fn seat_all<N: Links>(
     Ok(())
 }
 
-// Takes the links back, in order of documents, and leaves the passes.
-pub(crate) fn unseat<N: Links>(
+/// Takes the links of the seats back, in order of documents, and puts their passes behind the others, for which there is
+/// room.
+pub fn unseat<N: Links>(
     seats: Vec<Seating<N::Link, TurnPass>>,
     links: &mut N,
     passes: &mut Vec<TurnPass>,

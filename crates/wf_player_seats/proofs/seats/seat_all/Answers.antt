@@ -1,10 +1,10 @@
 use Rattle.std.proofs.Common.{◌≡◌, ℕ, ◌+◌, [], ◌∷◌, ◌++◌, ◌∙◌, ap, arith, length, length-append, map, subst}
 use Rattle.std.proofs.lemmas.List.{length-map, map_push}
 use Rattle.wf_link.specs.Links.{IsTold}
-use Rattle.wf_player_play.specs.Links.{for_documents}
-use Rattle.wf_player_play.proofs.LinkLemmas.{out-one}
-use Rattle.wf_player_play.proofs.PassLemmas.{opened-more}
-use Rattle.wf_player_play.proofs.seats.seat_all.Goals as goal
+use Rattle.wf_player_seats.specs.Links.{for_documents}
+use Rattle.wf_player_seats.proofs.LendingLemmas.{out-one}
+use Rattle.wf_player_seats.proofs.PassLemmas.{opened-more}
+use Rattle.wf_player_seats.proofs.seats.seat_all.Goals as goal
 
 pub loop-pass-preserved : goal.loop-pass-preserved
 loop-pass-preserved g c =

@@ -5,9 +5,9 @@ use Rattle.std.proofs.lemmas.List.Elements.{All-push, All-same}
 use Rattle.wf_turn.specs.Counts.{times}
 use Rattle.wf_turn.specs.Passes.{made_of, opening_of}
 use Rattle.wf_turn.specs.declared.pass.TurnPass.{TurnPass}
-use Rattle.wf_player_play.specs.Passes.{IsNew}
-use Rattle.wf_player_play.proofs.PassLemmas.{fresh, made-more, range-more}
-use Rattle.wf_player_play.proofs.passes.passes_of.Goals as goal
+use Rattle.wf_player_seats.specs.Passes.{IsNew}
+use Rattle.wf_player_seats.proofs.PassLemmas.{fresh, made-more, range-more}
+use Rattle.wf_player_seats.proofs.passes.passes_of.Goals as goal
 
 pub pass-requires-clause-fresh : goal.pass-requires-clause-fresh
 pass-requires-clause-fresh c = (
