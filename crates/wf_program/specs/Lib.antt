@@ -1,0 +1,4 @@
+pub mod Inputs
+pub mod Program
+pub mod Statuses
+pub mod Steps
