@@ -24,8 +24,8 @@ use Rattle.wf_turn.specs.Passes.{IsOneHistory}
 use Rattle.wf_turn.specs.declared.pass.TurnPass.{TurnPass}
 use Rattle.wf_player_seats.specs.Links.{way_of}
 use Rattle.wf_player_seats.specs.Passes.{ArePasses}
-use Rattle.wf_player_seats.specs.Seated.{links_in, passes_in, seat_seen}
-use Rattle.wf_player_seats.proofs.ClosedLemmas.{HasCalled, HasOwn, IsFresh, called-on, ran-calls, ran-of, seat_way}
+use Rattle.wf_player_seats.specs.Seated.{HasOwn, IsFresh, links_in, passes_in, seat_seen}
+use Rattle.wf_player_seats.proofs.ClosedLemmas.{HasCalled, called-on, ran-calls, ran-of, seat_way}
 use Rattle.wf_player_seats.proofs.ClosedLemmas.{fresh-seats, legal-history, named-history, own-entries, turns-closed}
 use Rattle.wf_player_seats.proofs.ClosedLemmas.{ways-of}
 use Rattle.wf_player_play.specs.Refused.{HasRun, NoneOrAllPlayed}

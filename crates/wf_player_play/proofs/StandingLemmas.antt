@@ -1,5 +1,5 @@
 -- Plays over links to scripted servers as plays over the servers by their rules.
-use Rattle.std.proofs.Common.{◌≡◌, ℕ, zero, suc, ◌<◌, List, [], ◌∷◌, length, map, get_or, refl, ap, sym, subst, ◌∙◌}
+use Rattle.std.proofs.Common.{◌≡◌, ℕ, zero, suc, ◌<◌, List, [], ◌∷◌, length, map, get_or, refl, ap, subst, ◌∙◌}
 use Rattle.std.proofs.Common.{arith, Option, Some, None, Result, Ok, Err}
 use Rattle.std.specs.Prelude.{slice_get, IfOk}
 use Rattle.std.specs.List.{All}
@@ -17,11 +17,10 @@ use Rattle.wf_script_values.specs.declared.scenario.Scenario.{Scenario}
 use Rattle.wf_script_values.specs.declared.servers.Server.{Server}
 use Rattle.wf_sim.specs.Sim.{SimState}
 use Rattle.wf_player.specs.Playing.{Ran}
-use Rattle.wf_player.specs.Worlds.{Outside}
 use Rattle.wf_link.specs.Links.{IsTold}
 use Rattle.wf_link.specs.declared.target.Route.{Route}
 use Rattle.wf_player_seats.specs.Links.{way_of}
-use Rattle.wf_player_seats.proofs.ServerLemmas.{by_bytes, ran-by-rules, sim_told, trace-state}
+use Rattle.wf_player_seats.proofs.ServerLemmas.{by_bytes, ran-by-rules, ran-state, sim_told}
 use Rattle.wf_player_play.specs.Links.{IsPlayOverLinks, Maker}
 use Rattle.wf_iso.specs.Plays.{IsPlay, IsTranscript, RunsOver, Way, by_rules, outside_on}
 
@@ -40,9 +39,8 @@ way-behind : (limit document : ℕ) (old new : Way (List Server)) (entries : Lis
     → new ≡ record { state = Some servers; received = None; faults = 0 }
 way-behind limit document old new entries whole events ending clock servers is quiet run =
     way-is new (record { state = Some servers; received = None; faults = 0 })
-    (sym (ap (λ (o : Outside (List Server)). o.state) run.ran.to)
-    ∙ trace-state limit document run.ran.trace ∙ ap (λ (o : Outside (List Server)). o.state) run.ran.from ∙ is) quiet.0
-    quiet.1
+    (ran-state limit document whole (outside_on old [] run.before) events ending clock
+    (outside_on new entries run.behind) run.ran ∙ is) quiet.0 quiet.1
   where
     way-is : (a b : Way (List Server)) → a.state ≡ b.state → a.received ≡ b.received → a.faults ≡ b.faults → a ≡ b
     way-is a b s r f = rw (s, r, f) refl

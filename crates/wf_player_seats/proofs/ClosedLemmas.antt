@@ -33,7 +33,7 @@ use Rattle.wf_turn.proofs.Whole.{whole_of}
 use Rattle.wf_iso.specs.Plays.{HasTurnsFrom, Way, opening_book}
 use Rattle.wf_player_seats.specs.Links.{way_of}
 use Rattle.wf_player_seats.specs.Passes.{ArePasses, IsNew}
-use Rattle.wf_player_seats.specs.Seated.{links_in, passes_in, seat_seen}
+use Rattle.wf_player_seats.specs.Seated.{IsFresh, links_in, passes_in, seat_seen}
 use Rattle.wf_player_seats.proofs.ListLemmas.{map-map, unmap}
 use Rattle.wf_player_seats.proofs.PassLemmas.{times-range}
 
@@ -79,14 +79,6 @@ ran-calls {State} by limit document whole old events ended clock new ran =
       );
     }
 
--- a seat whose pass has made no call
-pub record IsFresh {State : Type 0} (seat : Seat State) : Type 0 where
-  pub own_is : seat.outside.own ≡ []
-  pub left_is : seat.outside.left ≡ 4294967295
-
-abbrev pub HasOwn : {State : Type 0} → List Entry → Seat State → Type 0
-HasOwn history seat = entries_of seat.document history ≡ seat.outside.own
-
 -- every seat's calls are its pass's own: as many were made as entries are there
 pub record HasCalled {State : Type 0} (seat : Seat State) : Type 0 where
   pub calls : seat.outside.left + length seat.outside.own ≡ 4294967295
@@ -95,9 +87,9 @@ pub record HasCalled {State : Type 0} (seat : Seat State) : Type 0 where
 -- on a seat whose pass had made no call
 pub called-on : {State : Type 0} (old new : Seat State) → IsFresh old → Grew old.outside new.outside
     → 0 < new.outside.left → HasCalled new
-called-on old new fresh grew some = record {
+called-on old new fresh grew left = record {
   calls = omega (arith, grew.fell, fresh.left_is, ap length own);
-  some = some;
+  some = left;
 }
   where
     own : new.outside.own ≡ grew.more

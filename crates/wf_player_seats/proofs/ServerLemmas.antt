@@ -1,6 +1,6 @@
 -- Scripted servers as what answers a document's requests: by the bytes of a request, as the link has them, and by its
 -- method and its target.
-use Rattle.std.proofs.Common.{◌≡◌, ℕ, List, refl, ap, ◌∙◌, Option, Some, None}
+use Rattle.std.proofs.Common.{◌≡◌, ℕ, List, refl, ap, sym, ◌∙◌, Option, Some, None}
 use Rattle.std.specs.Prelude.{option_map}
 use Rattle.wf_fetch_acts.specs.declared.act.Act.{Act}
 use Rattle.wf_fetch_acts.specs.declared.act.Act.TheVariants.{Ask, Send, ReadHead, ReadBody, Tell}
@@ -109,10 +109,17 @@ event-state a (event.TypeError fault) b is = ap (λ (w : World (List Server)). w
 event-state a (event.LoadError fault) b is = ap (λ (w : World (List Server)). w.exchange.state) is
 
 -- the servers stay as they are over a run
-pub trace-state : (limit document : ℕ) {p q : Play} {a b : World (List Server)} {t : List Input} {e : List Event}
+trace-state : (limit document : ℕ) {p q : Play} {a b : World (List Server)} {t : List Input} {e : List Event}
     → PlayTrace (Answers by_bytes limit document) Settles p a t e q b → b.exchange.state ≡ a.exchange.state
 trace-state limit document stop = refl
 trace-state limit document {a = a} (shown {mid = mid} one is x) =
     trace-state limit document x ∙ event-state a one mid is
 trace-state limit document {a = a} (stepped {mid = mid} request first after input is fit x) =
     trace-state limit document x ∙ act-state limit document a first input mid is
+
+pub ran-state : (limit document : ℕ) (whole : Play) (old : Outside (List Server)) (events : List Event)
+    (ending : Ending) (clock : ℕ) (new : Outside (List Server))
+    → Ran by_bytes limit document whole old events ending clock new → new.state ≡ old.state
+ran-state limit document whole old events ending clock new ran =
+    sym (ap (λ (o : Outside (List Server)). o.state) ran.to) ∙ trace-state limit document ran.trace
+    ∙ ap (λ (o : Outside (List Server)). o.state) ran.from

@@ -1,6 +1,8 @@
 -- Documents that are seated, each with its pass of the shared book and its link (this project's own).
-use Rattle.std.specs.Prelude.{◌≡◌, ℕ, List, [], ◌∷◌, length, map}
+use Rattle.std.specs.Prelude.{◌≡◌, List, [], ◌∷◌, length, map}
 use Rattle.atomic_table.specs.Seated.{TableId}
+use Rattle.wf_book.specs.declared.entry.Entry.{Entry}
+use Rattle.wf_book.specs.Entries.{entries_of}
 use Rattle.wf_link.specs.Links.{Told}
 use Rattle.wf_player.specs.Seats.{Seat, seat_of}
 use Rattle.wf_player.specs.declared.seating.Seating.{Seating}
@@ -19,6 +21,15 @@ passes_in seats = map (λ seating. seating.pass) seats
 
 abbrev pub links_in : {L : Type 0} → List (Seating L TurnPass) → List L
 links_in seats = map (λ seating. seating.link) seats
+
+-- a seat whose pass has made no call
+pub record IsFresh {State : Type 0} (seat : Seat State) : Type 0 where
+  pub own_is : seat.outside.own ≡ []
+  pub left_is : seat.outside.left ≡ 4294967295
+
+-- its pass's own entries are its document's of the history
+abbrev pub HasOwn : {State : Type 0} → List Entry → Seat State → Type 0
+HasOwn history seat = entries_of seat.document history ≡ seat.outside.own
 
 -- The passes are the first one of this book alone, and each document has a seat, with the pass that was made for it.
 pub record AreReady {L : Type 0} (id : TableId) (scenario : Scenario) (passes : List TurnPass)

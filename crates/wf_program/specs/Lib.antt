@@ -2,3 +2,4 @@ pub mod Inputs
 pub mod Program
 pub mod Statuses
 pub mod Steps
+pub mod Words
