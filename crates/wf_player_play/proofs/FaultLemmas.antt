@@ -13,8 +13,9 @@ use Rattle.wf_faults.specs.Numbers.{faults_of}
 use Rattle.wf_iso.specs.Plays.{IsTranscript, Way, outside_on}
 use Rattle.wf_book.specs.Entries.{entries_of}
 use Rattle.wf_player_play.specs.Faults.{AllAreTold, all_faults}
-use Rattle.wf_player_play.specs.Links.{Maker, TookBack, grown_by_all, way_of}
-use Rattle.wf_player_play.proofs.PlayLemmas.{map-map}
+use Rattle.wf_player_seats.specs.Links.{grown_by_all, way_of}
+use Rattle.wf_player_play.specs.Links.{Maker, TookBack}
+use Rattle.wf_player_seats.proofs.ListLemmas.{map-map}
 use Rattle.wf_link.specs.Links.{Told}
 
 -- so many more of so many more

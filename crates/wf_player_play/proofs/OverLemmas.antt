@@ -9,10 +9,11 @@ use Rattle.wf_link_wire.specs.Exchanges.{Answering}
 use Rattle.wf_player.specs.declared.seating.Seating.{Seating}
 use Rattle.wf_turn.specs.declared.pass.TurnPass.{TurnPass}
 use Rattle.wf_iso.specs.Plays.{IsPlayOver}
-use Rattle.wf_player_play.specs.Links.{AreOpened, IsPlayOverLinks, Maker, WasRefused, for_documents}
-use Rattle.wf_player_play.specs.Links.{grown_by_all}
-use Rattle.wf_player_play.specs.Private.Lendings.{AreTaken, out_more}
-use Rattle.wf_player_play.specs.Private.Seated.{AreUnseated, links_in}
+use Rattle.wf_player_seats.specs.Lendings.{AreTaken, out_more}
+use Rattle.wf_player_seats.specs.Links.{AreOpened, for_documents, grown_by_all}
+use Rattle.wf_player_seats.specs.Seated.{links_in}
+use Rattle.wf_player_play.specs.Links.{IsPlayOverLinks, Maker, WasRefused}
+use Rattle.wf_player_play.specs.Private.Seated.{AreUnseated}
 use Rattle.wf_player_play.specs.Refused.{NoneOrAllPlayed}
 use Rattle.wf_faults.specs.Laws.{FaultsCounted, FaultsPlaced, RanShown}
 use Rattle.wf_player_play.proofs.FaultLemmas.{counted-faults, told-faults}

@@ -1,108 +1,37 @@
 -- What was played on seats, and the history of a closed book, are a play.
-use Rattle.std.proofs.Common.{◌≡◌, ◌≢◌, ℕ, suc, ◌+◌, ◌<◌, ◌≤◌, List, [], ◌∷◌, ◌++◌, length, map, Option}
-use Rattle.std.proofs.Common.{refl, ap, sym, subst, ◌∙◌, arith, drop, drop-cons, get_or, add-one, ◌⊎◌, inl, inr, zero}
-use Rattle.std.proofs.Common.{Bool, true, false, cond, eq-eqb}
-use Rattle.std.specs.Prelude.{◌==◌}
-use Rattle.std.specs.List.{All, AllByRecursion, range_with_len, count_by}
-use Rattle.std.proofs.lemmas.Bool.Decides.{eqb_tells}
-use Rattle.std.proofs.lemmas.List.Elements.{All-nil, All-cons, All-head, All-tail, All-map, recursion_from_All}
-use Rattle.std.proofs.lemmas.List.Sums.{sum_by-cons}
+use Rattle.std.proofs.Common.{◌≡◌, ◌≢◌, ℕ, List, [], ◌∷◌, length, map, refl, ap, sym, subst, ◌∙◌, arith, inl, inr}
+use Rattle.std.specs.List.{All, range_with_len}
 use Rattle.atomic_table.specs.Seated.{TableId}
-use lib.ListN.{get_elem?}
-use mathlib.Core.Option.{some}
 use Rattle.wf_book.specs.declared.book.Book.{Book}
 use Rattle.wf_book.specs.declared.entry.Entry.{Entry}
-use Rattle.wf_book.specs.declared.op.Op.TheVariants.{Note}
-use Rattle.wf_book.specs.Book.{after, empty}
-use Rattle.wf_book.specs.Entries.{Legal, book_after, entries_of}
-use Rattle.wf_script_events.specs.declared.events.Ending.{Ending}
+use Rattle.wf_book.specs.Entries.{entries_of}
 use Rattle.wf_script_events.specs.declared.events.Ending.TheVariants as ending
-use Rattle.wf_script_events.specs.declared.events.Event.{Event}
 use Rattle.wf_script_events.specs.declared.events.Transcript.{Transcript}
 use Rattle.wf_print.specs.Text.{HasText}
 use Rattle.wf_script_run.specs.Documents.{EachDocument}
 use Rattle.wf_script_run.proofs.DocumentLemmas.{each-after, each-seen, each-with}
-use Rattle.wf_script_run.specs.Play.{Play}
 use Rattle.wf_script_run.specs.Runs.{document_run}
 use Rattle.wf_script_values.specs.declared.document.Document.{Document}
-use Rattle.wf_script_values.specs.declared.hosts.KnownHost.{KnownHost}
 use Rattle.wf_script_values.specs.declared.scenario.Scenario.{Scenario}
+use Rattle.wf_link.specs.Links.{Told}
 use Rattle.wf_link_wire.specs.Exchanges.{Answering}
 use Rattle.wf_player.specs.Worlds.{Outside}
 use Rattle.wf_player.proofs.AskLemmas.{outside-is}
 use Rattle.wf_player.specs.Playing.{Came, Ran}
 use Rattle.wf_player.specs.Seats.{AreRefused, IsPlayed, Seat}
-use Rattle.wf_player.proofs.CallLemmas.{trace-calls}
 use Rattle.wf_player.specs.declared.seating.Seating.{Seating}
-use Rattle.wf_turn.specs.Counts.{times}
-use Rattle.wf_turn.specs.Passes.{IsOneHistory, IsWhole, calls_of, is_of, opening_of, own_of}
+use Rattle.wf_turn.specs.Passes.{IsOneHistory}
 use Rattle.wf_turn.specs.declared.pass.TurnPass.{TurnPass}
-use Rattle.wf_turn.proofs.Count.{turns-are-places}
-use Rattle.wf_turn.proofs.Whole.{whole_of}
-use Rattle.wf_player_play.proofs.PassLemmas.{times-range}
-use Rattle.wf_player_play.specs.Links.{way_of}
-use Rattle.wf_player_play.specs.Passes.{ArePasses, IsNew}
+use Rattle.wf_player_seats.specs.Links.{way_of}
+use Rattle.wf_player_seats.specs.Passes.{ArePasses}
+use Rattle.wf_player_seats.specs.Seated.{HasOwn, IsFresh, links_in, passes_in, seat_seen}
+use Rattle.wf_player_seats.proofs.ClosedLemmas.{HasCalled, called-on, ran-calls, ran-of, seat_way}
+use Rattle.wf_player_seats.proofs.ClosedLemmas.{fresh-seats, legal-history, named-history, own-entries, turns-closed}
+use Rattle.wf_player_seats.proofs.ClosedLemmas.{ways-of}
 use Rattle.wf_player_play.specs.Refused.{HasRun, NoneOrAllPlayed}
-use Rattle.wf_iso.specs.Plays.{HasTurnsFrom, IsPlayOver, IsTranscript, Way, opening_book, outside_on}
-use Rattle.wf_iso.specs.Plays.{with_hosts}
-use Rattle.wf_player_play.specs.Private.Seated.{links_in, passes_in, seat_seen}
-use Rattle.wf_link.specs.Links.{Told}
-
--- ---- the book
-
--- the host at an index, and then the others
-pub hosts-next : (hosts items : List KnownHost) (index : ℕ) (known : KnownHost) (book later : Book) → items ≡ hosts
-    → index < length items → known ≡ get_or items index known
-    → later ≡ after book (Note known.host (record { age = known.until; subdomains = known.subdomains }) 0)
-    → with_hosts hosts empty ≡ with_hosts (drop index hosts) book
-    → with_hosts hosts empty ≡ with_hosts (drop (index + 1) hosts) later
-hosts-next hosts items index known book later same within is noted so_far =
-    so_far ∙ ap (λ (l : List KnownHost). with_hosts l book) (drop-at hosts index known
-    (subst (λ (l : List KnownHost). index < length l) same within)
-    (sym (subst (λ (l : List KnownHost). known ≡ get_or l index known) same is)))
-    ∙ ap (λ (b : Book). with_hosts (drop (index + 1) hosts) b) (sym noted)
-  where
-    drop-at : (l : List KnownHost) (i : ℕ) (x : KnownHost) → i < length l → get_or l i x ≡ x
-        → drop i l ≡ x ∷ drop (i + 1) l
-    drop-at l i x lt e = rw (add-one, drop-cons l i x) (ap (λ (y : KnownHost). y ∷ drop (suc i) l) e)
+use Rattle.wf_iso.specs.Plays.{IsPlayOver, IsTranscript, opening_book, outside_on}
 
 -- ---- one document
-
--- a run that did not end for memory
-ran-of : {State : Type 0} (by : Answering State) (limit document : ℕ) (whole : Play) (old : Outside State)
-    (events : List Event) (ended : Ending) (clock : ℕ) (new : Outside State) → ended ≢ ending.Memory
-    → Came by limit document whole old events ended clock new
-    → Ran by limit document whole old events ended clock new
-ran-of by limit document whole old events ending.Finished clock new told x = x
-ran-of by limit document whole old events ending.Fetches clock new told x = x
-ran-of by limit document whole old events ending.Commands clock new told x = x
-ran-of by limit document whole old events ending.Text clock new told x = x
-ran-of by limit document whole old events ending.Memory clock new told x = absurd (told refl)
-
--- what is told of a seat's link
-abbrev pub seat_way : {State : Type 0} → Seat State → Way State
-seat_way seat =
-    record { state = seat.outside.state; received = seat.outside.received; faults = seat.outside.faults }
-
--- on a seat whose pass has made no call, the calls made are the pass's own
-own-calls : {State : Type 0} (by : Answering State) (scenario : Scenario) (base number : ℕ) (document : Document)
-    (old new : Seat State) (transcript : Transcript) → transcript.ending ≢ ending.Memory
-    → IsPlayed by scenario base number document old new transcript → old.outside.own ≡ []
-    → old.outside.left ≡ new.outside.left + length new.outside.own
-own-calls {State} by scenario base number document old new transcript told is none =
-    let ran = ran-of by scenario.body_limit number (document_run scenario.cookies base document) old.outside
-    transcript.events transcript.ending transcript.clock new.outside told is.came in
-    let made = trace-calls by scenario.body_limit number ran.trace in
-    let first : ran.first.own ≡ [] = ap (λ (o : Outside State). o.own) ran.from ∙ none in
-    let own : made.more ≡ new.outside.own =
-    sym (ap (λ (l : List Entry). l ++ made.more) first) ∙ sym made.own ∙ ap (λ (o : Outside State). o.own) ran.to in
-    omega (
-      arith,
-      made.fell,
-      ap (λ (o : Outside State). o.left) ran.from,
-      ap (λ (o : Outside State). o.left) ran.to,
-      ap length own,
-    )
 
 -- its transcript is that of its document, over the entries of the pass's own
 transcript-of : {State : Type 0} (by : Answering State) (scenario : Scenario) (base : ℕ) (history : List Entry)
@@ -134,14 +63,6 @@ transcript-of {State} by scenario base history number document old new transcrip
     }
 
 -- ---- all documents
-
--- a seat whose pass has made no call
-record IsFresh {State : Type 0} (seat : Seat State) : Type 0 where
-  pub own_is : seat.outside.own ≡ []
-  pub left_is : seat.outside.left ≡ 4294967295
-
-abbrev HasOwn : {State : Type 0} → List Entry → Seat State → Type 0
-HasOwn history seat = entries_of seat.document history ≡ seat.outside.own
 
 -- it did not end for memory
 abbrev HasEnded : Transcript → Type 0
@@ -194,131 +115,19 @@ have-run by scenario base history {transcripts = transcripts} played fresh own =
     (subst (λ (d : ℕ). entries_of d history ≡ new.outside.own) is.0.document_is is.2))
     (each-with IsFresh (HasOwn history) (λ transcript. Unit {0}) fresh own (λ k d within. tt) played)
 
--- every seat's calls are its pass's own: as many were made as entries are there
-record HasCalled {State : Type 0} (seat : Seat State) : Type 0 where
-  pub calls : seat.outside.left + length seat.outside.own ≡ 4294967295
-  pub few : 4294838271 ≤ seat.outside.left
-
 called-of : {State : Type 0} (by : Answering State) (scenario : Scenario) (base : ℕ)
     {number : ℕ} {documents : List Document} {olds news : List (Seat State)} {transcripts : List Transcript}
     → EachDocument (IsPlayed by scenario base) number documents olds news transcripts → HasText transcripts
     → All IsFresh olds → All HasCalled news
 called-of by scenario base played text fresh =
     each-after HasCalled (λ number document old new transcript is.
-    let made = own-calls by scenario base number document old new transcript is.3 is.0 is.1.own_is in
+    let ran = ran-of by scenario.body_limit number (document_run scenario.cookies base document) old.outside
+    transcript.events transcript.ending transcript.clock new.outside is.3 is.0.came in
     let few = is.0.few in
-    record { calls = omega (arith, made, is.1.left_is); few = omega (arith, few, is.1.left_is) })
+    called-on old new is.1
+    (ran-calls by scenario.body_limit number (document_run scenario.cookies base document) old.outside
+    transcript.events transcript.ending transcript.clock new.outside ran) (omega (arith, few, is.1.left_is)))
     (each-with IsFresh (λ seat. Unit {0}) HasEnded fresh (λ k d within. tt) text played)
-
--- ---- turns
-
--- where entry i has turn i, the turns are those from 0 on
-turns-from : (turn : ℕ) (history : List Entry)
-    → ((i : ℕ) (e : Entry) → get_elem? history i ≡ some e → e.turn ≡ turn + i) → HasTurnsFrom turn history
-turns-from turn [] each = tt
-turns-from turn (e ∷ es) each = (
-  omega (arith, each 0 e refl),
-  turns-from (turn + 1) es (λ i x at. omega (arith, each (suc i) x at)),
-)
-
--- ---- lists
-
-pub unmap : {X Y : Type 0} (P : X → Type 0) (f : Y → X) (ys : List Y) → All P (map f ys) → All (λ y. P (f y)) ys
-unmap P f [] a = All-nil (λ y. P (f y))
-unmap P f (y ∷ ys) a = All-cons (λ y. P (f y)) y ys (All-head P (f y) (map f ys) a)
-    (unmap P f ys (All-tail P (f y) (map f ys) a))
-
-pub map-map : {X Y Z : Type 0} (f : X → Y) (g : Y → Z) (xs : List X) → map g (map f xs) ≡ map (λ x. g (f x)) xs
-map-map f g [] = refl
-map-map {Z = Z} f g (x ∷ xs) = ap (λ (l : List Z). g (f x) ∷ l) (map-map f g xs)
-
--- ---- passes
-
--- how many passes are of a document is how often it is among theirs
-count-times : (d : ℕ) (passes : List TurnPass)
-    → count_by (is_of d) passes ≡ times d (map (λ (p : TurnPass). p.document) passes)
-count-times d [] = refl
-count-times d (p ∷ ps) = omega (
-  arith,
-  count-times d ps,
-  sum_by-cons (λ (q : TurnPass). cond (is_of d q) 1 0) p ps,
-  sum_by-cons (λ (x : ℕ). cond (x == d) 1 0) p.document (map (λ (q : TurnPass). q.document) ps),
-)
-
--- the documents' passes are not the first one
-others-apart : (count from : ℕ) (passes : List TurnPass) → from + count ≤ 4294967295
-    → map (λ (p : TurnPass). p.document) passes ≡ range_with_len from count
-    → All (λ (p : TurnPass). p.document ≢ 4294967295) passes
-others-apart count from [] few is = All-nil (λ (p : TurnPass). p.document ≢ 4294967295)
-others-apart zero from (p ∷ ps) few is = cc
-others-apart (suc count) from (p ∷ ps) few is =
-    let here : p.document ≡ from = cc in
-    let rest : map (λ (q : TurnPass). q.document) ps ≡ range_with_len (from + 1) count = cc in
-    All-cons (λ (q : TurnPass). q.document ≢ 4294967295) p ps (λ same. omega (arith, here, same, few))
-    (others-apart count (from + 1) ps (omega (arith, few)) rest)
-
--- the first pass, and those of the documents, are all passes of the book
-pub whole-passes : (id : TableId) (opening : Book) (count : ℕ) (first : TurnPass) (passes back : List TurnPass)
-    → ArePasses id opening count first passes → count ≤ 128
-    → All (λ (p : TurnPass). p.seat.table_id ≡ id) back
-    → map (λ (p : TurnPass). p.document) back ≡ range_with_len 0 count → IsWhole id (first ∷ back)
-whole-passes id opening count first passes back are few belong documents =
-    let Apart : TurnPass → Type 0 = λ p. p.document ≢ 4294967295 in
-    let apart = others-apart count 0 back (omega (arith, few)) documents in
-    whole_of id first back are.first_is.belongs are.first_is.document_is (λ k d lt. (belong k d lt, apart k d lt))
-    (λ d made. omega (
-      arith,
-      made,
-      are.made d,
-      ap (times d) documents,
-      count-times d back,
-    ))
-
--- ---- the history
-
--- where a document has no entry, no entry is its
-none-of : (d : ℕ) (history : List Entry) → entries_of d history ≡ []
-    → AllByRecursion (λ (e : Entry). e.document ≢ d) history
-none-of d [] is = tt
-none-of d (e ∷ es) is = elim (eqb_tells e.document d) [
-  | inl same ↦
-      let there : e ∷ entries_of d es ≡ [] =
-      sym (ap (λ (b : Bool). cond b (e ∷ entries_of d es) (entries_of d es)) same.0) ∙ is in absurd (taken there)
-  | inr apart ↦ (
-    apart.1,
-    none-of d es (sym (ap (λ (b : Bool). cond b (e ∷ entries_of d es) (entries_of d es)) apart.0) ∙ is),
-  )
-]
-  where
-    taken : (e ∷ entries_of d es ≡ []) → ⊥
-    taken h = cc
-
--- an entry that is not the first pass's names a document
-named-below : (count : ℕ) (first : TurnPass) (back : List TurnPass) (history : List Entry)
-    → first.document ≡ 4294967295 → map (λ (p : TurnPass). p.document) back ≡ range_with_len 0 count
-    → AllByRecursion (λ (e : Entry). 0 < count_by (is_of e.document) (first ∷ back)) history
-    → AllByRecursion (λ (e : Entry). e.document ≢ 4294967295) history
-    → AllByRecursion (λ (e : Entry). e.document < count) history
-named-below count first back [] is documents named apart = tt
-named-below count first back (e ∷ es) is documents named apart = (
-  below named.0 (eqb_tells first.document e.document),
-  named-below count first back es is documents named.1 apart.1,
-)
-  where
-    below : 0 < count_by (is_of e.document) (first ∷ back)
-        → ((first.document == e.document) ≡ true) × (first.document ≡ e.document)
-        ⊎ ((first.document == e.document) ≡ false) × (first.document ≢ e.document) → e.document < count
-    below there (inl same) = absurd (apart.0 (sym same.1 ∙ is))
-    below there (inr other) =
-        let stands : 0 < times e.document (range_with_len 0 count) = omega (
-          arith,
-          there,
-          sum_by-cons (λ (q : TurnPass). cond (is_of e.document q) 1 0) first back,
-          ap {B = ℕ} (λ (b : Bool). cond b 1 0) other.0,
-          count-times e.document back,
-          ap (times e.document) documents,
-        ) in
-        omega (arith, (times-range e.document 0 count stands).1)
 
 -- ---- the whole
 
@@ -329,67 +138,6 @@ module _ {L State : Type 0} (by : Answering State) (told : L → Told State) (sc
     (passes_in made))
     (documents : map (λ (p : TurnPass). p.document) (passes_in back) ≡ range_with_len 0 (length scenario.documents))
     (closed : IsOneHistory (first ∷ passes_in back) book history) where
-  -- what is told of the links of seats
-  ways-of : (seats : List (Seating L TurnPass))
-      → map seat_way (map (seat_seen told) seats) ≡ map (way_of told) (links_in seats)
-  ways-of seats =
-      map-map (seat_seen told) seat_way seats
-      ∙ sym (map-map (λ (s : Seating L TurnPass). s.link) (way_of told) seats)
-
-  -- no call was made on the seats at first
-  fresh-seats : All IsFresh (map (seat_seen told) made)
-  fresh-seats = All-map IsFresh (seat_seen told) made
-      (λ k d lt. let n = unmap (IsNew id (opening_book scenario)) (λ (s : Seating L TurnPass). s.pass) made are.new k d
-      lt
-      in record { own_is = n.own_is; left_is = n.left_is })
-
-  -- the entries of each document are its pass's own
-  own-entries : All (λ (s : Seat State). entries_of s.document history ≡ s.outside.own)
-      (map (seat_seen told) back)
-  own-entries =
-      let OwnOf : TurnPass → Type 0 = λ p. entries_of p.document history ≡ own_of p in
-      All-map (λ (s : Seat State). entries_of s.document history ≡ s.outside.own) (seat_seen told) back
-      (unmap OwnOf (λ (s : Seating L TurnPass). s.pass) back (All-tail OwnOf first (passes_in back) closed.own))
-
-  legal-history : Legal (opening_book scenario) history
-  legal-history =
-      let Legals : TurnPass → Type 0 =
-      λ p. p.document ≡ 4294967295 → Legal (opening_of p) history × (book ≡ book_after (opening_of p) history) in
-      subst (λ (b : Book). Legal b history) are.first_is.opening_is
-      (All-head Legals first (passes_in back) closed.legal are.first_is.document_is).0
-
-  named-history : AllByRecursion (λ (e : Entry). e.document < length scenario.documents) history
-  named-history =
-      let OwnOf : TurnPass → Type 0 = λ p. entries_of p.document history ≡ own_of p in
-      named-below (length scenario.documents) first (passes_in back) history are.first_is.document_is documents
-      (recursion_from_All (λ (e : Entry). 0 < count_by (is_of e.document) (first ∷ passes_in back)) history
-      closed.named)
-      (none-of 4294967295 history (subst (λ (d : ℕ). entries_of d history ≡ own_of first) are.first_is.document_is
-      (All-head OwnOf first (passes_in back) closed.own) ∙ are.first_is.own_is))
-
-  -- where no document ended for memory, each call has its entry, so the turns have no gap
-  turns-of : (transcripts : List Transcript)
-      → EachDocument (IsPlayed by scenario base) 0 scenario.documents (map (seat_seen told) made)
-      (map (seat_seen told) back) transcripts → HasText transcripts → HasTurnsFrom 0 history
-  turns-of transcripts played text =
-      let All_called : TurnPass → Type 0 = λ p. calls_of p ≡ length (own_of p) in
-      let called : All (λ (s : Seating L TurnPass). HasCalled (seat_seen told s)) back =
-      unmap HasCalled (seat_seen told) back (called-of by scenario base played text fresh-seats) in
-      let calls : All All_called (first ∷ passes_in back) = All-cons All_called first (passes_in back)
-      (omega (arith, are.first_is.left_is, ap length are.first_is.own_is))
-      (All-map All_called (λ (s : Seating L TurnPass). s.pass) back
-      (λ k d lt. let c = called k d lt in omega (arith, c.calls, c.few))) in
-      let present : 0 < count_by (is_of 4294967295) (first ∷ passes_in back) = omega (
-        arith,
-        sum_by-cons (λ (q : TurnPass). cond (is_of 4294967295 q) 1 0) first (passes_in back),
-        ap {B = ℕ} (λ (b : Bool). cond b 1 0) (eq-eqb first.document 4294967295 are.first_is.document_is),
-      ) in
-      turns-from 0 history (λ i e at. turns-are-places (first ∷ passes_in back) book history closed present calls i e at
-      ∙ sym (zero_before i))
-    where
-      zero_before : (n : ℕ) → 0 + n ≡ n
-      zero_before n = omega arith
-
   -- what was played on the seats, with the history of the closed book, is a play
   pub closed-play : (transcripts : List Transcript)
       → EachDocument (IsPlayed by scenario base) 0 scenario.documents (map (seat_seen told) made)
@@ -397,11 +145,16 @@ module _ {L State : Type 0} (by : Answering State) (told : L → Told State) (sc
       → IsPlayOver by scenario base (map (way_of told) (links_in made)) (map (way_of told) (links_in back))
       transcripts history
   closed-play transcripts played text = record {
-    legal = legal-history;
-    turns = turns-of transcripts played text;
-    named = named-history;
-    runs = rw (← ways-of made, ← ways-of back)
-        (transcripts-of by scenario base history played text fresh-seats own-entries);
+    legal = legal-history told scenario id first made back book history are documents closed;
+    turns = turns-closed told scenario id first made back book history are documents closed
+        (called-of by scenario base played text (fresh-seats told scenario id first made back book history are documents closed));
+    named = named-history told scenario id first made back book history are documents closed;
+    runs = rw (
+      ← ways-of told scenario id first made back book history are documents closed made,
+      ← ways-of told scenario id first made back book history are documents closed back,
+    )
+        (transcripts-of by scenario base history played text (fresh-seats told scenario id first made back book history are documents closed)
+        (own-entries told scenario id first made back book history are documents closed));
   }
 
   -- and where memory was refused, no document was played or each was
@@ -412,16 +165,21 @@ module _ {L State : Type 0} (by : Answering State) (told : L → Told State) (sc
       (map (way_of told) (links_in back))
   closed-played transcripts played = inr (record {
     history = history;
-    legal = legal-history;
-    named = named-history;
+    legal = legal-history told scenario id first made back book history are documents closed;
+    named = named-history told scenario id first made back book history are documents closed;
     transcripts = transcripts;
-    runs = rw (← ways-of made, ← ways-of back)
-        (have-run by scenario base history played fresh-seats own-entries);
+    runs = rw (
+      ← ways-of told scenario id first made back book history are documents closed made,
+      ← ways-of told scenario id first made back book history are documents closed back,
+    )
+        (have-run by scenario base history played (fresh-seats told scenario id first made back book history are documents closed)
+        (own-entries told scenario id first made back book history are documents closed));
   })
 
   pub closed-refused : AreRefused by scenario base (map (seat_seen told) made)
       (map (seat_seen told) back)
       → NoneOrAllPlayed by scenario base (map (way_of told) (links_in made))
       (map (way_of told) (links_in back))
-  closed-refused (inl same) = inl (sym (ways-of back) ∙ ap (map seat_way) same ∙ ways-of made)
+  closed-refused (inl same) = inl (sym (ways-of told scenario id first made back book history are documents closed back)
+      ∙ ap (map seat_way) same ∙ ways-of told scenario id first made back book history are documents closed made)
   closed-refused (inr were) = closed-played were.transcripts were.played

@@ -1,136 +1,28 @@
--- Scripted servers as what answers a document's requests: by the bytes of a request, as the link has them, and by its
--- method and its target.
-use Rattle.std.proofs.Common.{◌≡◌, ℕ, zero, suc, ◌<◌, List, [], ◌∷◌, length, map, get_or, refl, ap, sym, subst, ◌∙◌}
-use Rattle.std.proofs.Common.{arith}
-use Rattle.std.proofs.Common.{Option, Some, None, Result, Ok, Err}
-use Rattle.std.specs.Prelude.{option_map, slice_get, IfOk}
+-- Plays over links to scripted servers as plays over the servers by their rules.
+use Rattle.std.proofs.Common.{◌≡◌, ℕ, zero, suc, ◌<◌, List, [], ◌∷◌, length, map, get_or, refl, ap, subst, ◌∙◌}
+use Rattle.std.proofs.Common.{arith, Option, Some, None, Result, Ok, Err}
+use Rattle.std.specs.Prelude.{slice_get, IfOk}
 use Rattle.std.specs.List.{All}
 use Rattle.std.proofs.lemmas.List.Elements.{All-head, All-tail, All-map}
-use Rattle.wf_fetch_acts.specs.declared.act.Act.{Act}
-use Rattle.wf_fetch_acts.specs.declared.act.Act.TheVariants.{Ask, Send, ReadHead, ReadBody, Tell}
-use Rattle.wf_fetch_acts.specs.declared.act.Input.{Input}
 use Rattle.wf_book.specs.declared.entry.Entry.{Entry}
 use Rattle.wf_book.specs.Entries.{entries_of}
 use Rattle.wf_script_events.specs.declared.events.Ending.{Ending}
 use Rattle.wf_script_events.specs.declared.events.Event.{Event}
-use Rattle.wf_script_events.specs.declared.events.Event.TheVariants as event
 use Rattle.wf_script_events.specs.declared.events.Transcript.{Transcript}
 use Rattle.wf_script_run.specs.Documents.{EachDocument}
 use Rattle.wf_script_run.specs.Play.{Play}
 use Rattle.wf_script_run.specs.Runs.{document_run}
-use Rattle.wf_script_run.specs.Traces.{PlayTrace, stop, shown, stepped}
-use Rattle.wf_script_run.proofs.PlayLemmas.{play-map}
 use Rattle.wf_script_values.specs.declared.document.Document.{Document}
 use Rattle.wf_script_values.specs.declared.scenario.Scenario.{Scenario}
 use Rattle.wf_script_values.specs.declared.servers.Server.{Server}
-use Rattle.wf_sim.specs.Sim.{SimState, answer_to, fault_count, told_asks, told_counts}
-use Rattle.wf_sim.proofs.SimLemmas.{answers-by_parts}
-use Rattle.wf_link_wire.specs.Exchanges.{Answering, Exchange}
-use Rattle.wf_link_wire.specs.Wires.{over_link}
-use Rattle.wf_link_wire.proofs.LawLemmas.{exchange-alike}
+use Rattle.wf_sim.specs.Sim.{SimState}
 use Rattle.wf_player.specs.Playing.{Ran}
-use Rattle.wf_player.specs.Worlds.{Answers, Outside, Settles, World}
-use Rattle.wf_link.specs.Links.{IsTold, Serves, Told}
+use Rattle.wf_link.specs.Links.{IsTold}
 use Rattle.wf_link.specs.declared.target.Route.{Route}
-use Rattle.wf_player_play.specs.Links.{IsPlayOverLinks, Maker, way_of}
+use Rattle.wf_player_seats.specs.Links.{way_of}
+use Rattle.wf_player_seats.proofs.ServerLemmas.{by_bytes, ran-by-rules, ran-state, sim_told}
+use Rattle.wf_player_play.specs.Links.{IsPlayOverLinks, Maker}
 use Rattle.wf_iso.specs.Plays.{IsPlay, IsTranscript, RunsOver, Way, by_rules, outside_on}
-
--- what a link to the servers answers, and what it tells
-abbrev pub sim_serves : Serves (List Server)
-sim_serves = record { answer = answer_to; next = λ servers _ _. servers }
-
-abbrev pub sim_told : SimState → Told (List Server)
-sim_told link = record {
-  state = Some link.servers;
-  left = Some link.left;
-  asks = told_asks;
-  received = told_counts;
-  faults = fault_count;
-}
-
--- the servers as a link has them
-abbrev pub by_bytes : Answering (List Server)
-by_bytes = over_link sim_serves
-
--- what the link answers to a request that has no space in its method and its target the rules answer
-answered : (limit document : ℕ) (a : World (List Server)) (first : Act) (input : Input) (b : World (List Server))
-    → Answers by_bytes limit document a first input b → Answers by_rules limit document a first input b
-answered limit document a (Ask op) input b is = is
-answered limit document a (Send hop) input b is = (
-  is.0,
-  record {
-    exchanged = exchange-alike by_bytes by_rules limit a.exchange b.exchange (Send hop) input
-        (λ servers. (answers-by_parts servers hop is.0, refl)) is.1.exchanged;
-    own_is = is.1.own_is;
-    left_is = is.1.left_is;
-  },
-)
-answered limit document a ReadHead input b is = record {
-  exchanged = exchange-alike by_bytes by_rules limit a.exchange b.exchange ReadHead input tt is.exchanged;
-  own_is = is.own_is;
-  left_is = is.left_is;
-}
-answered limit document a ReadBody input b is = record {
-  exchanged = exchange-alike by_bytes by_rules limit a.exchange b.exchange ReadBody input tt is.exchanged;
-  own_is = is.own_is;
-  left_is = is.left_is;
-}
-answered limit document a (Tell violation) input b is = is
-
--- a run over the link is one over the rules
-pub ran-by-rules : (limit document : ℕ) (whole : Play) (old : Outside (List Server)) (events : List Event)
-    (ending : Ending) (clock : ℕ) (new : Outside (List Server))
-    → Ran by_bytes limit document whole old events ending clock new
-    → Ran by_rules limit document whole old events ending clock new
-ran-by-rules limit document whole old events ending clock new x = record {
-  first = x.first;
-  idle = x.idle;
-  from = x.from;
-  tape = x.tape;
-  last = x.last;
-  trace = play-map (Answers by_bytes limit document) Settles (Answers by_rules limit document) Settles
-      (λ (w : World (List Server)). w) (answered limit document) (λ event a b is. is) x.trace;
-  to = x.to;
-  runs = x.runs;
-}
-
--- ---- the state
-
--- the servers are the same after an ask
-asked-state : (state : Option (List Server)) → option_map (λ (servers : List Server). servers) state ≡ state
-asked-state (Some servers) = refl
-asked-state None = refl
-
-act-state : (limit document : ℕ) (a : World (List Server)) (first : Act) (input : Input) (b : World (List Server))
-    → Answers by_bytes limit document a first input b → b.exchange.state ≡ a.exchange.state
-act-state limit document a (Ask op) input b is = ap (λ (e : Exchange (List Server)). e.state) is.exchange_is
-act-state limit document a (Send hop) input b is = is.1.exchanged.state_is ∙ asked-state a.exchange.state
-act-state limit document a ReadHead input b is = is.exchanged.state_is
-act-state limit document a ReadBody input b is = is.exchanged.state_is
-act-state limit document a (Tell violation) input b is = ap (λ (w : World (List Server)). w.exchange.state) is.1
-
-event-state : (a : World (List Server)) (shown : Event) (b : World (List Server)) → Settles shown a b
-    → b.exchange.state ≡ a.exchange.state
-event-state a (event.Result outcome) b is = ap (λ (o : Outside (List Server)). o.state) is.outside_is
-event-state a (event.Fetch n) b is = ap (λ (w : World (List Server)). w.exchange.state) is
-event-state a (event.Load n kind) b is = ap (λ (w : World (List Server)). w.exchange.state) is
-event-state a (event.Call op reply) b is = ap (λ (w : World (List Server)). w.exchange.state) is
-event-state a (event.Sent hop) b is = ap (λ (w : World (List Server)). w.exchange.state) is
-event-state a (event.Told violation) b is = ap (λ (w : World (List Server)). w.exchange.state) is
-event-state a (event.LoadFailed error) b is = ap (λ (o : Outside (List Server)). o.state) is.outside_is
-event-state a (event.TypeError fault) b is = ap (λ (w : World (List Server)). w.exchange.state) is
-event-state a (event.LoadError fault) b is = ap (λ (w : World (List Server)). w.exchange.state) is
-
--- the servers stay as they are over a run
-pub trace-state : (limit document : ℕ) {p q : Play} {a b : World (List Server)} {t : List Input} {e : List Event}
-    → PlayTrace (Answers by_bytes limit document) Settles p a t e q b → b.exchange.state ≡ a.exchange.state
-trace-state limit document stop = refl
-trace-state limit document {a = a} (shown {mid = mid} one is x) =
-    trace-state limit document x ∙ event-state a one mid is
-trace-state limit document {a = a} (stepped {mid = mid} request first after input is fit x) =
-    trace-state limit document x ∙ act-state limit document a first input mid is
-
--- ---- the whole
 
 -- what a link to the servers tells
 abbrev servers_way : Scenario → Way (List Server)
@@ -147,9 +39,8 @@ way-behind : (limit document : ℕ) (old new : Way (List Server)) (entries : Lis
     → new ≡ record { state = Some servers; received = None; faults = 0 }
 way-behind limit document old new entries whole events ending clock servers is quiet run =
     way-is new (record { state = Some servers; received = None; faults = 0 })
-    (sym (ap (λ (o : Outside (List Server)). o.state) run.ran.to)
-    ∙ trace-state limit document run.ran.trace ∙ ap (λ (o : Outside (List Server)). o.state) run.ran.from ∙ is) quiet.0
-    quiet.1
+    (ran-state limit document whole (outside_on old [] run.before) events ending clock
+    (outside_on new entries run.behind) run.ran ∙ is) quiet.0 quiet.1
   where
     way-is : (a b : Way (List Server)) → a.state ≡ b.state → a.received ≡ b.received → a.faults ≡ b.faults → a ≡ b
     way-is a b s r f = rw (s, r, f) refl

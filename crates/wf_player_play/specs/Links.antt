@@ -1,20 +1,16 @@
 -- A play over the links that are made for its documents, in their order, and that are taken back in the same order.
-use Rattle.std.specs.Prelude.{◌≡◌, ℕ, ◌≤◌, List, [], ◌∷◌, ◌++◌, length, map, slice_get, Option, Some, None}
+use Rattle.std.specs.Prelude.{◌≡◌, ℕ, ◌≤◌, List, ◌++◌, length, map, Option, Some, None}
 use Rattle.wf_book.specs.declared.entry.Entry.{Entry}
 use Rattle.wf_link.specs.Counts.{grown_by}
-use Rattle.wf_link.specs.Links.{IsTold, Lent, Told, faults_told}
+use Rattle.wf_link.specs.Links.{Lent, Told, faults_told}
 use Rattle.wf_link.specs.declared.target.Route.{Route}
 use Rattle.wf_script_events.specs.declared.events.Transcript.{Transcript}
 use Rattle.wf_script_values.specs.declared.scenario.Scenario.{Scenario}
 use Rattle.wf_link_wire.specs.Exchanges.{Answering}
-use Rattle.wf_iso.specs.Plays.{IsPlayOver, Way}
+use Rattle.wf_iso.specs.Plays.{IsPlayOver}
+use Rattle.wf_player_seats.specs.Links.{AreOpened, for_documents, grown_by_all, way_of}
 use Rattle.wf_player_play.specs.Faults.{AllAreTold, all_faults}
 use Rattle.wf_player_play.specs.Refused.{NoneOrAllPlayed}
-
--- what is told of a link
-abbrev pub way_of : {L State : Type 0} → (L → Told State) → L → Way State
-way_of told link =
-    record { state = (told link).state; received = (told link).received; faults = (told link).faults }
 
 -- What is told of what makes the links: the link that the next make gives for a document's number and routes, at 0, the
 -- one after it, at 1, and so on; those that it took back, and how many more are out; and how often those had failed.
@@ -29,27 +25,12 @@ abbrev pub maker_of : {N L : Type 0} → (N → ℕ → ℕ → List Route → O
 maker_of opening lent faults links =
     record { opening = opening links; lent = lent links; faults = faults links }
 
--- ---- links that are made
-
--- the next links that are made are for the documents 0, 1 and so on, by these routes
-abbrev pub for_documents : {L : Type 0} → (ℕ → ℕ → List Route → Option L) → List Route → ℕ → Option L
-for_documents opening routes k = opening k k routes
-
--- the links are those that were to be made, where told: the first at 0, and so on
-abbrev pub AreOpened : {L : Type 0} → (ℕ → Option L) → List L → Type 0
-AreOpened {L} opening links = (k : ℕ) (link : L) → slice_get links k ≡ Some link → IsTold (opening k) link
-
 -- ---- links that are taken back
 
 -- these were taken back, in this order, where told, and as many are out as before
 abbrev pub AreBack : {L : Type 0} → Option (Lent L) → Option (Lent L) → List L → Type 0
 AreBack None new links = Unit {0}
 AreBack (Some old) new links = new ≡ Some (record { back = old.back ++ links; out = old.out })
-
--- a count that has grown by each of these
-abbrev pub grown_by_all : ℕ → List ℕ → ℕ
-grown_by_all count [] = count
-grown_by_all count (more ∷ rest) = grown_by_all (grown_by count more) rest
 
 -- These links were made and taken back, in this order, and their faults were counted.
 pub record TookBack {L State : Type 0} (told : L → Told State) (old new : Maker L) (links : List L) : Type 0 where

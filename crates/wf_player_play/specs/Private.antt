@@ -1,3 +1,2 @@
--- What the crate's private contracts alone cite: seats that are played.
+-- What the crate's private contracts alone cite: seats that were played.
 pub mod Seated
-pub mod Lendings

@@ -8,7 +8,7 @@ use Rattle.wf_link.specs.Sinks.{SinkTold, Took}
 use Rattle.wf_link.proofs.SinkLemmas.{part-before, ok-after, err-after}
 use Rattle.wf_print.specs.declared.failure.Failure.{Failure}
 use Rattle.wf_print.specs.declared.failure.Failure.TheVariants.{OutOfMemory}
-use Rattle.wf_print.specs.Private.Writes.{Writes}
+use Rattle.wf_print.specs.Writes.{Writes}
 
 -- the empty text was taken
 pub took-nothing : (taken : Option (List ℕ)) → Took taken taken []

@@ -3,3 +3,4 @@ pub mod Laws
 pub mod Private
 pub mod Summary
 pub mod Text
+pub mod Writes

@@ -12,5 +12,6 @@ mod summary;
 
 pub use failure::Failure;
 pub use laws::law_one_history;
-pub use play::{has_text, write_play};
+pub use lines::{add_event, add_number};
+pub use play::{has_text, write_entries, write_play, write_text};
 pub use summary::write_summary;

@@ -12,8 +12,8 @@ use wf_script_events::Event;
 use wf_text::{Bytes, OutOfMemory};
 use wf_types::{BodyEnd, Destination, Hop, NetError, Outcome, Response, TypeFault, Violation};
 
-// Adds a number in decimal.
-pub(crate) fn add_number<I: Integer>(text: &mut Bytes, number: I) -> Result<(), OutOfMemory>
+/// Adds a number in decimal to a text. Where memory is refused the text is any.
+pub fn add_number<I: Integer>(text: &mut Bytes, number: I) -> Result<(), OutOfMemory>
     ensures { OnOk result (text.new ≡ text.old ++ I.text number) }
 {
     let mut buffer = Buffer::new();
@@ -239,8 +239,8 @@ fn add_call_line(text: &mut Bytes, op: &Op, reply: Reply) -> Result<(), OutOfMem
     text.append(b"\n")
 }
 
-// Adds the lines of an event.
-pub(crate) fn add_event(text: &mut Bytes, event: &Event) -> Result<(), OutOfMemory>
+/// Adds the lines of an event to a text. Where memory is refused the text is any.
+pub fn add_event(text: &mut Bytes, event: &Event) -> Result<(), OutOfMemory>
     ensures { OnOk result (text.new ≡ text.old ++ spec.event_text event.now) }
 {
     match event {

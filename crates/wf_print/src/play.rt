@@ -4,7 +4,7 @@ ghost use Rattle.wf_link.specs.Counts.{Rose};
 ghost use Rattle.wf_link.specs.Sinks.{Took, TookPart};
 ghost use Rattle.wf_script_events.specs.Lines.{event_text};
 ghost use Rattle.wf_print.specs.Text as spec;
-ghost use Rattle.wf_print.specs.Private.Writes.{Writes};
+ghost use Rattle.wf_print.specs.Writes.{Writes};
 
 use crate::failure::Failure;
 use crate::history::text_of_entries;
@@ -56,8 +56,9 @@ fn text_of(alloc: Global, transcript: &Transcript) -> Result<Bytes, OutOfMemory>
     Ok(text)
 }
 
-// Writes a text whole.
-pub(crate) fn put<K: Sink>(sink: &mut K, text: &[u8]) -> Result<(), Failure>
+/// Writes a text whole. After a failure the sink has taken a first part of it: `Fault` where the sink failed, and
+/// `TookNothing` where it took nothing of a piece that was not empty.
+pub fn write_text<K: Sink>(sink: &mut K, text: &[u8]) -> Result<(), Failure>
     ensures { Writes (K.takes sink.old) (K.takes sink.new) text.now result }
 {
     write_whole(sink, text)?;
@@ -74,20 +75,22 @@ fn put_transcripts<K: Sink>(
 {
     for transcript in transcripts {
         let text = text_of(alloc, transcript)?;
-        put(sink, text.as_slice())?;
+        write_text(sink, text.as_slice())?;
     }
     Ok(())
 }
 
-// Writes the lines of the history, at most `TOGETHER` of them at a time.
-fn put_entries<K: Sink>(alloc: Global, entries: &[Entry], sink: &mut K) -> Result<(), Failure>
+/// Writes the text of a history: a line for each entry, 256 lines at a time. After a failure the sink has taken a first
+/// part of it: `Fault` where the sink failed, `TookNothing` where it took nothing of a piece that was not empty, and
+/// `OutOfMemory` where memory was refused.
+pub fn write_entries<K: Sink>(alloc: Global, entries: &[Entry], sink: &mut K) -> Result<(), Failure>
     ensures { Writes (K.takes sink.old) (K.takes sink.new) (flat_map spec.entry_line entries.now) result }
 {
     let mut rest = entries;
     while !rest.is_empty() {
         let (first, others) = rest.split_at(rest.len().min(TOGETHER));
         let text = text_of_entries(alloc, first)?;
-        put(sink, text.as_slice())?;
+        write_text(sink, text.as_slice())?;
         rest = others;
     }
     Ok(())
@@ -102,11 +105,11 @@ fn put_play<K: Sink>(
 ) -> Result<(), Failure>
     ensures { Writes (K.takes sink.old) (K.takes sink.new) (spec.play_text transcripts.now history.now) result }
 {
-    put(sink, b"fetchplay 1\n")?;
+    write_text(sink, b"fetchplay 1\n")?;
     put_transcripts(alloc, transcripts, sink)?;
-    put(sink, b"history\n")?;
-    put_entries(alloc, history, sink)?;
-    put(sink, b"done\n")
+    write_text(sink, b"history\n")?;
+    write_entries(alloc, history, sink)?;
+    write_text(sink, b"done\n")
 }
 
 /// Whether the play has a text: no document ended for want of memory.

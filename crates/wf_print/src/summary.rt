@@ -2,14 +2,14 @@ ghost use Rattle.std.specs.Prelude.{◌≡◌, ◌≤◌, ◌++◌, codes, lengt
 ghost use Rattle.wf_link.specs.Counts.{Rose};
 ghost use Rattle.wf_link.specs.Sinks.{Took, TookPart};
 ghost use Rattle.wf_print.specs.Private.Kinds.{is_of};
-ghost use Rattle.wf_print.specs.Private.Writes.{Writes};
+ghost use Rattle.wf_print.specs.Writes.{Writes};
 ghost use Rattle.wf_print.specs.Summary as spec;
 ghost use Rattle.wf_script_events.specs.Lines.{line};
 ghost use Rattle.wf_print.specs.Text.{HasText};
 
 use crate::failure::Failure;
 use crate::lines::add_number;
-use crate::play::put;
+use crate::play::write_text;
 use itoa::Integer;
 use std::alloc::Global;
 use wf_book::{Entry, History};
@@ -103,7 +103,7 @@ fn put_summary<K: Sink>(
         (spec.summary_text n transcripts.now history.now) result }
 {
     let text = text_of(alloc, n, transcripts, history)?;
-    put(sink, text.as_slice())
+    write_text(sink, text.as_slice())
 }
 
 /// Writes the summary of the play of `n` generated documents, seven lines: `n`, how many documents the

@@ -1,33 +1,12 @@
--- Documents that are seated, each with its pass of the shared book and its link, and whose links are taken back.
-use Rattle.std.specs.Prelude.{◌≡◌, ℕ, List, [], ◌∷◌, length, map, Option}
-use Rattle.atomic_table.specs.Seated.{TableId}
+-- Documents that were seated and played, and whose links are taken back.
+use Rattle.std.specs.Prelude.{◌≡◌, ℕ, List, length, map, Option}
 use Rattle.wf_link.specs.Links.{Lent, Told, faults_told}
-use Rattle.wf_player.specs.Seats.{Seat, seat_of}
 use Rattle.wf_player.specs.declared.seating.Seating.{Seating}
-use Rattle.wf_script_values.specs.declared.scenario.Scenario.{Scenario}
-use Rattle.wf_turn.specs.Passes.{account_of}
 use Rattle.wf_turn.specs.declared.pass.TurnPass.{TurnPass}
-use Rattle.wf_iso.specs.Plays.{Way, opening_book}
-use Rattle.wf_player_play.specs.Links.{grown_by_all, way_of}
-use Rattle.wf_player_play.specs.Passes.{ArePasses}
-use Rattle.wf_player_play.specs.Private.Lendings.{AreTaken}
-
--- what is seen of a seat with a pass of the shared book
-abbrev pub seat_seen : {L State : Type 0} → (L → Told State) → Seating L TurnPass → Seat State
-seat_seen told seating = seat_of account_of told seating
-
-abbrev pub passes_in : {L : Type 0} → List (Seating L TurnPass) → List TurnPass
-passes_in seats = map (λ seating. seating.pass) seats
-
-abbrev pub links_in : {L : Type 0} → List (Seating L TurnPass) → List L
-links_in seats = map (λ seating. seating.link) seats
-
--- The passes are the first one of this book alone, and each document has a seat, with the pass that was made for it.
-pub record AreReady {L : Type 0} (id : TableId) (scenario : Scenario) (passes : List TurnPass)
-    (seats : List (Seating L TurnPass)) : Type 0 where
-  pub first : TurnPass
-  pub alone : passes ≡ first ∷ []
-  pub made : ArePasses id (opening_book scenario) (length scenario.documents) first (passes_in seats)
+use Rattle.wf_iso.specs.Plays.{Way}
+use Rattle.wf_player_seats.specs.Lendings.{AreTaken}
+use Rattle.wf_player_seats.specs.Links.{grown_by_all, way_of}
+use Rattle.wf_player_seats.specs.Seated.{links_in}
 
 -- The links of these seats were taken back, in order, and their faults were counted. Of what is told of the links, as
 -- they were and as they came back, this holds.

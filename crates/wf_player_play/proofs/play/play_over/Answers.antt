@@ -8,11 +8,11 @@ use Rattle.wf_link_wire.specs.Wires.{over_link}
 use Rattle.wf_player.proofs.AskLemmas.{on-err, on-err-map}
 use Rattle.wf_iso.specs.Plays.{IsPlayOver, opening_book, with_hosts}
 use Rattle.wf_player_play.specs.Links.{IsPlayOverLinks, maker_of}
-use Rattle.wf_player_play.specs.Passes.{ArePasses}
+use Rattle.wf_player_seats.specs.Passes.{ArePasses}
 use Rattle.wf_player_play.specs.Private.Seated.{AreUnseated}
 use Rattle.wf_player_play.specs.declared.play.Played.{Played}
 use Rattle.wf_player_play.proofs.OverLemmas.{none-refused, played-over, played-refused, seats-refused}
-use Rattle.wf_player_play.proofs.SeatedLemmas.{as-many}
+use Rattle.wf_player_seats.proofs.SeatedLemmas.{as-many}
 use Rattle.wf_player_play.proofs.StandingLemmas.{if-ok-map}
 use Rattle.wf_player_play.proofs.play.play_over.Goals as goal
 

@@ -4,9 +4,10 @@ use Rattle.wf_turn.specs.declared.pass.TurnPass.{TurnPass}
 use Rattle.wf_player.proofs.AskLemmas.{on-err}
 use Rattle.wf_iso.specs.Plays.{opening_book}
 use Rattle.wf_link_wire.specs.Wires.{over_link}
-use Rattle.wf_player_play.specs.Private.Seated.{links_in, passes_in}
-use Rattle.wf_player_play.proofs.PlayLemmas.{closed-play, closed-played, closed-refused, whole-passes}
-use Rattle.wf_player_play.proofs.SeatedLemmas.{belong-at, belong-passes, documents-in, many-links, ready-seats}
+use Rattle.wf_player_seats.specs.Seated.{links_in, passes_in}
+use Rattle.wf_player_seats.proofs.ClosedLemmas.{whole-passes}
+use Rattle.wf_player_play.proofs.PlayLemmas.{closed-play, closed-played, closed-refused}
+use Rattle.wf_player_seats.proofs.SeatedLemmas.{belong-at, belong-passes, documents-in, many-links, ready-seats}
 use Rattle.wf_player_play.proofs.play.play_seated.Goals as goal
 
 pub play_all-played-requires-clause-seats : goal.play_all-played-requires-clause-seats

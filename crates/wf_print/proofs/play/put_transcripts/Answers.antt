@@ -12,9 +12,9 @@ returns-in_err-text g c =
     (writes-refused (flat_map spec.transcript_text (drop c.loop-transcript.transcript-index c.args.transcripts.now))
     c.from_residual.result c.from_residual.ensures.1 c.loop-transcript.invariant)
 
-pub returns-in_err-put : goal.returns-in_err-put
-returns-in_err-put g c =
-    writes-failed c.from_residual-in_err-put.result c.from_residual-in_err-put.ensures.1
+pub returns-in_err-write_text : goal.returns-in_err-write_text
+returns-in_err-write_text g c =
+    writes-failed c.from_residual-in_err-write_text.result c.from_residual-in_err-write_text.ensures.1
     (rw (
       flat_map-split spec.transcript_text c.args.transcripts.now (c.loop-transcript.transcript-index + 1),
       flat_map-take spec.transcript_text c.args.transcripts.now c.loop-transcript.transcript-index
@@ -24,7 +24,7 @@ returns-in_err-put g c =
     )
     (writes-before (flat_map spec.transcript_text
     (drop (c.loop-transcript.transcript-index + 1) c.args.transcripts.now))
-    (writes-append c.loop-transcript.invariant c.in_err-put.ensures)))
+    (writes-append c.loop-transcript.invariant c.in_err-write_text.ensures)))
 
 pub loop-transcript-preserved : goal.loop-transcript-preserved
 loop-transcript-preserved g c =
@@ -34,4 +34,4 @@ loop-transcript-preserved g c =
       ← c.in_ok-text.ensures,
       ← c.as_slice.ensures,
     )
-    (writes-append c.loop-transcript.invariant c.in_ok-put.ensures)
+    (writes-append c.loop-transcript.invariant c.in_ok-write_text.ensures)

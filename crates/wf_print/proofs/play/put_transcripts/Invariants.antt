@@ -2,7 +2,7 @@ use Rattle.std.proofs.Common.{take, Result, Ok}
 use Rattle.std.specs.List.{flat_map}
 use Rattle.wf_print.specs.declared.failure.Failure.{Failure}
 use Rattle.wf_print.specs.Text as spec
-use Rattle.wf_print.specs.Private.Writes.{Writes}
+use Rattle.wf_print.specs.Writes.{Writes}
 use Rattle.wf_print.proofs.play.put_transcripts.Given as goal
 
 abbrev pub invariant-loop-transcript : goal.invariant-loop-transcript

@@ -1,0 +1,4 @@
+pub mod Lendings
+pub mod Links
+pub mod Passes
+pub mod Seated

@@ -1,0 +1,42 @@
+// The book that a play opens with.
+ghost use Rattle.std.specs.Prelude.{◌≡◌, IfOk, OnOk};
+ghost use Rattle.std.specs.List.{All};
+ghost use Rattle.wf_book.specs.Book.{after, empty};
+ghost use Rattle.wf_book.specs.declared.op.Op.TheVariants.{Note};
+ghost use Rattle.wf_script_values.specs.Valid.{IsValidHost};
+ghost use Rattle.wf_iso.specs.Plays.{with_hosts};
+
+use std::alloc::Global;
+use wf_book::{Book, Op};
+use wf_hsts::Sts;
+use wf_script_values::KnownHost;
+use wf_text::OutOfMemory;
+
+// Notes a host at the time 0.
+fn note_host(alloc: Global, book: &mut Book, known: &KnownHost) -> Result<(), OutOfMemory>
+    requires { IsValidHost known.now }
+    ensures { OnOk result (book.new ≡ after book.old (Note known.now.host
+        (record { age = known.now.until; subdomains = known.now.subdomains }) 0)) }
+{
+    let sts = Sts {
+        age: known.until,
+        subdomains: known.subdomains,
+    };
+    let host = known.host.copy(alloc)?;
+    let applied = book.apply(alloc, &Op::Note(host, sts, 0));
+    applied?;
+    Ok(())
+}
+
+/// The book that a play opens with: an empty one in which these hosts were noted at the time 0, one after another. They are
+/// hosts of a valid scenario.
+pub fn opened(alloc: Global, hosts: &[KnownHost]) -> Result<Book, OutOfMemory>
+    requires { All IsValidHost hosts.now }
+    ensures { IfOk result (λ book. book ≡ with_hosts hosts.now empty) }
+{
+    let mut book = Book::new(alloc);
+    for known in hosts {
+        note_host(alloc, &mut book, known)?;
+    }
+    Ok(book)
+}

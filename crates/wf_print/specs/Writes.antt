@@ -1,0 +1,16 @@
+-- What a call that writes a text to a sink tells of its answer (the output of the programs).
+use Rattle.std.specs.Prelude.{◌≡◌, ℕ, ◌≤◌, List, Result, Err, OnOk, OnErr}
+use Rattle.wf_link.specs.Counts.{Rose}
+use Rattle.wf_link.specs.Sinks.{SinkTold, Took, TookPart}
+use Rattle.wf_print.specs.declared.failure.Failure.{Failure}
+use Rattle.wf_print.specs.declared.failure.Failure.TheVariants.{Fault, TookNothing}
+
+-- the sink took the whole text, or a first part of it where the call failed; its counts never fell, and rose where
+-- they are the cause
+pub record Writes {A : Type 0} (old new : SinkTold) (text : List ℕ) (result : Result A Failure) : Type 0 where
+  pub ok : OnOk result (Took old.taken new.taken text)
+  pub err : OnErr result (TookPart old.taken new.taken text)
+  pub faults_stay : old.faults ≤ new.faults
+  pub zeros_stay : old.zeros ≤ new.zeros
+  pub fault : result ≡ Err Fault → Rose old.faults new.faults
+  pub nothing : result ≡ Err TookNothing → Rose old.zeros new.zeros
