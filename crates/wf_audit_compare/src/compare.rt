@@ -11,7 +11,8 @@ use wf_script_events::Transcripts;
 use wf_text::OutOfMemory;
 
 /// Where the text of a play differs from another text: the first offset at which they have another byte, or at which
-/// one of them ends and the other does not. `None` exactly where they are equal. The text of the play is not built whole.
+/// one of them ends and the other does not. `None` exactly where they are equal. The text of the play is not built
+/// whole.
 pub fn differs_from(
     alloc: Global,
     transcripts: &Transcripts,
