@@ -193,7 +193,8 @@ impl<'a> TapePass<'a> {
 impl<'a> Share for TapeShare<'a> {
     type Pass = TapePass<'a>;
 
-    ghost belongs = { λ share pass. Unit {0} };
+    // A pass is over the share's history.
+    ghost belongs = { λ share pass. pass.history ≡ share.history.now };
 
     ghost account = { spec.account_of };
 
