@@ -28,8 +28,8 @@ fn note_host(alloc: Global, book: &mut Book, known: &KnownHost) -> Result<(), Ou
     Ok(())
 }
 
-// The book with these hosts noted.
-pub(crate) fn opened(alloc: Global, hosts: &[KnownHost]) -> Result<Book, OutOfMemory>
+/// The book that a play opens with: these hosts are noted at the time 0, one after another.
+pub fn opened(alloc: Global, hosts: &[KnownHost]) -> Result<Book, OutOfMemory>
     requires { All IsValidHost hosts.now }
     ensures { IfOk result (λ book. book ≡ with_hosts hosts.now empty) }
 {

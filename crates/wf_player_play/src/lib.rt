@@ -6,4 +6,5 @@ mod passes;
 mod play;
 mod seats;
 
+pub use book::opened;
 pub use play::{Played, play_over, play_scripted};

@@ -1,0 +1,11 @@
+// A printed play, audited: whether it is the text of a play of a scenario, and where not.
+#![tactic(auto)]
+
+mod audit;
+mod laws;
+mod runs;
+mod verdict;
+
+pub use audit::audit;
+pub use laws::{law_audited, law_one_verdict};
+pub use verdict::Verdict;
