@@ -1,6 +1,7 @@
 -- What the program answers to its words: its status by the words and the bytes of the input, what it has written then,
 -- and what it tells the complaints. What a verdict is, wf_audit defines.
-use Rattle.std.specs.Prelude.{◌≡◌, ◌≢◌, ℕ, ◌+◌, ◌≤◌, ◌<◌, ◌⊎◌, List, [], length, Some}
+use Rattle.std.specs.Prelude.{◌≡◌, ◌≢◌, ℕ, ◌+◌, ◌≤◌, ◌<◌, ◌⊎◌, List, [], ◌∷◌, length, map, String, string_bytes, Some}
+use Rattle.std.specs.Global.{Global}
 use Rattle.wf_link.specs.Counts.{Rose}
 use Rattle.wf_link.specs.Sinks.{SinkTold, Took, TookPart}
 use Rattle.wf_link.specs.Sources.{Gave, IsAtEnd, SourceTold}
@@ -11,6 +12,10 @@ use Rattle.wf_audit.specs.declared.verdict.Verdict.TheVariants as verdict
 use Rattle.wf_audit_program.specs.Statuses.{complaint, verdict_line}
 use Rattle.wf_audit_program.specs.declared.status.AuditStatus.{AuditStatus}
 use Rattle.wf_audit_program.specs.declared.status.AuditStatus.TheVariants as status
+
+-- the texts of the words
+abbrev pub texts : List (String Global) → List (List ℕ)
+texts words = map string_bytes words
 
 -- the longest input, in bytes
 abbrev pub most_input : ℕ

@@ -1,8 +1,7 @@
 // The program, from its words to its status.
 ghost use Rattle.std.specs.Prelude.{◌≡◌, IfErr, IfOk};
-ghost use Rattle.wf_link.specs.Texts.{texts};
 ghost use Rattle.wf_audit_program.specs.Private.Steps.{HasNone, HasVerdict, IsGiven, IsWritten};
-ghost use Rattle.wf_audit_program.specs.Program.{Answers, IsDone, IsFound};
+ghost use Rattle.wf_audit_program.specs.Program.{Answers, IsDone, IsFound, texts};
 ghost use Rattle.wf_audit_program.specs.Statuses as spec;
 
 use crate::complaint::tell;

@@ -1,0 +1,95 @@
+-- What a verdict says of a play, and what a play says of its verdict.
+use Rattle.std.proofs.Common.{◌≡◌, ◌≤◌, ◌<◌, ◌+◌, ℕ, List, [], ◌∷◌, length, refl, ap, sym, subst, ◌∙◌, arith, None}
+use Rattle.std.proofs.lemmas.Grind.{common_steps}
+use Rattle.std.specs.Prelude.{nat_le, position}
+use Rattle.std.specs.List.{AllByRecursion, position_or_len}
+use Rattle.wf_book.specs.declared.book.Book.{Book}
+use Rattle.wf_book.specs.declared.entry.Entry.{Entry}
+use Rattle.wf_book.specs.Book.{after}
+use Rattle.wf_book.specs.Entries.{LegalFrom}
+use Rattle.wf_iso.specs.Laws.{PlaysAlone}
+use Rattle.wf_iso.specs.Plays.{HasTurnsFrom, IsPlay, by_rules, opening_book, ways_to_servers}
+use Rattle.wf_script_values.specs.declared.servers.Server.{Server}
+use Rattle.wf_audit_history.specs.Legality.{AreRight, first_stranger, is_stranger}
+use Rattle.wf_audit.specs.Laws.{IsAudited, IsComplete, IsSound, IsTextOfPlay}
+use Rattle.wf_audit.specs.Verdicts.{HasRun, IsVerdict}
+use Rattle.wf_audit.specs.declared.verdict.Verdict.TheVariants as verdict
+
+-- ---- a history that the book gives is legal, and has its turns
+
+legal-right : (book : Book) (turn : ℕ) (history : List Entry) → AreRight book turn history
+    → LegalFrom book turn history
+legal-right book turn [] are = tt
+legal-right book turn (e ∷ history) are = (
+  omega (arith, are.0.turn_is),
+  are.0.reply_is,
+  subst (λ (n : ℕ). LegalFrom (after book e.op) n history) (ap (λ (n : ℕ). n + 1) (sym are.0.turn_is))
+      (legal-right (after book e.op) (turn + 1) history are.1),
+)
+
+turns-right : (book : Book) (turn : ℕ) (history : List Entry) → AreRight book turn history
+    → HasTurnsFrom turn history
+turns-right book turn [] are = tt
+turns-right book turn (e ∷ history) are =
+    (are.0.turn_is, turns-right (after book e.op) (turn + 1) history are.1)
+
+right-legal : (book : Book) (turn : ℕ) (history : List Entry) → LegalFrom book turn history
+    → HasTurnsFrom turn history → AreRight book turn history
+right-legal book turn [] legal turns = tt
+right-legal book turn (e ∷ history) legal turns = (
+  record { turn_is = turns.0; reply_is = legal.1 },
+  right-legal (after book e.op) (turn + 1) history
+      (subst (λ (n : ℕ). LegalFrom (after book e.op) n history) (ap (λ (n : ℕ). n + 1) turns.0) legal.2) turns.1,
+)
+
+-- ---- no entry names no document
+
+named-all : (count : ℕ) (history : List Entry) → first_stranger count history ≡ None
+    → AllByRecursion (λ (e : Entry). e.document < count) history
+named-all count history none = ?
+
+all-named : (count : ℕ) (history : List Entry) → AllByRecursion (λ (e : Entry). e.document < count) history
+    → first_stranger count history ≡ None
+all-named count history all = ?
+
+-- ---- the laws
+
+pub is-sound : PlaysAlone (List Server) → IsSound
+is-sound law bytes play is =
+    let ran = is.0 in
+    let of = ran.legal.of in
+    let scenario = of.scenario in
+    let made : IsPlay scenario ran.transcripts of.history = record {
+      legal = legal-right (opening_book scenario) 0 of.history ran.legal.given;
+      turns = turns-right (opening_book scenario) 0 of.history ran.legal.given;
+      named = named-all (length scenario.documents) of.history ran.legal.named;
+      runs = ran.runs;
+    } in
+    record {
+      of = record {
+        scenario = scenario;
+        read = of.read;
+        transcripts = ran.transcripts;
+        history = of.history;
+        is_play = made;
+        holds = of.holds;
+        text_is = is.1;
+      };
+      isolated = law by_rules scenario scenario.now (ways_to_servers scenario) (ways_to_servers scenario)
+          ran.transcripts of.history made;
+    }
+
+pub is-complete : IsComplete
+is-complete bytes play is =
+    let scenario = is.scenario in (
+      record {
+        legal = record {
+          of = record { scenario = scenario; read = is.read; history = is.history; holds = is.holds };
+          given = right-legal (opening_book scenario) 0 is.history is.is_play.legal is.is_play.turns;
+          named = all-named (length scenario.documents) is.history is.is_play.named;
+        };
+        transcripts = is.transcripts;
+        runs = is.is_play.runs;
+      },
+      is.text_is,
+    )

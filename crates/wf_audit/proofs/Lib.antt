@@ -1,0 +1,3 @@
+pub mod DocumentLemmas
+pub mod LawLemmas
+pub mod TapeRunLemmas
