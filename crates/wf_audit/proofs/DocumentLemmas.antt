@@ -1,12 +1,13 @@
 -- Documents that come to their transcripts, one after another.
 use Rattle.std.proofs.Common.{◌≡◌, ◌≢◌, ◌<◌, ◌≤◌, ◌+◌, ℕ, List, [], ◌∷◌, ◌++◌, length, map, take, refl}
-use Rattle.std.proofs.Common.{ap, sym, subst, ◌∙◌, arith, add-one, get_or, Some}
+use Rattle.std.proofs.Common.{ap, sym, subst, ◌∙◌, arith, add-one, below_more, get_or, length-take, Some}
 use Rattle.std.proofs.Math.Seq.{take-suc}
 use Rattle.std.proofs.lemmas.List.{map_push, take_all}
-use Rattle.std.proofs.lemmas.List.Elements.{All-nil}
+use Rattle.std.proofs.lemmas.List.Elements.{All-nil, All-push}
 use Rattle.std.proofs.lemmas.Option.{get_or_from_slice_get, slice_get_within}
 use Rattle.std.specs.List.{All, slice_get}
 use Rattle.wf_book.specs.declared.entry.Entry.{Entry}
+use Rattle.wf_script_events.specs.declared.events.Ending.TheVariants.{Memory}
 use Rattle.wf_script_events.specs.declared.events.Transcript.{Transcript}
 use Rattle.wf_print.specs.Text.{HasText}
 use Rattle.wf_script_run.specs.Documents.{EachDocument}
@@ -46,7 +47,7 @@ pub record CameSoFar (scenario : Scenario) (history : List Entry) (count : ℕ) 
 pub none-yet : (scenario : Scenario) (history : List Entry) → CameSoFar scenario history 0 []
 none-yet scenario history = record {
   runs = EachDocument.none;
-  told = ?;
+  told = All-nil (λ (t : Transcript). t.ending ≢ Memory);
   before = λ earlier below. absurd (omega (arith, below));
 }
 
@@ -54,7 +55,34 @@ pub one-more-came : (scenario : Scenario) (history : List Entry) (count : ℕ) (
     (transcript : Transcript) → CameSoFar scenario history count transcripts
     → CameTo scenario history count transcript
     → CameSoFar scenario history (count + 1) (transcripts ++ transcript ∷ [])
-one-more-came scenario history count transcripts transcript so_far came = ?
+one-more-came scenario history count transcripts transcript so_far came =
+    let documents = scenario.documents in
+    let Is = IsTranscript by_rules scenario scenario.now history in
+    let way : Document → Way (List Server) = λ d. way_to_servers scenario in
+    let within : count < length documents = slice_get_within documents count came.document came.document_is in
+    let one : take (count + 1) documents ≡ take count documents ++ came.document ∷ [] =
+    ap (λ (m : ℕ). take m documents) (add-one count) ∙ take-suc documents count came.document within
+    ∙ ap (λ (d : Document). take count documents ++ d ∷ [])
+    (get_or_from_slice_get documents count came.document came.document came.document_is) in
+    let ways : map way (take count documents ++ came.document ∷ [])
+        ≡ map way (take count documents) ++ way_to_servers scenario ∷ [] =
+    map_push way (take count documents) came.document in
+    let size : 0 + length (take count documents) ≡ count = omega (arith, within, length-take count documents) in
+    record {
+      runs = subst (λ (l : List Document). EachDocument Is 0 l (map way l) (map way l) (transcripts ++ transcript ∷ []))
+          (sym one)
+          (subst (λ (w : List (Way (List Server))). EachDocument Is 0 (take count documents ++ came.document ∷ []) w w
+          (transcripts ++ transcript ∷ [])) (sym ways)
+          (each-more so_far.runs (subst (λ (n : ℕ). ComesTo scenario history n came.document transcript) (sym size)
+          came.comes)));
+      told = All-push (λ (t : Transcript). t.ending ≢ Memory) transcripts transcript so_far.told came.told;
+      before = below_more _ _ so_far.before (record {
+        document = came.document;
+        document_is = came.document_is;
+        transcript = transcript;
+        comes = came.comes;
+      });
+    }
 
 pub all-came : (scenario : Scenario) (history : List Entry) (transcripts : List Transcript)
     → CameSoFar scenario history (length scenario.documents) transcripts → AllCame scenario history transcripts

@@ -1,5 +1,7 @@
 -- What a verdict says of a play, and what a play says of its verdict.
-use Rattle.std.proofs.Common.{◌≡◌, ◌≤◌, ◌<◌, ◌+◌, ℕ, List, [], ◌∷◌, length, refl, ap, sym, subst, ◌∙◌, arith, None}
+use Rattle.std.proofs.Common.{◌≡◌, ◌≤◌, ◌<◌, ◌+◌, ℕ, Bool, true, false, List, [], ◌∷◌, length, refl, ap, sym, subst}
+use Rattle.std.proofs.Common.{◌∙◌, arith, None}
+use Rattle.std.proofs.lemmas.Bool.Decides.{nat_tests}
 use Rattle.std.proofs.lemmas.Grind.{common_steps}
 use Rattle.std.specs.Prelude.{nat_le, position}
 use Rattle.std.specs.List.{AllByRecursion, position_or_len}
@@ -44,13 +46,48 @@ right-legal book turn (e ∷ history) legal turns = (
 
 -- ---- no entry names no document
 
+none-passes : {X : Type 0} (p : X → Bool) (xs : List X) → position p xs ≡ None → length xs ≤ position_or_len p xs
+none-passes p xs none = grind (arith, common_steps)
+
+passes-none : {X : Type 0} (p : X → Bool) (xs : List X) → length xs ≤ position_or_len p xs → position p xs ≡ None
+passes-none p xs far = grind (arith, nat_tests)
+
+at-once : {X : Type 0} (p : X → Bool) (x : X) (xs : List X) → p x ≡ true → position_or_len p (x ∷ xs) ≡ 0
+at-once p x xs is = rw is refl
+
+one-later : {X : Type 0} (p : X → Bool) (x : X) (xs : List X) → p x ≡ false
+    → position_or_len p (x ∷ xs) ≡ 1 + position_or_len p xs
+one-later p x xs is = rw is refl
+
+named-far : (count : ℕ) (history : List Entry)
+    → length history ≤ position_or_len (is_stranger count) history
+    → AllByRecursion (λ (e : Entry). e.document < count) history
+named-far count [] far = tt
+named-far count (e ∷ history) far = by (nat_le count e.document) refl
+  where
+    by : (b : Bool) → nat_le count e.document ≡ b
+        → (e.document < count) × AllByRecursion (λ (e : Entry). e.document < count) history
+    by true is = absurd (omega (arith, far, at-once (is_stranger count) e history is))
+    by false is = (
+      grind (arith, nat_tests),
+      named-far count history (omega (arith, far, one-later (is_stranger count) e history is)),
+    )
+
+far-named : (count : ℕ) (history : List Entry) → AllByRecursion (λ (e : Entry). e.document < count) history
+    → length history ≤ position_or_len (is_stranger count) history
+far-named count [] all = omega arith
+far-named count (e ∷ history) all =
+    let below : e.document < count = all.0 in
+    let no : nat_le count e.document ≡ false = grind (arith, nat_tests) in
+    omega (arith, far-named count history all.1, one-later (is_stranger count) e history no)
+
 named-all : (count : ℕ) (history : List Entry) → first_stranger count history ≡ None
     → AllByRecursion (λ (e : Entry). e.document < count) history
-named-all count history none = ?
+named-all count history none = named-far count history (none-passes (is_stranger count) history none)
 
 all-named : (count : ℕ) (history : List Entry) → AllByRecursion (λ (e : Entry). e.document < count) history
     → first_stranger count history ≡ None
-all-named count history all = ?
+all-named count history all = passes-none (is_stranger count) history (far-named count history all)
 
 -- ---- the laws
 

@@ -8,7 +8,8 @@ use Rattle.std.specs.List.{slice_get}
 use Rattle.wf_book.specs.declared.book.Book.{Book}
 use Rattle.wf_book.specs.declared.entry.Entry.{Entry}
 use Rattle.wf_book.specs.declared.op.Op.{Op}
-use Rattle.wf_book.specs.Entries.{entries_of}
+use Rattle.wf_book.specs.declared.op.Reply.TheVariants.{Done}
+use Rattle.wf_book.specs.Entries.{entries_of, entry}
 use Rattle.wf_book.proofs.EntryLemmas.{entries_of-append}
 use Rattle.wf_script_events.specs.declared.events.Ending.{Ending}
 use Rattle.wf_script_events.specs.declared.events.Ending.TheVariants as ending
@@ -27,7 +28,8 @@ use Rattle.wf_iso.specs.Calls.{PartAtReply}
 use Rattle.wf_iso.specs.Laws.{CallsFollow, IsTold}
 use Rattle.wf_iso.specs.Plays.{IsTranscript, RunsOver, Way, by_rules, outside_on}
 use Rattle.wf_player_play.proofs.StandingLemmas.{by_bytes, ran-by-rules, sim_told, trace-state}
-use Rattle.wf_audit_tape.specs.Tapes.{IsParted, IsTape, IsUsedUp, Tape, account_of, first_op, seen_on, stray_entries}
+use Rattle.wf_audit_tape.specs.Tapes.{IsParted, IsTape, IsUsedUp, Tape, account_of, before_stray, first_op, seen_on}
+use Rattle.wf_audit_tape.specs.Tapes.{stray_entries, stray_reply}
 use Rattle.wf_audit.specs.Verdicts.{Comes, ComesTo, way_to_servers}
 use Rattle.wf_audit.specs.Private.Runs.{CameTo}
 
@@ -136,16 +138,47 @@ part-behind : (front more others : List Entry) → PartAtReply (front ++ more) (
 part-behind [] more others part = part
 part-behind (entry ∷ front) more others part = part-behind front more others (part.1 refl)
 
-own-stray : (number turn : ℕ) (op : Op) (ops : List Op)
-    → (rest : List Entry) × (e : Entry) × (e.op ≡ op)
-    × (entries_of number (stray_entries number turn (op ∷ ops)) ≡ e ∷ rest)
-own-stray number turn op ops = ?
+-- The document's own entry of a stray call, which follows one of another document.
+record OwnStray (number turn : ℕ) (op : Op) (ops : List Op) : Type 0 where
+  pub one : Entry
+  pub rest : List Entry
+  pub op_is : one.op ≡ op
+  pub own_is : entries_of number (stray_entries number turn (op ∷ ops)) ≡ one ∷ rest
+
+own-stray : (number turn : ℕ) (op : Op) (ops : List Op) → OwnStray number turn op ops
+own-stray number turn op ops =
+    let fake = entry turn (number + 1) (before_stray op) Done in
+    let one = entry (turn + 1) number op (stray_reply op) in
+    let rest = entries_of number (stray_entries number (turn + 2) ops) in
+    let other : (number + 1 == number) ≡ false = grind (arith, nat_tests) in
+    let same : (number == number) ≡ true = grind (arith, nat_tests) in
+    record {
+      one = one;
+      rest = rest;
+      op_is = refl;
+      own_is = ap (λ (b : Bool). cond b (fake ∷ cond (number == number) (one ∷ rest) rest)
+          (cond (number == number) (one ∷ rest) rest)) other
+          ∙ ap (λ (b : Bool). cond b (one ∷ rest) rest) same;
+    }
 
 -- entries that a tape has left, or a stray that it does not have, are no end of one run
+stray-not : (op : Op) (one : Entry) (rest left : List Entry) → one.op ≡ op → first_op left ≢ Some op
+    → PartAtReply (one ∷ rest) left → ⊥
+stray-not op one rest [] is parted part = absurd part
+stray-not op one rest (next ∷ left) is parted part =
+    parted (ap (λ (o : Op). let some : Option Op = Some o in some) (sym part.0 ∙ is))
+
+left-not : (left : List Entry) → (left ≡ [] → ⊥) → PartAtReply [] left → ⊥
+left-not [] not_used part = not_used refl
+left-not (next ∷ left) not_used part = absurd part
+
 parts-not : (number : ℕ) (left : List Entry) (turn : ℕ) (strays : List Op) → IsParted left strays
     → (strays ≡ [] → left ≡ [] → ⊥) → PartAtReply (entries_of number (stray_entries number turn strays)) left → ⊥
-parts-not number left turn [] parted not_used part = ?
-parts-not number left turn (op ∷ ops) parted not_used part = ?
+parts-not number left turn [] parted not_used part = left-not left (not_used refl) part
+parts-not number left turn (op ∷ ops) parted not_used part =
+    let own = own-stray number turn op ops in
+    stray-not op own.one own.rest left own.op_is parted
+    (subst (λ (l : List Entry). PartAtReply l left) own.own_is part)
 
 -- so the document comes to no transcript over the history
 pub unused-run : CallsFollow (List Server) → (scenario : Scenario) (number : ℕ) (history : List Entry)

@@ -7,5 +7,5 @@ mod runs;
 mod verdict;
 
 pub use audit::audit;
-pub use laws::{law_audited, law_one_verdict};
+pub use laws::law_audited;
 pub use verdict::Verdict;
