@@ -1,11 +1,10 @@
 -- Documents that come to their transcripts, one after another.
-use Rattle.std.proofs.Common.{◌≡◌, ◌≢◌, ◌<◌, ◌≤◌, ◌+◌, ℕ, List, [], ◌∷◌, ◌++◌, length, map, take, refl}
-use Rattle.std.proofs.Common.{ap, sym, subst, ◌∙◌, arith, add-one, below_more, get_or, length-take, Some}
+use Rattle.std.proofs.Common.{◌≡◌, ◌≢◌, ◌<◌, ◌+◌, ℕ, List, [], ◌∷◌, ◌++◌, length, map, take}
+use Rattle.std.proofs.Common.{ap, sym, subst, ◌∙◌, arith, add-one, below_more, length-take}
 use Rattle.std.proofs.Math.Seq.{take-suc}
 use Rattle.std.proofs.lemmas.List.{map_push, take_all}
 use Rattle.std.proofs.lemmas.List.Elements.{All-nil, All-push}
 use Rattle.std.proofs.lemmas.Option.{get_or_from_slice_get, slice_get_within}
-use Rattle.std.specs.List.{All, slice_get}
 use Rattle.wf_book.specs.declared.entry.Entry.{Entry}
 use Rattle.wf_script_events.specs.declared.events.Ending.TheVariants.{Memory}
 use Rattle.wf_script_events.specs.declared.events.Transcript.{Transcript}
@@ -14,7 +13,7 @@ use Rattle.wf_script_run.specs.Documents.{EachDocument}
 use Rattle.wf_script_values.specs.declared.document.Document.{Document}
 use Rattle.wf_script_values.specs.declared.scenario.Scenario.{Scenario}
 use Rattle.wf_script_values.specs.declared.servers.Server.{Server}
-use Rattle.wf_iso.specs.Plays.{IsTranscript, Way, by_rules, ways_to_servers}
+use Rattle.wf_iso.specs.Plays.{IsTranscript, Way, by_rules}
 use Rattle.wf_audit.specs.Verdicts.{Comes, ComesTo, StopsAt, way_to_servers}
 use Rattle.wf_audit.specs.Private.Runs.{AllCame, CameTo}
 
@@ -65,7 +64,7 @@ one-more-came scenario history count transcripts transcript so_far came =
     ∙ ap (λ (d : Document). take count documents ++ d ∷ [])
     (get_or_from_slice_get documents count came.document came.document came.document_is) in
     let ways : map way (take count documents ++ came.document ∷ [])
-        ≡ map way (take count documents) ++ way_to_servers scenario ∷ [] =
+    ≡ map way (take count documents) ++ way_to_servers scenario ∷ [] =
     map_push way (take count documents) came.document in
     let size : 0 + length (take count documents) ≡ count = omega (arith, within, length-take count documents) in
     record {

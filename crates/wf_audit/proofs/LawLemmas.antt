@@ -1,6 +1,6 @@
 -- What a verdict says of a play, and what a play says of its verdict.
 use Rattle.std.proofs.Common.{◌≡◌, ◌≤◌, ◌<◌, ◌+◌, ℕ, Bool, true, false, List, [], ◌∷◌, length, refl, ap, sym, subst}
-use Rattle.std.proofs.Common.{◌∙◌, arith, None}
+use Rattle.std.proofs.Common.{arith, None}
 use Rattle.std.proofs.lemmas.Bool.Decides.{nat_tests}
 use Rattle.std.proofs.lemmas.Grind.{common_steps}
 use Rattle.std.specs.Prelude.{nat_le, position}
@@ -13,9 +13,7 @@ use Rattle.wf_iso.specs.Laws.{PlaysAlone}
 use Rattle.wf_iso.specs.Plays.{HasTurnsFrom, IsPlay, by_rules, opening_book, ways_to_servers}
 use Rattle.wf_script_values.specs.declared.servers.Server.{Server}
 use Rattle.wf_audit_history.specs.Legality.{AreRight, first_stranger, is_stranger}
-use Rattle.wf_audit.specs.Laws.{IsAudited, IsComplete, IsSound, IsTextOfPlay}
-use Rattle.wf_audit.specs.Verdicts.{HasRun, IsVerdict}
-use Rattle.wf_audit.specs.declared.verdict.Verdict.TheVariants as verdict
+use Rattle.wf_audit.specs.Laws.{IsComplete, IsSound}
 
 -- ---- a history that the book gives is legal, and has its turns
 
@@ -59,19 +57,21 @@ one-later : {X : Type 0} (p : X → Bool) (x : X) (xs : List X) → p x ≡ fals
     → position_or_len p (x ∷ xs) ≡ 1 + position_or_len p xs
 one-later p x xs is = rw is refl
 
+named-one : (count : ℕ) (e : Entry) (history : List Entry) (b : Bool) → nat_le count e.document ≡ b
+    → length (e ∷ history) ≤ position_or_len (is_stranger count) (e ∷ history)
+    → (length history ≤ position_or_len (is_stranger count) history
+    → AllByRecursion (λ (e : Entry). e.document < count) history)
+    → AllByRecursion (λ (e : Entry). e.document < count) (e ∷ history)
+named-one count e history true is far more = absurd (omega (arith, far, at-once (is_stranger count) e history is))
+named-one count e history false is far more =
+    (grind (arith, nat_tests), more (omega (arith, far, one-later (is_stranger count) e history is)))
+
 named-far : (count : ℕ) (history : List Entry)
     → length history ≤ position_or_len (is_stranger count) history
     → AllByRecursion (λ (e : Entry). e.document < count) history
 named-far count [] far = tt
-named-far count (e ∷ history) far = by (nat_le count e.document) refl
-  where
-    by : (b : Bool) → nat_le count e.document ≡ b
-        → (e.document < count) × AllByRecursion (λ (e : Entry). e.document < count) history
-    by true is = absurd (omega (arith, far, at-once (is_stranger count) e history is))
-    by false is = (
-      grind (arith, nat_tests),
-      named-far count history (omega (arith, far, one-later (is_stranger count) e history is)),
-    )
+named-far count (e ∷ history) far =
+    named-one count e history (nat_le count e.document) refl far (λ later. named-far count history later)
 
 far-named : (count : ℕ) (history : List Entry) → AllByRecursion (λ (e : Entry). e.document < count) history
     → length history ≤ position_or_len (is_stranger count) history

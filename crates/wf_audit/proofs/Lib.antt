@@ -1,3 +1,4 @@
 pub mod DocumentLemmas
 pub mod LawLemmas
 pub mod TapeRunLemmas
+pub mod VerdictLemmas

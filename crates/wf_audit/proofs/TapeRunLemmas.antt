@@ -1,5 +1,5 @@
 -- A document's run over a tape of its entries: the transcript that it comes to, or that it comes to none.
-use Rattle.std.proofs.Common.{◌≡◌, ◌≢◌, ◌+◌, ℕ, Bool, true, false, cond, List, [], ◌∷◌, ◌++◌, length, take, drop, refl}
+use Rattle.std.proofs.Common.{◌≡◌, ◌≢◌, ◌<◌, ◌+◌, ℕ, zero, suc, Bool, true, false, cond, List, [], ◌∷◌, ◌++◌, length, take, drop, refl}
 use Rattle.std.proofs.Common.{ap, sym, subst, ◌∙◌, arith, Option, Some, None}
 use Rattle.std.proofs.lemmas.Bool.Decides.{nat_tests}
 use Rattle.std.proofs.lemmas.List.{append-nil, take-append-drop}
@@ -25,8 +25,8 @@ use Rattle.wf_link_wire.specs.Exchanges.{Answering}
 use Rattle.wf_player.specs.Playing.{Came, Ran}
 use Rattle.wf_player.specs.Worlds.{Outside, outside}
 use Rattle.wf_iso.specs.Calls.{PartAtReply}
-use Rattle.wf_iso.specs.Laws.{CallsFollow, IsTold}
-use Rattle.wf_iso.specs.Plays.{IsTranscript, RunsOver, Way, by_rules, outside_on}
+use Rattle.wf_iso.specs.Laws.{CallsFollow}
+use Rattle.wf_iso.specs.Plays.{RunsOver, by_rules, outside_on}
 use Rattle.wf_player_play.proofs.StandingLemmas.{by_bytes, ran-by-rules, sim_told, trace-state}
 use Rattle.wf_audit_tape.specs.Tapes.{IsParted, IsTape, IsUsedUp, Tape, account_of, before_stray, first_op, seen_on}
 use Rattle.wf_audit_tape.specs.Tapes.{stray_entries, stray_reply}
@@ -209,3 +209,30 @@ unused-run law scenario number history document new transcript at same over is u
   where
     some-same : {A : Type 0} {a b : A} → Some a ≡ Some b → a ≡ b
     some-same is = cc
+
+-- ---- a document
+
+pub document-at : (documents : List Document) (number : ℕ) → number < length documents
+    → (document : Document) × (slice_get documents number ≡ Some document)
+document-at [] number below = absurd (omega (arith, below))
+document-at (document ∷ documents) zero below = (document, refl)
+document-at (document ∷ documents) (suc number) below = document-at documents number (omega (arith, below))
+
+-- over what a pass has seen that was new, with a link that was, the document comes to its transcript
+pub came-to : (scenario : Scenario) (number : ℕ) (opening : Book) (history : List Entry) (document : Document)
+    (old new : Tape) (first link : SimState) (transcript : Transcript) → old ≡ fresh_tape number opening history
+    → first ≡ fresh_link scenario → new.document ≡ old.document → transcript.document ≡ number
+    → transcript.key ≡ (document_client document).key → transcript.ending ≢ ending.Memory
+    → Came by_bytes scenario.body_limit old.document (document_run scenario.cookies scenario.now document)
+    (outside account_of sim_told old first) transcript.events transcript.ending transcript.clock
+    (outside account_of sim_told new link) → ComesTo scenario (seen_on new) number document transcript
+came-to scenario number opening history document old new first link transcript fresh opened same numbered keyed told
+    came =
+    let one : old.document ≡ number = ap (λ (t : Tape). t.document) fresh in
+    let whole = document_run scenario.cookies scenario.now document in
+    seen-run scenario number opening history document new link transcript (same ∙ one) numbered keyed told
+    (subst (λ (t : Tape). Came by_bytes scenario.body_limit t.document whole
+    (outside account_of sim_told t (fresh_link scenario)) transcript.events transcript.ending transcript.clock
+    (outside account_of sim_told new link)) fresh
+    (subst (λ (l : SimState). Came by_bytes scenario.body_limit old.document whole (outside account_of sim_told old l)
+    transcript.events transcript.ending transcript.clock (outside account_of sim_told new link)) opened came))
