@@ -7,88 +7,12 @@ use Rattle.wf_link.specs.Sinks.{SinkTold, Took}
 use Rattle.wf_link.specs.Sources.{Gave, IsAtEnd, SourceTold}
 use Rattle.wf_audit_text.specs.Frames.{IsFramed}
 use Rattle.wf_audit.specs.declared.verdict.Verdict.{Verdict}
-use Rattle.wf_audit.specs.declared.verdict.Verdict.TheVariants as verdict
-use Rattle.wf_audit_program.specs.Private.Steps.{HasNone, HasVerdict, IsWhyNone, IsWritten}
-use Rattle.wf_audit_program.specs.Program.{Answers, AnswersInput, Failed, IsCause, IsComplained, IsDone, IsExcused}
+use Rattle.wf_audit_program.specs.Program.{Answers, AnswersInput, Failed, IsCause, IsComplained, IsDone}
 use Rattle.wf_audit_program.specs.Program.{IsExcusedRead, IsFound, IsTold, IsUnframed, IsVerdictTold, IsWhole}
 use Rattle.wf_audit_program.specs.Program.{most_input}
-use Rattle.wf_audit_program.specs.Statuses.{complaint, status_of, verdict_line}
+use Rattle.wf_audit_program.specs.Statuses.{complaint}
 use Rattle.wf_audit_program.specs.declared.status.AuditStatus.{AuditStatus}
 use Rattle.wf_audit_program.specs.declared.status.AuditStatus.TheVariants as status
-
--- ---- the steps
-
--- why there is no verdict is why the program comes to that status
-why-none : (bytes : List ℕ) (input input' : SourceTold) (output : SinkTold) (found : AuditStatus)
-    → IsWhyNone bytes input input' found → IsCause bytes input input' output output found
-why-none bytes input input' output status.ReadFault why = (why.0, why.1, refl)
-why-none bytes input input' output status.InputTooLong why = (why, refl)
-why-none bytes input input' output status.OutOfMemory why = (why, refl)
-why-none bytes input input' output status.BadFrame why = (why.0, why.1, refl)
-why-none bytes input input' output status.Ok why = absurd why
-why-none bytes input input' output status.Usage why = absurd why
-why-none bytes input input' output status.WriteFault why = absurd why
-why-none bytes input input' output (status.NotPlay one) why = absurd why
-
-pub done-none : (input input' : SourceTold) (output : SinkTold) (found : AuditStatus) → HasNone input input' found
-    → IsDone input input' output output found
-done-none input input' output found none = record {
-  bytes = none.bytes;
-  gave = none.gave;
-  cause = why-none none.bytes input input' output found none.why;
-}
-
--- a verdict whose line was written is that of the status
-module _ (input input' : SourceTold) (output output' : SinkTold) where
-  written-as : (one : Verdict) (has : HasVerdict input input' one) → Took output.taken output'.taken (verdict_line one)
-      → IsCause has.bytes input input' output output' (status_of one)
-  written-as verdict.Play has took = record { whole = has.given.whole; judged = has.judged; took = took }
-  written-as (verdict.Scenario place) has took =
-      (record { whole = has.given.whole; judged = has.judged; took = took }, λ e. cc (e))
-  written-as (verdict.History number) has took =
-      (record { whole = has.given.whole; judged = has.judged; took = took }, λ e. cc (e))
-  written-as (verdict.Illegal index) has took =
-      (record { whole = has.given.whole; judged = has.judged; took = took }, λ e. cc (e))
-  written-as (verdict.Stranger index) has took =
-      (record { whole = has.given.whole; judged = has.judged; took = took }, λ e. cc (e))
-  written-as (verdict.Calls number) has took =
-      (record { whole = has.given.whole; judged = has.judged; took = took }, λ e. cc (e))
-  written-as (verdict.Text offset) has took =
-      (record { whole = has.given.whole; judged = has.judged; took = took }, λ e. cc (e))
-
-  done-as : (one : Verdict) (found : AuditStatus) → HasVerdict input input' one
-      → (found ≡ status_of one) × Took output.taken output'.taken (verdict_line one)
-      → IsDone input input' output output' found
-  done-as one found has written = record {
-    bytes = has.bytes;
-    gave = has.given.gave;
-    cause = subst (IsCause has.bytes input input' output output') (sym written.0) (written-as one has written.1);
-  }
-
-  pub done-written : (one : Verdict) (found : AuditStatus) → HasVerdict input input' one
-      → IsWritten one output output' found → IsDone input input' output output' found
-  done-written one status.WriteFault has written = record {
-    bytes = has.bytes;
-    gave = has.given.gave;
-    cause = record {
-      whole = has.given.whole;
-      one = one;
-      judged = has.judged;
-      took = written.0;
-      failed = written.1;
-    };
-  }
-  done-written one status.OutOfMemory has written = record {
-    bytes = has.bytes;
-    gave = has.given.gave;
-    cause = (has.given.whole.short, written);
-  }
-  done-written one status.Ok has written = done-as one status.Ok has written
-  done-written one (status.NotPlay other) has written = done-as one (status.NotPlay other) has written
-  done-written one status.Usage has written = done-as one status.Usage has written
-  done-written one status.ReadFault has written = done-as one status.ReadFault has written
-  done-written one status.InputTooLong has written = done-as one status.InputTooLong has written
-  done-written one status.BadFrame has written = done-as one status.BadFrame has written
 
 -- ---- what was told
 
@@ -277,14 +201,16 @@ module _ (input input' : SourceTold) (output output' : SinkTold) where
       answers-input done = record {
         ok = λ is.
             let e = same is (λ e. cc (is, e)) in
-            let d = subst Done e done in
-            (record { bytes = d.bytes; gave = d.gave; reason_is = d.cause },
-            quiet-ok complaints complaints' found answer is_told e);
+            let d = subst Done e done in (
+              record { bytes = d.bytes; gave = d.gave; reason_is = d.cause },
+              quiet-ok complaints complaints' found answer is_told e,
+            );
         not_play = λ one is.
             let e = same is (λ e. cc (is, e)) in
-            let d = subst Done e done in
-            (record { bytes = d.bytes; gave = d.gave; reason_is = d.cause },
-            quiet-not complaints complaints' found answer one is_told e);
+            let d = subst Done e done in (
+              record { bytes = d.bytes; gave = d.gave; reason_is = d.cause },
+              quiet-not complaints complaints' found answer one is_told e,
+            );
         complete = λ bytes scenario play tells short framed.
             or-excused IsVerdictTold (complete bytes tells scenario play short framed found done);
         unframed = λ is.
@@ -305,11 +231,14 @@ module _ (input input' : SourceTold) (output output' : SinkTold) where
         is_answer = record { found = found; is_found = is_found; is_told = is_told };
         usage = λ is. usage-some words (subst (Found words) (same is (λ e. cc (is, e))) is_found);
         some_words = λ some.
-            let x = some-words words found some is_found in
-            (x.1, x.2, elim (told-answer complaints complaints' found answer is_told) [
-              | inl e ↦ inl (e ∙ x.0)
-              | inr y ↦ inr y
-            ]);
+            let x = some-words words found some is_found in (
+              x.1,
+              x.2,
+              elim (told-answer complaints complaints' found answer is_told) [
+                | inl e ↦ inl (e ∙ x.0)
+                | inr y ↦ inr y
+              ],
+            );
         no_words = λ none. answers-input (subst (λ (w : List (List ℕ)). Found w found) none is_found);
         read_fault = λ is. read-rose words (subst (Found words) (same is (λ e. cc (is, e))) is_found);
         write_fault = λ is. elim (told-answer complaints complaints' found answer is_told) [
