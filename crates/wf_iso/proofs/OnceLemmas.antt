@@ -17,6 +17,7 @@ use Rattle.wf_script_run.specs.Play.{Play, over}
 use Rattle.wf_script_run.specs.Traces.{PlayTrace, shown, stepped, stop}
 use Rattle.wf_link_wire.specs.Exchanges.{Answering, Exchange}
 use Rattle.wf_player.specs.Worlds.{Answers, IsCalled, Outside, Settles, World}
+use Rattle.wf_iso.specs.Calls.{PartAtReply}
 use Rattle.wf_iso.proofs.ExchangeLemmas.{Coming, IsOne, no-fault, one-body, one-head, one-sent}
 use Rattle.wf_iso.proofs.OrderLemmas.{Can, OrderedPlay, Stage, asking, headed, idle, stage_after}
 
@@ -130,6 +131,23 @@ module _ {State : Type 0} (by : Answering State) (limit document : ℕ) where
   one-entry own e f more others is = ap (first-of e) (append_cancel_left own (e ∷ more) (f ∷ others)
       (sym (append_assoc own (e ∷ []) more) ∙ is ∙ append_assoc own (f ∷ []) others))
 
+  -- of a call with one entry in both
+  alike-entry : (stage : Stage) (op : Op) (input other : Input) (a b c d : World State) → AreSame stage a b
+      → (is : IsCalled document a op input c) → (are : IsCalled document b op other d)
+      → is.asked.entry ≡ are.asked.entry → GoAlike stage (Ask op) input other c d
+  alike-entry stage op input other a b c d same is are entry = record {
+    input_is = is.asked.input_is ∙ ap (λ (e : Entry). Replied e.reply) entry ∙ sym are.asked.input_is;
+    same = record {
+      own = is.asked.own_is ∙ ap (λ (e : Entry). a.own ++ e ∷ []) entry
+          ∙ ap (λ (l : List Entry). l ++ are.asked.entry ∷ []) same.own ∙ sym are.asked.own_is;
+      state = same.state;
+      one = ap (λ (x : Exchange State). x.state) is.exchange_is ∙ same.one;
+      two = ap (λ (x : Exchange State). x.state) are.exchange_is ∙ same.two;
+      coming = subst (λ (x : Exchange State). Coming stage x d.exchange) (sym is.exchange_is)
+          (subst (λ (x : Exchange State). Coming stage a.exchange x) (sym are.exchange_is) same.coming);
+    };
+  }
+
   alike-ask : (stage : Stage) (op : Op) (input other : Input) (a b c d : World State) → AreSame stage a b
       → IsCalled document a op input c → IsCalled document b op other d → EndAlike c d
       → GoAlike stage (Ask op) input other c d
@@ -139,19 +157,8 @@ module _ {State : Type 0} (by : Answering State) (limit document : ℕ) where
       let both : (a.own ++ is.asked.entry ∷ []) ++ end.more ≡ (a.own ++ are.asked.entry ∷ []) ++ end.others =
       ap (λ (l : List Entry). l ++ end.more) (sym is.asked.own_is) ∙ end.same
       ∙ ap (λ (l : List Entry). l ++ end.others) (are.asked.own_is ∙ own) in
-      let entry : is.asked.entry ≡ are.asked.entry =
-      one-entry a.own is.asked.entry are.asked.entry end.more end.others both in
-      record {
-        input_is = is.asked.input_is ∙ ap (λ (e : Entry). Replied e.reply) entry ∙ sym are.asked.input_is;
-        same = record {
-          own = is.asked.own_is ∙ ap (λ (e : Entry). a.own ++ e ∷ []) entry ∙ sym (are.asked.own_is ∙ own);
-          state = same.state;
-          one = ap (λ (x : Exchange State). x.state) is.exchange_is ∙ same.one;
-          two = ap (λ (x : Exchange State). x.state) are.exchange_is ∙ same.two;
-          coming = subst (λ (x : Exchange State). Coming stage x d.exchange) (sym is.exchange_is)
-              (subst (λ (x : Exchange State). Coming stage a.exchange x) (sym are.exchange_is) same.coming);
-        };
-      }
+      alike-entry stage op input other a b c d same is are
+      (one-entry a.own is.asked.entry are.asked.entry end.more end.others both)
 
   -- of an act over the link, by what comes of it
   alike-exchange : (stage : Stage) (first : Act) (input other : Input) (a b c d : World State) (state : State)
@@ -261,3 +268,103 @@ module _ {State : Type 0} (by : Answering State) (limit document : ℕ) where
       (once law x (subst (λ (i : Input). PlayTrace (Answers by limit document) Settles (after i) place tapes
       events (over another time) d) (sym goes.input_is) y) (stage_after stage first input) (ordered.1 input) goes.same
       own none nothing)
+
+  -- ---- two traces of one run, replied to otherwise somewhere
+
+  -- what was added after an entry
+  after-entry : (own : List Entry) (mid last : World State) (e : Entry) (more rest : List Entry)
+      → mid.own ≡ own ++ e ∷ [] → last.own ≡ mid.own ++ rest → last.own ≡ own ++ more → more ≡ e ∷ rest
+  after-entry own mid last e more rest one all is =
+      append_cancel_left own more (e ∷ rest)
+      (sym is ∙ all ∙ ap (λ (l : List Entry). l ++ rest) one ∙ append_assoc own (e ∷ []) rest)
+
+  none-added : (own more : List Entry) → own ≡ own ++ more → more ≡ []
+  none-added own more is = append_cancel_left own more [] (sym is ∙ sym (append-nil own))
+
+  -- what follows an act in two worlds that are alike after it
+  Follows : Stage → Act → Input → Input → World State → World State → World State → World State → Type 0
+  Follows stage first input other mid place c d =
+      (more others : List Entry) → c.own ≡ mid.own ++ more → d.own ≡ place.own ++ others
+      → GoAlike stage first input other mid place → PartAtReply more others
+
+  -- one act, where it is no call
+  part-quiet : HasOneEnd → (stage : Stage) (first : Act) (input other : Input) (a b mid place c d : World State)
+      → Can stage first → AreSame stage a b → Answers by limit document a first input mid
+      → Answers by limit document b first other place → mid.own ≡ a.own → place.own ≡ b.own → Grown mid c
+      → Grown place d → c.exchange.faults ≡ 0 → d.exchange.faults ≡ 0 → Follows stage first input other mid place c d
+      → (more others : List Entry) → c.own ≡ a.own ++ more → d.own ≡ b.own ++ others → PartAtReply more others
+  unfolding Follows
+  part-quiet law stage first input other a b mid place c d can same is are own owns grew grows none nothing rest more
+      others one two =
+      rest more others (one ∙ ap (λ (l : List Entry). l ++ more) (sym own))
+      (two ∙ ap (λ (l : List Entry). l ++ others) (sym owns))
+      (alike law stage first input other a b mid place can same is are (record {
+        more = [];
+        others = [];
+        same = append-nil mid.own ∙ own ∙ same.own ∙ sym (append-nil place.own ∙ owns);
+        first = no-faults mid c grew none;
+        second = no-faults place d grows nothing;
+      }))
+
+  part-act : HasOneEnd → (stage : Stage) (first : Act) (input other : Input) (a b mid place c d : World State)
+      → Can stage first → AreSame stage a b → Answers by limit document a first input mid
+      → Answers by limit document b first other place → Grown mid c → Grown place d → c.exchange.faults ≡ 0
+      → d.exchange.faults ≡ 0 → Follows stage first input other mid place c d
+      → (more others : List Entry) → c.own ≡ a.own ++ more → d.own ≡ b.own ++ others → PartAtReply more others
+  unfolding Follows
+  part-act law stage (Ask op) input other a b mid place c d can same is are grew grows none nothing rest more others one
+      two =
+      let first = is.asked.entry in
+      let second = are.asked.entry in
+      subst (λ (l : List Entry). PartAtReply l others)
+      (sym (after-entry a.own mid c first more grew.more is.asked.own_is grew.own one))
+      (subst (PartAtReply (first ∷ grew.more))
+      (sym (after-entry b.own place d second others grows.more are.asked.own_is grows.own two)) (
+        is.asked.op_is ∙ sym are.asked.op_is,
+        λ entry. rest grew.more grows.more grew.own grows.own
+            (alike-entry stage op input other a b mid place same is are entry),
+      ))
+  part-act law stage (Send hop) input other a b mid place c d can same is are grew grows none nothing rest more others
+      one two =
+      part-quiet law stage (Send hop) input other a b mid place c d can same is are is.1.own_is are.1.own_is grew grows
+      none nothing rest more others one two
+  part-act law stage ReadHead input other a b mid place c d can same is are grew grows none nothing rest more others one
+      two =
+      part-quiet law stage ReadHead input other a b mid place c d can same is are is.own_is are.own_is grew grows none
+      nothing rest more others one two
+  part-act law stage ReadBody input other a b mid place c d can same is are grew grows none nothing rest more others one
+      two =
+      part-quiet law stage ReadBody input other a b mid place c d can same is are is.own_is are.own_is grew grows none
+      nothing rest more others one two
+  part-act law stage (Tell violation) input other a b mid place c d can same is are grew grows none nothing rest more
+      others one two =
+      part-quiet law stage (Tell violation) input other a b mid place c d can same is are
+      (ap (λ (w : World State). w.own) is.1) (ap (λ (w : World State). w.own) are.1) grew grows none nothing rest more
+      others one two
+
+  pub part : HasOneEnd → {p : Play} {a b c d : World State} {t u : List Input} {e f : List Event}
+      {ending another : Ending} {clock time : ℕ}
+      → PlayTrace (Answers by limit document) Settles p a t e (over ending clock) c
+      → PlayTrace (Answers by limit document) Settles p b u f (over another time) d → (stage : Stage)
+      → OrderedPlay stage p → AreSame stage a b → c.exchange.faults ≡ 0 → d.exchange.faults ≡ 0
+      → (more others : List Entry) → c.own ≡ a.own ++ more → d.own ≡ b.own ++ others → PartAtReply more others
+  unfolding Follows
+  part law {a = a} {b = b} stop stop stage ordered same none nothing more others one two =
+      subst (λ (l : List Entry). PartAtReply l others) (sym (none-added a.own more one))
+      (subst (PartAtReply []) (sym (none-added b.own others two)) tt)
+  part law {a = a} {b = b} (shown {mid = mid} one_event is x) (shown {mid = place} other are y) stage ordered same none
+      nothing more others one two =
+      let left = left-by one_event a mid is in
+      let leaves = left-by one_event b place are in
+      part law x y idle ordered (settled one_event stage a b mid place same is are) none nothing more others
+      (one ∙ ap (λ (l : List Entry). l ++ more) (sym left.own))
+      (two ∙ ap (λ (l : List Entry). l ++ others) (sym leaves.own))
+  part law {a = a} {b = b} {c = c} {d = d} {another = another} {time = time}
+      (stepped {mid = mid} request first after input is fit x)
+      (stepped {mid = place} {tape = tapes} {events = events} about second behind other are fits_too y) stage ordered
+      same none nothing more others one two =
+      part-act law stage first input other a b mid place c d ordered.0 same is are (grown x) (grown y) none nothing
+      (λ rest others_then own owns goes. part law x
+      (subst (λ (i : Input). PlayTrace (Answers by limit document) Settles (after i) place tapes
+      events (over another time) d) (sym goes.input_is) y) (stage_after stage first input) (ordered.1 input) goes.same
+      none nothing rest others_then own owns) more others one two

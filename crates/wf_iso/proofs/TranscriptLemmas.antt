@@ -1,6 +1,7 @@
 -- The transcripts of a scenario with a history.
-use Rattle.std.proofs.Common.{None, ◌≡◌, ◌+◌, ℕ, List, [], ◌∷◌, Some, map, refl, ap, sym, ◌∙◌}
+use Rattle.std.proofs.Common.{None, ◌≡◌, ◌+◌, ℕ, List, [], ◌∷◌, ◌++◌, Some, map, refl, ap, sym, ◌∙◌}
 use Rattle.wf_book.specs.declared.entry.Entry.{Entry}
+use Rattle.wf_book.specs.Entries.{entries_of}
 use Rattle.wf_http1.specs.HeadLaws.{HasOneEnd}
 use Rattle.wf_script_events.specs.declared.events.Ending.{Ending}
 use Rattle.wf_script_events.specs.declared.events.Transcript.{Transcript}
@@ -11,9 +12,9 @@ use Rattle.wf_script_run.specs.Documents.{EachDocument}
 use Rattle.wf_script_run.specs.Play.{PlayRun, run_play}
 use Rattle.wf_link_wire.specs.Exchanges.{Answering}
 use Rattle.wf_iso.specs.Isolated.{run_in, run_of}
-use Rattle.wf_iso.specs.Laws.{IsTold, PlaysOnce, TapesOnce}
+use Rattle.wf_iso.specs.Laws.{CallsFollow, IsTold, PlaysOnce, TapesOnce}
 use Rattle.wf_iso.specs.Plays.{IsTranscript, Way, by_rules}
-use Rattle.wf_iso.proofs.OnceLemmas.{once, opened-same}
+use Rattle.wf_iso.proofs.OnceLemmas.{once, opened-same, part}
 use Rattle.wf_iso.proofs.OrderLemmas.{idle, ordered-document}
 
 some-same : {A : Type 0} {a b : A} → Some a ≡ Some b → a ≡ b
@@ -59,6 +60,23 @@ tapes-once law State by scenario base history number document old new transcript
   tape-once law by scenario base history number document old new transcript different told one two,
   transcript-once law by scenario base history number document old new transcript different told one two,
 )
+
+-- ---- in two histories
+
+pub calls-follow : HasOneEnd → (State : Type 0) → CallsFollow State
+calls-follow law State by scenario base history others number document old new transcript different told one two =
+    let x = one.run_is.ran in
+    let y = two.run_is.ran in
+    let opened : x.first.own ≡ [] = ap (λ o. o.own) x.from in
+    let opens : y.first.own ≡ [] = ap (λ o. o.own) y.from in
+    part by scenario.body_limit number law x.trace y.trace idle
+    (ordered-document scenario.cookies base document)
+    (opened-same by scenario.body_limit number told.state x.first y.first (opened ∙ sym opens)
+    (ap (λ o. o.state) x.from ∙ told.told) (ap (λ o. o.state) y.from ∙ told.told))
+    (ap (λ o. o.faults) x.to ∙ told.none) (ap (λ o. o.faults) y.to ∙ told.none)
+    (entries_of number history) (entries_of number others)
+    (ap (λ o. o.own) x.to ∙ ap (λ (l : List Entry). l ++ entries_of number history) (sym opened))
+    (ap (λ o. o.own) y.to ∙ ap (λ (l : List Entry). l ++ entries_of number others) (sym opens))
 
 -- ---- over the servers of a scenario
 

@@ -1,6 +1,6 @@
 -- The calls of the shared book that a document's run shows, and those that a history has of the document (this
 -- project's own definition).
-use Rattle.std.specs.Prelude.{ℕ, List, [], ◌∷◌, ◌++◌, map}
+use Rattle.std.specs.Prelude.{◌≡◌, ℕ, List, [], ◌∷◌, ◌++◌, map}
 use Rattle.wf_book.specs.declared.entry.Entry.{Entry}
 use Rattle.wf_book.specs.Entries.{entries_of}
 use Rattle.wf_script_events.specs.declared.events.Event.{Event}
@@ -24,6 +24,15 @@ call_of entry = record { op = entry.op; reply = entry.reply }
 -- the calls of entries
 abbrev pub calls_of : List Entry → List Made
 calls_of entries = map call_of entries
+
+-- The entries of one run in two histories: each is the same in both, up to the first that is another; that one is of
+-- the same op still. Neither list ends before.
+abbrev pub PartAtReply : List Entry → List Entry → Type 0
+PartAtReply [] [] = Unit {0}
+PartAtReply [] (entry ∷ entries) = ⊥
+PartAtReply (entry ∷ entries) [] = ⊥
+PartAtReply (entry ∷ entries) (other ∷ others) =
+    (entry.op ≡ other.op) × (entry ≡ other → PartAtReply entries others)
 
 -- the calls of a document in a history, in order
 abbrev pub document_calls : ℕ → List Entry → List Made

@@ -6,7 +6,7 @@ use Rattle.std.specs.List.{AllByRecursion}
 use Rattle.wf_fetch_acts.specs.declared.act.Input.{Input}
 use Rattle.wf_book.specs.declared.book.Book.{Book}
 use Rattle.wf_book.specs.declared.entry.Entry.{Entry}
-use Rattle.wf_book.specs.Entries.{Legal}
+use Rattle.wf_book.specs.Entries.{Legal, entries_of}
 use Rattle.wf_book.specs.Ops.{InRange}
 use Rattle.wf_book.specs.Past.{is_of_key}
 use Rattle.wf_script_commands.specs.Valid.{AreValid}
@@ -20,7 +20,7 @@ use Rattle.wf_link_wire.specs.Exchanges.{Answering}
 use Rattle.wf_fetch_laws.specs.Apart.{Made, replies_on, views_on}
 use Rattle.wf_iso.specs.Alone.{alone, pasts}
 use Rattle.wf_iso.specs.Apart.{apart, plan_of}
-use Rattle.wf_iso.specs.Calls.{calls_in, document_calls}
+use Rattle.wf_iso.specs.Calls.{PartAtReply, calls_in, document_calls}
 use Rattle.wf_iso.specs.Isolated.{IsIsolated, run_in, run_of}
 use Rattle.wf_iso.specs.Plays.{IsPlay, IsPlayOver, IsTranscript, Way, opening_book}
 
@@ -93,6 +93,16 @@ TapesOnce State =
     → (one : IsTranscript by scenario base history number document old new transcript)
     → (two : IsTranscript by scenario base history number document old new different)
     → (one.run_is.ran.tape ≡ two.run_is.ran.tape) × (transcript ≡ different)
+
+-- In two histories a document's runs over such links make the same calls, up to the first that is replied to otherwise:
+-- what was replied so far determines the next call, or that there is none.
+abbrev pub CallsFollow : Type 0 → Type 0
+CallsFollow State =
+    (by : Answering State) (scenario : Scenario) (base : ℕ) (history others : List Entry) (number : ℕ)
+    (document : Document) (old new : Way State) (transcript different : Transcript) → IsTold old new
+    → IsTranscript by scenario base history number document old new transcript
+    → IsTranscript by scenario base others number document old new different
+    → PartAtReply (entries_of number history) (entries_of number others)
 
 -- so a scenario has one play over its servers with a history
 abbrev pub PlaysOnce : Type 0

@@ -48,6 +48,14 @@ pub fn law_one_play<L: Link>()
     law_one_end();
 }
 
+/// A law: where its links tell and do not fail, a document's runs in two histories make the same calls, up to the first
+/// that is replied to otherwise. The call does nothing.
+pub fn law_same_calls<L: Link>()
+    ensures { laws.CallsFollow L.State }
+{
+    law_one_end();
+}
+
 /// A law: in a play over any links what each document sends and sees is what it would alone. The call does nothing.
 pub fn law_isolated<L: Link>()
     ensures { laws.PlaysAlone L.State }

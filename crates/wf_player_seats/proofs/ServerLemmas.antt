@@ -109,7 +109,7 @@ event-state a (event.TypeError fault) b is = ap (λ (w : World (List Server)). w
 event-state a (event.LoadError fault) b is = ap (λ (w : World (List Server)). w.exchange.state) is
 
 -- the servers stay as they are over a run
-trace-state : (limit document : ℕ) {p q : Play} {a b : World (List Server)} {t : List Input} {e : List Event}
+pub trace-state : (limit document : ℕ) {p q : Play} {a b : World (List Server)} {t : List Input} {e : List Event}
     → PlayTrace (Answers by_bytes limit document) Settles p a t e q b → b.exchange.state ≡ a.exchange.state
 trace-state limit document stop = refl
 trace-state limit document {a = a} (shown {mid = mid} one is x) =

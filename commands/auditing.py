@@ -1,0 +1,186 @@
+"""What bin/audit does: asks playaudit for its verdict, and shows the place that the verdict names."""
+import os
+import re
+import subprocess
+
+from commands import running
+
+LINE = re.compile(rb"not a play: (\w+) (.*)\n", re.S)
+ENTRY = re.compile(r"(\d+) (\d+) (.*): (yes|no|done)")
+LONGEST = 160  # bytes of a line that is shown
+TRIES = 5  # plays that are made, where the order of documents matters
+
+
+class Verdict:
+    """The name of a case, and its value: a number, of a scenario a place."""
+
+    def __init__(self, name, value):
+        self.name = name
+        self.value = value if name == "Scenario" else int(value)
+
+
+def program():
+    return os.environ.get("PLAYAUDIT", os.path.join(running.ROOT, "bin", "playaudit"))
+
+
+def framed(scenario, play):
+    """The input of playaudit."""
+    return b"%d\n%s%s" % (len(scenario), scenario, play)
+
+
+def verdict(scenario, play):
+    """The verdict on two files' bytes, or None where the text is a play."""
+    try:
+        ran = subprocess.run([program()], input=framed(scenario, play), stdout=subprocess.PIPE, stderr=subprocess.PIPE)
+    except OSError as error:
+        raise running.Failed("%s: %s" % (program(), error.strerror)) from error
+    if ran.returncode == 0 and ran.stdout == b"play\n":
+        return None
+    found = LINE.fullmatch(ran.stdout)
+    if ran.returncode != 2 or not found:
+        said = (ran.stderr.decode("utf-8", "replace").strip().splitlines() or ["it said nothing"])[-1]
+        raise running.Failed("%s ended with the status %d: %s" % (program(), ran.returncode, said))
+    return Verdict(found.group(1).decode(), found.group(2).decode("utf-8", "replace"))
+
+
+class Text:
+    """The lines of a printed text, and where its history stands among them."""
+
+    def __init__(self, data):
+        self.text = data.decode("latin-1")
+        self.lines = self.text.split("\n")
+        self.heading = self.lines.index("history") if "history" in self.lines else None
+
+    def line_at(self, offset):
+        """The number of the line, from 0, in which a byte stands, and the byte's place in it."""
+        number = self.text.count("\n", 0, offset)
+        return number, offset - (self.text.rfind("\n", 0, offset) + 1)
+
+    def line(self, number):
+        return self.lines[number] if number < len(self.lines) else ""
+
+    def entries(self):
+        """The entries of the history: turn, document, operation and reply."""
+        if self.heading is None:
+            return []
+        found = [ENTRY.fullmatch(line) for line in self.lines[self.heading + 1:]]
+        return [(int(one[1]), int(one[2]), one[3], one[4]) for one in found if one]
+
+    def calls(self):
+        """The calls of each document, in order."""
+        by = {}
+        for _, document, op, reply in self.entries():
+            by.setdefault(document, []).append((op, reply))
+        return by
+
+    def blocks(self):
+        """The lines of each document, by its number."""
+        by, document = {}, None
+        for line in self.lines[1:self.heading]:
+            found = re.match(r"document (\d+) ", line)
+            document = int(found.group(1)) if found else document
+            by.setdefault(document, []).append(line)
+        return by
+
+
+def shown(line):
+    """A line, cut where it is long."""
+    return line if len(line) <= LONGEST else "%s ... (%d bytes more)" % (line[:LONGEST], len(line) - LONGEST)
+
+
+def told(found, scenario, play, name):
+    """What is said of a verdict, line by line."""
+    if found is None:
+        return ["play"]
+    text = Text(play)
+    return ["not a play: %s %s" % (found.name, found.value)] + CASES[found.name](found.value, scenario, text, name)
+
+
+def at(name, number, text, what):
+    """A place in the play: its file, the line's number from 1, and the line."""
+    return ["%s:%d: %s" % (name, number + 1, what), "  found:  " + shown(text.line(number))]
+
+
+def of_scenario(place, scenario, text, name):
+    return ["The scenario itself is refused at %s: bin/why says what is wrong there." % place]
+
+
+def of_history(number, scenario, text, name):
+    if number == 0 and text.heading is None:
+        return ["The text has no line `history`."]
+    if number == 0:
+        return at(name, len(text.lines) - 1, text, "the text does not end in the line `done` and its LF")
+    return at(name, text.heading + number, text, "this is no line of a history")
+
+
+def of_illegal(index, scenario, text, name):
+    turn, _, op, reply = text.entries()[index]
+    lines = at(name, text.heading + 1 + index, text, "entry %d is not what the book gives" % index)
+    if turn != index:
+        return lines + ["  wanted: turn %d, since each entry has the number of its place" % index]
+    if op.split(" ", 1)[0] in ("match", "covers"):
+        return lines + ["  wanted: the reply `%s`, by the entries before it" % ("no" if reply == "yes" else "yes")]
+    return lines + ["  wanted: the reply `done`"]
+
+
+def of_stranger(index, scenario, text, name):
+    return at(name, text.heading + 1 + index, text, "entry %d names no document of the scenario" % index)
+
+
+def plays(scenario):
+    """Plays of the scenario: with more than one document they may differ."""
+    for _ in range(TRIES):
+        yield Text(running.played(scenario).encode("latin-1"))
+
+
+def of_calls(document, scenario, text, name):
+    given = text.calls().get(document, [])
+    lines = ["Document %d has %d entries of the history, and its run over them makes other calls." % (document, len(given))]
+    for made in plays(scenario):
+        calls = made.calls().get(document, [])
+        same = 0
+        while same < len(given) and same < len(calls) and given[same] == calls[same]:
+            same += 1
+        if same < len(given) and same < len(calls) and given[same][0] == calls[same][0]:
+            continue  # Only the reply is another: this play tells nothing of what comes then.
+        number = place_of(text, document, same)
+        lines += at(name, number, text, "entry %d of document %d" % (same, document)) if number is not None else []
+        wanted = calls[same][0] if same < len(calls) else "no call more"
+        return lines + ["  wanted: " + shown(wanted)]
+    return lines
+
+
+def place_of(text, document, count):
+    """The line of a document's entry of this number, counted from 0."""
+    for number, (_, whose, _, _) in enumerate(text.entries()):
+        if whose == document:
+            if count == 0:
+                return text.heading + 1 + number
+            count -= 1
+    return None
+
+
+def of_text(offset, scenario, text, name):
+    number, column = text.line_at(offset)
+    lines = at(name, number, text, "byte %d, the %d. of this line, is not that of the play" % (offset, column + 1))
+    wanted = right(scenario, text)
+    if wanted is None:
+        return lines + ["  (The plays that were made here have other replies: what a play says there is not known.)"]
+    return lines + ["  a play: " + shown(wanted.line(number))]
+
+
+def right(scenario, text):
+    """The text that the play with this history has, where plays that are made here tell each document's part: a document
+    does the same where it calls the same and is replied to the same."""
+    parts, given = {}, text.calls()
+    for made in plays(scenario):
+        calls, blocks = made.calls(), made.blocks()
+        parts.update((one, lines) for one, lines in blocks.items() if calls.get(one, []) == given.get(one, []))
+        if len(parts) == len(blocks):
+            lines = ["fetchplay 1"] + [line for one in sorted(parts) for line in parts[one]]
+            return Text("\n".join(lines + text.lines[text.heading:]).encode("latin-1"))
+    return None
+
+
+CASES = {"Scenario": of_scenario, "History": of_history, "Illegal": of_illegal, "Stranger": of_stranger, "Calls": of_calls,
+         "Text": of_text}

@@ -1,0 +1,4 @@
+pub mod DocumentLemmas
+pub mod LawLemmas
+pub mod TapeRunLemmas
+pub mod VerdictLemmas

@@ -1,0 +1,13 @@
+ghost use Rattle.wf_audit.specs.Laws as laws;
+
+use wf_iso::law_isolated;
+use wf_sim::SimLink;
+
+/// A law: the verdict is `Play` exactly where the text is that of a play of the scenario, with the history that the
+/// text holds; and in that play what each document sends and sees is what it would alone. The call does nothing.
+pub fn law_audited()
+    ensures audited { laws.IsSound }
+    ensures complete { laws.IsComplete }
+{
+    law_isolated::<SimLink>();
+}

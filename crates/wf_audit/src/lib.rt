@@ -1,0 +1,11 @@
+// A printed play, audited: whether it is the text of a play of a scenario, and where not.
+#![tactic(auto)]
+
+mod cases;
+mod laws;
+mod runs;
+mod verdict;
+
+pub use cases::audit;
+pub use laws::law_audited;
+pub use verdict::Verdict;
