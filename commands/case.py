@@ -13,15 +13,16 @@ ALGORITHMS = ("sha256", "sha384", "sha512")
 
 
 class Case:
-    """`exchanges` are pairs of a request and its answer, in order; the answer is None where it is not known. `failed` is
-    a word for the link that failed, or None."""
+    """`exchanges` are pairs of a request and its answer, in order; the answer is None where it is not known. `is_net` says
+    whether real servers answered, "direct" whether they were asked by their own names, over TLS where the URL says so."""
 
     def __init__(self, scenario, fetch, exchanges, is_net=False):
         self.scenario = scenario
         self.fetch = fetch
         self.command = fetch.command
         self.result = fetch.result
-        self.is_net = is_net
+        self.is_net = bool(is_net)
+        self.is_direct = is_net == "direct"
         self.exchanges = exchanges
         self.request, self.answer = exchanges[-1] if exchanges else (None, None)
         self.chain = [(request, answer) for request, answer in exchanges if not is_preflight(request)]
@@ -275,6 +276,10 @@ class Case:
     @property
     def route(self):
         return self.scenario.route_of(self.request.origin)
+
+    @property
+    def secure_url(self):
+        return "https" + self.url[self.url.index(":"):]
 
     @property
     def link_problem(self):

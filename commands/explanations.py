@@ -32,7 +32,7 @@ CORS_CHECK = [
         "an empty 404 without CORS headers; {c.nearest_rule}", "",
         "add a rule for this request, or ask for a path that has one", CORS),
     Way("cors/tls-port-asked-in-plain", "7 12",
-        lambda c: c.is_net and c.status == 400 and c.request.origin.startswith("https:") and c.allowed_origin is None,
+        lambda c: c.is_net and not c.is_direct and c.status == 400 and c.request.origin.startswith("https:") and c.allowed_origin is None,
         "the answer is 400, as a TLS port gives it when it is asked in plain; `net` speaks no TLS, and {c.route} was asked "
         "in plain", "", "let the route lead to the server's plain port, or to a side process that ends TLS",
         "../check-your-server.md#what-the-scenario-says"),
@@ -229,6 +229,19 @@ ANSWERS = [
         "`Accept-Encoding: identity`", "Content-Encoding", "send it uncoded to such requests", BODY),
 ]
 
+# of connections that bin/ask makes itself
+DIRECT = [
+    Way("link/tls-port", "7 12 25", lambda c: c.link == "tls-port",
+        "{c.request.origin} speaks TLS, and was asked in plain", "", "ask for {c.secure_url}", "../why.md#binask"),
+    Way("link/certificate", "24", lambda c: c.link == "certificate",
+        "this machine does not trust the certificate that {c.request.origin} shows, and a browser would not either", "",
+        "let the server show a certificate for this name, with its whole chain; an authority of your own is named by "
+        "SSL_CERT_FILE", "../why.md#binask"),
+    Way("link/no-tls", "24", lambda c: c.link == "no-tls",
+        "{c.request.origin} was asked over TLS, and what came is none", "",
+        "ask for http, or let the server speak TLS at this port", "../why.md#binask"),
+]
+
 LINKS = [
     Way("link/no-route", "24", lambda c: c.route is None, "no route of the scenario is for {c.request.origin}", "",
         "add one: [\"{c.request.origin}\", \"127.0.0.1:8000\"]; scheme and port must be these",
@@ -327,7 +340,7 @@ SEEN = [
         "where it needs them send `Access-Control-Expose-Headers: {c.hidden_by_cors}`", "responses.md#exposed-names"),
 ]
 
-TABLE = CORS_CHECK + PREFLIGHTS + BEFORE_SENDING + ANSWERS + LINKS + REQUESTS + SEEN
+TABLE = DIRECT + CORS_CHECK + PREFLIGHTS + BEFORE_SENDING + ANSWERS + LINKS + REQUESTS + SEEN
 
 
 class Explanation:

@@ -61,12 +61,57 @@ static uint32_t known_host(void) { return fiorrudda_known_host(&book, T("a-host-
 static uint32_t essence(void) { return fiorrudda_essence(&headers, room, sizeof room, &len); }
 static uint32_t source_matches(void) { return fiorrudda_source_matches(T("https://a-host-of-a-long-name.example/p"), T("https://a-host-of-a-long-name.example/p"), T("https://a.example/"), 0); }
 
+static fiorrudda_handle client, request, fetch;
+
+// What came of the act that is to be done next, of a PUT that a preflight goes before.
+static uint32_t answered(uint32_t act, bool preflight) {
+    size_t used;
+    uint32_t reply;
+    switch (act) {
+    case FIORRUDDA_ACT_ASK: return fiorrudda_ask(&fetch, &book, &reply);
+    case FIORRUDDA_ACT_SEND: {
+        uint32_t code = fiorrudda_to_send(&fetch, room, 0, &len);
+        return code == FIORRUDDA_TOO_SHORT ? fiorrudda_input(&fetch, FIORRUDDA_INPUT_SENT) : code;
+    }
+    case FIORRUDDA_ACT_READ_HEAD:
+        return preflight ? fiorrudda_feed(&fetch, T("HTTP/1.1 204 X\r\nAccess-Control-Allow-Origin: *\r\n"
+            "Access-Control-Allow-Methods: PUT\r\nAccess-Control-Allow-Headers: x-a\r\n\r\n"), &used)
+            : fiorrudda_feed(&fetch, T("HTTP/1.1 200 X\r\nAccess-Control-Allow-Origin: *\r\nContent-Length: 40\r\n\r\n"), &used);
+    case FIORRUDDA_ACT_READ_BODY: return fiorrudda_feed(&fetch, T("0123456789012345678901234567890123456789"), &used);
+    default: return fiorrudda_input(&fetch, FIORRUDDA_INPUT_TOLD);
+    }
+}
+
+// A whole fetch. Where memory is refused, what was to be made is empty, or the fetch is gone.
+static uint32_t whole(void) {
+    uint32_t code, fault, header, act = FIORRUDDA_ACT_GONE;
+    if ((code = fiorrudda_client(&client, T("https://a-host-of-a-long-name.example/"), T("https://a.example/"), 0))) { HOLDS(!client.at); return code; }
+    if ((code = fiorrudda_client_policy(&client, T("connect-src 'self' 'nonce-x'"), false))) return code;
+    if ((code = fiorrudda_client_cookie(&client, T("https://a-host-of-a-long-name.example/"), T("a-cookie=of-more-than-thirty-bytes")))) return code;
+    if ((code = fiorrudda_request(&request, T("PUT"), T("https://b.example/a-path-of-more-than-thirty-bytes")))) { HOLDS(!request.at); return code; }
+    if ((code = fiorrudda_request_header(&request, T("X-A"), T("a value of more than thirty bytes")))) return code;
+    if ((code = fiorrudda_request_text(&request, FIORRUDDA_REQUEST_BODY, T("a body of more than thirty bytes, or so")))) return code;
+    if ((code = fiorrudda_fetch(&fetch, &client, &request, 1, 1000, &fault, &header))) { HOLDS(!fetch.at); return code; }
+    for (size_t heads = 0;;) {
+        HOLDS(fiorrudda_act(&fetch, &act) == FIORRUDDA_OK);
+        if (act == FIORRUDDA_ACT_OVER) return FIORRUDDA_OK;
+        heads += act == FIORRUDDA_ACT_SEND;
+        code = answered(act, heads == 1);
+        if (code == FIORRUDDA_OK) continue;
+        bool sending = act == FIORRUDDA_ACT_SEND;
+        HOLDS(fiorrudda_act(&fetch, &act) == FIORRUDDA_OK && (act == FIORRUDDA_ACT_GONE || sending));
+        if (act == FIORRUDDA_ACT_GONE)
+            for (uint32_t input = 0; input < 7; input++) HOLDS(fiorrudda_input(&fetch, input) == FIORRUDDA_NOT_AWAITED);
+        return code;
+    }
+}
+
 static const struct { const char *name; uint32_t (*call)(void); } calls[] = {
     {"headers", make_headers}, {"book", make_book}, {"append", append}, {"get", get},
     {"resource_policy", resource_policy}, {"origin", origin}, {"same_origin", same_origin},
     {"same_site", same_site}, {"trustworthy", trustworthy}, {"bad_port", bad_port},
     {"referrer", referrer}, {"integrity", integrity}, {"sts", sts}, {"note_host", note_host},
-    {"known_host", known_host}, {"essence", essence}, {"source_matches", source_matches},
+    {"known_host", known_host}, {"essence", essence}, {"source_matches", source_matches}, {"whole", whole},
 };
 
 // What the header list and the book hold is as it was: told by calls that the refused ones are not.
@@ -100,6 +145,9 @@ int main(void) {
     }
     fiorrudda_free(&headers);
     fiorrudda_free(&book);
+    fiorrudda_free(&client);
+    fiorrudda_free(&request);
+    fiorrudda_free(&fetch);
     HOLDS(blocks == 0);
     puts("memory: ok");
     return 0;

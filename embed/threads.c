@@ -1,4 +1,4 @@
-// Four threads, each with header lists of its own, which share a book under a lock.
+// Four threads, each with header lists and fetches of its own, which share a book under a lock.
 #include <pthread.h>
 #include <stdio.h>
 #include <string.h>
@@ -8,6 +8,31 @@
 
 static fiorrudda_handle book;
 static pthread_mutex_t turn = PTHREAD_MUTEX_INITIALIZER;
+
+// A fetch by handles of its own, which asks the shared book under the lock.
+static bool fetched(void) {
+    fiorrudda_handle client = {0}, request = {0}, fetch = {0};
+    uint32_t fault, header, reply, act = FIORRUDDA_ACT_GONE, code = 0;
+    size_t used;
+    if (fiorrudda_client(&client, T("http://0.example/"), T("http://0.example/"), 0)) return true;
+    if (fiorrudda_request(&request, T("GET"), T("/"))) return true;
+    if (fiorrudda_fetch(&fetch, &client, &request, 1, 100, &fault, &header)) return true;
+    for (int n = 0; n < 20 && !code && !fiorrudda_act(&fetch, &act) && act != FIORRUDDA_ACT_OVER; n++) {
+        if (act == FIORRUDDA_ACT_ASK) {
+            pthread_mutex_lock(&turn);
+            code = fiorrudda_ask(&fetch, &book, &reply);
+            pthread_mutex_unlock(&turn);
+        } else if (act == FIORRUDDA_ACT_SEND) {
+            code = fiorrudda_input(&fetch, FIORRUDDA_INPUT_SENT);
+        } else {
+            code = act == FIORRUDDA_ACT_READ_HEAD ? fiorrudda_feed(&fetch, T("HTTP/1.1 204 X\r\n\r\n"), &used) : fiorrudda_feed(&fetch, T(""), &used);
+        }
+    }
+    fiorrudda_free(&client);
+    fiorrudda_free(&request);
+    fiorrudda_free(&fetch);
+    return code || act != FIORRUDDA_ACT_OVER;
+}
 
 static void *work(void *number) {
     char host[] = "0.example";
@@ -21,6 +46,7 @@ static void *work(void *number) {
         uint32_t code = fiorrudda_note_host(&book, (const uint8_t *)host, 9, T("max-age=1"), (uint64_t)n);
         pthread_mutex_unlock(&turn);
         if (code) return "a note";
+        if (n % 10 == 0 && fetched()) return "a fetch";
     }
     return NULL;
 }

@@ -35,7 +35,7 @@ extern "C" {
 #define FIORRUDDA_WRONG_HANDLE 2u
 
 // Memory was refused. Nothing is written, and what handles hold is as it was; a call that makes something in a handle
-// leaves it empty.
+// leaves it empty, and a fetch that was told something is gone.
 #define FIORRUDDA_OUT_OF_MEMORY 3u
 
 // The room for the answer is too short. Nothing is written but how many bytes the answer has.
@@ -56,6 +56,12 @@ extern "C" {
 // A time is 2^48 seconds or more.
 #define FIORRUDDA_TOO_LATE 9u
 
+// What came is not what the fetch awaits. Nothing is changed.
+#define FIORRUDDA_NOT_AWAITED 10u
+
+// No request can be made of what is asked for; why is told.
+#define FIORRUDDA_NO_REQUEST 11u
+
 // No policy: the default one, strict-origin-when-cross-origin, counts.
 #define FIORRUDDA_REFERRER_DEFAULT 0u
 
@@ -75,9 +81,209 @@ extern "C" {
 
 #define FIORRUDDA_REFERRER_UNSAFE_URL 8u
 
-// One word that holds a header list or a book, or nothing: all zero it is empty. It is not to be copied, written or
-// read but by the calls below, and it is given to one call at a time, and not twice to one call. What it holds is
-// freed by `fiorrudda_free`.
+// Mode: one of the numbers FIORRUDDA_MODE_...
+#define FIORRUDDA_CHOOSE_MODE 0u
+
+#define FIORRUDDA_MODE_SAME_ORIGIN 0u
+
+#define FIORRUDDA_MODE_NO_CORS 1u
+
+#define FIORRUDDA_MODE_CORS 2u
+
+#define FIORRUDDA_MODE_NAVIGATE 3u
+
+// Credentials mode: one of the numbers FIORRUDDA_CREDENTIALS_...
+#define FIORRUDDA_CHOOSE_CREDENTIALS 1u
+
+#define FIORRUDDA_CREDENTIALS_OMIT 0u
+
+#define FIORRUDDA_CREDENTIALS_SAME_ORIGIN 1u
+
+#define FIORRUDDA_CREDENTIALS_INCLUDE 2u
+
+// Redirect mode: one of the numbers FIORRUDDA_REDIRECT_...
+#define FIORRUDDA_CHOOSE_REDIRECT 2u
+
+#define FIORRUDDA_REDIRECT_FOLLOW 0u
+
+#define FIORRUDDA_REDIRECT_ERROR 1u
+
+#define FIORRUDDA_REDIRECT_MANUAL 2u
+
+// Whether the referrer is the client, 1, or none, 0.
+#define FIORRUDDA_CHOOSE_REFERRER 3u
+
+// Referrer policy: one of the numbers FIORRUDDA_REFERRER_...
+#define FIORRUDDA_CHOOSE_REFERRER_POLICY 4u
+
+// Whether an upload listener is there, 1, or not, 0.
+#define FIORRUDDA_CHOOSE_UPLOAD 5u
+
+// The `crossorigin` attribute of an element that loads: one of the numbers FIORRUDDA_CROSSORIGIN_...
+#define FIORRUDDA_CHOOSE_CROSSORIGIN 6u
+
+#define FIORRUDDA_CROSSORIGIN_ABSENT 0u
+
+#define FIORRUDDA_CROSSORIGIN_ANONYMOUS 1u
+
+#define FIORRUDDA_CROSSORIGIN_USE_CREDENTIALS 2u
+
+// Whether a parser inserted the element that loads, 1, or not, 0.
+#define FIORRUDDA_CHOOSE_PARSER 7u
+
+// What an element loads.
+#define FIORRUDDA_LOAD_IMAGE 1u
+
+#define FIORRUDDA_LOAD_AUDIO 2u
+
+#define FIORRUDDA_LOAD_VIDEO 3u
+
+#define FIORRUDDA_LOAD_STYLE 4u
+
+#define FIORRUDDA_LOAD_SCRIPT 5u
+
+#define FIORRUDDA_LOAD_FONT 6u
+
+#define FIORRUDDA_LOAD_MANIFEST 7u
+
+// The texts of a request.
+#define FIORRUDDA_REQUEST_BODY 0u
+
+#define FIORRUDDA_REQUEST_INTEGRITY 1u
+
+#define FIORRUDDA_REQUEST_NONCE 2u
+
+// What a fetch does next: nothing, it is over.
+#define FIORRUDDA_ACT_OVER 0u
+
+// The book is to be asked or told: by `fiorrudda_ask`, or by `fiorrudda_input` with what another book says.
+#define FIORRUDDA_ACT_ASK 1u
+
+// A request is to be sent: `fiorrudda_to_send` has its bytes, and FIORRUDDA_TEXT_ORIGIN the server's origin.
+#define FIORRUDDA_ACT_SEND 2u
+
+// The head of the answer is to be read: `fiorrudda_feed` takes its bytes.
+#define FIORRUDDA_ACT_READ_HEAD 3u
+
+// The body of the answer is to be read, by the same call: first the bytes behind the head, be there some or none.
+#define FIORRUDDA_ACT_READ_BODY 4u
+
+// The document is to be told of a violation of its policies.
+#define FIORRUDDA_ACT_TELL 5u
+
+// Memory was refused, and the fetch is gone.
+#define FIORRUDDA_ACT_GONE 6u
+
+// What came of an act: the request was sent.
+#define FIORRUDDA_INPUT_SENT 0u
+
+// The document was told of the violation.
+#define FIORRUDDA_INPUT_TOLD 1u
+
+// The server ended the answer, or closed the connection: no more bytes come.
+#define FIORRUDDA_INPUT_ENDED 2u
+
+// The connection failed: the request could not be sent, or no more bytes can be received.
+#define FIORRUDDA_INPUT_FAILED 3u
+
+// A book of the caller's own replied yes, to a question.
+#define FIORRUDDA_INPUT_YES 4u
+
+// It replied no.
+#define FIORRUDDA_INPUT_NO 5u
+
+// It was told.
+#define FIORRUDDA_INPUT_DONE 6u
+
+// The serialised origin: of the server that is sent to, or of the request that a call of the preflight cache is for.
+#define FIORRUDDA_TEXT_ORIGIN 0u
+
+// The request target that is sent, the URL of a call of the preflight cache, the one that violates a policy, or the
+// response's.
+#define FIORRUDDA_TEXT_URL 1u
+
+// The method that is sent, or that the preflight cache is asked for, if any.
+#define FIORRUDDA_TEXT_METHOD 2u
+
+// The body that is sent, or that came whole.
+#define FIORRUDDA_TEXT_BODY 3u
+
+// The name of a header that is sent, or of the response.
+#define FIORRUDDA_TEXT_HEADER_NAME 4u
+
+// The value of such a header.
+#define FIORRUDDA_TEXT_HEADER_VALUE 5u
+
+// The host that the book is asked for or notes.
+#define FIORRUDDA_TEXT_HOST 6u
+
+// The key of the preflight cache's part.
+#define FIORRUDDA_TEXT_KEY 7u
+
+// A header name that the preflight cache is asked for or learns.
+#define FIORRUDDA_TEXT_NAME 8u
+
+// A method that the preflight cache learns.
+#define FIORRUDDA_TEXT_LEARNT 9u
+
+// The name of the directive that is violated, of the response's type, or of the network error.
+#define FIORRUDDA_TEXT_WORD 10u
+
+// The name of the header that a preflight did not allow.
+#define FIORRUDDA_TEXT_REFUSED 11u
+
+// What the book is asked: 0 match a host, 1 note a host, 2 does the preflight cache cover a request, 3 it learns, 4
+// it forgets.
+#define FIORRUDDA_NUMBER_CALL 0u
+
+// The time of that, in seconds.
+#define FIORRUDDA_NUMBER_TIME 1u
+
+// How many seconds a host or an entry is known.
+#define FIORRUDDA_NUMBER_AGE 2u
+
+// 1 where the names under the host are known too.
+#define FIORRUDDA_NUMBER_SUBDOMAINS 3u
+
+// 1 where the credentials mode is include.
+#define FIORRUDDA_NUMBER_INCLUDE 4u
+
+// 1 where a preflight is sent.
+#define FIORRUDDA_NUMBER_PREFLIGHT 5u
+
+// The number of the policy that is violated.
+#define FIORRUDDA_NUMBER_POLICY 6u
+
+// 1 where that is enforced.
+#define FIORRUDDA_NUMBER_ENFORCED 7u
+
+// What the fetch came to: 0 a response, 1 a load that succeeded, 2 a network error.
+#define FIORRUDDA_NUMBER_OUTCOME 8u
+
+// The response's status.
+#define FIORRUDDA_NUMBER_STATUS 9u
+
+// The number of the network error.
+#define FIORRUDDA_NUMBER_ERROR 10u
+
+// How the body ended: 0 it is null, 1 whole, 2 cut, 3 the connection failed, 4 too big.
+#define FIORRUDDA_NUMBER_END 11u
+
+// How many bytes of the body came.
+#define FIORRUDDA_NUMBER_COUNT 12u
+
+// How many headers are sent, or the response has.
+#define FIORRUDDA_NUMBER_HEADERS 13u
+
+// How many header names the preflight cache is asked for or learns.
+#define FIORRUDDA_NUMBER_NAMES 14u
+
+// How many methods it learns.
+#define FIORRUDDA_NUMBER_METHODS 15u
+
+// One word that holds a header list, a book, a client, a request or a fetch, or nothing: all zero it is empty. It is
+// not to be copied, written or read but by the calls below, and it is given to one call at a time, and not twice to
+// one call. What it holds is freed by `fiorrudda_free`.
 typedef struct fiorrudda_handle {
     void *at;
 } fiorrudda_handle;
@@ -108,6 +314,103 @@ uint32_t fiorrudda_essence(fiorrudda_handle *headers, uint8_t *room, size_t room
 // FIORRUDDA_OK where it matches; FIORRUDDA_NO; FIORRUDDA_NOT_A_URL, of the URL or of the page; FIORRUDDA_NOT_HTTP, of
 // the page; FIORRUDDA_OUT_OF_MEMORY.
 uint32_t fiorrudda_source_matches(const uint8_t *word, size_t word_len, const uint8_t *url, size_t url_len, const uint8_t *page, size_t page_len, uint32_t redirects);
+
+// Makes in a handle what a script asks of `fetch`: a URL, which may be relative to the client's, by a method (Fetch,
+// section 5.6). Its mode is cors, its credentials mode same-origin, its redirect mode follow, its referrer the
+// client; it has neither headers, body nor integrity metadata. What the handle held is freed first.
+//
+// FIORRUDDA_OK or FIORRUDDA_OUT_OF_MEMORY. The handle is empty but for FIORRUDDA_OK.
+uint32_t fiorrudda_request(fiorrudda_handle *request, const uint8_t *method, size_t method_len, const uint8_t *url, size_t url_len);
+
+// Makes in a handle what an element asks for that loads a resource (HTML, section 2.5.1, "create a potential-CORS
+// request"): one of the numbers FIORRUDDA_LOAD_.., and a URL, which may be relative to the client's. It has no
+// `crossorigin` attribute, no nonce and no integrity metadata, and no parser inserted it. What the handle held is
+// freed first.
+//
+// FIORRUDDA_OK; FIORRUDDA_NO_SUCH_NUMBER; FIORRUDDA_OUT_OF_MEMORY. The handle is empty but for FIORRUDDA_OK.
+uint32_t fiorrudda_load(fiorrudda_handle *request, uint32_t kind, const uint8_t *url, size_t url_len);
+
+// Adds a header to a `fetch`, its value without whitespace at its ends (Fetch, section 2.2.2, "normalize"). What is
+// no header is taken, and makes a fault of the request then.
+//
+// FIORRUDDA_OK; FIORRUDDA_NO, of a load, which has no headers; FIORRUDDA_WRONG_HANDLE; FIORRUDDA_OUT_OF_MEMORY. The
+// request is as it was but for FIORRUDDA_OK.
+uint32_t fiorrudda_request_header(fiorrudda_handle *request, const uint8_t *name, size_t name_len, const uint8_t *value, size_t value_len);
+
+// Sets a text of a request: its body, its integrity metadata or its nonce, by one of the numbers
+// FIORRUDDA_REQUEST_...
+//
+// FIORRUDDA_OK; FIORRUDDA_NO where it has none, as a `fetch` has no nonce and a load no body; FIORRUDDA_WRONG_HANDLE;
+// FIORRUDDA_NO_SUCH_NUMBER; FIORRUDDA_OUT_OF_MEMORY. The request is as it was but for FIORRUDDA_OK.
+uint32_t fiorrudda_request_text(fiorrudda_handle *request, uint32_t which, const uint8_t *text, size_t text_len);
+
+// Makes a choice of a request: one of the numbers FIORRUDDA_CHOOSE_.., and the number that it is set to.
+//
+// FIORRUDDA_OK; FIORRUDDA_NO where the request has no such choice, as a load has no mode; FIORRUDDA_WRONG_HANDLE;
+// FIORRUDDA_NO_SUCH_NUMBER. The request is as it was but for FIORRUDDA_OK.
+uint32_t fiorrudda_request_choose(fiorrudda_handle *request, uint32_t choice, uint32_t number);
+
+// Makes the client of a document in a handle (HTML, section 8.1.3.2, "environment settings object"): its URL, the URL
+// of the page at the top, which is its own where it is not embedded, and its referrer policy, one of the numbers
+// FIORRUDDA_REFERRER_... It has no content security policies and no cookies. What the handle held is freed first.
+//
+// FIORRUDDA_OK; FIORRUDDA_NO_SUCH_NUMBER; FIORRUDDA_NOT_A_URL and FIORRUDDA_NOT_HTTP, of either URL;
+// FIORRUDDA_OUT_OF_MEMORY. The handle is empty but for FIORRUDDA_OK.
+uint32_t fiorrudda_client(fiorrudda_handle *client, const uint8_t *url, size_t url_len, const uint8_t *top, size_t top_len, uint32_t policy);
+
+// Gives a client the policies of the value of a Content-Security-Policy header, or of a Content-Security-Policy-
+// Report-Only one where `enforced` is false (CSP 3, section 2.2). They are numbered from 0 on, in the order in which
+// they are given.
+//
+// FIORRUDDA_OK; FIORRUDDA_WRONG_HANDLE; FIORRUDDA_OUT_OF_MEMORY.
+uint32_t fiorrudda_client_policy(fiorrudda_handle *client, const uint8_t *value, size_t value_len, bool enforced);
+
+// Gives a client the value of the Cookie header for requests to the origin of a URL. The first of an origin counts.
+// Which cookies a request has is for the caller to say: it is sent with each request that includes credentials.
+//
+// FIORRUDDA_OK; FIORRUDDA_WRONG_HANDLE; FIORRUDDA_NOT_A_URL; FIORRUDDA_NOT_HTTP; FIORRUDDA_NOT_A_HEADER;
+// FIORRUDDA_OUT_OF_MEMORY. The client is as it was but for FIORRUDDA_OK.
+uint32_t fiorrudda_client_cookie(fiorrudda_handle *client, const uint8_t *url, size_t url_len, const uint8_t *value, size_t value_len);
+
+// Begins in a handle the fetch of a request for a client, at a time in seconds since any fixed moment, with bodies of
+// at most `limit` bytes (Fetch, section 4.1, "main fetch"). Nothing is kept of the client and the request: each may
+// be used again. What the handle held is freed first. The fetch is then done by a loop over its acts: `fiorrudda_act`
+// says what is to be done, and a call tells what came of it, until it is FIORRUDDA_ACT_OVER.
+//
+// FIORRUDDA_OK; FIORRUDDA_WRONG_HANDLE; FIORRUDDA_NO_REQUEST where no request can be made of it: `fault` is then the
+// number of the reason, from 1 to 9, and `header` the index of a header that is none (Fetch, sections 5.4 and 5.6);
+// FIORRUDDA_TOO_LATE; FIORRUDDA_OUT_OF_MEMORY. The handle is empty but for FIORRUDDA_OK, and but for
+// FIORRUDDA_NO_REQUEST nothing is written.
+uint32_t fiorrudda_fetch(fiorrudda_handle *fetch, fiorrudda_handle *client, fiorrudda_handle *request, uint64_t now, uint32_t limit, uint32_t *fault, uint32_t *header);
+
+// Tells in `act` what a fetch does next, by one of the numbers FIORRUDDA_ACT_... `fiorrudda_text` and
+// `fiorrudda_number` have the act's parts, or those of the outcome of a fetch that is over.
+//
+// FIORRUDDA_OK; FIORRUDDA_WRONG_HANDLE, and then nothing is written.
+uint32_t fiorrudda_act(fiorrudda_handle *fetch, uint32_t *act);
+
+// Writes a text that the act of a fetch has, or its outcome, at the beginning of `room`, with no NUL after it, and
+// tells in `len` how many bytes it is. The text is one of the numbers FIORRUDDA_TEXT_..; of a list it is that at the
+// index `at`.
+//
+// FIORRUDDA_OK; FIORRUDDA_NO where there is none; FIORRUDDA_TOO_SHORT where `room` has less than `len` bytes;
+// FIORRUDDA_WRONG_HANDLE; FIORRUDDA_NO_SUCH_NUMBER. But for FIORRUDDA_OK nothing is written to `room`, and but for
+// FIORRUDDA_OK and FIORRUDDA_TOO_SHORT nothing to `len`.
+uint32_t fiorrudda_text(fiorrudda_handle *fetch, uint32_t which, size_t at, uint8_t *room, size_t room_len, size_t *len);
+
+// Tells a number that the act of a fetch has, or its outcome: one of the numbers FIORRUDDA_NUMBER_...
+//
+// FIORRUDDA_OK; FIORRUDDA_NO where there is none; FIORRUDDA_WRONG_HANDLE; FIORRUDDA_NO_SUCH_NUMBER. But for
+// FIORRUDDA_OK nothing is written.
+uint32_t fiorrudda_number(fiorrudda_handle *fetch, uint32_t which, uint64_t *number);
+
+// Writes all bytes of the request that a fetch sends (RFC 9112, section 3) at the beginning of `room`, and tells in
+// `len` how many they are. They are for the server of FIORRUDDA_TEXT_ORIGIN, over a connection of their own.
+//
+// FIORRUDDA_OK; FIORRUDDA_NO where nothing is sent; FIORRUDDA_TOO_SHORT where `room` has less than `len` bytes;
+// FIORRUDDA_WRONG_HANDLE; FIORRUDDA_OUT_OF_MEMORY. But for FIORRUDDA_OK nothing is written to `room`, and but for
+// FIORRUDDA_OK and FIORRUDDA_TOO_SHORT nothing to `len`.
+uint32_t fiorrudda_to_send(fiorrudda_handle *fetch, uint8_t *room, size_t room_len, size_t *len);
 
 // Makes an empty header list in a handle (Fetch, section 2.2.2). What the handle held is freed first, also where
 // memory is refused.
@@ -155,6 +458,37 @@ uint32_t fiorrudda_known_host(fiorrudda_handle *book, const uint8_t *host, size_
 // FIORRUDDA_OK; FIORRUDDA_NO where the field is to be ignored; FIORRUDDA_OUT_OF_MEMORY. But for FIORRUDDA_OK nothing
 // is written.
 uint32_t fiorrudda_sts(const uint8_t *field, size_t field_len, uint64_t *age, uint32_t *subdomains);
+
+// Tells a fetch what came of its act, by one of the numbers FIORRUDDA_INPUT_... FIORRUDDA_INPUT_SENT follows
+// FIORRUDDA_ACT_SEND; FIORRUDDA_INPUT_TOLD follows FIORRUDDA_ACT_TELL; FIORRUDDA_INPUT_ENDED follows
+// FIORRUDDA_ACT_READ_HEAD and FIORRUDDA_ACT_READ_BODY; FIORRUDDA_INPUT_FAILED follows these three;
+// FIORRUDDA_INPUT_YES and FIORRUDDA_INPUT_NO follow FIORRUDDA_ACT_ASK where it is a question, and
+// FIORRUDDA_INPUT_DONE where not.
+//
+// FIORRUDDA_OK; FIORRUDDA_NOT_AWAITED where it does not follow, and then the fetch stands where it stood;
+// FIORRUDDA_WRONG_HANDLE; FIORRUDDA_NO_SUCH_NUMBER; FIORRUDDA_OUT_OF_MEMORY, and then the fetch is gone: its act is
+// FIORRUDDA_ACT_GONE.
+uint32_t fiorrudda_input(fiorrudda_handle *fetch, uint32_t input);
+
+// Hands a fetch the next bytes of the answer, in any piece, be it empty, and tells in `used` how many of them were
+// read (RFC 9112, sections 4, 6 and 7). Where a head ends in the piece, the bytes behind it are not read: they are
+// the first of the body, and are handed in again where the next act is FIORRUDDA_ACT_READ_BODY, also where there are
+// none. What follows a body is of no use, and the connection is to be closed.
+//
+// FIORRUDDA_OK; FIORRUDDA_NOT_AWAITED where no bytes are read now, and then the fetch stands where it stood;
+// FIORRUDDA_WRONG_HANDLE; FIORRUDDA_OUT_OF_MEMORY, and then the fetch is gone: its act is FIORRUDDA_ACT_GONE. But for
+// FIORRUDDA_OK none are read; for FIORRUDDA_WRONG_HANDLE nothing is written.
+uint32_t fiorrudda_feed(fiorrudda_handle *fetch, const uint8_t *bytes, size_t bytes_len, size_t *used);
+
+// Has a fetch ask a book what its act asks for, or tell it that, and goes on from what the book replies, which is
+// told in `reply`: FIORRUDDA_INPUT_YES, FIORRUDDA_INPUT_NO or FIORRUDDA_INPUT_DONE. Threads that share a book call it
+// under a lock of their own.
+//
+// FIORRUDDA_OK; FIORRUDDA_NOT_AWAITED where the act asks no book, and then the fetch stands where it stood and the
+// book is as it was; FIORRUDDA_WRONG_HANDLE; FIORRUDDA_OUT_OF_MEMORY, and then the fetch is gone: its act is
+// FIORRUDDA_ACT_GONE. The book is then as it was, or as it is after the call. But for FIORRUDDA_OK nothing is written
+// to `reply`.
+uint32_t fiorrudda_ask(fiorrudda_handle *fetch, fiorrudda_handle *book, uint32_t *reply);
 
 // Writes the serialised origin of a URL at the beginning of `room`, with no NUL after it, and tells in `len` how many
 // bytes it is (HTML, section 7.1.1, "serialization of an origin").

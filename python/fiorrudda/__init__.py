@@ -1,4 +1,4 @@
-"""The rules of a browser's fetch, one call each, over the C library of Fiorrudda.
+"""The rules of a browser's fetch, one call each, and whole fetches (`fiorrudda.whole`), over the C library of Fiorrudda.
 
 Texts are `str`, which is encoded as UTF-8, or `bytes`. A rule that cannot answer raises a `FiorruddaError`: the class says
 what was wrong with what was given. The library is `libfiorrudda.so`: that of FIORRUDDA_LIBRARY, or that beside this file, or
@@ -11,15 +11,29 @@ import pathlib
 from typing import NamedTuple, Optional, Union
 
 __all__ = [
+    "Ask",
     "Book",
+    "Client",
+    "Fetch",
     "FiorruddaError",
     "Headers",
+    "Load",
+    "Loaded",
+    "NetworkError",
+    "NoRequest",
     "NotAHeader",
     "NotAUrl",
+    "NotAwaited",
     "NotHttp",
     "OutOfMemory",
+    "ReadBody",
+    "ReadHead",
     "ReferrerPolicy",
+    "Request",
+    "Response",
+    "Send",
     "Sts",
+    "Tell",
     "TooLate",
     "is_bad_port",
     "is_forbidden_method",
@@ -44,7 +58,7 @@ class FiorruddaError(Exception):
 
 
 class OutOfMemory(FiorruddaError):
-    """Memory was refused. Nothing has changed."""
+    """Memory was refused. Nothing has changed; but a fetch that was told something is gone."""
 
 
 class NotAUrl(FiorruddaError):
@@ -63,7 +77,24 @@ class TooLate(FiorruddaError):
     """A time is 2^48 seconds or more."""
 
 
-_ERRORS = {3: OutOfMemory, 6: NotAUrl, 7: NotHttp, 8: NotAHeader, 9: TooLate}
+class NotAwaited(FiorruddaError):
+    """What came is not what the fetch awaits. It stands where it stood."""
+
+
+class NoRequest(FiorruddaError):
+    """No request can be made of what is asked for: the fault by its number and name, and a bad header's index."""
+
+    code = 11
+    NAMES = ("", "BadUrl", "UrlCredentials", "BadMethod", "ForbiddenMethod", "BodyWithGet", "NoCorsMethod", "BadHeader",
+             "NavigateMode", "TooLong")
+
+    def __init__(self, number: int, header: int) -> None:
+        self.number, self.name = number, self.NAMES[number]
+        self.header = header if self.name == "BadHeader" else None
+        super().__init__(self.name)
+
+
+_ERRORS = {3: OutOfMemory, 6: NotAUrl, 7: NotHttp, 8: NotAHeader, 9: TooLate, 10: NotAwaited}
 
 
 class ReferrerPolicy(enum.IntEnum):
@@ -126,6 +157,22 @@ _CALLS = {
     "nosniff": _HELD,
     "essence": _HELD + _ROOM,
     "source_matches": _TEXT + _TEXT + _TEXT + [ctypes.c_uint32],
+    "client": _HELD + _TEXT + _TEXT + [ctypes.c_uint32],
+    "client_policy": _HELD + _TEXT + [ctypes.c_bool],
+    "client_cookie": _HELD + _TEXT + _TEXT,
+    "request": _HELD + _TEXT + _TEXT,
+    "load": _HELD + [ctypes.c_uint32] + _TEXT,
+    "request_header": _HELD + _TEXT + _TEXT,
+    "request_text": _HELD + [ctypes.c_uint32] + _TEXT,
+    "request_choose": _HELD + [ctypes.c_uint32, ctypes.c_uint32],
+    "fetch": _HELD * 3 + [ctypes.c_uint64, ctypes.c_uint32] + [ctypes.POINTER(ctypes.c_uint32)] * 2,
+    "act": _HELD + [ctypes.POINTER(ctypes.c_uint32)],
+    "text": _HELD + [ctypes.c_uint32, ctypes.c_size_t] + _ROOM,
+    "number": _HELD + [ctypes.c_uint32, ctypes.POINTER(ctypes.c_uint64)],
+    "to_send": _HELD + _ROOM,
+    "input": _HELD + [ctypes.c_uint32],
+    "feed": _HELD + _TEXT + [ctypes.POINTER(ctypes.c_size_t)],
+    "ask": _HELD + _HELD + [ctypes.POINTER(ctypes.c_uint32)],
 }
 
 _lib = _library()
@@ -213,7 +260,7 @@ class Headers(_Thing):
 
 
 class Book(_Thing):
-    """Known HSTS hosts. Times are in seconds since any fixed moment."""
+    """Known HSTS hosts, and the CORS-preflight cache. Times are in seconds since any fixed moment."""
 
     def __init__(self) -> None:
         super().__init__(_lib.fiorrudda_book)
@@ -284,3 +331,8 @@ def parse_sts(field: Text) -> Optional[Sts]:
     if not _told(_lib.fiorrudda_sts(*_lent(field), age, subdomains)):
         return None
     return Sts(age.value, bool(subdomains.value))
+
+
+from .whole import (  # noqa: E402  the classes there stand on what is above
+    Ask, Client, Fetch, Load, Loaded, NetworkError, ReadBody, ReadHead, Request, Response, Send, Tell,
+)

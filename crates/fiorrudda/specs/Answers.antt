@@ -11,12 +11,12 @@ use Rattle.fiorrudda_rules.specs.Types.{essence_in}
 abbrev pub nosniff : Option Thing → ℕ
 nosniff None = WRONG_HANDLE
 nosniff (Some (thing.Headers list)) = yes_or_no (sniffing.nosniff list)
-nosniff (Some (thing.Book _)) = WRONG_HANDLE
+nosniff (Some _) = WRONG_HANDLE
 
 -- the essence of a header list is written, or there is none
 abbrev pub HasEssence : Option Thing → List ℕ → List ℕ → ℕ → ℕ → ℕ → Type 0
 HasEssence None room after len_before len code = (code ≡ WRONG_HANDLE) × IsKept room after len_before len
 HasEssence (Some (thing.Headers list)) room after len_before len code =
     IsTold (essence_in list) room after len_before len code
-HasEssence (Some (thing.Book _)) room after len_before len code =
+HasEssence (Some _) room after len_before len code =
     (code ≡ WRONG_HANDLE) × IsKept room after len_before len

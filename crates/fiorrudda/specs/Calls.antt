@@ -30,33 +30,33 @@ append_done list (Err refusal) = done (code_of refusal) (Some (thing.Headers lis
 abbrev pub append_to : List ℕ → List ℕ → Option Thing → Done
 append_to name value None = done WRONG_HANDLE None
 append_to name value (Some (thing.Headers list)) = append_done list (appending name value list)
-append_to name value (Some (thing.Book book)) = done WRONG_HANDLE (Some (thing.Book book))
+append_to name value (Some other) = done WRONG_HANDLE (Some other)
 
 -- "CORS check" of a header list
 abbrev pub cors_check : List ℕ → Bool → Option Thing → ℕ
 cors_check origin include None = WRONG_HANDLE
 cors_check origin include (Some (thing.Headers list)) = yes_or_no (passes_cors_check origin include list)
-cors_check origin include (Some (thing.Book _)) = WRONG_HANDLE
+cors_check origin include (Some _) = WRONG_HANDLE
 
 -- "cross-origin resource policy check" of a header list
 abbrev pub resource_policy : List ℕ → List ℕ → Option Thing → ℕ
 resource_policy page url None = WRONG_HANDLE
 resource_policy page url (Some (thing.Headers list)) = told (is_kept_by_resource_policy page url list)
-resource_policy page url (Some (thing.Book _)) = WRONG_HANDLE
+resource_policy page url (Some _) = WRONG_HANDLE
 
 -- "get" of a header list
 abbrev pub IsGot : List ℕ → Option Thing → List ℕ → List ℕ → ℕ → ℕ → ℕ → Type 0
 IsGot name None room after len_before len code = (code ≡ WRONG_HANDLE) × IsKept room after len_before len
 IsGot name (Some (thing.Headers list)) room after len_before len code =
     IsTold (Ok (combined name list)) room after len_before len code
-IsGot name (Some (thing.Book _)) room after len_before len code =
+IsGot name (Some _) room after len_before len code =
     (code ≡ WRONG_HANDLE) × IsKept room after len_before len
 
 -- whether a host of a book is known
 abbrev pub known_host : List ℕ → ℕ → Option Thing → ℕ
 known_host host now None = WRONG_HANDLE
-known_host host now (Some (thing.Headers _)) = WRONG_HANDLE
 known_host host now (Some (thing.Book book)) = told (is_known_host host now book)
+known_host host now (Some _) = WRONG_HANDLE
 
 -- the book after a field, or as it was
 abbrev pub note_done : List ℕ → List ℕ → ℕ → Book → Result Bool Refusal → Done
@@ -66,5 +66,5 @@ note_done host field now book (Err refusal) = done (code_of refusal) (Some (thin
 -- a Strict-Transport-Security field of a host, which a book notes
 abbrev pub note_host : List ℕ → List ℕ → ℕ → Option Thing → Done
 note_host host field now None = done WRONG_HANDLE None
-note_host host field now (Some (thing.Headers list)) = done WRONG_HANDLE (Some (thing.Headers list))
 note_host host field now (Some (thing.Book book)) = note_done host field now book (says field now)
+note_host host field now (Some other) = done WRONG_HANDLE (Some other)

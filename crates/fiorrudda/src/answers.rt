@@ -17,7 +17,7 @@ fn sniffless(thing: &Thing) -> u32
 {
     match thing {
         Thing::Headers(list) => yes_or_no(wf_mime::nosniff(list)),
-        Thing::Book(_) => WRONG_HANDLE,
+        _ => WRONG_HANDLE,
     }
 }
 
@@ -44,7 +44,7 @@ fn essence(alloc: Global, thing: &Thing, room: &mut [u8], len: &mut usize) -> u3
 {
     match thing {
         Thing::Headers(list) => write_answer(essence_in(alloc, list), room, len),
-        Thing::Book(_) => WRONG_HANDLE,
+        _ => WRONG_HANDLE,
     }
 }
 

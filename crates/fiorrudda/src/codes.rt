@@ -10,7 +10,7 @@ pub const NO: u32 = 1;
 pub const WRONG_HANDLE: u32 = 2;
 
 /// Memory was refused. Nothing is written, and what handles hold is as it was; a call that makes something in a handle
-/// leaves it empty.
+/// leaves it empty, and a fetch that was told something is gone.
 pub const OUT_OF_MEMORY: u32 = 3;
 
 /// The room for the answer is too short. Nothing is written but how many bytes the answer has.
@@ -30,3 +30,9 @@ pub const NOT_A_HEADER: u32 = 8;
 
 /// A time is 2^48 seconds or more.
 pub const TOO_LATE: u32 = 9;
+
+/// What came is not what the fetch awaits. Nothing is changed.
+pub const NOT_AWAITED: u32 = 10;
+
+/// No request can be made of what is asked for; why is told.
+pub const NO_REQUEST: u32 = 11;

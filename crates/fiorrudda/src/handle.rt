@@ -11,9 +11,9 @@ use std::marker::Model;
 use std::mem::replace;
 use std::ptr::null_mut;
 
-/// One word that holds a header list or a book, or nothing: all zero it is empty. It is not to be copied, written or
-/// read but by the calls below, and it is given to one call at a time, and not twice to one call. What it holds is freed
-/// by `fiorrudda_free`.
+/// One word that holds a header list, a book, a client, a request or a fetch, or nothing: all zero it is empty. It is not
+/// to be copied, written or read but by the calls below, and it is given to one call at a time, and not twice to one call.
+/// What it holds is freed by `fiorrudda_free`.
 #[repr(C)]
 #[derive(Drop)]
 pub struct Handle {
@@ -93,6 +93,3 @@ pub extern "C" fn fiorrudda_free(alloc: Global, handle: &mut Handle)
 {
     drop(handle.take(alloc));
 }
-
-// C may hand a handle from thread to thread.
-unsafe impl Send for Handle {}

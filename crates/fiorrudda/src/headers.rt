@@ -64,7 +64,7 @@ fn got(alloc: Global, thing: &Thing, name: &[u8], room: &mut [u8], len: &mut usi
 {
     match thing {
         Thing::Headers(list) => write_answer(value_of(alloc, list, name), room, len),
-        Thing::Book(_) => WRONG_HANDLE,
+        _ => WRONG_HANDLE,
     }
 }
 

@@ -3,12 +3,18 @@
 #![tactic(auto)]
 
 mod answers;
+mod asked;
+mod choices;
+mod clients;
 mod codes;
+mod fetches;
 mod handle;
 mod headers;
 mod hosts;
+mod inputs;
 mod laws;
 mod origins;
+mod parts;
 mod policies;
 mod requests;
 mod rules;
@@ -16,5 +22,6 @@ mod thing;
 mod told;
 
 pub use handle::Handle;
+pub use inputs::Said;
 pub use laws::law_handle_crosses;
 pub use thing::Thing;

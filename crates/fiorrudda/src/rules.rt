@@ -20,7 +20,7 @@ fn checked(thing: &Thing, origin: &[u8], include: bool) -> u32
 {
     match thing {
         Thing::Headers(list) => yes_or_no(passes_cors_check(origin, include, list)),
-        Thing::Book(_) => WRONG_HANDLE,
+        _ => WRONG_HANDLE,
     }
 }
 
@@ -53,7 +53,7 @@ fn kept(alloc: Global, thing: &Thing, page: &[u8], url: &[u8]) -> u32
 {
     match thing {
         Thing::Headers(list) => told(is_kept_by_resource_policy(alloc, page, url, list)),
-        Thing::Book(_) => WRONG_HANDLE,
+        _ => WRONG_HANDLE,
     }
 }
 

@@ -1,4 +1,6 @@
+use fiorrudda_fetch::{Asked, Settings};
 use wf_book::Book;
+use wf_fetch_session::Session;
 use wf_headers::HeaderList;
 
 /// What a handle may hold.
@@ -6,4 +8,7 @@ use wf_headers::HeaderList;
 pub enum Thing {
     Headers(HeaderList),
     Book(Book),
+    Client(Settings),
+    Request(Asked),
+    Fetch(Session),
 }

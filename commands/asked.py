@@ -1,0 +1,164 @@
+"""What bin/ask does: makes the fetch that a page would make, over real connections, and tells what came and why."""
+import json
+from urllib.parse import urlsplit
+
+import fiorrudda
+
+from commands import answers, json_text, live, play_text, streams, told
+from commands.scenario import Scenario, origin_of
+
+LIMIT = 1048576
+NO_CONNECTION = ("unknown-name", "refused", "certificate", "no-tls", "hang", "reset")
+
+
+class Wrong(Exception):
+    """Words that no page could ask by, in a sentence."""
+
+
+class Question:
+    """The words of bin/ask, as a scenario of one document, and as what the library takes."""
+
+    def __init__(self, given):
+        self.given = given
+        self.page = given.page or given.url
+        if origin_of(given.url) is None and given.page is None:
+            raise Wrong("%s is no http or https URL: write it whole, as https://api.example/x" % given.url)
+        if origin_of(self.page) is None:
+            raise Wrong("%s is no http or https URL of a page" % self.page)
+
+    def cookies(self):
+        return [[origin_of(self.given.url), "; ".join(self.given.cookie)]] if self.given.cookie else []
+
+    def options(self):
+        """The keys of the fetch or load, as a scenario has them."""
+        given = self.given
+        if given.load:
+            options = {"kind": given.load, "crossorigin": given.crossorigin, "integrity": given.integrity}
+        else:
+            options = {"method": given.method or ("POST" if given.data is not None else None), "mode": given.mode,
+                       "credentials": given.credentials, "redirect": given.redirect, "body": given.data,
+                       "headers": [list(one) for one in given.header] or None, "integrity": given.integrity}
+        return {"url": given.url, **{key: value for key, value in options.items() if value is not None}}
+
+    def command(self):
+        return {"load" if self.given.load else "fetch": self.options()}
+
+    def scenario(self, **more):
+        """`more` are its servers, or its routes."""
+        headers = [["Content-Security-Policy", value] for value in self.given.policy]
+        headers += [["Referrer-Policy", self.given.referrer_policy]] if self.given.referrer_policy else []
+        document = {"url": self.page, "headers": headers, "script": [self.command()] * (2 if self.given.twice else 1)}
+        return {"format": 2, **({"cookies": self.cookies()} if self.given.cookie else {}), **more, "documents": [document]}
+
+    def client(self):
+        policy = fiorrudda.ReferrerPolicy[(self.given.referrer_policy or "default").upper().replace("-", "_")]
+        return fiorrudda.Client(self.page, policy=policy, policies=self.given.policy, cookies=self.cookies())
+
+    def request(self):
+        options = self.options()
+        url = options.pop("url")
+        if self.given.load:
+            return fiorrudda.Load(options.pop("kind"), url, parser=True, **options)
+        return fiorrudda.Request(url, **options)
+
+
+class Answered:
+    """What came of a question: the lines, the exchanges in order, and what is told of them."""
+
+    def __init__(self, question):
+        self.question = question
+        self.wire = live.Wire(question.given.timeout, question.given.connect_to)
+        page = live.Page(question.page, question.client(), self.wire, LIMIT)
+        for _ in range(2 if question.given.twice else 1):
+            page.ask(question.request, question.given.load)
+        self.text = page.text()
+        scenario = Scenario(json_text.read(json.dumps(question.scenario(routes=self.routes()))))
+        self.left = list(self.wire.exchanges)
+        self.told = told.Told(scenario, play_text.read(self.text), self.answer_of, is_net="direct")
+
+    def routes(self):
+        """The address of each origin that was asked, as a scenario has them."""
+        found = {}
+        for exchange in self.wire.exchanges:
+            parts = urlsplit(exchange.origin)
+            found[exchange.origin] = "%s:%d" % (parts.hostname, parts.port or live.PORTS[parts.scheme])
+        return [list(pair) for pair in found.items()]
+
+    def answer_of(self, request):
+        exchange = self.left.pop(0)
+        return answers.Answer(exchange.answer, link=exchange.link)
+
+    def notes(self):
+        """What is to be said besides, in sentences."""
+        given = self.question.given
+        found = [] if given.page else ["it was asked as from a page of its own origin; --from PAGE asks as another page would"]
+        if given.cookie and not fiorrudda.same_site(self.question.page, given.url):
+            found.append("%s is of another site than the page: a browser sends its cookies along only where they were set with "
+                         "SameSite=None and Secure, and many users block them" % origin_of(given.url))
+        found += ["%s: %s" % (one.origin, one.note) for one in self.wire.exchanges if one.note]
+        return found
+
+    def status(self):
+        """0 read, 1 refused, 3 no connection or the time limit."""
+        result = self.told.cases[-1].result
+        if any(one.link in NO_CONNECTION for one in self.wire.exchanges):
+            return 3
+        return 1 if result.is_refused() else 0
+
+    def lines(self):
+        """The play between its first line and its end, with what is said of it."""
+        lines = self.told.text().split("\n")
+        return lines[1:lines.index("end finished")]
+
+    # ---- a scenario that plays the same
+
+    def exported(self):
+        """The scenario, and what it does not have, in sentences."""
+        rules, lacks, kept = {}, [], {}
+        requests = [request for case in self.told.cases for request, _ in case.exchanges]
+        for request, exchange in zip(requests, self.wire.exchanges):
+            key = (request.origin, request.method, request.target)
+            if exchange.link in NO_CONNECTION:
+                lacks.append("the connection to %s failed, which a scripted server does not" % request.origin)
+            elif key in kept:
+                lacks += ["%s %s was answered twice: the first answer is kept" % key[1:]] * (kept[key] != exchange.answer)
+            else:
+                kept[key] = exchange.answer
+                rules.setdefault(request.origin, []).append(rule_of(request, exchange.answer, lacks))
+        servers = [{"origin": origin, "rules": own} for origin, own in rules.items()]
+        return self.question.scenario(servers=servers), lacks
+
+
+def rule_of(request, data, lacks):
+    """The rule that gives these bytes."""
+    rule = {"method": request.method, "path": request.target}
+    try:
+        return {**rule, "raw": data.decode("utf-8")}
+    except UnicodeDecodeError:
+        lacks.append("the answer to %s %s has bytes that are no UTF-8: they are left out" % (request.method, request.target))
+        return {**rule, "raw": data.decode("utf-8", "ignore")}
+
+
+def ask(self, given):
+    """Prints all of it, and gives the status."""
+    try:
+        answered = Answered(Question(given))
+    except Wrong as wrong:
+        return streams.complain(2, "%s: %s" % (self, wrong))
+    except fiorrudda.FiorruddaError as error:
+        return streams.complain(2, "%s: %s" % (self, error))
+    notes = answered.notes()
+    if given.export:
+        scenario, lacks = answered.exported()
+        notes += ["%s: %s" % (given.export, one) for one in dict.fromkeys(lacks)]
+        try:
+            with open(given.export, "w", encoding="utf-8") as file:
+                json.dump(scenario, file, indent=1, ensure_ascii=False)
+                file.write("\n")
+        except OSError as error:
+            return streams.complain(2, "%s: %s: %s" % (self, given.export, error.strerror))
+    if given.json:
+        streams.write(json.dumps({"notes": notes, "fetches": answered.told.data()}, indent=1, ensure_ascii=False) + "\n")
+    else:
+        streams.write("".join(line + "\n" for line in answered.lines() + ["# note: " + one for one in notes]))
+    return answered.status()

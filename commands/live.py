@@ -1,0 +1,159 @@
+"""Fetches over real connections. The library says what is to be done next; here it is done, and written down as `fetchplay`
+prints it."""
+import socket
+import ssl
+import time
+from urllib.parse import urlsplit
+
+import fiorrudda
+from fiorrudda import printed
+
+PIECE = 65536
+PORTS = {"http": 80, "https": 443}
+ALERT = (b"\x15\x03", b"\x16\x03")
+
+
+class Exchange:
+    """One request and the bytes of its answer. `link` says how the connection went: done, unknown-name, refused, certificate,
+    no-tls, tls-port, hang, reset; `note` has what the system says of it."""
+
+    def __init__(self, origin):
+        self.origin = origin
+        self.answer = b""
+        self.link = "done"
+        self.note = ""
+
+
+class Wire:
+    """A connection for each request, each of them over before the deadline. `places` are hosts and ports to connect to in the place
+    of others."""
+
+    def __init__(self, seconds, places):
+        self.deadline = time.monotonic() + seconds
+        self.places = places
+        self.trust = ssl.create_default_context()
+        self.socket = None
+        self.exchanges = []
+
+    def send(self, act):
+        """Connects and sends; whether that succeeded."""
+        self.close()
+        exchange = Exchange(act.origin)
+        self.exchanges.append(exchange)
+        try:
+            self.connect(act.origin)
+            self.socket.sendall(act.request)
+            return True
+        except OSError as error:
+            return self.fail(exchange, error, "refused" if self.socket is None else "reset")
+
+    def connect(self, origin):
+        parts = urlsplit(origin)
+        host, port = parts.hostname, parts.port or PORTS[parts.scheme]
+        plain = socket.create_connection(self.places.get((host, port), (host, port)), self.left())
+        self.socket = plain
+        plain.settimeout(self.left())
+        if parts.scheme == "https":
+            self.socket = self.trust.wrap_socket(plain, server_hostname=host)
+
+    def receive(self):
+        """The next bytes of the answer, none at its end, and None where the connection failed."""
+        exchange = self.exchanges[-1]
+        try:
+            self.socket.settimeout(self.left())
+            piece = self.socket.recv(PIECE)
+        except OSError as error:
+            self.fail(exchange, error, "reset")
+            return None
+        exchange.answer += piece
+        if exchange.origin.startswith("http:") and is_tls_port(exchange.answer):
+            exchange.link = "tls-port"
+        return piece
+
+    def left(self):
+        """How many seconds are left."""
+        left = self.deadline - time.monotonic()
+        if left <= 0:
+            raise TimeoutError("the time limit")
+        return left
+
+    def fail(self, exchange, error, word):
+        exchange.link = word_of(error, word)
+        exchange.note = str(getattr(error, "verify_message", "") or getattr(error, "reason", "") or error.strerror or error)
+        return False
+
+    def close(self):
+        if self.socket is not None:
+            self.socket.close()
+            self.socket = None
+
+
+def word_of(error, otherwise):
+    """How a connection failed, in a word."""
+    kinds = [(ssl.SSLCertVerificationError, "certificate"), (ssl.SSLError, "no-tls"), (socket.gaierror, "unknown-name"),
+             (TimeoutError, "hang"), (socket.timeout, "hang")]
+    return next((word for kind, word in kinds if isinstance(error, kind)), otherwise)
+
+
+def is_tls_port(answer):
+    """Whether an answer to a plain request is that of a port which speaks TLS."""
+    return answer.startswith(ALERT) or (answer.startswith(b"HTTP/1.1 400") and b"HTTPS port" in answer)
+
+
+class Page:
+    """A document that fetches over a wire, with the lines of its play."""
+
+    def __init__(self, url, client, wire, limit):
+        self.client = client
+        self.wire = wire
+        self.limit = limit
+        self.book = fiorrudda.Book()
+        self.count = 0
+        self.calls = []
+        self.lines = ["fetchplay 1", "document 0 " + fiorrudda.origin(url)]
+
+    def ask(self, make, kind=None):
+        """One fetch, or a load of a kind; `make` makes its request."""
+        self.lines.append("fetch %d" % self.count if kind is None else "load %d %s" % (self.count, kind))
+        self.count += 1
+        try:
+            fetch = fiorrudda.Fetch(self.client, make(), 0, self.limit)
+        except fiorrudda.NoRequest as fault:
+            self.lines.append(printed.fault_line(fault, kind is not None))
+            return
+        self.act(fetch)
+        self.lines += printed.outcome_lines(fetch.outcome, kind is not None)
+
+    def act(self, fetch):
+        left, waits = b"", None
+        for act in fetch:
+            if isinstance(act, fiorrudda.Ask):
+                line = printed.call_line(act.call, fetch.ask(self.book))
+                self.lines.append("call " + line)
+                self.calls.append(line)
+            elif isinstance(act, fiorrudda.Tell):
+                self.lines.append(printed.violation_line(act))
+                fetch.told()
+            elif isinstance(act, fiorrudda.Send):
+                self.lines += printed.sent_lines(act)
+                left, waits = b"", None
+                fetch.sent() if self.wire.send(act) else fetch.failed()
+            elif left or waits is not type(act):
+                # what was left of the last piece comes first, be there some or none
+                waits = type(act)
+                left = left[fetch.feed(left):]
+            else:
+                left = self.read(fetch)
+        self.wire.close()
+
+    def read(self, fetch):
+        """The next bytes, for the fetch to read; or that they ended or failed."""
+        piece = self.wire.receive()
+        if piece:
+            return piece
+        fetch.failed() if piece is None else fetch.ended()
+        return b""
+
+    def text(self):
+        history = ["%d 0 %s" % (turn, line) for turn, line in enumerate(self.calls)]
+        return "\n".join([*self.lines, "end finished", "history", *history, "done", ""])

@@ -1,0 +1,50 @@
+-- What the calls that make a request tell, and what the handle holds after them.
+use Rattle.std.specs.Prelude.{◌≡◌, ℕ, Bool, List, Option, Some, None, option_and_then}
+use Rattle.fiorrudda_fetch.specs.Asked.{Change, chosen, header_added, load_of, text_set}
+use Rattle.fiorrudda_fetch.specs.declared.asked.Asked.{Asked}
+use Rattle.fiorrudda_fetch.specs.declared.asked.Setting.{Setting}
+use Rattle.fiorrudda_fetch.specs.declared.asked.Words.{Words}
+use Rattle.fiorrudda.specs.Calls.{Done, done}
+use Rattle.fiorrudda.specs.Choices.{load_numbered}
+use Rattle.fiorrudda.specs.Codes.{yes_or_no}
+use Rattle.fiorrudda.specs.declared.codes.TheConstants.{NO_SUCH_NUMBER, OK, WRONG_HANDLE}
+use Rattle.fiorrudda.specs.declared.thing.Thing.{Thing}
+use Rattle.fiorrudda.specs.declared.thing.Thing.TheVariants as thing
+
+-- the handle holds the load, or is empty
+abbrev pub IsLoadOf : Option Asked → ℕ → Option Thing → Type 0
+IsLoadOf None code held = (code ≡ NO_SUCH_NUMBER) × (held ≡ None)
+IsLoadOf (Some asked) code held = (code ≡ OK) × (held ≡ Some (thing.Request asked))
+
+abbrev pub IsLoad : ℕ → List ℕ → ℕ → Option Thing → Type 0
+IsLoad number url = IsLoadOf (option_and_then (λ kind. load_of kind url) (load_numbered number))
+
+-- a request after a change, which was made or not
+abbrev pub change_done : Change Asked → Done
+change_done change = done (yes_or_no change.made) (Some (thing.Request change.now))
+
+-- a request with one more header
+abbrev pub add_header : List ℕ → List ℕ → Option Thing → Done
+add_header name value None = done WRONG_HANDLE None
+add_header name value (Some (thing.Request asked)) = change_done (header_added name value asked)
+add_header name value (Some other) = done WRONG_HANDLE (Some other)
+
+-- a request with a text
+abbrev pub set_text_of : Option Words → List ℕ → Asked → Done
+set_text_of None text asked = done NO_SUCH_NUMBER (Some (thing.Request asked))
+set_text_of (Some words) text asked = change_done (text_set words text asked)
+
+abbrev pub set_text : Option Words → List ℕ → Option Thing → Done
+set_text words text None = done WRONG_HANDLE None
+set_text words text (Some (thing.Request asked)) = set_text_of words text asked
+set_text words text (Some other) = done WRONG_HANDLE (Some other)
+
+-- a request with a choice
+abbrev pub choose_of : Option Setting → Asked → Done
+choose_of None asked = done NO_SUCH_NUMBER (Some (thing.Request asked))
+choose_of (Some setting) asked = change_done (chosen setting asked)
+
+abbrev pub choose : Option Setting → Option Thing → Done
+choose setting None = done WRONG_HANDLE None
+choose setting (Some (thing.Request asked)) = choose_of setting asked
+choose setting (Some other) = done WRONG_HANDLE (Some other)

@@ -1,0 +1,41 @@
+-- What the calls that make a client tell, and what the handle holds after them.
+use Rattle.std.specs.Prelude.{◌≡◌, ℕ, Bool, List, Option, Some, None, Result, Ok, Err}
+use Rattle.fiorrudda_rules.specs.declared.refusal.Refusal.{Refusal}
+use Rattle.wf_types.specs.declared.mode.ReferrerPolicy.{ReferrerPolicy}
+use Rattle.fiorrudda_fetch.specs.Settings.{cookie_added, settings_of, with_policies}
+use Rattle.fiorrudda_fetch.specs.Setups.{Setup}
+use Rattle.fiorrudda.specs.Calls.{Done, done}
+use Rattle.fiorrudda.specs.Codes.{code_of}
+use Rattle.fiorrudda.specs.Referrers.{policy_numbered}
+use Rattle.fiorrudda.specs.declared.codes.TheConstants.{NO_SUCH_NUMBER, OK, WRONG_HANDLE}
+use Rattle.fiorrudda.specs.declared.thing.Thing.{Thing}
+use Rattle.fiorrudda.specs.declared.thing.Thing.TheVariants as thing
+
+-- the handle holds the client, or is empty
+abbrev pub IsClientOf : Result Setup Refusal → ℕ → Option Thing → Type 0
+IsClientOf (Ok settings) code held = (code ≡ OK) × (held ≡ Some (thing.Client settings))
+IsClientOf (Err refusal) code held = (code ≡ code_of refusal) × (held ≡ None)
+
+abbrev pub IsClientBy : Option ReferrerPolicy → List ℕ → List ℕ → ℕ → Option Thing → Type 0
+IsClientBy None url top code held = (code ≡ NO_SUCH_NUMBER) × (held ≡ None)
+IsClientBy (Some policy) url top code held = IsClientOf (settings_of url top policy) code held
+
+abbrev pub IsClient : List ℕ → List ℕ → ℕ → ℕ → Option Thing → Type 0
+IsClient url top number = IsClientBy (policy_numbered number) url top
+
+-- a client with the policies of one more value
+abbrev pub add_policies : List ℕ → Bool → Option Thing → Done
+add_policies value enforced None = done WRONG_HANDLE None
+add_policies value enforced (Some (thing.Client settings)) =
+    done OK (Some (thing.Client (with_policies value enforced settings)))
+add_policies value enforced (Some other) = done WRONG_HANDLE (Some other)
+
+-- a client with one more cookie, or as it was
+abbrev pub cookie_done : Setup → Result Setup Refusal → Done
+cookie_done settings (Ok next) = done OK (Some (thing.Client next))
+cookie_done settings (Err refusal) = done (code_of refusal) (Some (thing.Client settings))
+
+abbrev pub add_cookie : List ℕ → List ℕ → Option Thing → Done
+add_cookie url value None = done WRONG_HANDLE None
+add_cookie url value (Some (thing.Client settings)) = cookie_done settings (cookie_added url value settings)
+add_cookie url value (Some other) = done WRONG_HANDLE (Some other)

@@ -1,0 +1,115 @@
+-- What the calls that begin a fetch, and ask what it does, tell.
+use Rattle.std.specs.Prelude.{◌≡◌, ℕ, ◌^◌, Bool, true, false, List, nat_lt, Option, Some, None, Result, Ok, Err}
+use Rattle.wf_fetch_acts.specs.declared.act.Act.{Act}
+use Rattle.wf_fetch_acts.specs.declared.act.Act.TheVariants as act
+use Rattle.wf_fetch_session.specs.Sessions.{act_of, outcome_of, standing_of}
+use Rattle.wf_fetch_session.specs.Standings.{Standing}
+use Rattle.wf_fetch_session.specs.declared.session.Session.{Session}
+use Rattle.fiorrudda_rules.specs.declared.refusal.Refusal.{Refusal}
+use Rattle.wf_types.specs.Errors.{fault_number}
+use Rattle.wf_types.specs.declared.fault.TypeFault.{TypeFault}
+use Rattle.wf_types.specs.declared.fault.TypeFault.TheVariants.{BadHeader}
+use Rattle.wf_types.specs.declared.response.Outcome.{Outcome}
+use Rattle.fiorrudda_fetch.specs.Amounts.{amount_of}
+use Rattle.fiorrudda_fetch.specs.Beginning.{begun_as}
+use Rattle.fiorrudda_fetch.specs.Parts.{request_of, text_of}
+use Rattle.fiorrudda_fetch.specs.declared.amounts.Amount.{Amount}
+use Rattle.fiorrudda_fetch.specs.declared.asked.Asked.{Asked}
+use Rattle.fiorrudda_fetch.specs.declared.parts.Part.{Part}
+use Rattle.fiorrudda_fetch.specs.Setups.{Setup}
+use Rattle.fiorrudda.specs.Codes.{IsKept, IsTold}
+use Rattle.fiorrudda.specs.declared.codes.TheConstants.{NO, NO_REQUEST, NO_SUCH_NUMBER, OK, TOO_LATE, WRONG_HANDLE}
+use Rattle.fiorrudda.specs.declared.thing.Thing.{Thing}
+use Rattle.fiorrudda.specs.declared.thing.Thing.TheVariants as thing
+
+-- ---- the beginning
+
+-- where the fetch of a thing stands
+abbrev pub stands_in : Option Thing → Option Standing
+stands_in (Some (thing.Fetch session)) = standing_of session
+stands_in _ = None
+
+-- the index of the header that is none, or 0
+abbrev pub header_of : TypeFault → ℕ
+header_of (BadHeader index) = index
+header_of _ = 0
+
+-- the fetch begins, or why there is no request is told
+abbrev pub BegunAs : Result Standing TypeFault → ℕ → Option Thing → ℕ → ℕ → ℕ → ℕ → Type 0
+BegunAs (Ok standing) code held fault_before fault header_before header =
+    (code ≡ OK) × (stands_in held ≡ Some standing) × (fault ≡ fault_before) × (header ≡ header_before)
+BegunAs (Err why) code held fault_before fault header_before header =
+    (code ≡ NO_REQUEST) × (held ≡ None) × (fault ≡ fault_number why) × (header ≡ header_of why)
+
+-- no fetch begins, by this code
+abbrev pub IsRefused : ℕ → ℕ → Option Thing → ℕ → ℕ → ℕ → ℕ → Type 0
+IsRefused expected code held fault_before fault header_before header =
+    (code ≡ expected) × (held ≡ None) × (fault ≡ fault_before) × (header ≡ header_before)
+
+abbrev pub BeginsWhere : Bool → Result Standing TypeFault → ℕ → Option Thing → ℕ → ℕ → ℕ → ℕ → Type 0
+BeginsWhere true begun = BegunAs begun
+BeginsWhere false begun = IsRefused TOO_LATE
+
+abbrev pub BeginsOf : Setup → Asked → ℕ → ℕ → ℕ → Option Thing → ℕ → ℕ → ℕ → ℕ → Type 0
+BeginsOf settings asked now limit = BeginsWhere (nat_lt now (2 ^ 48)) (begun_as settings asked now limit)
+
+abbrev pub Begins : Option Thing → Option Thing → ℕ → ℕ → ℕ → Option Thing → ℕ → ℕ → ℕ → ℕ → Type 0
+Begins (Some (thing.Client settings)) (Some (thing.Request asked)) now limit = BeginsOf settings asked now limit
+Begins _ _ now limit = IsRefused WRONG_HANDLE
+
+-- ---- acts
+
+-- the number of what a fetch does next
+abbrev pub number_of_act : Act → ℕ
+number_of_act (act.Ask op) = 1
+number_of_act (act.Send hop) = 2
+number_of_act act.ReadHead = 3
+number_of_act act.ReadBody = 4
+number_of_act (act.Tell violation) = 5
+
+-- 0 for a fetch that is over, and 6 for one that is gone
+abbrev pub act_or_end : Option Act → Option Outcome → ℕ
+act_or_end (Some first) outcome = number_of_act first
+act_or_end None (Some outcome) = 0
+act_or_end None None = 6
+
+abbrev pub act_number : Session → ℕ
+act_number session = act_or_end (act_of (standing_of session)) (outcome_of (standing_of session))
+
+abbrev pub GivesAct : Option Thing → ℕ → ℕ → ℕ → Type 0
+GivesAct (Some (thing.Fetch session)) before number code = (code ≡ OK) × (number ≡ act_number session)
+GivesAct _ before number code = (code ≡ WRONG_HANDLE) × (number ≡ before)
+
+-- ---- parts
+
+-- a text of a fetch, if there is one
+abbrev pub GivesTextOf : Option Part → ℕ → Session → List ℕ → List ℕ → ℕ → ℕ → ℕ → Type 0
+GivesTextOf None at session room after len_before len code = (code ≡ NO_SUCH_NUMBER) × IsKept room after len_before len
+GivesTextOf (Some part) at session room after len_before len code =
+    IsTold (Ok (text_of (standing_of session) part at)) room after len_before len code
+
+abbrev pub GivesText : Option Part → ℕ → Option Thing → List ℕ → List ℕ → ℕ → ℕ → ℕ → Type 0
+GivesText part at (Some (thing.Fetch session)) = GivesTextOf part at session
+GivesText part at _ = λ room after len_before len code. (code ≡ WRONG_HANDLE) × IsKept room after len_before len
+
+-- a number of a fetch, if there is one
+abbrev pub IsNumber : Option ℕ → ℕ → ℕ → ℕ → Type 0
+IsNumber None before number code = (code ≡ NO) × (number ≡ before)
+IsNumber (Some amount) before number code = (code ≡ OK) × (number ≡ amount)
+
+abbrev pub GivesNumberOf : Option Amount → Session → ℕ → ℕ → ℕ → Type 0
+GivesNumberOf None session before number code = (code ≡ NO_SUCH_NUMBER) × (number ≡ before)
+GivesNumberOf (Some which) session before number code =
+    IsNumber (amount_of (standing_of session) which) before number code
+
+abbrev pub GivesNumber : Option Amount → Option Thing → ℕ → ℕ → ℕ → Type 0
+GivesNumber which (Some (thing.Fetch session)) = GivesNumberOf which session
+GivesNumber which _ = λ before number code. (code ≡ WRONG_HANDLE) × (number ≡ before)
+
+-- the request that is sent
+abbrev pub request_in : Session → Result (Option (List ℕ)) Refusal
+request_in session = Ok (request_of (standing_of session))
+
+abbrev pub GivesRequest : Option Thing → List ℕ → List ℕ → ℕ → ℕ → ℕ → Type 0
+GivesRequest (Some (thing.Fetch session)) = IsTold (request_in session)
+GivesRequest _ = λ room after len_before len code. (code ≡ WRONG_HANDLE) × IsKept room after len_before len

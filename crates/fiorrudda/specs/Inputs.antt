@@ -1,0 +1,95 @@
+-- What the calls tell that bring a fetch what came of its acts, and where it stands after them.
+use Rattle.std.specs.Prelude.{◌≡◌, ℕ, ◌==◌, List, Option, Some, None, if◌then◌else◌}
+use Rattle.wf_fetch_acts.specs.declared.act.Input.TheVariants as input
+use Rattle.wf_book.specs.declared.book.Book.{Book}
+use Rattle.wf_book.specs.declared.op.Reply.{Reply}
+use Rattle.wf_book.specs.declared.op.Reply.TheVariants.{Yes, No, Done}
+use Rattle.wf_fetch_session.specs.Asking.{Asks, BookAfter, reply_told}
+use Rattle.wf_fetch_session.specs.Feeding.{Ends, Fails, Fed}
+use Rattle.wf_fetch_session.specs.Sessions.{Takes, act_of, standing_of}
+use Rattle.wf_fetch_session.specs.Standings.{Standing}
+use Rattle.wf_fetch_session.specs.declared.session.Session.{Session}
+use Rattle.wf_fetch_session.specs.declared.session.Went.{Went}
+use Rattle.wf_fetch_session.specs.declared.session.Went.TheVariants as went
+use Rattle.fiorrudda.specs.declared.codes.TheConstants.{NO_SUCH_NUMBER, NOT_AWAITED, OK, OUT_OF_MEMORY, WRONG_HANDLE}
+use Rattle.fiorrudda.specs.declared.inputs.Said.{Said}
+use Rattle.fiorrudda.specs.declared.inputs.Said.TheVariants as said
+use Rattle.fiorrudda.specs.declared.thing.Thing.{Thing}
+use Rattle.fiorrudda.specs.declared.thing.Thing.TheVariants as thing
+
+-- ---- how a call went
+
+abbrev pub code_of_went : Went → ℕ
+code_of_went went.On = OK
+code_of_went went.NotAwaited = NOT_AWAITED
+code_of_went went.OutOfMemory = OUT_OF_MEMORY
+
+-- what a code tells of it
+abbrev pub went_told : ℕ → Went
+went_told code = if code == 0 then went.On else if code == 3 then went.OutOfMemory else went.NotAwaited
+
+-- The handle holds a fetch, and the code tells how the call went that led to where it stands.
+abbrev pub Tells : (Went → Option Standing → Type 0) → ℕ → Option Thing → Type 0
+Tells Goes code (Some (thing.Fetch session)) =
+    (code ≡ code_of_went (went_told code)) × Goes (went_told code) (standing_of session)
+Tells Goes code _ = ⊥
+
+-- ---- inputs by their numbers
+
+abbrev pub said_numbered : ℕ → Option Said
+said_numbered number =
+    if number == 0 then Some said.Sent
+    else if number == 1 then Some said.Told
+    else if number == 2 then Some said.Ended
+    else if number == 3 then Some said.Failed
+    else if number == 4 then Some (said.Replied Yes)
+    else if number == 5 then Some (said.Replied No)
+    else if number == 6 then Some (said.Replied Done)
+    else None
+
+-- how a call went that says so
+abbrev pub Says : Said → Option Standing → Went → Option Standing → Type 0
+Says said.Sent = Takes input.Sent
+Says said.Told = Takes input.Told
+Says said.Ended = Ends
+Says said.Failed = Fails
+Says (said.Replied reply) = Takes (input.Replied reply)
+
+abbrev pub IsSaidTo : Option Said → Session → ℕ → Option Thing → Type 0
+IsSaidTo None session code held = (code ≡ NO_SUCH_NUMBER) × (held ≡ Some (thing.Fetch session))
+IsSaidTo (Some what) session code held = Tells (Says what (standing_of session)) code held
+
+abbrev pub IsSaid : Option Said → Option Thing → ℕ → Option Thing → Type 0
+IsSaid what (Some (thing.Fetch session)) code held = IsSaidTo what session code held
+IsSaid what other code held = (code ≡ WRONG_HANDLE) × (held ≡ other)
+
+-- ---- bytes
+
+abbrev pub IsFed : List ℕ → Option Thing → ℕ → ℕ → Option Thing → ℕ → Type 0
+IsFed bytes (Some (thing.Fetch session)) used_before code held used =
+    Tells (λ went next. Fed bytes (standing_of session) went used next) code held
+IsFed bytes other used_before code held used = (code ≡ WRONG_HANDLE) × (held ≡ other) × (used ≡ used_before)
+
+-- ---- the book
+
+-- what the book is after the call
+abbrev pub IsBook : Option Standing → Book → ℕ → Option Thing → Type 0
+IsBook standing book code (Some (thing.Book after)) = BookAfter (act_of standing) (went_told code) book after
+IsBook standing book code _ = ⊥
+
+-- the reply is told, if there is one
+abbrev pub reply_number : Reply → ℕ
+reply_number Yes = 4
+reply_number No = 5
+reply_number Done = 6
+
+abbrev pub IsReply : Option Reply → ℕ → ℕ → Type 0
+IsReply None before number = number ≡ before
+IsReply (Some reply) before number = number ≡ reply_number reply
+
+abbrev pub IsAsked : Option Thing → Option Thing → ℕ → ℕ → Option Thing → Option Thing → ℕ → Type 0
+IsAsked (Some (thing.Fetch session)) (Some (thing.Book book)) before code held held_book reply =
+    Tells (Asks book (standing_of session)) code held × IsBook (standing_of session) book code held_book
+    × IsReply (reply_told (went_told code) book (act_of (standing_of session))) before reply
+IsAsked other other_book before code held held_book reply =
+    (code ≡ WRONG_HANDLE) × (held ≡ other) × (held_book ≡ other_book) × (reply ≡ before)

@@ -1,0 +1,194 @@
+// Whole fetches: each call with an empty handle, with one of another kind, with a number that stands for nothing and with
+// what is not awaited; and what a fetch comes to whose connection fails or whose answer is cut.
+#include <stdio.h>
+#include <stdlib.h>
+#include <string.h>
+#include "fiorrudda.h"
+
+#define T(text) (const uint8_t *)(text), sizeof(text) - 1
+#define HOLDS(fact)                                                                               \
+    do {                                                                                          \
+        if (!(fact)) {                                                                            \
+            fprintf(stderr, "%s:%d: not %s\n", __FILE__, __LINE__, #fact);                        \
+            exit(1);                                                                              \
+        }                                                                                         \
+    } while (0)
+#define IS(code, call) HOLDS((call) == FIORRUDDA_##code)
+
+static fiorrudda_handle client, request, fetch, book, other;
+static uint8_t room[512];
+static size_t len, used;
+static uint32_t fault, header, reply;
+static uint64_t value;
+
+static uint32_t act(void) {
+    uint32_t it = 99;
+    IS(OK, fiorrudda_act(&fetch, &it));
+    return it;
+}
+
+static uint64_t number(uint32_t which) {
+    IS(OK, fiorrudda_number(&fetch, which, &value));
+    return value;
+}
+
+static bool says(uint32_t which, const char *text) {
+    IS(OK, fiorrudda_text(&fetch, which, 0, room, sizeof room, &len));
+    return len == strlen(text) && !memcmp(room, text, len);
+}
+
+static uint32_t fed(const char *bytes) { return fiorrudda_feed(&fetch, (const uint8_t *)bytes, strlen(bytes), &used); }
+
+// A fetch of a page's own server, whose request was sent.
+static void begin(void) {
+    IS(OK, fiorrudda_client(&client, T("https://a.example/"), T("https://a.example/"), 0));
+    IS(OK, fiorrudda_request(&request, T("GET"), T("/b")));
+    IS(OK, fiorrudda_fetch(&fetch, &client, &request, 0, 100, &fault, &header));
+    HOLDS(act() == FIORRUDDA_ACT_SEND);
+    IS(OK, fiorrudda_input(&fetch, FIORRUDDA_INPUT_SENT));
+    HOLDS(act() == FIORRUDDA_ACT_READ_HEAD);
+}
+
+// Each call of a handle that holds nothing of its kind says so, and leaves it.
+static void wrong_handles(fiorrudda_handle *it) {
+    uint32_t number = 7;
+    void *at = it->at;
+    IS(WRONG_HANDLE, fiorrudda_client_policy(it, T("default-src 'self'"), true));
+    IS(WRONG_HANDLE, fiorrudda_client_cookie(it, T("https://a.example/"), T("a=b")));
+    IS(WRONG_HANDLE, fiorrudda_request_header(it, T("A"), T("1")));
+    IS(WRONG_HANDLE, fiorrudda_request_text(it, FIORRUDDA_REQUEST_BODY, T("1")));
+    IS(WRONG_HANDLE, fiorrudda_request_choose(it, FIORRUDDA_CHOOSE_MODE, FIORRUDDA_MODE_CORS));
+    IS(WRONG_HANDLE, fiorrudda_act(it, &number));
+    IS(WRONG_HANDLE, fiorrudda_text(it, FIORRUDDA_TEXT_URL, 0, room, sizeof room, &len));
+    IS(WRONG_HANDLE, fiorrudda_number(it, FIORRUDDA_NUMBER_STATUS, &value));
+    IS(WRONG_HANDLE, fiorrudda_to_send(it, room, sizeof room, &len));
+    IS(WRONG_HANDLE, fiorrudda_input(it, FIORRUDDA_INPUT_SENT));
+    IS(WRONG_HANDLE, fiorrudda_feed(it, T("HTTP/1.1 200\r\n\r\n"), &used));
+    IS(WRONG_HANDLE, fiorrudda_ask(it, &book, &reply));
+    IS(WRONG_HANDLE, fiorrudda_ask(&fetch, it, &reply));
+    IS(WRONG_HANDLE, fiorrudda_fetch(&other, it, &request, 0, 100, &fault, &header));
+    IS(WRONG_HANDLE, fiorrudda_fetch(&other, &client, it, 0, 100, &fault, &header));
+    HOLDS(number == 7 && (it->at != NULL) == (at != NULL) && other.at == NULL);
+}
+
+static void misuse(void) {
+    fiorrudda_handle empty = {0}, list = {0};
+    begin();
+    IS(OK, fiorrudda_book(&book));
+    IS(OK, fiorrudda_headers(&list));
+    wrong_handles(&empty);
+    wrong_handles(&list);
+    fiorrudda_free(&list);
+    IS(NO_SUCH_NUMBER, fiorrudda_client(&other, T("https://a.example/"), T("https://a.example/"), 9));
+    IS(NOT_A_URL, fiorrudda_client(&other, T("/"), T("https://a.example/"), 0));
+    IS(NOT_HTTP, fiorrudda_client(&other, T("https://a.example/"), T("data:,x"), 0));
+    IS(NOT_A_URL, fiorrudda_client(&other, T("https://\xff.example/\xff"), T("https://a.example/"), 0));
+    IS(NO_SUCH_NUMBER, fiorrudda_load(&other, 0, T("/a.png")));
+    IS(NO_SUCH_NUMBER, fiorrudda_load(&other, 8, T("/a.png")));
+    HOLDS(other.at == NULL);
+    IS(NOT_A_HEADER, fiorrudda_client_cookie(&client, T("https://a.example/"), T("a\n")));
+    IS(NOT_A_URL, fiorrudda_client_cookie(&client, T("a.example"), T("a=b")));
+    IS(NO_SUCH_NUMBER, fiorrudda_request_choose(&request, 8, 0));
+    IS(NO_SUCH_NUMBER, fiorrudda_request_choose(&request, FIORRUDDA_CHOOSE_MODE, 4));
+    IS(NO_SUCH_NUMBER, fiorrudda_request_text(&request, 3, T("a")));
+    IS(NO, fiorrudda_request_choose(&request, FIORRUDDA_CHOOSE_PARSER, 1));
+    IS(NO, fiorrudda_request_text(&request, FIORRUDDA_REQUEST_NONCE, T("a")));
+    IS(NO_SUCH_NUMBER, fiorrudda_input(&fetch, 7));
+    IS(NO_SUCH_NUMBER, fiorrudda_text(&fetch, 12, 0, room, sizeof room, &len));
+    IS(NO_SUCH_NUMBER, fiorrudda_number(&fetch, 16, &value));
+    IS(TOO_LATE, fiorrudda_fetch(&other, &client, &request, (uint64_t)1 << 48, 100, &fault, &header));
+}
+
+// What is not awaited changes nothing: the head is read after it as if it had not come.
+static void not_awaited(void) {
+    begin();
+    for (uint32_t input = 0; input < 7; input++)
+        if (input != FIORRUDDA_INPUT_ENDED && input != FIORRUDDA_INPUT_FAILED) IS(NOT_AWAITED, fiorrudda_input(&fetch, input));
+    IS(NOT_AWAITED, fiorrudda_ask(&fetch, &book, &reply));
+    IS(NO, fiorrudda_to_send(&fetch, room, sizeof room, &len));
+    IS(OK, fed("HTTP/1.1 200 OK\r\nContent-Le"));
+    HOLDS(used == 27 && act() == FIORRUDDA_ACT_READ_HEAD);
+    IS(NOT_AWAITED, fiorrudda_input(&fetch, FIORRUDDA_INPUT_TOLD));
+    IS(OK, fed("ngth: 3\r\n\r\nabcd"));
+    HOLDS(used == 11 && act() == FIORRUDDA_ACT_READ_BODY);
+    IS(NOT_AWAITED, fiorrudda_input(&fetch, FIORRUDDA_INPUT_SENT));
+    IS(OK, fed("ab"));
+    IS(OK, fed("cd"));
+    HOLDS(act() == FIORRUDDA_ACT_OVER && number(FIORRUDDA_NUMBER_STATUS) == 200 && says(FIORRUDDA_TEXT_BODY, "abc"));
+    HOLDS(says(FIORRUDDA_TEXT_WORD, "basic") && says(FIORRUDDA_TEXT_URL, "https://a.example/b"));
+    for (uint32_t input = 0; input < 7; input++) IS(NOT_AWAITED, fiorrudda_input(&fetch, input));
+    IS(NOT_AWAITED, fed("x"));
+    IS(NOT_AWAITED, fiorrudda_ask(&fetch, &book, &reply));
+    HOLDS(act() == FIORRUDDA_ACT_OVER);
+}
+
+// A connection that fails, an answer that ends early, a body that is too long.
+static void failures(void) {
+    begin();
+    IS(OK, fiorrudda_input(&fetch, FIORRUDDA_INPUT_FAILED));
+    HOLDS(act() == FIORRUDDA_ACT_OVER && says(FIORRUDDA_TEXT_WORD, "LinkFault"));
+    begin();
+    IS(OK, fed("HTTP/1.1 200 OK\r\n"));
+    IS(OK, fiorrudda_input(&fetch, FIORRUDDA_INPUT_ENDED));
+    HOLDS(says(FIORRUDDA_TEXT_WORD, "BadHead") && number(FIORRUDDA_NUMBER_ERROR) == 25);
+    begin();
+    IS(OK, fed("HTTP/1.1 200 OK\r\nContent-Length: 9\r\n\r\n"));
+    IS(OK, fed("abc"));
+    IS(OK, fiorrudda_input(&fetch, FIORRUDDA_INPUT_ENDED));
+    HOLDS(number(FIORRUDDA_NUMBER_END) == 2 && number(FIORRUDDA_NUMBER_COUNT) == 3);
+    begin();
+    IS(OK, fed("HTTP/1.1 200 OK\r\nContent-Length: 9\r\n\r\n"));
+    IS(OK, fed("abcd"));
+    IS(OK, fiorrudda_input(&fetch, FIORRUDDA_INPUT_FAILED));
+    HOLDS(number(FIORRUDDA_NUMBER_END) == 3 && number(FIORRUDDA_NUMBER_COUNT) == 4);
+    begin();
+    IS(OK, fed("HTTP/1.1 200 OK\r\nContent-Length: 101\r\n\r\n"));
+    for (int n = 0; n < 101 && act() == FIORRUDDA_ACT_READ_BODY; n++) IS(OK, fed("x"));
+    HOLDS(number(FIORRUDDA_NUMBER_END) == 4);
+    begin();
+    IS(OK, fed("HTTP/1.1 204 No Content\r\n\r\n"));
+    IS(OK, fed(""));
+    HOLDS(act() == FIORRUDDA_ACT_OVER && number(FIORRUDDA_NUMBER_END) == 0);
+}
+
+// What no request can be made of.
+static void faults(void) {
+    IS(OK, fiorrudda_request(&request, T("GET"), T("https://u:p@a.example/")));
+    IS(NO_REQUEST, fiorrudda_fetch(&other, &client, &request, 0, 100, &fault, &header));
+    HOLDS(fault == 2 && header == 0 && other.at == NULL);
+    IS(OK, fiorrudda_request(&request, T("GET"), T("/")));
+    IS(OK, fiorrudda_request_header(&request, T("A"), T("1")));
+    IS(OK, fiorrudda_request_header(&request, T("A B"), T("1")));
+    IS(NO_REQUEST, fiorrudda_fetch(&other, &client, &request, 0, 100, &fault, &header));
+    HOLDS(fault == 7 && header == 1);
+}
+
+// A book of the caller's own, and a violation that is told.
+static void other_book(void) {
+    IS(OK, fiorrudda_client(&client, T("http://a.example/"), T("http://a.example/"), 0));
+    IS(OK, fiorrudda_client_policy(&client, T("connect-src 'none'"), false));
+    IS(OK, fiorrudda_request(&request, T("GET"), T("/b")));
+    IS(OK, fiorrudda_fetch(&fetch, &client, &request, 5, 100, &fault, &header));
+    HOLDS(act() == FIORRUDDA_ACT_TELL && says(FIORRUDDA_TEXT_WORD, "connect-src") && number(FIORRUDDA_NUMBER_ENFORCED) == 0);
+    IS(OK, fiorrudda_input(&fetch, FIORRUDDA_INPUT_TOLD));
+    HOLDS(act() == FIORRUDDA_ACT_ASK && number(FIORRUDDA_NUMBER_CALL) == 0 && says(FIORRUDDA_TEXT_HOST, "a.example"));
+    HOLDS(number(FIORRUDDA_NUMBER_TIME) == 5);
+    IS(NOT_AWAITED, fiorrudda_input(&fetch, FIORRUDDA_INPUT_DONE));
+    IS(OK, fiorrudda_input(&fetch, FIORRUDDA_INPUT_YES));
+    HOLDS(act() == FIORRUDDA_ACT_SEND && says(FIORRUDDA_TEXT_ORIGIN, "https://a.example"));
+}
+
+int main(void) {
+    misuse();
+    not_awaited();
+    failures();
+    faults();
+    other_book();
+    fiorrudda_free(&client);
+    fiorrudda_free(&request);
+    fiorrudda_free(&fetch);
+    fiorrudda_free(&book);
+    fiorrudda_free(&other);
+    puts("fetches: ok");
+    return 0;
+}

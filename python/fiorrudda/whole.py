@@ -1,0 +1,311 @@
+"""A whole fetch that touches nothing: `Client`, `Request` or `Load`, and `Fetch`, an iterator of acts.
+
+    book = Book()
+    fetch = Fetch(Client("https://app.example/"), Request("https://api.example/", credentials="include"))
+    for act in fetch:
+        if isinstance(act, Ask):
+            fetch.ask(book)
+        elif isinstance(act, Send):
+            connection = connect(act.origin)
+            connection.sendall(act.request)
+            fetch.sent()
+        elif isinstance(act, (ReadHead, ReadBody)):
+            ... fetch.feed(bytes), and fetch.ended() where no more come
+        elif isinstance(act, Tell):
+            fetch.told()
+    print(fetch.outcome)
+"""
+import ctypes
+from typing import Iterator, List, NamedTuple, Optional, Tuple, Union
+
+from . import Book, NoRequest, ReferrerPolicy, Text, _lent, _lib, _Handle, _Thing, _time, _told, _written
+
+_MODES = ["same-origin", "no-cors", "cors", "navigate"]
+_CREDENTIALS = ["omit", "same-origin", "include"]
+_REDIRECTS = ["follow", "error", "manual"]
+_CROSSORIGINS = [None, "anonymous", "use-credentials"]
+_KINDS = ["image", "audio", "video", "style", "script", "font", "manifest"]
+_MODE, _CREDENTIAL, _REDIRECT, _REFERRER, _REFERRER_POLICY, _UPLOAD, _CROSSORIGIN, _PARSER = range(8)
+_BODY, _INTEGRITY, _NONCE = range(3)
+_SENT, _TOLD, _ENDED, _FAILED, _YES, _DID_NOT, _DONE = range(7)
+(_ORIGIN, _URL, _METHOD, _TEXT_BODY, _NAME_OF, _VALUE_OF, _HOST, _KEY, _NAME, _LEARNT, _WORD, _REFUSED) = range(12)
+(_CALL, _TIME, _AGE, _SUBDOMAINS, _INCLUDE, _PREFLIGHT, _POLICY, _ENFORCED, _OUTCOME, _STATUS, _ERROR, _END,
+ _COUNT) = range(13)
+
+Pairs = List[Tuple[bytes, bytes]]
+
+
+class Call(NamedTuple):
+    """A call of the book: `match`, `note`, `covers`, `learn` or `clear`, at a time, with what is of that kind."""
+
+    name: str
+    time: int
+    host: Optional[str] = None
+    age: Optional[int] = None
+    include_subdomains: Optional[bool] = None
+    key: Optional[str] = None
+    origin: Optional[str] = None
+    url: Optional[str] = None
+    include: Optional[bool] = None
+    method: Optional[str] = None
+    names: Tuple[str, ...] = ()
+    methods: Tuple[str, ...] = ()
+
+
+class Ask(NamedTuple):
+    """The book is to be asked or told: `Fetch.ask`, or `Fetch.reply` with what another book says."""
+
+    call: Call
+
+
+class Send(NamedTuple):
+    """A request is to be sent to the server of an origin: `Fetch.sent`, or `Fetch.failed`."""
+
+    origin: str
+    request: bytes
+    preflight: bool
+    method: str
+    url: str
+    headers: Pairs
+    body: Optional[bytes]
+
+
+class ReadHead(NamedTuple):
+    """The head of the answer is to be read: `Fetch.feed`, `Fetch.ended` or `Fetch.failed`."""
+
+
+class ReadBody(NamedTuple):
+    """The body is to be read, in the same way: first what was left of the last piece, be there some or none."""
+
+
+class Tell(NamedTuple):
+    """The document is to be told of a violation of its policies: `Fetch.told`."""
+
+    policy: int
+    enforced: bool
+    directive: str
+    url: str
+
+
+class Response(NamedTuple):
+    """A response as a script sees it. `end` is `null`, `whole`, `cut`, `fault` or `toobig`; `count` the body's bytes."""
+
+    kind: str
+    status: int
+    url: Optional[str]
+    headers: Pairs
+    end: str
+    count: Optional[int]
+    body: Optional[bytes]
+
+
+class Loaded(NamedTuple):
+    """A load that succeeded."""
+
+
+class NetworkError(NamedTuple):
+    """A network error, by its number and name; `header` is the one that a preflight did not allow."""
+
+    number: int
+    name: str
+    header: Optional[str]
+
+
+Act = Union[Ask, Send, ReadHead, ReadBody, Tell]
+Outcome = Union[Response, Loaded, NetworkError]
+
+
+class Client(_Thing):
+    """A document that fetches: its URL, that of the page at the top, its referrer policy, the values of its policies'
+    headers (`report_only` those that only report), and pairs of a URL's origin and the value of the Cookie header."""
+
+    def __init__(self, url: Text, top: Optional[Text] = None, policy: ReferrerPolicy = ReferrerPolicy.DEFAULT,
+                 policies=(), report_only=(), cookies=()) -> None:
+        given = (*_lent(url), *_lent(url if top is None else top), ReferrerPolicy(policy))
+        super().__init__(lambda handle: _lib.fiorrudda_client(handle, *given))
+        for value in policies:
+            self.add_policy(value)
+        for value in report_only:
+            self.add_policy(value, enforced=False)
+        for origin, value in cookies:
+            self.add_cookie(origin, value)
+
+    def add_policy(self, value: Text, enforced: bool = True) -> None:
+        """Adds the policies of a header's value (CSP 3, section 2.2)."""
+        _told(_lib.fiorrudda_client_policy(self._handle, *_lent(value), enforced))
+
+    def add_cookie(self, url: Text, value: Text) -> None:
+        """Adds the value of the Cookie header for the origin of a URL."""
+        _told(_lib.fiorrudda_client_cookie(self._handle, *_lent(url), *_lent(value)))
+
+
+class _Asked(_Thing):
+    def _choose(self, choice: int, number: int) -> None:
+        _told(_lib.fiorrudda_request_choose(self._handle, choice, number))
+
+    def _write(self, which: int, text: Text) -> None:
+        _told(_lib.fiorrudda_request_text(self._handle, which, *_lent(text)))
+
+
+class Request(_Asked):
+    """What a script asks of `fetch` (Fetch, sections 5.4 and 5.6)."""
+
+    def __init__(self, url: Text, method: Text = "GET", *, mode: str = "cors", credentials: str = "same-origin",
+                 redirect: str = "follow", headers=(), body: Optional[Text] = None, referrer: bool = True,
+                 referrer_policy: ReferrerPolicy = ReferrerPolicy.DEFAULT, integrity: Text = "",
+                 upload: bool = False) -> None:
+        given = (*_lent(method), *_lent(url))
+        super().__init__(lambda handle: _lib.fiorrudda_request(handle, *given))
+        self._choose(_MODE, _MODES.index(mode))
+        self._choose(_CREDENTIAL, _CREDENTIALS.index(credentials))
+        self._choose(_REDIRECT, _REDIRECTS.index(redirect))
+        self._choose(_REFERRER, int(referrer))
+        self._choose(_REFERRER_POLICY, ReferrerPolicy(referrer_policy))
+        self._choose(_UPLOAD, int(upload))
+        for name, value in headers:
+            _told(_lib.fiorrudda_request_header(self._handle, *_lent(name), *_lent(value)))
+        if body is not None:
+            self._write(_BODY, body)
+        self._write(_INTEGRITY, integrity)
+
+
+class Load(_Asked):
+    """What an element asks for that loads a resource (HTML, section 2.5.1, "create a potential-CORS request")."""
+
+    def __init__(self, kind: str, url: Text, *, crossorigin: Optional[str] = None, nonce: Text = "",
+                 integrity: Text = "", parser: bool = False,
+                 referrer_policy: ReferrerPolicy = ReferrerPolicy.DEFAULT) -> None:
+        number, given = _KINDS.index(kind) + 1, _lent(url)
+        super().__init__(lambda handle: _lib.fiorrudda_load(handle, number, *given))
+        self._choose(_CROSSORIGIN, _CROSSORIGINS.index(crossorigin))
+        self._choose(_PARSER, int(parser))
+        self._choose(_REFERRER_POLICY, ReferrerPolicy(referrer_policy))
+        self._write(_NONCE, nonce)
+        self._write(_INTEGRITY, integrity)
+
+
+class Fetch(_Thing):
+    """A whole fetch, an iterator of the acts that are to be done. Each is answered before the next is asked for: one that
+    was not answered comes again. Times are in seconds, and `limit` is how many bytes a body may have.
+
+    `NoRequest` where no request can be made of what is asked for."""
+
+    def __init__(self, client: Client, request: Union[Request, Load], now: int = 0, limit: int = 2**20) -> None:
+        fault, header = ctypes.c_uint32(0), ctypes.c_uint32(0)
+
+        def make(handle: _Handle) -> int:
+            code = _lib.fiorrudda_fetch(handle, client._handle, request._handle, _time(now), limit, fault, header)
+            if code == NoRequest.code:
+                raise NoRequest(fault.value, header.value)
+            return code
+
+        super().__init__(make)
+
+    def __iter__(self) -> Iterator[Act]:
+        return self
+
+    def __next__(self) -> Act:
+        act = self._act()
+        if act in (0, 6):
+            raise StopIteration
+        return [self._asked, self._sends, ReadHead, ReadBody, self._tells][act - 1]()
+
+    # ---- what came of an act
+
+    def ask(self, book: Book) -> Optional[bool]:
+        """Asks a book what the act asks; its reply is a bool, or None where it was told something."""
+        reply = ctypes.c_uint32(0)
+        _told(_lib.fiorrudda_ask(self._handle, book._handle, reply))
+        return {_YES: True, _DID_NOT: False}.get(reply.value)
+
+    def reply(self, reply: Optional[bool] = None) -> None:
+        """What a book of the caller's own replied: a bool to a question, and else None."""
+        self._input(_DONE if reply is None else _YES if reply else _DID_NOT)
+
+    def sent(self) -> None:
+        """The request was sent."""
+        self._input(_SENT)
+
+    def told(self) -> None:
+        """The document was told."""
+        self._input(_TOLD)
+
+    def ended(self) -> None:
+        """The answer ended: no more bytes come."""
+        self._input(_ENDED)
+
+    def failed(self) -> None:
+        """The connection failed."""
+        self._input(_FAILED)
+
+    def feed(self, piece: bytes) -> int:
+        """The next bytes of the answer came: how many of them were read. Those behind a head are fed again."""
+        used = ctypes.c_size_t(0)
+        _told(_lib.fiorrudda_feed(self._handle, piece, len(piece), used))
+        return used.value
+
+    # ---- what it came to
+
+    @property
+    def outcome(self) -> Optional[Outcome]:
+        """What the fetch came to, once it is over."""
+        if self._act() != 0:
+            return None
+        what = self._number(_OUTCOME)
+        if what == 0:
+            return self._response()
+        return Loaded() if what == 1 else NetworkError(self._number(_ERROR), self._word(_WORD), self._word(_REFUSED))
+
+    def _response(self) -> Response:
+        end = ["null", "whole", "cut", "fault", "toobig"][self._number(_END)]
+        return Response(self._word(_WORD), self._number(_STATUS), self._word(_URL), self._headers(), end,
+                        self._number(_COUNT), self._text(_TEXT_BODY))
+
+    def _act(self) -> int:
+        act = ctypes.c_uint32(0)
+        _told(_lib.fiorrudda_act(self._handle, act))
+        return act.value
+
+    def _input(self, number: int) -> None:
+        _told(_lib.fiorrudda_input(self._handle, number))
+
+    def _number(self, which: int) -> Optional[int]:
+        number = ctypes.c_uint64(0)
+        return number.value if _told(_lib.fiorrudda_number(self._handle, which, number)) else None
+
+    def _text(self, which: int, at: int = 0) -> Optional[bytes]:
+        return _written(_lib.fiorrudda_text, self._handle, which, at)
+
+    def _word(self, which: int) -> Optional[str]:
+        text = self._text(which)
+        return None if text is None else text.decode("latin-1")
+
+    def _texts(self, which: int) -> Tuple[bytes, ...]:
+        found = []
+        while (text := self._text(which, len(found))) is not None:
+            found.append(text)
+        return tuple(found)
+
+    def _words(self, which: int) -> Tuple[str, ...]:
+        return tuple(text.decode("latin-1") for text in self._texts(which))
+
+    def _headers(self) -> Pairs:
+        return list(zip(self._texts(_NAME_OF), self._texts(_VALUE_OF)))
+
+    def _flag(self, which: int) -> Optional[bool]:
+        number = self._number(which)
+        return None if number is None else bool(number)
+
+    def _asked(self) -> Ask:
+        name = ["match", "note", "covers", "learn", "clear"][self._number(_CALL)]
+        return Ask(Call(name, self._number(_TIME), self._word(_HOST), self._number(_AGE), self._flag(_SUBDOMAINS),
+                        self._word(_KEY), self._word(_ORIGIN), self._word(_URL), self._flag(_INCLUDE),
+                        self._word(_METHOD), self._words(_NAME), self._words(_LEARNT)))
+
+    def _sends(self) -> Send:
+        request = _written(_lib.fiorrudda_to_send, self._handle)
+        return Send(self._word(_ORIGIN), request, self._flag(_PREFLIGHT), self._word(_METHOD), self._word(_URL),
+                    self._headers(), self._text(_TEXT_BODY))
+
+    def _tells(self) -> Tell:
+        return Tell(self._number(_POLICY), self._flag(_ENFORCED), self._word(_WORD), self._word(_URL))
