@@ -1,7 +1,7 @@
 -- Plays over links to scripted servers as plays over the servers by their rules.
 use Rattle.std.proofs.Common.{◌≡◌, ℕ, zero, suc, ◌<◌, List, [], ◌∷◌, length, map, get_or, refl, ap, subst, ◌∙◌}
-use Rattle.std.proofs.Common.{arith, Option, Some, None, Result, Ok, Err}
-use Rattle.std.specs.Prelude.{slice_get, IfOk}
+use Rattle.std.proofs.Common.{arith, Option, Some, None}
+use Rattle.std.specs.Prelude.{slice_get}
 use Rattle.std.specs.List.{All}
 use Rattle.std.proofs.lemmas.List.Elements.{All-head, All-tail, All-map}
 use Rattle.wf_book.specs.declared.entry.Entry.{Entry}
@@ -108,8 +108,3 @@ scripted-play scenario transcripts history link old new servers opens x =
     read [] k d lt = absurd (omega arith)
     read (l ∷ ls) zero d lt = refl
     read (l ∷ ls) (suc k) d lt = read ls k d (omega arith)
-
-pub if-ok-map : {T E : Type 0} (P Q : T → Type 0) (result : Result T E) → ((x : T) → P x → Q x) → IfOk result P
-    → IfOk result Q
-if-ok-map P Q (Ok x) f p = f x p
-if-ok-map P Q (Err e) f p = tt

@@ -95,6 +95,14 @@ called-on old new fresh grew left = record {
     own : new.outside.own ≡ grew.more
     own = grew.own ∙ ap (λ (l : List Entry). l ++ grew.more) fresh.own_is
 
+-- no call was made on seats of new passes
+pub fresh-new : {L State : Type 0} (told : L → Told State) (id : TableId) (opening : Book)
+    (seats : List (Seating L TurnPass)) → All (IsNew id opening) (passes_in seats)
+    → All IsFresh (map (seat_seen told) seats)
+fresh-new {L} told id opening seats new = All-map IsFresh (seat_seen told) seats
+    (λ k d lt. let n = unmap (IsNew id opening) (λ (s : Seating L TurnPass). s.pass) seats new k d lt in
+    record { own_is = n.own_is; left_is = n.left_is })
+
 -- ---- turns
 
 -- where entry i has turn i, the turns are those from 0 on
@@ -211,10 +219,7 @@ module _ {L State : Type 0} (told : L → Told State) (scenario : Scenario) (id 
 
   -- no call was made on the seats at first
   pub fresh-seats : All IsFresh (map (seat_seen told) made)
-  fresh-seats = All-map IsFresh (seat_seen told) made
-      (λ k d lt. let n = unmap (IsNew id (opening_book scenario)) (λ (s : Seating L TurnPass). s.pass) made are.new k d
-      lt
-      in record { own_is = n.own_is; left_is = n.left_is })
+  fresh-seats = fresh-new told id (opening_book scenario) made are.new
 
   -- the entries of each document are its pass's own
   pub own-entries : All (λ (s : Seat State). entries_of s.document history ≡ s.outside.own)

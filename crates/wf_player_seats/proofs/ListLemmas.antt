@@ -1,5 +1,6 @@
--- Lists of what is made of other lists.
-use Rattle.std.proofs.Common.{◌≡◌, List, [], ◌∷◌, map, refl, ap}
+-- Lists of what is made of other lists, and what is known of an answer.
+use Rattle.std.proofs.Common.{◌≡◌, List, [], ◌∷◌, Result, Ok, Err, map, refl, ap}
+use Rattle.std.specs.Prelude.{IfOk}
 use Rattle.std.specs.List.{All}
 use Rattle.std.proofs.lemmas.List.Elements.{All-nil, All-cons, All-head, All-tail}
 
@@ -11,3 +12,9 @@ unmap P f (y ∷ ys) a = All-cons (λ y. P (f y)) y ys (All-head P (f y) (map f 
 pub map-map : {X Y Z : Type 0} (f : X → Y) (g : Y → Z) (xs : List X) → map g (map f xs) ≡ map (λ x. g (f x)) xs
 map-map f g [] = refl
 map-map {Z = Z} f g (x ∷ xs) = ap (λ (l : List Z). g (f x) ∷ l) (map-map f g xs)
+
+-- what follows of each answer
+pub if-ok-map : {T E : Type 0} (P Q : T → Type 0) (result : Result T E) → ((x : T) → P x → Q x) → IfOk result P
+    → IfOk result Q
+if-ok-map P Q (Ok x) f p = f x p
+if-ok-map P Q (Err e) f p = tt

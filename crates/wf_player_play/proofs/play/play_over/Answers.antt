@@ -13,7 +13,7 @@ use Rattle.wf_player_play.specs.Private.Seated.{AreUnseated}
 use Rattle.wf_player_play.specs.declared.play.Played.{Played}
 use Rattle.wf_player_play.proofs.OverLemmas.{none-refused, played-over, played-refused, seats-refused}
 use Rattle.wf_player_seats.proofs.SeatedLemmas.{as-many}
-use Rattle.wf_player_play.proofs.StandingLemmas.{if-ok-map}
+use Rattle.wf_player_seats.proofs.ListLemmas.{if-ok-map}
 use Rattle.wf_player_play.proofs.play.play_over.Goals as goal
 
 pub returns-in_err-opening-clause-refused : goal.returns-in_err-opening-clause-refused

@@ -4,7 +4,8 @@ use Rattle.wf_player_play.specs.Links.{IsPlayOverLinks, Maker}
 use Rattle.wf_iso.specs.Plays.{IsPlay}
 use Rattle.wf_player_play.specs.declared.play.Played.{Played}
 use Rattle.wf_player_seats.proofs.ServerLemmas.{by_bytes, sim_told}
-use Rattle.wf_player_play.proofs.StandingLemmas.{if-ok-map, scripted-play}
+use Rattle.wf_player_seats.proofs.ListLemmas.{if-ok-map}
+use Rattle.wf_player_play.proofs.StandingLemmas.{scripted-play}
 use Rattle.wf_player_play.proofs.play.play_scripted.Goals as goal
 
 pub returns-clause-played : goal.returns-clause-played

@@ -1,0 +1,36 @@
+// The program: it makes the real streams, calls the top call, and ends with its status.
+#![tactic(auto)]
+
+use std::env;
+use std::process::ExitCode;
+use std::rt::Env;
+use wf_link::{StandardError, StandardInput, StandardOutput};
+use wf_report_program::cspreport;
+
+// The words after the program's name. Where they cannot be had there are none, which is the usage
+// error.
+fn words<R: Env + AllocGlobal>(rt: &R) -> Vec<String> {
+    match env::args(rt) {
+        Ok(args) => args
+            .skip(1)
+            .collect(rt.alloc())
+            .unwrap_or(Vec::new(rt.alloc())),
+        Err(_) => Vec::new(rt.alloc()),
+    }
+}
+
+fn main(rt: HostRuntime) -> ExitCode {
+    let words = words(&rt);
+    let mut input = StandardInput::new(rt.stdin());
+    let mut output = StandardOutput::new(rt.stdout());
+    let mut complaints = StandardError::new(rt.stderr());
+    let status = cspreport(
+        &rt,
+        rt.alloc(),
+        words.as_slice(),
+        &mut input,
+        &mut output,
+        &mut complaints,
+    );
+    ExitCode::from(status.number())
+}

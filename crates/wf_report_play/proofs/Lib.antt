@@ -1,0 +1,3 @@
+pub mod ClockLemmas
+pub mod DeliveryLemmas
+pub mod ReportedLemmas

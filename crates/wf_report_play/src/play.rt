@@ -1,0 +1,89 @@
+// A play with reports: the book is opened, the documents are seated and played, their reports are delivered, and the book
+// is closed.
+ghost use Rattle.std.specs.Prelude.{◌≤◌, ◌+◌, vec_capacity, vec_len, IfOk};
+ghost use Rattle.wf_link_wire.specs.Wires.{over_link};
+ghost use Rattle.wf_player_seats.specs.Seated.{AreReady};
+ghost use Rattle.wf_report_play.specs.Plays.{IsReportedPlay};
+ghost use Rattle.wf_report_play.specs.Private.Delivered.{WasReported};
+ghost use Rattle.wf_script_values.specs.Valid.{IsValid};
+
+use crate::deliveries::deliver_all;
+use std::alloc::Global;
+use std::sync::Wait;
+use std::thread::Threads;
+use wf_book::History;
+use wf_link::Links;
+use wf_player::{Seating, play_all};
+use wf_player_seats::{opened, passes_of, seat_all, unseat};
+use wf_print::has_text;
+use wf_report::Delivered;
+use wf_script_events::Transcripts;
+use wf_script_values::Scenario;
+use wf_sim::SimLinks;
+use wf_text::{Items, OutOfMemory};
+use wf_turn::{Closed, TurnBook, TurnPass};
+
+/// What a play with reports has come to: what each document has shown, its reports, and the one history of the book.
+#[derive(Drop)]
+pub struct Reported {
+    pub transcripts: Transcripts,
+    pub reports: Items<Delivered>,
+    pub history: History,
+}
+
+// Plays each document on its seat; once all scripts have ended delivers the reports of each, in order of documents; and
+// closes the book.
+fn play_seated<R: Threads + Wait + Sync, N: Links>(
+    rt: &R,
+    alloc: Global,
+    scenario: &Scenario,
+    book: TurnBook,
+    mut seats: Vec<Seating<N::Link, TurnPass>>,
+    mut passes: Vec<TurnPass>,
+    links: &mut N,
+) -> Result<Reported, OutOfMemory>
+    requires valid { IsValid scenario.now }
+    requires ready { AreReady book.table.shared.table_id scenario.now passes.items seats.items }
+    requires room { vec_len seats + vec_len passes ≤ vec_capacity passes }
+    ensures { IfOk result (λ reported. WasReported (over_link N.Link.serves) N.Link.told scenario.entry.now seats.items
+        reported.transcripts reported.reports reported.history) }
+{
+    let transcripts = play_all(rt, alloc, scenario, scenario.now, &book, &mut seats)?;
+    if !has_text(&transcripts) {
+        return Err(OutOfMemory);
+    }
+    let (seats, reports) = deliver_all(rt, alloc, scenario, &transcripts, &book, seats)?;
+    unseat(seats, links, &mut passes);
+    let Closed { book: _, history } = book.close(passes);
+    Ok(Reported {
+        transcripts,
+        reports,
+        history,
+    })
+}
+
+/// Plays a scenario over its own servers, from its own time on, each document on a thread of its own where one can be
+/// made; and once all scripts have ended delivers the reports of each document, in order of documents, over its own link
+/// and its own pass of the shared book.
+///
+/// `OutOfMemory` where memory was refused, to a document, to its reports or to what surrounds them.
+pub fn play_reported<R: Threads + Wait + Sync>(
+    rt: &R,
+    alloc: Global,
+    scenario: &Scenario,
+) -> Result<Reported, OutOfMemory>
+    requires { IsValid scenario.now }
+    ensures { IfOk result (λ reported. IsReportedPlay scenario.entry.now reported.transcripts reported.reports
+        reported.history) }
+{
+    let opening = opened(alloc, scenario.hosts.as_slice())?;
+    let (book, mut first) = TurnBook::new(alloc, opening)?;
+    let count = scenario.documents.len();
+    let passes = passes_of(alloc, &book, &mut first, count)?;
+    let mut links = SimLinks::new(scenario);
+    let mut seats = Vec::with_capacity(alloc, count)?;
+    let mut back = Vec::with_capacity(alloc, count + 1)?;
+    back.push_reserved(first);
+    seat_all(alloc, &scenario.routes, passes, &mut links, &mut seats)?;
+    play_seated(rt, alloc, scenario, book, seats, back, &mut links)
+}

@@ -1,0 +1,5 @@
+pub mod Program
+pub mod Scenarios
+pub mod Statuses
+pub mod Text
+pub mod Words
