@@ -83,7 +83,8 @@ all-readable (text ∷ lines) [] are = absurd are
 all-readable (text ∷ lines) (entry ∷ history) are =
     All-cons IsReadable entry history (readable entry are.0.is_entry) (all-readable lines history are.1)
 
-pub lines-text : (lines : List (List ℕ)) (history : List Entry) → AreLinesOf lines history → lined lines ≡ history_text history
+pub lines-text : (lines : List (List ℕ)) (history : List Entry) → AreLinesOf lines history
+    → lined lines ≡ history_text history
 lines-text [] [] are = refl
 lines-text [] (entry ∷ history) are = absurd are
 lines-text (text ∷ lines) [] are = absurd are
@@ -96,11 +97,15 @@ lines-text (text ∷ lines) (entry ∷ history) are =
 same-lines : (one other : List (List ℕ)) (x y : List ℕ) → All IsLine one → All IsLine other
     → lined one ++ line (codes "done") ≡ lined other ++ line (codes "done") → one ≡ other
 same-lines [] [] x y a b e = refl
-same-lines [] (v ∷ other) x y a b e = absurd (ends v other (one-line (codes "done") v [] (lined other ++ line (codes "done")) refl (All-head IsLine v other b) (e ∙ lined-then v other (line (codes "done")))).1)
+same-lines [] (v ∷ other) x y a b e = absurd
+    (ends v other (one-line (codes "done") v [] (lined other ++ line (codes "done")) refl (All-head IsLine v other b)
+    (e ∙ lined-then v other (line (codes "done")))).1)
   where
     ends : (v : List ℕ) (other : List (List ℕ)) → [] ≡ lined other ++ line (codes "done") → ⊥
     ends v other e = let n = ap length e in omega (arith, n, length-append (lined other) (line (codes "done")))
-same-lines (u ∷ one) [] x y a b e = absurd (ends u one (one-line u (codes "done") (lined one ++ line (codes "done")) [] (All-head IsLine u one a) refl (sym (lined-then u one (line (codes "done"))) ∙ e)).1)
+same-lines (u ∷ one) [] x y a b e = absurd
+    (ends u one (one-line u (codes "done") (lined one ++ line (codes "done")) [] (All-head IsLine u one a) refl
+    (sym (lined-then u one (line (codes "done"))) ∙ e)).1)
   where
     ends : (u : List ℕ) (one : List (List ℕ)) → lined one ++ line (codes "done") ≡ [] → ⊥
     ends u one e = let n = ap length e in omega (arith, n, length-append (lined one) (line (codes "done")))
