@@ -16,6 +16,8 @@ PROGRAMS = [
             ["play", "net", "gen"]),
     Program("corsserve", "a CORS server that answers by a table", ["corsserve ADDRESS N < TABLE"],
             ["docs/cors-server.md"], ["127.0.0.1:8000"]),
+    Program("playaudit", "says whether a text is the printed play of a scenario", ["playaudit < INPUT"],
+            ["docs/audit.md"], []),
 ]
 
 SCRIPTS = [
@@ -28,6 +30,8 @@ SCRIPTS = [
     Script("view", "draws a play as a sequence diagram",
            ["fiorrudda-view [SCENARIO] [-o FILE] [--open]", "fiorrudda-view --text PLAY [-o FILE] [--open]"],
            ["docs/view.md"], ["--text", "-o", "--open", "--help"]),
+    Script("audit", "says whether a text is the printed play of a scenario, and shows where not",
+           ["fiorrudda-audit SCENARIO PLAY"], ["docs/audit.md"], ["--help"]),
     Script("playground", "a page in which a scenario is edited, played and drawn",
            ["fiorrudda-playground [PORT] [--open] [--seconds N]"], ["docs/playground.md"],
            ["--open", "--seconds", "--help"]),
@@ -45,7 +49,7 @@ FOLDERS = {
 
 # What scripts need of the folders that have checks beside it.
 VIEW = ["page.html", "page.py", "view.css"]
-COMMANDS = ["answers.py", "asking.py", "case.py", "csp.py", "doubts.py", "expectations.py", "explanations.py", "json_text.py",
+COMMANDS = ["answers.py", "asking.py", "auditing.py", "case.py", "csp.py", "doubts.py", "expectations.py", "explanations.py", "json_text.py",
             "play_text.py", "refusals.py", "relay.py", "results.py", "running.py", "scenario.py", "schema.py", "streams.py",
             "told.py"]
 PLAYGROUND = ["page.html", "playground.css", "documents.py", "gate.py", "markdown.py", "page.py", "player.py",

@@ -10,7 +10,10 @@ use Rattle.wf_book.specs.declared.entry.Entry.{Entry}
 use Rattle.wf_book.specs.Book.{after}
 use Rattle.wf_book.specs.Entries.{LegalFrom}
 use Rattle.wf_iso.specs.Laws.{PlaysAlone}
-use Rattle.wf_iso.specs.Plays.{HasTurnsFrom, IsPlay, by_rules, opening_book, ways_to_servers}
+use Rattle.wf_iso.specs.Plays.{HasTurnsFrom, IsPlay, IsTranscript, by_rules, opening_book, ways_to_servers}
+use Rattle.wf_script_events.specs.declared.events.Transcript.{Transcript}
+use Rattle.wf_script_run.specs.Documents.{EachDocument}
+use Rattle.wf_script_values.specs.declared.scenario.Scenario.{Scenario}
 use Rattle.wf_script_values.specs.declared.servers.Server.{Server}
 use Rattle.wf_audit_history.specs.Legality.{AreRight, first_stranger, is_stranger}
 use Rattle.wf_audit.specs.Laws.{IsComplete, IsSound}
@@ -91,17 +94,24 @@ all-named count history all = passes-none (is_stranger count) history (far-named
 
 -- ---- the laws
 
+-- documents that come to their transcripts over a history that the book gives and whose entries name documents
+pub play-of : (scenario : Scenario) (transcripts : List Transcript) (history : List Entry)
+    → AreRight (opening_book scenario) 0 history → first_stranger (length scenario.documents) history ≡ None
+    → EachDocument (IsTranscript by_rules scenario scenario.now history) 0 scenario.documents
+    (ways_to_servers scenario) (ways_to_servers scenario) transcripts → IsPlay scenario transcripts history
+play-of scenario transcripts history given named runs = record {
+  legal = legal-right (opening_book scenario) 0 history given;
+  turns = turns-right (opening_book scenario) 0 history given;
+  named = named-all (length scenario.documents) history named;
+  runs = runs;
+}
+
 pub is-sound : PlaysAlone (List Server) → IsSound
 is-sound law bytes play is =
     let ran = is.0 in
     let of = ran.legal.of in
     let scenario = of.scenario in
-    let made : IsPlay scenario ran.transcripts of.history = record {
-      legal = legal-right (opening_book scenario) 0 of.history ran.legal.given;
-      turns = turns-right (opening_book scenario) 0 of.history ran.legal.given;
-      named = named-all (length scenario.documents) of.history ran.legal.named;
-      runs = ran.runs;
-    } in
+    let made = play-of scenario ran.transcripts of.history ran.legal.given ran.legal.named ran.runs in
     record {
       of = record {
         scenario = scenario;

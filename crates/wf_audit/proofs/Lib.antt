@@ -1,4 +1,5 @@
 pub mod DocumentLemmas
 pub mod LawLemmas
+pub mod OnceLemmas
 pub mod TapeRunLemmas
 pub mod VerdictLemmas

@@ -9,6 +9,7 @@ use Rattle.wf_iso.specs.Isolated.{IsIsolated}
 use Rattle.wf_iso.specs.Plays.{IsPlay, by_rules, ways_to_servers}
 use Rattle.wf_audit_text.specs.Histories.{Holds}
 use Rattle.wf_audit.specs.Verdicts.{IsVerdict}
+use Rattle.wf_audit.specs.declared.verdict.Verdict.{Verdict}
 use Rattle.wf_audit.specs.declared.verdict.Verdict.TheVariants as verdict
 
 -- The text is that of a play of the scenario that the bytes are, and it holds the history of that play.
@@ -34,3 +35,8 @@ IsSound = (bytes play : List ℕ) → IsVerdict bytes play verdict.Play → IsAu
 -- where it is such a text, the verdict is Play
 abbrev pub IsComplete : Type 0
 IsComplete = (bytes play : List ℕ) → IsTextOfPlay bytes play → IsVerdict bytes play verdict.Play
+
+-- there is one verdict
+abbrev pub HasOneVerdict : Type 0
+HasOneVerdict =
+    (bytes play : List ℕ) (one other : Verdict) → IsVerdict bytes play one → IsVerdict bytes play other → one ≡ other

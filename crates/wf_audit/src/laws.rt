@@ -1,6 +1,7 @@
 ghost use Rattle.wf_audit.specs.Laws as laws;
 
-use wf_iso::law_isolated;
+use wf_audit_text::law_one_reading;
+use wf_iso::{law_isolated, law_one_play};
 use wf_sim::SimLink;
 
 /// A law: the verdict is `Play` exactly where the text is that of a play of the scenario, with the history that the
@@ -10,4 +11,12 @@ pub fn law_audited()
     ensures complete { laws.IsComplete }
 {
     law_isolated::<SimLink>();
+}
+
+/// A law: a scenario and a text have one verdict. The call does nothing.
+pub fn law_one_verdict()
+    ensures { laws.HasOneVerdict }
+{
+    law_one_reading();
+    law_one_play::<SimLink>();
 }

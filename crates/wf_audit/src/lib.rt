@@ -7,5 +7,5 @@ mod runs;
 mod verdict;
 
 pub use cases::audit;
-pub use laws::law_audited;
+pub use laws::{law_audited, law_one_verdict};
 pub use verdict::Verdict;

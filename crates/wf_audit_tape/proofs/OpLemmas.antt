@@ -1,5 +1,6 @@
 -- Two ops are one exactly where their parts are.
-use Rattle.std.proofs.Common.{◌≡◌, ℕ, Bool, true, false, List, [], ◌∷◌, length, suc, refl, ap, sym, ◌∙◌, Option, Some, None}
+use Rattle.std.proofs.Common.{◌≡◌, ℕ, Bool, true, false, List, [], ◌∷◌, length, suc, refl, ap, sym, ◌∙◌, Option, Some}
+use Rattle.std.proofs.Common.{None}
 use Rattle.std.proofs.lemmas.Bool.Decides.{Decides-eqb}
 use Rattle.std.proofs.lemmas.Slice.Eq.{bytes_eq-Decides}
 use Rattle.std.specs.Prelude.{◌==◌, ◌&&◌, bytes_eq}
@@ -69,7 +70,8 @@ method-itself (Some x) = text-itself x
 sts-same : (a b : Sts) → sts_eq a b ≡ true → a ≡ b
 sts-same a b e =
     let age = number-same a.age b.age (and-left (a.age == b.age) (bool_eq a.subdomains b.subdomains) e) in
-    let under = bool-same a.subdomains b.subdomains (and-right (a.age == b.age) (bool_eq a.subdomains b.subdomains) e) in
+    let under = bool-same a.subdomains b.subdomains
+    (and-right (a.age == b.age) (bool_eq a.subdomains b.subdomains) e) in
     λ i. record { age = age i; subdomains = under i }
 
 question-same : (a b : Question) → question_eq a b ≡ true → a ≡ b
@@ -164,7 +166,8 @@ op-same (Clear key origin url now) (Clear key' origin' url' then) e =
     let k = text-same key key' (and-left (bytes_eq key key') (bytes_eq origin origin') two) in
     let o = text-same origin origin' (and-right (bytes_eq key key') (bytes_eq origin origin') two) in
     let u = text-same url url' (and-right (bytes_eq key key' && bytes_eq origin origin') (bytes_eq url url') front) in
-    let n = number-same now then (and-right (bytes_eq key key' && bytes_eq origin origin' && bytes_eq url url') (now == then) e) in
+    let n = number-same now then (and-right (bytes_eq key key' && bytes_eq origin origin' && bytes_eq url url')
+    (now == then) e) in
     cc (k, o, u, n)
 op-same a b e = cc
 

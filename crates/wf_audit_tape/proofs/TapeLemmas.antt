@@ -1,6 +1,8 @@
 -- Calls that a history replies to, and stray ones.
-use Rattle.std.proofs.Common.{◌≡◌, ◌≢◌, ◌≤◌, ◌<◌, ◌+◌, ℕ, zero, suc, Bool, true, false, cond, List, [], ◌∷◌, ◌++◌, length, take}
-use Rattle.std.proofs.Common.{drop, get_or, refl, ap, sym, subst, ◌∙◌, arith, append_assoc, length-append, length-drop, length-take}
+use Rattle.std.proofs.Common.{◌≡◌, ◌≢◌, ◌≤◌, ◌<◌, ◌+◌, ℕ, zero, suc, Bool, true, false, cond, List, [], ◌∷◌, ◌++◌}
+use Rattle.std.proofs.Common.{length, take}
+use Rattle.std.proofs.Common.{drop, get_or, refl, ap, sym, subst, ◌∙◌, arith, append_assoc, length-append, length-drop}
+use Rattle.std.proofs.Common.{length-take}
 use Rattle.std.proofs.Common.{Option, Some, None, Result, Ok, Err}
 use Rattle.std.proofs.lemmas.Bool.Decides.{Decides-eqb, nat_tests}
 use Rattle.std.proofs.lemmas.Grind.{common_steps}
@@ -33,7 +35,8 @@ use Rattle.wf_precache.specs.Keys as keys
 use Rattle.wf_precache.specs.Keys.{Keyed}
 use Rattle.wf_audit_history.specs.Legality.{AreRight}
 use Rattle.wf_audit_tape.specs.Private.Calls.{IsNext, IsNone, IsPassed, IsStrayed}
-use Rattle.wf_audit_tape.specs.Tapes.{account_of, asks_nothing, before_stray, first_op, IsParted, IsTape, IsUsedUp, lacks_method}
+use Rattle.wf_audit_tape.specs.Tapes.{account_of, asks_nothing, before_stray, first_op, IsParted, IsTape, IsUsedUp}
+use Rattle.wf_audit_tape.specs.Tapes.{lacks_method}
 use Rattle.wf_audit_tape.specs.Tapes.{seen_on}
 use Rattle.wf_audit_tape.specs.Tapes.{stray_entries, stray_reply, Tape}
 
@@ -83,14 +86,16 @@ left-over : {X : Type 0} (key m : X → Bool) (a b : Bool) (x : X) (rest : List 
     → list_any m (filter key rest) ≡ false → key x ≡ a
     → list_any m (filter key (cond (not (a && b)) (x ∷ rest) rest)) ≡ false
 left-over key m true true x rest other none is = none
-left-over key m true false x rest other none is = rw is (or-false (m x) (list_any m (filter key rest)) (other refl) none)
+left-over key m true false x rest other none is = rw is
+    (or-false (m x) (list_any m (filter key rest)) (other refl) none)
 left-over key m false b x rest other none is = rw is none
 
 cleared-none : {X : Type 0} (key of m : X → Bool) → ((x : X) → of x ≡ false → m x ≡ false) → (xs : List X)
     → list_any m (filter key (filter (λ x. not (key x && of x)) xs)) ≡ false
 cleared-none key of m other [] = refl
 cleared-none key of m other (x ∷ xs) =
-    left-over key m (key x) (of x) x (filter (λ x. not (key x && of x)) xs) (other x) (cleared-none key of m other xs) refl
+    left-over key m (key x) (of x) x (filter (λ x. not (key x && of x)) xs) (other x)
+    (cleared-none key of m other xs) refl
 
 any-map : {X Y : Type 0} (m : Y → Bool) (f : X → Y) (xs : List X) → list_any m (map f xs) ≡ list_any (λ x. m (f x)) xs
 any-map m f [] = refl
@@ -110,7 +115,8 @@ other-entry question now wanted one e =
 
 -- no entry that was cleared matches
 none-left : (question : Question) (now : ℕ) (wanted : Allowed) (cache : List Keyed)
-    → has_match question now (keys.entries_of question.key (cleared question.key question.origin question.url cache)) wanted
+    → has_match question now (keys.entries_of question.key (cleared question.key question.origin question.url cache))
+    wanted
     ≡ false
 none-left question now wanted cache =
     any-map (is_match question.origin question.url question.include now wanted) (λ (k : Keyed). k.entry)
@@ -163,7 +169,8 @@ before-done book (Clear key origin url now) = refl
 
 -- ---- legal histories
 
-pub strays-legal : (book : Book) (document turn : ℕ) (ops : List Op) → LegalFrom book turn (stray_entries document turn ops)
+pub strays-legal : (book : Book) (document turn : ℕ) (ops : List Op)
+    → LegalFrom book turn (stray_entries document turn ops)
 strays-legal book document turn [] = tt
 strays-legal book document turn (op ∷ ops) = (
   omega arith,
@@ -291,7 +298,8 @@ pub next-some : (tape : Tape) (index : ℕ)
 next-some tape index some =
     let rest = drop tape.at tape.history in
     let p = λ (e : Entry). e.document == tape.document in
-    let here : (position_or_len p rest < length rest) × (position_or_len p rest ≡ index) = grind (arith, common_steps) in
+    let here : (position_or_len p rest < length rest) × (position_or_len p rest ≡ index) = grind
+    (arith, common_steps) in
     let cut = first-of p rest here.0 in
     record {
       between = cut.front;
@@ -326,7 +334,8 @@ next-at tape index e within next is =
     let front = take tape.at tape.history in
     let count : length front ≡ tape.at = omega (arith, within, length-take tape.at tape.history) in
     is ∙ ap (λ (l : List Entry). get_or l index e) (whole tape index next)
-    ∙ ap (λ (n : ℕ). get_or (front ++ (next.between ++ next.entry ∷ next.back)) n e) (omega (arith, next.index_is, count))
+    ∙ ap (λ (n : ℕ). get_or (front ++ (next.between ++ next.entry ∷ next.back)) n e)
+    (omega (arith, next.index_is, count))
     ∙ get_or-append-add front (next.between ++ next.entry ∷ next.back) (length next.between + 0) e
     ∙ get_or-append-add next.between (next.entry ∷ next.back) 0 e
 
@@ -371,7 +380,15 @@ front-one tape index within next =
     ∙ sym (append_assoc front (next.between ++ next.entry ∷ []) next.back
     ∙ ap (λ (l : List Entry). front ++ l) (append_assoc next.between (next.entry ∷ []) next.back)) in
     ap (take (index + 1)) cut
-    ∙ take_at first next.back (index + 1) (omega (arith, count, next.index_is, length-append front (next.between ++ next.entry ∷ []), length-append next.between (next.entry ∷ [])))
+    ∙ take_at first next.back (index + 1)
+    (omega (
+      arith,
+      count,
+      next.index_is,
+      length-append front
+          (next.between ++ next.entry ∷ []),
+      length-append next.between (next.entry ∷ []),
+    ))
 
 -- what was passed is seen
 passed-seen : (tape : Tape) (index : ℕ) → tape.at ≤ length tape.history → tape.strays ≡ [] → (next : IsNext tape index)
@@ -442,7 +459,8 @@ strayed-grows tape op said new right within strayed =
     let e = entry (one.at + 1) tape.document op (stray_reply op) in
     let front = take tape.at tape.history in
     let old = stray_entries tape.document tape.at tape.strays in
-    let seen : front ++ stray_entries tape.document tape.at (tape.strays ++ op ∷ []) ≡ (seen_on tape ++ fake ∷ []) ++ e ∷ [] =
+    let seen : front ++ stray_entries tape.document tape.at (tape.strays ++ op ∷ []) ≡
+    (seen_on tape ++ fake ∷ []) ++ e ∷ [] =
     ap (λ (l : List Entry). front ++ l) one.is ∙ sym (append_assoc front old (fake ∷ e ∷ []))
     ∙ sym (append_assoc (front ++ old) (fake ∷ []) (e ∷ [])) in
     let grown : Grows tape op said (record tape { strays = tape.strays ++ op ∷ [] }) = record {
@@ -465,7 +483,8 @@ pub passed-kind : (tape : Tape) (op : Op) (said : Reply) (new : Tape) → AreRig
 passed-kind tape op said new right passed =
     let next = passed.next in
     let all : tape.history ≡ (take tape.at tape.history ++ next.between) ++ next.entry ∷ next.back =
-    whole tape passed.index next ∙ sym (append_assoc (take tape.at tape.history) next.between (next.entry ∷ next.back)) in
+    whole tape passed.index next ∙ sym
+    (append_assoc (take tape.at tape.history) next.between (next.entry ∷ next.back)) in
     ap is_answer (sym passed.reply_is)
     ∙ right-kind tape.opening 0 (take tape.at tape.history ++ next.between) next.entry next.back
     (subst (AreRight tape.opening 0) all right)

@@ -1,5 +1,6 @@
 -- The words of calls and entries are read as what they write.
-use Rattle.std.proofs.Common.{◌≡◌, ◌≤◌, ◌<◌, ◌^◌, ℕ, Bool, true, false, List, [], ◌∷◌, ◌++◌, codes, refl, ap, sym, subst, ◌∙◌}
+use Rattle.std.proofs.Common.{◌≡◌, ◌≤◌, ◌<◌, ◌^◌, ℕ, Bool, true, false, List, [], ◌∷◌, ◌++◌, codes, refl, ap, sym}
+use Rattle.std.proofs.Common.{subst, ◌∙◌}
 use Rattle.std.proofs.Common.{arith, append_assoc, Option, Some, None, ◌⊎◌, inl, inr, Result, Ok, Err}
 use Rattle.std.proofs.lemmas.List.{append_cancel_right}
 use Rattle.std.proofs.lemmas.List.Folds.{list_all-append}
@@ -18,16 +19,19 @@ use Rattle.wf_book.specs.Ops.{InRange}
 use Rattle.wf_hsts.specs.declared.sts.Sts.{Sts}
 use Rattle.wf_precache.specs.declared.question.Lesson.{Lesson}
 use Rattle.wf_precache.specs.declared.question.Question.{Question}
-use Rattle.wf_script_events.specs.Calls.{call_text, credentials_text, list_text, method_text, reply_text, subdomains_text}
+use Rattle.wf_script_events.specs.Calls.{call_text, credentials_text, list_text, method_text, reply_text}
+use Rattle.wf_script_events.specs.Calls.{subdomains_text}
 use Rattle.wf_script_events.specs.Lines.{line}
 use Rattle.wf_print.specs.Text.{entry_line}
 use Rattle.wf_audit_text.specs.declared.calls.Call.{Call}
 use Rattle.wf_audit_text.specs.declared.tail.Tail.{Tail}
 use Rattle.wf_audit_text.specs.Entries.{has_words, is_method, is_word, IsEntry, IsLineOf, IsReading}
-use Rattle.wf_audit_text.specs.Private.Reading.{call, call_in, clear_in, covers_in, credentials_in, entry_in, entry_of, learn_in}
+use Rattle.wf_audit_text.specs.Private.Reading.{call, call_in, clear_in, covers_in, credentials_in, entry_in, entry_of}
+use Rattle.wf_audit_text.specs.Private.Reading.{learn_in}
 use Rattle.wf_audit_text.specs.Private.Reading.{lesson_of, list_in, match_in, method_in, note_in, note_of, number_up_to}
 use Rattle.wf_audit_text.specs.Private.Reading.{question_of, reply_in, subdomains_in, tail, tail_in, time_in, words_in}
-use Rattle.wf_audit_text.proofs.ListLemmas.{list-lacks, list-read, list-writes, method-lacks, method-read, method-writes}
+use Rattle.wf_audit_text.proofs.ListLemmas.{list-lacks, list-read, list-writes, method-lacks, method-read}
+use Rattle.wf_audit_text.proofs.ListLemmas.{method-writes}
 use Rattle.wf_audit_text.proofs.ListLemmas.{split-join, word-lacks}
 use Rattle.wf_audit_text.proofs.TestLemmas.{and-both, chosen, done, mapped}
 use Rattle.wf_audit_text.proofs.WordLemmas.{credentials-read, credentials-writes, lacks, number-lacks, number-read}
@@ -70,7 +74,8 @@ note-joined : (name host age subdomains now reply : List ℕ)
 note-joined name host age subdomains now reply = simp append_assoc
 
 covers-joined : (name key origin credentials method names url now reply : List ℕ)
-    → name ++ (key ++ 32 ∷ (origin ++ 32 ∷ (credentials ++ 32 ∷ (method ++ 32 ∷ (names ++ 32 ∷ (url ++ ended now reply))))))
+    → name ++ (key ++ 32 ∷ (origin ++ 32 ∷
+    (credentials ++ 32 ∷ (method ++ 32 ∷ (names ++ 32 ∷ (url ++ ended now reply))))))
     ≡ (name ++ (key ++ codes " " ++ origin ++ codes " " ++ credentials ++ codes " " ++ method ++ codes " " ++ names
     ++ codes " " ++ url) ++ (codes " at " ++ now)) ++ codes ": " ++ reply
 covers-joined name key origin credentials method names url now reply = simp append_assoc
@@ -379,7 +384,8 @@ note-writes (host ∷ age ∷ subdomains ∷ rest) said e =
     let under_is = subdomains-writes subdomains under.0 under.1 in
     let written = tail-writes rest end.0 end.1 in
     subst (WritesCall (codes "note" ∷ host ∷ age ∷ subdomains ∷ rest)) end.2 (record {
-      words_are = ap (λ (w : List ℕ). codes "note" ∷ host ∷ w ∷ subdomains_text under.0 ∷ tail_words end.0.now end.0.reply)
+      words_are = ap (λ (w : List ℕ). codes "note" ∷ host ∷ w ∷ subdomains_text under.0 ∷ tail_words end.0.now
+          end.0.reply)
           age_is.text
           ∙ ap (λ (w : List ℕ). codes "note" ∷ host ∷ age ∷ w ∷ tail_words end.0.now end.0.reply) under_is
           ∙ ap (λ (l : List (List ℕ)). codes "note" ∷ host ∷ age ∷ subdomains ∷ l) written.words_are;
@@ -414,7 +420,8 @@ covers-writes (a ∷ b ∷ c ∷ d ∷ f ∷ []) said e = cc
 covers-writes (key ∷ origin ∷ credentials ∷ method ∷ names ∷ url ∷ rest) said e =
     let last = λ (include : Bool) (end : Tail) (method : Option (List ℕ)) (names : List (List ℕ)).
     call (Covers (question_of key origin include method url names) end.now) end in
-    let third = λ (include : Bool) (end : Tail) (method : Option (List ℕ)). option_map (last include end method) (list_in names) in
+    let third = λ (include : Bool) (end : Tail) (method : Option (List ℕ)). option_map (last include end method)
+    (list_in names) in
     let second = λ (include : Bool) (end : Tail). option_and_then (third include end) (method_in method) in
     let first = λ (include : Bool). option_and_then (second include) (tail_in rest) in
     let is = chosen (is_word key && is_word origin && is_word url) (option_and_then first (credentials_in credentials))
@@ -472,7 +479,8 @@ learn-writes (key ∷ origin ∷ credentials ∷ age ∷ methods ∷ names ∷ u
     let written = tail-writes rest end.0 end.1 in
     let methods_are = list-writes methods taught.0 taught.1 in
     let names_are = list-writes names named.0 named.1 in
-    subst (WritesCall (codes "learn" ∷ key ∷ origin ∷ credentials ∷ age ∷ methods ∷ names ∷ url ∷ rest)) named.2 (record {
+    subst (WritesCall (codes "learn" ∷ key ∷ origin ∷ credentials ∷ age ∷ methods ∷ names ∷ url ∷ rest)) named.2
+    (record {
       words_are = ap (λ (w : List ℕ). codes "learn" ∷ key ∷ origin ∷ w ∷ decimal number.0 ∷ list_text taught.0
           ∷ list_text named.0 ∷ url ∷ tail_words end.0.now end.0.reply) mode_is
           ∙ ap (λ (w : List ℕ). codes "learn" ∷ key ∷ origin ∷ credentials ∷ w ∷ list_text taught.0
@@ -484,7 +492,8 @@ learn-writes (key ∷ origin ∷ credentials ∷ age ∷ methods ∷ names ∷ u
           ∙ ap (λ (l : List (List ℕ)). codes "learn" ∷ key ∷ origin ∷ credentials ∷ age ∷ methods ∷ names ∷ url ∷ l)
           written.words_are;
       range = (written.small, age_is.few);
-      valid = all-five (is_word key) (is_word origin) (list_all is_token taught.0) (list_all is_token named.0) (is_word url)
+      valid = all-five (is_word key) (is_word origin) (list_all is_token taught.0) (list_all is_token named.0)
+          (is_word url)
           words_valid.0 words_valid.1 methods_are.valid names_are.valid words_valid.2;
     })
 

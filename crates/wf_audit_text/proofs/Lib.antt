@@ -3,6 +3,7 @@ pub mod FrameLemmas
 pub mod LineLemmas
 pub mod ListLemmas
 pub mod OneLemmas
+pub mod OnceLemmas
 pub mod ShortLemmas
 pub mod TestLemmas
 pub mod WordLemmas

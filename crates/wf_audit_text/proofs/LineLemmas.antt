@@ -1,6 +1,7 @@
 -- The lines of a text, read one after the other.
 use Rattle.std.proofs.Common.{◌≡◌, ◌≢◌, ◌≤◌, ◌<◌, ◌+◌, ◌-◌, ℕ, Bool, true, false, List, [], ◌∷◌, ◌++◌, length}
-use Rattle.std.proofs.Common.{codes, take, drop, get_or, refl, ap, sym, subst, ◌∙◌, arith, append_assoc, length-append, Some}
+use Rattle.std.proofs.Common.{codes, take, drop, get_or, refl, ap, sym, subst, ◌∙◌, arith, append_assoc, length-append}
+use Rattle.std.proofs.Common.{Some}
 use Rattle.std.proofs.Common.{add-one, cond, None, Result, Ok, Err}
 use Rattle.std.proofs.lemmas.Bool.Decides.{Decides-eqb, nat_tests}
 use Rattle.std.proofs.lemmas.Grind.{common_steps}
@@ -81,7 +82,8 @@ cut-at (c ∷ x) [] a b lx ly e = absurd (let same : c ≡ 10 = cc in grind (ari
 cut-at (c ∷ x) (d ∷ y) a b lx ly e =
     let first : c ≡ d = cc in
     let rest : x ++ 10 ∷ a ≡ y ++ 10 ∷ b = cc in
-    let h = cut-at x y a b (and-right (not (c == 10)) (lacks 10 x) lx) (and-right (not (d == 10)) (lacks 10 y) ly) rest in
+    let h = cut-at x y a b (and-right (not (c == 10)) (lacks 10 x) lx)
+    (and-right (not (d == 10)) (lacks 10 y) ly) rest in
     (cc, h.1)
 
 pub one-line : (x y a b : List ℕ) → IsLine x → IsLine y → line x ++ a ≡ line y ++ b → (x ≡ y) × (a ≡ b)
@@ -105,7 +107,8 @@ lined-then text lines rest = append_assoc (line text) (lined lines) rest
 lined-more : (lines : List (List ℕ)) (text rest : List ℕ)
     → lined (lines ++ text ∷ []) ++ rest ≡ lined lines ++ (line text ++ rest)
 lined-more lines text rest =
-    ap (λ (l : List ℕ). l ++ rest) (flat_map-append line lines (text ∷ []) ∙ ap (λ (l : List ℕ). lined lines ++ l) (append-nil (line text)))
+    ap (λ (l : List ℕ). l ++ rest) (flat_map-append line lines (text ∷ [])
+    ∙ ap (λ (l : List ℕ). lined lines ++ l) (append-nil (line text)))
     ∙ append_assoc (lined lines) (line text) rest
 
 pub passes-none : (play : List ℕ) → Passes play play
@@ -292,7 +295,8 @@ begins [] (y ∷ lines) next rest r l n e = record {
   front = refl;
   next_is = ap Some (sym (one-line next y rest (lined lines) n (All-head IsLine y lines l) e).0);
 }
-begins (x ∷ read) [] next rest r l n e = absurd (filled x (lined read ++ (line next ++ rest)) (sym (lined-then x read (line next ++ rest)) ∙ e))
+begins (x ∷ read) [] next rest r l n e = absurd
+    (filled x (lined read ++ (line next ++ rest)) (sym (lined-then x read (line next ++ rest)) ∙ e))
   where
     filled : (text rest : List ℕ) → line text ++ rest ≡ [] → ⊥
     filled [] rest e = cc
@@ -301,11 +305,16 @@ begins (x ∷ read) (y ∷ lines) next rest r l n e =
     let cut = one-line x y (lined read ++ (line next ++ rest)) (lined lines) (All-head IsLine x read r)
     (All-head IsLine y lines l) (sym (lined-then x read (line next ++ rest)) ∙ e) in
     let more = begins read lines next rest (All-tail IsLine x read r) (All-tail IsLine y lines l) n cut.1 in
-    record { front = ap (λ (w : List ℕ). w ∷ take (length read) lines) (sym cut.0) ∙ ap (λ (ls : List (List ℕ)). x ∷ ls) more.front; next_is = more.next_is }
+    record {
+      front = ap (λ (w : List ℕ). w ∷ take (length read) lines) (sym cut.0)
+          ∙ ap (λ (ls : List (List ℕ)). x ∷ ls) more.front;
+      next_is = more.next_is;
+    }
 
 pub last-lines : (text : List ℕ) → (length text == 0) ≡ false
     → MatchBool (get_or text (length text - 1) 0 == 10) (AreLines text) (¬ (AreLines text))
-last-lines text some = by (get_or text (length text - 1) 0 == 10) (Decides-eqb (get_or text (length text - 1) 0) 10) refl
+last-lines text some = by (get_or text (length text - 1) 0 == 10)
+    (Decides-eqb (get_or text (length text - 1) 0) 10) refl
   where
     filled : (n : ℕ) → (n == 0) ≡ false → 0 < n
     filled n e = grind (arith, nat_tests)
@@ -373,7 +382,8 @@ has-lines play rest text lines passed done is are = record {
   first = All-weaker IsOther (λ text. text ≢ heading) (λ text is. is.other) passed.before passed.others;
   lines_are = are;
   text_is = passed.text_is
-      ∙ ap (λ (l : List ℕ). lined passed.before ++ (line heading ++ l)) (done ∙ ap (λ (l : List ℕ). l ++ line (codes "done")) is);
+      ∙ ap (λ (l : List ℕ). lined passed.before ++ (line heading ++ l))
+      (done ∙ ap (λ (l : List ℕ). l ++ line (codes "done")) is);
 }
 
 fails-at : (play : List ℕ) (number count : ℕ) → number ≡ count + 1 → FailsAfter play count → HasFault play number

@@ -5,7 +5,8 @@ use Rattle.std.proofs.lemmas.Bool.Decides.{nat_tests}
 use Rattle.std.proofs.lemmas.List.{append-nil}
 use Rattle.std.proofs.lemmas.List.Elements.{All-cons, All-nil}
 use Rattle.std.proofs.lemmas.List.Folds.{list_all-append}
-use Rattle.std.proofs.lemmas.List.Splits.{join_with_byte-slice_split, length-slice_split, slice_split_at, slice_split_none}
+use Rattle.std.proofs.lemmas.List.Splits.{join_with_byte-slice_split, length-slice_split, slice_split_at}
+use Rattle.std.proofs.lemmas.List.Splits.{slice_split_none}
 use Rattle.std.proofs.lemmas.Slice.Eq.{bytes_eq-Decides}
 use Rattle.std.specs.Prelude.{◌==◌, not, bytes_eq, if◌then◌else◌}
 use Rattle.std.specs.List.{All, join_with_byte, list_all, slice_split}
@@ -87,7 +88,8 @@ differs word other ne = by (bytes_eq word other) (bytes_eq-Decides word other).0
     by false same = refl
 
 token-named : (word : List ℕ) → is_token word ≡ true → bytes_eq word (codes "()") ≡ false
-token-named word e = differs word (codes "()") (λ same. let no : is_token (codes "()") ≡ true = ap is_token (sym same) ∙ e in cc)
+token-named word e = differs word (codes "()")
+    (λ same. let no : is_token (codes "()") ≡ true = ap is_token (sym same) ∙ e in cc)
 
 -- a method is written by its word
 pub record WritesMethod (word : List ℕ) (method : Option (List ℕ)) : Type 0 where
@@ -97,7 +99,8 @@ pub record WritesMethod (word : List ℕ) (method : Option (List ℕ)) : Type 0 
 pub method-writes : (word : List ℕ) (method : Option (List ℕ)) → method_in word ≡ Some method → WritesMethod word method
 method-writes word method e = by (bytes_eq word (codes "()")) (bytes_eq-Decides word (codes "()")).0 e
   where
-    token : (b : Bool) → is_token word ≡ b → (if b then Some (Some word) else None) ≡ Some method → WritesMethod word method
+    token : (b : Bool) → is_token word ≡ b → (if b then Some (Some word) else None) ≡ Some method
+        → WritesMethod word method
     token true is e =
         let same : Some word ≡ method = cc in
         record { text = ap method_text (sym same); valid = ap is_method (sym same) ∙ is }

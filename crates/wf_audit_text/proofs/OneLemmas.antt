@@ -14,7 +14,7 @@ use Rattle.wf_print.specs.Laws.{HasOneHistory, IsListed, IsNamed, IsReadable, Is
 use Rattle.wf_script_events.specs.Lines.{line}
 use Rattle.wf_print.specs.Text.{history_text}
 use Rattle.wf_audit_text.specs.Entries.{has_words, is_method, is_word, IsEntry}
-use Rattle.wf_audit_text.specs.Histories.{AreLinesOf, heading, IsLine, lined}
+use Rattle.wf_audit_text.specs.Histories.{AreLinesOf, HasLines, heading, IsLine, lined}
 use Rattle.wf_audit_text.specs.Laws.{HoldsOne}
 use Rattle.wf_audit_text.proofs.CallLemmas.{five, three}
 use Rattle.wf_audit_text.proofs.LineLemmas.{lined-then, one-line}
@@ -83,7 +83,8 @@ all-readable (text ∷ lines) [] are = absurd are
 all-readable (text ∷ lines) (entry ∷ history) are =
     All-cons IsReadable entry history (readable entry are.0.is_entry) (all-readable lines history are.1)
 
-pub lines-text : (lines : List (List ℕ)) (history : List Entry) → AreLinesOf lines history → lined lines ≡ history_text history
+pub lines-text : (lines : List (List ℕ)) (history : List Entry) → AreLinesOf lines history
+    → lined lines ≡ history_text history
 lines-text [] [] are = refl
 lines-text [] (entry ∷ history) are = absurd are
 lines-text (text ∷ lines) [] are = absurd are
@@ -96,11 +97,15 @@ lines-text (text ∷ lines) (entry ∷ history) are =
 same-lines : (one other : List (List ℕ)) (x y : List ℕ) → All IsLine one → All IsLine other
     → lined one ++ line (codes "done") ≡ lined other ++ line (codes "done") → one ≡ other
 same-lines [] [] x y a b e = refl
-same-lines [] (v ∷ other) x y a b e = absurd (ends v other (one-line (codes "done") v [] (lined other ++ line (codes "done")) refl (All-head IsLine v other b) (e ∙ lined-then v other (line (codes "done")))).1)
+same-lines [] (v ∷ other) x y a b e = absurd
+    (ends v other (one-line (codes "done") v [] (lined other ++ line (codes "done")) refl (All-head IsLine v other b)
+    (e ∙ lined-then v other (line (codes "done")))).1)
   where
     ends : (v : List ℕ) (other : List (List ℕ)) → [] ≡ lined other ++ line (codes "done") → ⊥
     ends v other e = let n = ap length e in omega (arith, n, length-append (lined other) (line (codes "done")))
-same-lines (u ∷ one) [] x y a b e = absurd (ends u one (one-line u (codes "done") (lined one ++ line (codes "done")) [] (All-head IsLine u one a) refl (sym (lined-then u one (line (codes "done"))) ∙ e)).1)
+same-lines (u ∷ one) [] x y a b e = absurd
+    (ends u one (one-line u (codes "done") (lined one ++ line (codes "done")) [] (All-head IsLine u one a) refl
+    (sym (lined-then u one (line (codes "done"))) ∙ e)).1)
   where
     ends : (u : List ℕ) (one : List (List ℕ)) → lined one ++ line (codes "done") ≡ [] → ⊥
     ends u one e = let n = ap length e in omega (arith, n, length-append (lined one) (line (codes "done")))
@@ -130,13 +135,16 @@ after-heading (u ∷ one) (v ∷ other) x y a b f g e =
     after-heading one other x y (All-tail IsLine u one a) (All-tail IsLine v other b)
     (All-tail (λ text. text ≢ heading) u one f) (All-tail (λ text. text ≢ heading) v other g) cut.1
 
+-- the lines between the first heading and the end are one list
+pub one-lines : (play : List ℕ) (before others one other : List (List ℕ)) → HasLines play before one
+    → HasLines play others other → one ≡ other
+one-lines play before others one other has too =
+    same-lines one other [] [] has.lines_are too.lines_are
+    (after-heading before others (lined one ++ line (codes "done")) (lined other ++ line (codes "done"))
+    has.before_are too.before_are has.first too.first (sym has.text_is ∙ too.text_is))
+
 pub one-text : HasOneHistory → HoldsOne
 one-text law play history other held holds =
-    let has = held.has in
-    let too = holds.has in
-    let rest = after-heading held.before holds.before (lined held.lines ++ line (codes "done"))
-    (lined holds.lines ++ line (codes "done")) has.before_are too.before_are has.first too.first
-    (sym has.text_is ∙ too.text_is) in
-    let same = same-lines held.lines holds.lines [] [] has.lines_are too.lines_are rest in
+    let same = one-lines play held.before holds.before held.lines holds.lines held.has holds.has in
     law history other (all-readable held.lines history held.entries) (all-readable holds.lines other holds.entries)
     (sym (lines-text held.lines history held.entries) ∙ ap lined same ∙ lines-text holds.lines other holds.entries)

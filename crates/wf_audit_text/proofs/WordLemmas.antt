@@ -1,6 +1,7 @@
 -- Words are read as what they write: numbers, times, replies, methods and lists.
 use Rattle.std.proofs.Common.{◌≡◌, ◌≤◌, ◌<◌, ◌^◌, ℕ, suc, Bool, true, false, List, [], ◌∷◌, ◌++◌, length, get_or}
-use Rattle.std.proofs.Common.{codes, refl, ap, sym, ◌∙◌, arith, eq-eqb, length-append, length-take, Option, Some, None, ◌⊎◌, inl, inr, zero}
+use Rattle.std.proofs.Common.{codes, refl, ap, sym, ◌∙◌, arith, eq-eqb, length-append, length-take, Option, Some, None}
+use Rattle.std.proofs.Common.{◌⊎◌, inl, inr, zero}
 use Rattle.std.proofs.lemmas.Bool.Decides.{Decides-eqb, nat_tests}
 use Rattle.std.proofs.lemmas.Fmt.{decimal-digits_value, decimal_nonempty, digits_decimal, digits_value-decimal}
 use Rattle.std.proofs.lemmas.Fmt.{decimal_digit, first_decimal}
@@ -40,7 +41,8 @@ digits-test = record {
     in-range byte (and-left (is_ascii_digit byte) (list_all is_ascii_digit text) e),
     and-right (is_ascii_digit byte) (list_all is_ascii_digit text) e,
   );
-  more = λ byte text in_range e. and-both (is_ascii_digit byte) (list_all is_ascii_digit text) (is-in-range byte in_range) e;
+  more = λ byte text in_range e. and-both (is_ascii_digit byte) (list_all is_ascii_digit text)
+      (is-in-range byte in_range) e;
 }
 
 model : IsNumeralModel AreDigits (digits_value 10)
@@ -166,7 +168,8 @@ ends-in-colon word e =
     let at = position_or_len is_colon word in
     let within : at < length word = omega (arith, e, length-take at word) in
     let cut : word ≡ front ++ (get_or word at 0 ∷ rest) = split_at_first is_colon word 0 within in
-    let colon : get_or word at 0 ≡ 58 = (Decides-eqb (get_or word at 0) 58).0 (passes_at_first is_colon word 0 within) in
+    let colon : get_or word at 0 ≡ 58 = (Decides-eqb (get_or word at 0) 58).0
+    (passes_at_first is_colon word 0 within) in
     let none : rest ≡ [] =
     no-more rest (omega (arith, e, simp length-append at (ap length cut))) in
     ap (λ (byte : ℕ). front ++ byte ∷ []) (sym colon)
@@ -190,7 +193,8 @@ time-read n small =
     choose (length (before_first (λ b. b == 58) (text ++ codes ":")) + 1 == length (text ++ codes ":"))
     (number_up_to 281474976710655 (before_first (λ b. b == 58) (text ++ codes ":"))) n
     (rw (front, length-append text (codes ":")) (eq-eqb (length text + 1) (length text + 1) refl))
-    (ap (number_up_to 281474976710655) front ∙ number-read 281474976710655 n (omega (arith, small)) (omega (arith, small)))
+    (ap (number_up_to 281474976710655) front
+    ∙ number-read 281474976710655 n (omega (arith, small)) (omega (arith, small)))
 
 -- ---- choices
 
@@ -209,13 +213,14 @@ reply-writes word reply e =
     elim (named word (codes "yes") Yes reply (if bytes_eq word (codes "no") then Some No
     else if bytes_eq word (codes "done") then Some Done else None) e) [
       | inl is ↦ ap reply_text (sym is.1) ∙ is.0
-      | inr other ↦ elim (named word (codes "no") No reply (if bytes_eq word (codes "done") then Some Done else None) other) [
-        | inl is ↦ ap reply_text (sym is.1) ∙ is.0
-        | inr last ↦ elim (named word (codes "done") Done reply None last) [
-          | inl is ↦ ap reply_text (sym is.1) ∙ is.0
-          | inr none ↦ cc
-        ]
-      ]
+      | inr other ↦ elim (named word (codes "no") No reply
+          (if bytes_eq word (codes "done") then Some Done else None) other) [
+            | inl is ↦ ap reply_text (sym is.1) ∙ is.0
+            | inr last ↦ elim (named word (codes "done") Done reply None last) [
+              | inl is ↦ ap reply_text (sym is.1) ∙ is.0
+              | inr none ↦ cc
+            ]
+          ]
     ]
 
 pub reply-read : (reply : Reply) → reply_in (reply_text reply) ≡ Some reply

@@ -1,11 +1,12 @@
-ghost use Rattle.wf_audit_text.specs.Laws.{HoldsOne};
+ghost use Rattle.wf_audit_text.specs.Laws.{HoldsOne, ReadsOnce};
 
 use wf_print::law_one_history;
 
-/// A law: the printed text of a play holds one history. It rests on the law that two histories with one text are one.
-/// The call does nothing.
+/// A law: the printed text of a play holds one history, and what it is read as is one. It rests on the law that two
+/// histories with one text are one. The call does nothing.
 pub fn law_one_reading()
-    ensures { HoldsOne }
+    ensures history { HoldsOne }
+    ensures reading { ReadsOnce }
 {
     law_one_history();
 }

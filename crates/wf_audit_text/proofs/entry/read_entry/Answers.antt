@@ -4,5 +4,6 @@ use Rattle.wf_audit_text.proofs.CallLemmas.{read-result}
 use Rattle.wf_audit_text.proofs.entry.read_entry.Goals as goal
 
 pub returns : goal.returns
-returns c = read-result c.entry_in.result (map (λ (word : Bor (List ℕ)). word.now) c.as_slice.result.now) c.args.text.now
+returns c = read-result c.entry_in.result
+    (map (λ (word : Bor (List ℕ)). word.now) c.as_slice.result.now) c.args.text.now
     (ap (map (λ (word : Bor (List ℕ)). word.now)) c.as_slice.ensures.value ∙ c.in_ok-words.ensures) c.entry_in.ensures
