@@ -14,7 +14,7 @@ use Rattle.wf_script_values.specs.declared.document.Document.{Document}
 use Rattle.wf_script_values.specs.declared.scenario.Scenario.{Scenario}
 use Rattle.wf_script_run.specs.Documents.{EachDocument}
 use Rattle.wf_iso.specs.Laws.{PlaysOnce}
-use Rattle.wf_iso.specs.Plays.{IsTranscript, by_rules, opening_book, ways_to_servers}
+use Rattle.wf_iso.specs.Plays.{IsTranscript, by_rules, opening_book, way_to_servers, ways_to_servers}
 use Rattle.wf_audit_history.specs.Legality.{AreRight, IsIllegalAt, IsRight}
 use Rattle.wf_audit_compare.specs.Differences.{DifferAt}
 use Rattle.wf_audit_text.specs.Histories.{HasFault, Holds}
@@ -23,7 +23,6 @@ use Rattle.wf_audit_text.specs.declared.history.Reading.TheVariants.{Entries, Fa
 use Rattle.wf_audit.proofs.LawLemmas.{play-of}
 use Rattle.wf_audit.specs.Laws.{HasOneVerdict}
 use Rattle.wf_audit.specs.Verdicts.{ComesTo, HasHistory, IsGiven, IsScenario, IsVerdict, StopsAt, stranger_in}
-use Rattle.wf_audit.specs.Verdicts.{way_to_servers}
 use Rattle.wf_audit.specs.declared.verdict.Verdict.{Verdict}
 use Rattle.wf_audit.specs.declared.verdict.Verdict.TheVariants as verdict
 

@@ -10,7 +10,7 @@ use Rattle.wf_script_values.specs.declared.scenario.Scenario.{Scenario}
 use Rattle.wf_script_values.specs.declared.servers.Server.{Server}
 use Rattle.wf_script.specs.Scenarios.{scenario_of}
 use Rattle.wf_script_run.specs.Documents.{EachDocument}
-use Rattle.wf_iso.specs.Plays.{IsTranscript, Way, by_rules, opening_book, ways_to_servers}
+use Rattle.wf_iso.specs.Plays.{IsTranscript, Way, by_rules, opening_book, way_to_servers, ways_to_servers}
 use Rattle.wf_audit_history.specs.Legality.{AreRight, IsIllegalAt, first_stranger}
 use Rattle.wf_audit_compare.specs.Differences.{DifferAt}
 use Rattle.wf_audit_text.specs.Histories.{HasFault, Holds}
@@ -26,10 +26,6 @@ IsGiven scenario history = AreRight (opening_book scenario) 0 history
 -- the first entry that names no document of the scenario
 abbrev pub stranger_in : Scenario → List Entry → Option ℕ
 stranger_in scenario history = first_stranger (length scenario.documents) history
-
--- a document's way to the servers, at each moment
-abbrev pub way_to_servers : Scenario → Way (List Server)
-way_to_servers scenario = record { state = Some scenario.servers; received = None; faults = 0 }
 
 -- the document of this number comes to this transcript over its entries of the history: its run makes the calls of
 -- these entries, in order, and no others

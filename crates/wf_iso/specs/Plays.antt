@@ -100,10 +100,13 @@ by_rules = record {
   next = λ servers hop. servers;
 }
 
--- each document's way to the servers at each moment: they tell their state, and never fail
+-- a document's way to the servers, at each moment: they tell their state, and never fail
+abbrev pub way_to_servers : Scenario → Way (List Server)
+way_to_servers scenario = record { state = Some scenario.servers; received = None; faults = 0 }
+
+-- each document's
 abbrev pub ways_to_servers : Scenario → List (Way (List Server))
-ways_to_servers scenario =
-    map (λ document. record { state = Some scenario.servers; received = None; faults = 0 }) scenario.documents
+ways_to_servers scenario = map (λ document. way_to_servers scenario) scenario.documents
 
 -- a play of the scenario over its own servers, from its own time on
 abbrev pub IsPlay : Scenario → List Transcript → List Entry → Type 0

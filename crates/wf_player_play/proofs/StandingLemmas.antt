@@ -22,11 +22,7 @@ use Rattle.wf_link.specs.declared.target.Route.{Route}
 use Rattle.wf_player_seats.specs.Links.{way_of}
 use Rattle.wf_player_seats.proofs.ServerLemmas.{by_bytes, ran-by-rules, ran-state, sim_told}
 use Rattle.wf_player_play.specs.Links.{IsPlayOverLinks, Maker}
-use Rattle.wf_iso.specs.Plays.{IsPlay, IsTranscript, RunsOver, Way, by_rules, outside_on}
-
--- what a link to the servers tells
-abbrev servers_way : Scenario → Way (List Server)
-servers_way scenario = record { state = Some scenario.servers; received = None; faults = 0 }
+use Rattle.wf_iso.specs.Plays.{IsPlay, IsTranscript, RunsOver, Way, by_rules, outside_on, way_to_servers}
 
 -- nor does it tell what was received, and it never fails
 abbrev pub IsQuiet : Way (List Server) → Type 0
@@ -48,15 +44,15 @@ way-behind limit document old new entries whole events ending clock servers is q
 transcripts-by-rules : (scenario : Scenario) (base : ℕ) (history : List Entry) {number : ℕ}
     {documents : List Document} {olds news : List (Way (List Server))} {transcripts : List Transcript}
     → EachDocument (IsTranscript by_bytes scenario base history) number documents olds news transcripts
-    → All (λ (w : Way (List Server)). w ≡ servers_way scenario) olds
+    → All (λ (w : Way (List Server)). w ≡ way_to_servers scenario) olds
     → All IsQuiet news
     → EachDocument (IsTranscript by_rules scenario base history) number documents
-    (map (λ (d : Document). servers_way scenario) documents) (map (λ (d : Document). servers_way scenario) documents)
+    (map (λ (d : Document). way_to_servers scenario) documents) (map (λ (d : Document). way_to_servers scenario) documents)
     transcripts
 transcripts-by-rules scenario base history EachDocument.none opened quiet = EachDocument.none
 transcripts-by-rules scenario base history {number} (EachDocument.one_more {document = document} {old = old}
     {new = new} {transcript = transcript} {olds = olds} {news = news} is more) opened quiet =
-    let Opened : Way (List Server) → Type 0 = λ w. w ≡ servers_way scenario in
+    let Opened : Way (List Server) → Type 0 = λ w. w ≡ way_to_servers scenario in
     let whole = document_run scenario.cookies base document in
     let first = All-head Opened old olds opened in
     let last = way-behind scenario.body_limit number old new (entries_of number history) whole transcript.events
@@ -68,11 +64,11 @@ transcripts-by-rules scenario base history {number} (EachDocument.one_more {docu
       run_is = record {
         before = is.run_is.before;
         behind = is.run_is.behind;
-        ran = ran-by-rules scenario.body_limit number whole (outside_on (servers_way scenario) [] is.run_is.before)
+        ran = ran-by-rules scenario.body_limit number whole (outside_on (way_to_servers scenario) [] is.run_is.before)
             transcript.events transcript.ending transcript.clock
-            (outside_on (servers_way scenario) (entries_of number history) is.run_is.behind)
+            (outside_on (way_to_servers scenario) (entries_of number history) is.run_is.behind)
             (subst (λ (w : Way (List Server)). Ran by_bytes scenario.body_limit number whole
-            (outside_on (servers_way scenario) [] is.run_is.before) transcript.events transcript.ending transcript.clock
+            (outside_on (way_to_servers scenario) [] is.run_is.before) transcript.events transcript.ending transcript.clock
             (outside_on w (entries_of number history) is.run_is.behind)) last
             (subst (λ (w : Way (List Server)). Ran by_bytes scenario.body_limit number whole
             (outside_on w [] is.run_is.before) transcript.events transcript.ending transcript.clock
@@ -95,7 +91,7 @@ scripted-play scenario transcripts history link old new servers opens x =
       turns = x.play.turns;
       named = x.play.named;
       runs = transcripts-by-rules scenario scenario.now history x.play.runs
-          (All-map (λ (w : Way (List Server)). w ≡ servers_way scenario) way x.made
+          (All-map (λ (w : Way (List Server)). w ≡ way_to_servers scenario) way x.made
           (λ k d lt. let told : get_or x.made k d ≡ link =
           subst (λ (o : Option SimState). IsTold o (get_or x.made k d)) (opens k k scenario.routes)
           (x.opened k (get_or x.made k d) (read x.made k d lt)) in

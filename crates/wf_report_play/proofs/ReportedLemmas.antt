@@ -9,7 +9,7 @@ use Rattle.atomic_table.specs.Seated.{TableId}
 use Rattle.wf_book.specs.declared.book.Book.{Book}
 use Rattle.wf_book.specs.declared.entry.Entry.{Entry}
 use Rattle.wf_book.specs.Entries.{entries_of}
-use Rattle.wf_iso.specs.Plays.{by_rules, opening_book, outside_on}
+use Rattle.wf_iso.specs.Plays.{by_rules, opening_book, outside_on, way_to_servers}
 use Rattle.wf_link.specs.Links.{IsTold, Told}
 use Rattle.wf_link.specs.declared.target.Route.{Route}
 use Rattle.wf_link_wire.specs.Exchanges.{Answering}
@@ -29,7 +29,7 @@ use Rattle.wf_player_seats.proofs.ServerLemmas.{by_bytes, ran-by-rules, ran-stat
 use Rattle.wf_print.specs.Text.{HasText}
 use Rattle.wf_report.specs.declared.delivery.Delivered.{Delivered}
 use Rattle.wf_report.specs.Reporting.{ending_of, reporting}
-use Rattle.wf_report_play.specs.Plays.{EachReported, IsReported, IsReportedPlay, way_to_servers}
+use Rattle.wf_report_play.specs.Plays.{EachReported, IsReported, IsReportedPlay}
 use Rattle.wf_report_play.specs.Private.Delivered.{AreDelivered, CanCall, CanReport, EachDelivered, IsDelivered}
 use Rattle.wf_report_play.specs.Private.Delivered.{WasReported, WereReported}
 use Rattle.wf_report_play.proofs.ClockLemmas.{document-early, ran-early}

@@ -6,7 +6,7 @@ use Rattle.std.specs.Prelude.{◌≡◌, ℕ, ◌+◌, ◌<◌, List, [], ◌∷
 use Rattle.std.specs.List.{AllByRecursion}
 use Rattle.wf_book.specs.declared.entry.Entry.{Entry}
 use Rattle.wf_book.specs.Entries.{Legal, entries_of}
-use Rattle.wf_iso.specs.Plays.{HasTurnsFrom, Way, by_rules, opening_book, outside_on}
+use Rattle.wf_iso.specs.Plays.{HasTurnsFrom, Way, by_rules, opening_book, outside_on, way_to_servers}
 use Rattle.wf_player.specs.Playing.{Ran}
 use Rattle.wf_script_events.specs.declared.events.Transcript.{Transcript}
 use Rattle.wf_script_run.specs.Runs.{document_client, document_run}
@@ -15,10 +15,6 @@ use Rattle.wf_script_values.specs.declared.scenario.Scenario.{Scenario}
 use Rattle.wf_script_values.specs.declared.servers.Server.{Server}
 use Rattle.wf_report.specs.declared.delivery.Delivered.{Delivered}
 use Rattle.wf_report.specs.Reporting.{ending_of, reporting}
-
--- a document's way to the servers, at each moment: they tell their state, and never fail
-abbrev pub way_to_servers : Scenario → Way (List Server)
-way_to_servers scenario = record { state = Some scenario.servers; received = None; faults = 0 }
 
 -- The transcript is that of the scenario's document of this number, and these are its reports. The script made the calls
 -- of the document's first entries of the history, in order, and the reports those of the others, in order: from no entry
