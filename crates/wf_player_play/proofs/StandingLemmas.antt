@@ -47,7 +47,8 @@ transcripts-by-rules : (scenario : Scenario) (base : ℕ) (history : List Entry)
     → All (λ (w : Way (List Server)). w ≡ way_to_servers scenario) olds
     → All IsQuiet news
     → EachDocument (IsTranscript by_rules scenario base history) number documents
-    (map (λ (d : Document). way_to_servers scenario) documents) (map (λ (d : Document). way_to_servers scenario) documents)
+    (map (λ (d : Document). way_to_servers scenario) documents) (map (λ (d : Document). way_to_servers scenario)
+    documents)
     transcripts
 transcripts-by-rules scenario base history EachDocument.none opened quiet = EachDocument.none
 transcripts-by-rules scenario base history {number} (EachDocument.one_more {document = document} {old = old}
@@ -68,7 +69,8 @@ transcripts-by-rules scenario base history {number} (EachDocument.one_more {docu
             transcript.events transcript.ending transcript.clock
             (outside_on (way_to_servers scenario) (entries_of number history) is.run_is.behind)
             (subst (λ (w : Way (List Server)). Ran by_bytes scenario.body_limit number whole
-            (outside_on (way_to_servers scenario) [] is.run_is.before) transcript.events transcript.ending transcript.clock
+            (outside_on (way_to_servers scenario) [] is.run_is.before) transcript.events transcript.ending
+            transcript.clock
             (outside_on w (entries_of number history) is.run_is.behind)) last
             (subst (λ (w : Way (List Server)). Ran by_bytes scenario.body_limit number whole
             (outside_on w [] is.run_is.before) transcript.events transcript.ending transcript.clock
