@@ -7,26 +7,26 @@ use std::rt::Env;
 use wf_audit_program::playaudit;
 use wf_link::{StandardError, StandardInput, StandardOutput};
 
-// The words after the program's name. Where they cannot be had, there is one that is empty: the usage error.
-fn words<R: Env + AllocGlobal>(rt: &R) -> Vec<String> {
-    match env::args(rt) {
-        Ok(args) => args
-            .skip(1)
-            .collect(rt.alloc())
-            .unwrap_or(Vec::new(rt.alloc())),
-        Err(_) => Vec::new(rt.alloc()),
-    }
+// The words after the program's name, where they can be had: one that is no UTF-8 cannot.
+fn words<R: Env + AllocGlobal>(rt: &R) -> Option<Vec<String>> {
+    env::args(rt).ok()?.skip(1).collect(rt.alloc()).ok()
 }
 
 fn main(rt: HostRuntime) -> ExitCode {
+    // No words are accepted here. Words that cannot be had are the usage error, as an empty one is.
     let words = words(&rt);
+    let faulty = [String::new(rt.alloc())];
+    let words = match &words {
+        Some(words) => words.as_slice(),
+        None => faulty.as_slice(),
+    };
     let mut input = StandardInput::new(rt.stdin());
     let mut output = StandardOutput::new(rt.stdout());
     let mut complaints = StandardError::new(rt.stderr());
     let status = playaudit(
         &rt,
         rt.alloc(),
-        words.as_slice(),
+        words,
         &mut input,
         &mut output,
         &mut complaints,
