@@ -1,6 +1,8 @@
 ghost use Rattle.std.specs.Prelude.{◌≡◌, ◌<◌, length, slice_get, Some, IfOk};
+ghost use Rattle.std.specs.List.{All};
 ghost use Rattle.wf_report.specs.Reports as spec;
 ghost use Rattle.wf_script_values.specs.declared.document.Document.{Document as OneDocument};
+ghost use Rattle.wf_types.specs.Requests.{IsRequest};
 
 use crate::queue::Queue;
 use std::alloc::Global;
@@ -14,7 +16,8 @@ pub type Reports = Items<Request>;
 
 // The reports of the violations among events.
 fn reports_of(alloc: Global, document: &Document, events: &[Event]) -> Result<Reports, OutOfMemory>
-    ensures { IfOk result (λ reports. reports ≡ spec.report_requests document.now events.now) }
+    ensures value { IfOk result (λ reports. reports ≡ spec.report_requests document.now events.now) }
+    ensures valid { IfOk result (All IsRequest) }
 {
     let mut reports = Reports::new(alloc);
     let mut queue = Queue::new(document, events);
@@ -32,15 +35,16 @@ fn reports_of(alloc: Global, document: &Document, events: &[Event]) -> Result<Re
 /// http or https URL without credentials, of at most 8,192 bytes. A report is a POST in mode no-cors, with credentials
 /// mode same-origin, whose body is the JSON `{"csp-report":{"blocked-uri":U,"disposition":D,"document-uri":V,
 /// "effective-directive":E}}` without space: the violation's URL, `enforce` or `report`, the document's URL without
-/// fragment, and the name of the effective directive.
+/// fragment, and the name of the effective directive. Each is a valid request.
 pub fn report_requests(
     alloc: Global,
     scenario: &Scenario,
     transcript: &Transcript,
 ) -> Result<Reports, OutOfMemory>
     requires { transcript.now.document < length scenario.now.documents }
-    ensures { (one : OneDocument) → slice_get scenario.entry.now.documents transcript.entry.now.document ≡ Some one
+    ensures value { (one : OneDocument) → slice_get scenario.entry.now.documents transcript.entry.now.document ≡ Some one
         → IfOk result (λ reports. reports ≡ spec.report_requests one transcript.entry.now.events) }
+    ensures valid { IfOk result (All IsRequest) }
 {
     let document = scenario.documents.at(transcript.document as usize);
     reports_of(alloc, document, transcript.events.as_slice())
