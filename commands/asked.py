@@ -105,10 +105,13 @@ class Answered:
             return 3
         return 1 if result.is_refused() else 0
 
-    def lines(self):
-        """The play between its first line and its end, with what is said of it."""
-        lines = self.told.text().split("\n")
-        return lines[1:lines.index("end finished")]
+    def pieces(self):
+        """The lines of the play between its first line and its end, each with what is said of it."""
+        for number, (line, own) in enumerate(self.told.pieces()):
+            if line == "end finished":
+                return
+            if number:
+                yield line, own
 
     # ---- a scenario that plays the same
 
@@ -160,5 +163,8 @@ def ask(self, given):
     if given.json:
         streams.write(json.dumps({"notes": notes, "fetches": answered.told.data()}, indent=1, ensure_ascii=False) + "\n")
     else:
-        streams.write("".join(line + "\n" for line in answered.lines() + ["# note: " + one for one in notes]))
+        for line, own in answered.pieces():
+            streams.write_play(line)
+            streams.write_lines(own)
+        streams.write_lines("# note: " + one for one in notes)
     return answered.status()

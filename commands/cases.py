@@ -158,6 +158,9 @@ SEEN = {
     "seen/star-with-credentials": answered(OK, TRUE, ["Access-Control-Expose-Headers", "*"], ["X-Total", "4"], **INCLUDE),
     "seen/hidden-headers": answered(OK, ["X-Total", "4"]),
 }
+# what bin/ask alone comes to, by connections of its own: commands/check_ask reaches each
+DIRECT = {"link/tls-port", "link/certificate", "link/no-tls"}
+
 # Over real connections: what a server answers (bytes), or a word for what else happens; see the check.
 NET = {
     "cors/tls-port-asked-in-plain": b"HTTP/1.1 400 Bad Request\r\n\r\nplain HTTP request sent to TLS port",

@@ -146,8 +146,9 @@ static void failures(void) {
     for (int n = 0; n < 101 && act() == FIORRUDDA_ACT_READ_BODY; n++) IS(OK, fed("x"));
     HOLDS(number(FIORRUDDA_NUMBER_END) == 4);
     begin();
-    IS(OK, fed("HTTP/1.1 204 No Content\r\n\r\n"));
-    IS(OK, fed(""));
+    IS(OK, fed("HTTP/1.1 204 No Content\r\n\r\nabc"));
+    HOLDS(used == 27);
+    IS(NOT_AWAITED, fed("abc"));
     HOLDS(act() == FIORRUDDA_ACT_OVER && number(FIORRUDDA_NUMBER_END) == 0);
 }
 

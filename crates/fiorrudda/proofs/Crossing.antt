@@ -28,7 +28,7 @@ use Rattle.wf_book.proofs.book.Book.TheSendSync as book_sent
 use Rattle.wf_book.specs.contracts.book.Book as book
 use Rattle.wf_headers.proofs.headers.HeaderList.TheSendSync as headers_sent
 use Rattle.wf_headers.specs.contracts.headers.HeaderList as headers
-use Rattle.fiorrudda.specs.contracts.handle.Handle.{the_row, the_type}
+use Rattle.fiorrudda.specs.contracts.handle.Handle.{the_type}
 use Rattle.fiorrudda.specs.contracts.thing.Thing as thing
 use Rattle.fiorrudda.specs.Crossing.{HandleCrosses, holds_no_fetch, is_no_fetch}
 use Rattle.fiorrudda.specs.Handle.{handle_owns}

@@ -1,5 +1,5 @@
 -- What the calls that make a request tell, and what the handle holds after them.
-use Rattle.std.specs.Prelude.{◌≡◌, ℕ, Bool, List, Option, Some, None, option_and_then}
+use Rattle.std.specs.Prelude.{◌≡◌, ℕ, List, Option, Some, None, option_and_then}
 use Rattle.fiorrudda_fetch.specs.Asked.{Change, chosen, header_added, load_of, text_set}
 use Rattle.fiorrudda_fetch.specs.declared.asked.Asked.{Asked}
 use Rattle.fiorrudda_fetch.specs.declared.asked.Setting.{Setting}
