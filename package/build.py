@@ -28,8 +28,9 @@ Description: fetch engine of a browser, to try, and a CORS server
  mixed content, Referrer Policy and subresource integrity.
  .
  fetchplay plays documents' fetches against scripted or real HTTP/1.1 servers
- and prints each step. corsserve is a CORS server that answers by a table. Both
- are proved to meet their contracts.
+ and prints each step. cspreport plays them against scripted servers and sends
+ the reports of what their policies forbid. corsserve is a CORS server that
+ answers by a table. All three are proved to meet their contracts.
  .
  The package has a gallery of questions with plays that answer them, a page that
  draws a play, and a playground in the browser.

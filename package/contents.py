@@ -14,6 +14,8 @@ PROGRAMS = [
             ["fetchplay play < SCENARIO", "fetchplay net < SCENARIO", "fetchplay gen N"],
             ["docs/rules/command-line.md", "docs/rules/printed-text.md", "docs/check-your-server.md"],
             ["play", "net", "gen"]),
+    Program("cspreport", "plays documents' fetches, and sends the reports of what their policies forbid",
+            ["cspreport play < SCENARIO"], ["docs/rules/reports.md"], ["play"]),
     Program("corsserve", "a CORS server that answers by a table", ["corsserve ADDRESS N < TABLE"],
             ["docs/cors-server.md"], ["127.0.0.1:8000"]),
     Program("playaudit", "says whether a text is the printed play of a scenario", ["playaudit < INPUT"],
