@@ -1,5 +1,6 @@
 // Plays a scenario of one document by the library's whole fetch. It reads what `embed/flat` writes, and prints what
-// `fetchplay play` prints. With a number as its argument the answers come in pieces of so many bytes.
+// `fetchplay play` prints. With a number as its argument the answers come in pieces of so many bytes. The last result is told
+// on standard error where it is asked for.
 #include "fiorrudda.h"
 #include <inttypes.h>
 #include <stdio.h>
@@ -28,7 +29,8 @@ typedef struct play {
     size_t piece;
     uint64_t now;
     uint32_t limit, fetches;
-    bool loads;
+    bool loads, last_loads, ran, began; // this is a load; so was the last; there was one; a request was made of it
+    const char *ending;
     fiorrudda_handle book, client, request, fetch;
     char *history; // the calls of the book
     size_t history_len;
@@ -116,12 +118,14 @@ static bool part(play *p, uint32_t which, size_t at, text *it) {
     return true;
 }
 
-static text known_part(play *p, uint32_t which) {
+static text known_part_at(play *p, uint32_t which, size_t at) {
     text it;
-    if (!part(p, which, 0, &it))
+    if (!part(p, which, at, &it))
         fail("a text is missing");
     return it;
 }
+
+static text known_part(play *p, uint32_t which) { return known_part_at(p, which, 0); }
 
 static uint64_t number(play *p, uint32_t which) {
     uint64_t it = 0;
@@ -130,10 +134,9 @@ static uint64_t number(play *p, uint32_t which) {
 }
 
 static void put_headers(play *p) {
-    text name, value;
+    text name;
     for (size_t i = 0; part(p, FIORRUDDA_TEXT_HEADER_NAME, i, &name); i++) {
-        if (!part(p, FIORRUDDA_TEXT_HEADER_VALUE, i, &value))
-            fail("a value is missing");
+        text value = known_part_at(p, FIORRUDDA_TEXT_HEADER_VALUE, i);
         printf("  ");
         put_escaped(name);
         printf(": ");
@@ -142,6 +145,12 @@ static void put_headers(play *p) {
         free(name.at);
         free(value.at);
     }
+}
+
+static void put_hex(FILE *out, bool is, text it) {
+    fputs(!is ? " -" : it.len ? " " : " .", out);
+    for (size_t i = 0; is && i < it.len; i++)
+        fprintf(out, "%02x", it.at[i]);
 }
 
 static void put_body(const char *label, text body) {
@@ -270,6 +279,34 @@ static void put_fault(play *p, uint32_t fault, uint32_t header) {
     putchar('\n');
 }
 
+// ---- the last result
+
+static void tell_response(play *p) {
+    text it, name;
+    put(stderr, known_part(p, FIORRUDDA_TEXT_WORD));
+    fprintf(stderr, " %" PRIu64, number(p, FIORRUDDA_NUMBER_STATUS));
+    bool is = part(p, FIORRUDDA_TEXT_URL, 0, &it);
+    put_hex(stderr, is, it);
+    is = number(p, FIORRUDDA_NUMBER_END) == 1 && part(p, FIORRUDDA_TEXT_BODY, 0, &it);
+    put_hex(stderr, is, it);
+    for (size_t i = 0; part(p, FIORRUDDA_TEXT_HEADER_NAME, i, &name); i++) {
+        put_hex(stderr, true, name);
+        put_hex(stderr, true, known_part_at(p, FIORRUDDA_TEXT_HEADER_VALUE, i));
+    }
+    putc('\n', stderr);
+}
+
+// Its type, its status, its URL, its body where it came whole, and its headers.
+static void tell(play *p) {
+    uint64_t outcome = p->began ? number(p, FIORRUDDA_NUMBER_OUTCOME) : 2;
+    if (!p->ran)
+        fputs("none 0 - -\n", stderr);
+    else if (outcome == 0)
+        tell_response(p);
+    else
+        fprintf(stderr, "%s 0 - -\n", outcome == 1 ? "loaded" : p->last_loads ? "failed" : p->began ? "error" : "type-error");
+}
+
 // ---- the acts
 
 static void ask(play *p) {
@@ -365,7 +402,10 @@ static void run_acts(play *p) {
 static void run(play *p) {
     uint32_t fault = 0, header = 0;
     uint32_t code = fiorrudda_fetch(&p->fetch, &p->client, &p->request, p->now, p->limit, &fault, &header);
-    if (code == FIORRUDDA_NO_REQUEST) {
+    p->ran = true;
+    p->last_loads = p->loads;
+    p->began = code != FIORRUDDA_NO_REQUEST;
+    if (!p->began) {
         put_fault(p, fault, header);
         return;
     }
@@ -457,13 +497,17 @@ static void play_line(play *p, const char *first) {
         done(fiorrudda_request_text(&p->request, which, it.at, it.len), "text");
     } else if (!strcmp(first, "run")) {
         run(p);
+    } else if (!strcmp(first, "over")) {
+        p->ending = "limit commands";
+    } else if (!strcmp(first, "tell")) {
+        tell(p);
     } else if (strcmp(first, "end")) {
         fail("an unknown line");
     }
 }
 
 int main(int argc, char **argv) {
-    play p = {0};
+    play p = {.ending = "finished"};
     p.piece = argc > 1 ? strtoul(argv[1], NULL, 10) : 0;
     p.calls = open_memstream(&p.history, &p.history_len);
     if (!p.calls)
@@ -474,7 +518,7 @@ int main(int argc, char **argv) {
     while (getline(&line, &room, stdin) > 0)
         play_line(&p, strtok(line, " \n"));
     fclose(p.calls);
-    printf("end finished\nhistory\n%sdone\n", p.history);
+    printf("end %s\nhistory\n%sdone\n", p.ending, p.history);
     fiorrudda_free(&p.fetch);
     fiorrudda_free(&p.request);
     fiorrudda_free(&p.client);
