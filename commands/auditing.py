@@ -31,15 +31,14 @@ def framed(scenario, play):
 def verdict(scenario, play):
     """The verdict on two files' bytes, or None where the text is a play."""
     try:
-        ran = subprocess.run([program()], input=framed(scenario, play), stdout=subprocess.PIPE, stderr=subprocess.PIPE)
+        ran = subprocess.run([program()], input=framed(scenario, play), stdout=subprocess.PIPE)
     except OSError as error:
         raise running.Failed("%s: %s" % (program(), error.strerror)) from error
     if ran.returncode == 0 and ran.stdout == b"play\n":
         return None
     found = LINE.fullmatch(ran.stdout)
     if ran.returncode != 2 or not found:
-        said = (ran.stderr.decode("utf-8", "replace").strip().splitlines() or ["it said nothing"])[-1]
-        raise running.Failed("%s ended with the status %d: %s" % (program(), ran.returncode, said))
+        raise running.Failed("%s ended with the status %d" % (program(), ran.returncode))
     return Verdict(found.group(1).decode(), found.group(2).decode("utf-8", "replace"))
 
 
@@ -162,7 +161,7 @@ def place_of(text, document, count):
 
 def of_text(offset, scenario, text, name):
     number, column = text.line_at(offset)
-    lines = at(name, number, text, "byte %d, the %d. of this line, is not that of the play" % (offset, column + 1))
+    lines = at(name, number, text, "byte %d, byte %d of this line, is not that of the play" % (offset, column))
     wanted = right(scenario, text)
     if wanted is None:
         return lines + ["  (The plays that were made here have other replies: what a play says there is not known.)"]

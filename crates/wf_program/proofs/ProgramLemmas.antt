@@ -116,7 +116,7 @@ module _ (reading : List ℕ → Result Scenario Place) (IsTextFor : Scenario �
   bound-at input input' output output' bytes status.InputTooLong c = omega (arith, c.0)
 
   -- an input of which no scenario was read
-  pub unread-played : (input input' : SourceTold) (output : SinkTold) (verdict : Status) → IsUnread reading input input' verdict
+  unfoldable pub unread-played : (input input' : SourceTold) (output : SinkTold) (verdict : Status) → IsUnread reading input input' verdict
       → IsPlayed reading IsTextFor input input' output output verdict
   unread-played input input' output verdict u =
       record { bytes = u.bytes; gave = u.gave; cause = cause verdict u.why }
@@ -131,14 +131,14 @@ module _ (reading : List ℕ → Result Scenario Place) (IsTextFor : Scenario �
       cause status.InputTooLong why = (why, refl)
 
   -- a scenario that could not be played
-  pub refused-played : (input input' : SourceTold) (output : SinkTold) (scenario : Scenario) → IsRead reading input input'
+  unfoldable pub refused-played : (input input' : SourceTold) (output : SinkTold) (scenario : Scenario) → IsRead reading input input'
       scenario
       → IsPlayed reading IsTextFor input input' output output status.OutOfMemory
   refused-played input input' output scenario r =
       record { bytes = r.bytes; gave = r.gave; cause = (r.whole.short, inl refl) }
 
   -- a scenario for which a text was written
-  pub written-played : (input input' : SourceTold) (output output' : SinkTold) (scenario : Scenario) (text : List ℕ)
+  unfoldable pub written-played : (input input' : SourceTold) (output output' : SinkTold) (scenario : Scenario) (text : List ℕ)
       (verdict : Status) → IsRead reading input input' scenario → IsTextFor scenario text
       → IsWritten text output output' verdict → IsPlayed reading IsTextFor input input' output output' verdict
   written-played input input' output output' scenario text verdict r is w =

@@ -1,12 +1,11 @@
 -- What the program's account of its answer says of each status.
-use Rattle.std.proofs.Common.{◌≡◌, ◌≢◌, ℕ, ◌+◌, ◌≤◌, ◌<◌, ◌⊎◌, inl, inr, List, [], ◌++◌, length}
-use Rattle.std.proofs.Common.{Option, Some, None, Result, Ok, Err, refl, ap, sym, subst, ◌∙◌, arith, length-append}
+use Rattle.std.proofs.Common.{◌≡◌, ◌≢◌, ℕ, ◌⊎◌, inl, inr, List, [], Option, Some, None, Result, Ok, Err, refl, sym}
+use Rattle.std.proofs.Common.{subst, ◌∙◌}
 use Rattle.std.specs.Prelude.{OnErr, OnOk}
-use Rattle.std.proofs.lemmas.List.{append-nil}
 use Rattle.wf_link.specs.Counts.{Rose}
+use Rattle.wf_link.specs.Links.{Told}
 use Rattle.wf_link.specs.Sinks.{SinkTold, Took, TookPart}
-use Rattle.wf_link.specs.Sources.{Gave, IsAtEnd, SourceTold}
-use Rattle.wf_script.specs.declared.place.Place.{Place}
+use Rattle.wf_link.specs.Sources.{SourceTold}
 use Rattle.wf_script_values.specs.declared.scenario.Scenario.{Scenario}
 use Rattle.wf_script.specs.Scenarios.{scenario_of}
 use Rattle.wf_book.specs.declared.entry.Entry.{Entry}
@@ -18,320 +17,25 @@ use Rattle.wf_print.specs.Text.{play_text}
 use Rattle.wf_link_wire.specs.Exchanges.{Answering}
 use Rattle.wf_player_play.specs.Links.{HasTakenBack, WasRefused}
 use Rattle.wf_player_play.proofs.LinkLemmas.{none-taken}
-use Rattle.wf_top.specs.Private.Steps.{IsRead, IsUnread, IsWhyNone, IsWritten}
-use Rattle.wf_top.specs.Program.{most_input, IsWhole, WritesPlay, IsCause, IsPlayed, IsVerdict, IsComplained, IsTold}
-use Rattle.wf_top.specs.Program.{AreLeft, HasPlayed, IsPlayedOver, IsAnswer, IsExcused, IsExcusedRead, IsLinked}
-use Rattle.wf_top.specs.Program.{IsScripted, IsSummed}
-use Rattle.wf_top.specs.Program.{IsBase, WritesSummary}
-use Rattle.wf_top.specs.Program.{GeneratedPlay, PlayOf, WritesSummaryPart, GaveFor, AnswersInput, AnswersCount, Answers}
-use Rattle.wf_top.specs.Statuses.{complaint, written_status}
-use Rattle.wf_top.specs.Streams.{Net, Failed}
+use Rattle.wf_program.proofs.ProgramLemmas.{input-answers, input-usage, input-write, refused-played}
+use Rattle.wf_program.proofs.ProgramLemmas.{told-answer, told-line, told-nothing, told-same, unread-played, written-played}
+use Rattle.wf_program.specs.Program.{Failed, IsExcused, IsPlayed, IsTold}
+use Rattle.wf_program.specs.Statuses.{written_status}
+use Rattle.wf_program.specs.Steps.{IsRead, IsUnread, IsWhyNone, IsWritten}
+use Rattle.wf_program.specs.declared.status.Status.{Status}
+use Rattle.wf_program.specs.declared.status.Status.TheVariants as status
+use Rattle.wf_top.specs.Program.{Answers, AnswersCount, AreLeft, GeneratedPlay, HasPlayed, IsAnswer, IsBase, IsLinked}
+use Rattle.wf_top.specs.Program.{IsPlayText, IsPlayedOver, IsScripted, IsSummed, IsVerdict, WritesSummary}
+use Rattle.wf_top.specs.Program.{WritesSummaryPart}
+use Rattle.wf_top.specs.Statuses.{complaint}
+use Rattle.wf_top.specs.Streams.{Net}
 use Rattle.wf_top.specs.Words.{subcommand_of}
-use Rattle.wf_top.specs.declared.status.Status.{Status}
-use Rattle.wf_top.specs.declared.status.Status.TheVariants as status
 use Rattle.wf_top.specs.declared.words.Subcommand.{Subcommand}
 use Rattle.wf_top.specs.declared.words.Subcommand.TheVariants.{Gen, Net as Over, Play}
-use Rattle.wf_link.specs.Links.{Told}
-
--- ---- what was told
-
--- the answer is the verdict, or the complaints failed
-told-answer : (c c' : SinkTold) (verdict answer : Status) → IsTold c c' verdict answer → (answer ≡ verdict)
-    ⊎ ((answer ≡ status.WriteFault) × Failed c c')
-told-answer c c' status.Ok answer t = inl t.0
-told-answer c c' status.Usage answer t = elim t [ inl x ↦ inl x.0 | inr x ↦ inr (x.0, x.2) ]
-told-answer c c' (status.Scenario place) answer t = elim t [ inl x ↦ inl x.0 | inr x ↦ inr (x.0, x.2) ]
-told-answer c c' status.ReadFault answer t = elim t [ inl x ↦ inl x.0 | inr x ↦ inr (x.0, x.2) ]
-told-answer c c' status.WriteFault answer t = elim t [ inl x ↦ inl x.0 | inr x ↦ inr (x.0, x.2) ]
-told-answer c c' status.OutOfMemory answer t = elim t [ inl x ↦ inl x.0 | inr x ↦ inr (x.0, x.2) ]
-told-answer c c' status.InputTooLong answer t = elim t [ inl x ↦ inl x.0 | inr x ↦ inr (x.0, x.2) ]
-
-complained-line : (c c' : SinkTold) (verdict answer : Status) → IsComplained c c' verdict answer
-    → answer ≢ status.WriteFault → Took c.taken c'.taken (complaint answer)
-complained-line c c' verdict answer t other = elim t [
-  | inl x ↦ subst (λ (v : Status). Took c.taken c'.taken (complaint v)) (sym x.0) x.1
-  | inr x ↦ absurd (other x.0)
-]
-
--- another answer is told by its line
-told-line : (c c' : SinkTold) (verdict answer : Status) → IsTold c c' verdict answer → answer ≢ status.Ok
-    → answer ≢ status.WriteFault → Took c.taken c'.taken (complaint answer)
-told-line c c' status.Ok answer t not_ok other = absurd (not_ok t.0)
-told-line c c' status.Usage answer t not_ok other = complained-line c c' status.Usage answer t other
-told-line c c' (status.Scenario place) answer t not_ok other =
-    complained-line c c' (status.Scenario place) answer t other
-told-line c c' status.ReadFault answer t not_ok other = complained-line c c' status.ReadFault answer t other
-told-line c c' status.WriteFault answer t not_ok other = complained-line c c' status.WriteFault answer t other
-told-line c c' status.OutOfMemory answer t not_ok other = complained-line c c' status.OutOfMemory answer t other
-told-line c c' status.InputTooLong answer t not_ok other = complained-line c c' status.InputTooLong answer t other
-
--- an answer other than WriteFault is the verdict
-told-same : (c c' : SinkTold) (verdict answer : Status) → IsTold c c' verdict answer → answer ≢ status.WriteFault
-    → verdict ≡ answer
-told-same c c' verdict answer t other =
-    elim (told-answer c c' verdict answer t) [ inl e ↦ sym e | inr x ↦ absurd (other x.0) ]
-
--- of Ok nothing is told
-told-nothing : (c c' : SinkTold) (verdict : Status) → IsTold c c' verdict status.Ok → verdict ≡ status.Ok → c' ≡ c
-told-nothing c c' verdict t e = let u = subst (λ (v : Status). IsTold c c' v status.Ok) e t in u.1
-
--- ---- what the input gave
-
--- where the input tells, what was read to the end is all of it
-whole-told : (bytes given : List ℕ) (old new : Option (List ℕ)) → old ≡ Some bytes → Gave old new given → IsAtEnd new
-    → given ≡ bytes
-whole-told bytes given None new tells gave end = cc
-whole-told bytes given (Some left) new tells gave end =
-    let nothing : gave.0 ≡ [] = subst (λ (o : Option (List ℕ)). IsAtEnd o) gave.1 end in
-    let all : left ≡ given = gave.2 ∙ ap (λ (l : List ℕ). given ++ l) nothing ∙ append-nil given in
-    let same : left ≡ bytes = cc (tells) in
-    sym all ∙ same
-
--- what was read is no longer than what the input tells
-given-short : (bytes given : List ℕ) (old new : Option (List ℕ)) → old ≡ Some bytes → Gave old new given
-    → length given ≤ length bytes
-given-short bytes given None new tells gave = cc
-given-short bytes given (Some left) new tells gave =
-    let same : left ≡ bytes = cc (tells) in
-    omega (arith, ap length same, ap length gave.2, length-append given gave.0)
-
-gave-nothing : (left : Option (List ℕ)) → Gave left left []
-gave-nothing None = tt
-gave-nothing (Some left) = (left, refl, refl)
-
-same_place : (a b : Place) (read : Result Scenario Place) → read ≡ Err a → read ≡ Err b → a ≡ b
-same_place a b read x y = cc
-
--- ---- an input that was read
-
-module _ (Plays : Scenario → List Transcript → List Entry → Type 0) where
-  -- what was read has this cause
-  cause-at : (input input' : SourceTold) (output output' : SinkTold) (verdict answer : Status)
-      → IsPlayed Plays input input' output output' verdict → verdict ≡ answer
-      → GaveFor input input' (λ bytes. IsCause Plays bytes input input' output output' answer)
-  cause-at input input' output output' verdict answer p e = record {
-    bytes = p.bytes;
-    gave = p.gave;
-    reason_is = subst (λ (v : Status). IsCause Plays p.bytes input input' output output' v) e p.cause;
-  }
-
-  bound-at : (input input' : SourceTold) (output output' : SinkTold) (bytes : List ℕ) (verdict : Status)
-      → IsCause Plays bytes input input' output output' verdict → length bytes ≤ most_input + 1
-  bound-at input input' output output' bytes status.Ok c = omega (arith, c.0.short)
-  bound-at input input' output output' bytes status.Usage c = absurd c.1
-  bound-at input input' output output' bytes (status.Scenario place) c = omega (arith, c.0.short)
-  bound-at input input' output output' bytes status.ReadFault c = omega (arith, c.0)
-  bound-at input input' output output' bytes status.WriteFault c = omega (arith, c.0.short)
-  bound-at input input' output output' bytes status.OutOfMemory c = omega (arith, c.0)
-  bound-at input input' output output' bytes status.InputTooLong c = omega (arith, c.0)
-
-  -- an input of which no scenario was read
-  pub unread-played : (input input' : SourceTold) (output : SinkTold) (verdict : Status) → IsUnread input input' verdict
-      → IsPlayed Plays input input' output output verdict
-  unread-played input input' output verdict u =
-      record { bytes = u.bytes; gave = u.gave; cause = cause verdict u.why }
-    where
-      cause : (v : Status) → IsWhyNone u.bytes input input' v → IsCause Plays u.bytes input input' output output v
-      cause status.Ok why = absurd why
-      cause status.Usage why = absurd why
-      cause (status.Scenario place) why = (why.0, (why.1, refl))
-      cause status.ReadFault why = (why.0, why.1, refl)
-      cause status.WriteFault why = absurd why
-      cause status.OutOfMemory why = (why, inl refl)
-      cause status.InputTooLong why = (why, refl)
-
-  -- a scenario that could not be played
-  pub refused-played : (input input' : SourceTold) (output : SinkTold) (scenario : Scenario) → IsRead input input'
-      scenario
-      → IsPlayed Plays input input' output output status.OutOfMemory
-  refused-played input input' output scenario r =
-      record { bytes = r.bytes; gave = r.gave; cause = (r.whole.short, inl refl) }
-
-  -- a scenario that was played, and the text of its play written
-  pub written-played : (input input' : SourceTold) (output output' : SinkTold) (scenario : Scenario)
-      (transcripts : List Transcript) (history : List Entry) (verdict : Status) → IsRead input input' scenario
-      → Plays scenario transcripts history → IsWritten transcripts history output output' verdict
-      → IsPlayed Plays input input' output output' verdict
-  written-played input input' output output' scenario transcripts history verdict r play w =
-      record { bytes = r.bytes; gave = r.gave; cause = cause verdict w }
-    where
-      of : PlayOf Plays r.bytes
-      of = record {
-        scenario = scenario;
-        read = r.read;
-        transcripts = transcripts;
-        history = history;
-        play = play;
-      }
-
-      cause : (v : Status) → IsWritten transcripts history output output' v
-          → IsCause Plays r.bytes input input' output output' v
-      cause status.Ok w = (r.whole, record { of = of; took = w })
-      cause status.Usage w = absurd w
-      cause (status.Scenario place) w = absurd w
-      cause status.ReadFault w = absurd w
-      cause status.WriteFault w = (r.whole, (record { of = of; took = w.0 }, w.1))
-      cause status.OutOfMemory w = (r.whole.short, inr (r.whole, record { of = of; took = w }))
-      cause status.InputTooLong w = absurd w
-
-  -- ---- exactly where
-
-  -- the bytes are refused, or longer, or a scenario: the verdict is this one, but for the excuses
-  no_scenario-at : (input input' : SourceTold) (output output' c c' : SinkTold) (bytes : List ℕ) (place : Place)
-      (verdict answer : Status) → IsPlayed Plays input input' output output' verdict → answer ≡ verdict → input.left
-      ≡ Some bytes → length bytes ≤ most_input → scenario_of bytes ≡ Err place → (answer ≡ status.Scenario place)
-      ⊎ IsExcusedRead input input' output output' c c' answer
-  no_scenario-at input input' output output' c c' bytes place status.Ok answer p e tells short is =
-      let same = whole-told bytes p.bytes input.left input'.left tells p.gave p.cause.0.end in
-      let read : scenario_of bytes ≡ Ok p.cause.1.of.scenario =
-      subst (λ (l : List ℕ). scenario_of l ≡ Ok p.cause.1.of.scenario) same p.cause.1.of.read in
-      absurd (other p.cause.1.of.scenario (sym read ∙ is))
-    where
-      other : (s : Scenario) → Ok s ≡ Err place → ⊥
-      other s h = cc
-  no_scenario-at input input' output output' c c' bytes place status.Usage answer p e tells short is = absurd p.cause.1
-  no_scenario-at input input' output output' c c' bytes place (status.Scenario told) answer p e tells short is =
-      let same = whole-told bytes p.bytes input.left input'.left tells p.gave p.cause.0.end in
-      let read : scenario_of bytes ≡ Err told = subst (λ (l : List ℕ). scenario_of l ≡ Err told) same p.cause.1.0 in
-      inl (e ∙ ap status.Scenario (same_place told place (scenario_of bytes) read is))
-  no_scenario-at input input' output output' c c' bytes place status.ReadFault answer p e tells short is =
-      inr (inl (e, p.cause.1))
-  no_scenario-at input input' output output' c c' bytes place status.WriteFault answer p e tells short is =
-      inr (inr (inr (e, inl p.cause.1.1)))
-  no_scenario-at input input' output output' c c' bytes place status.OutOfMemory answer p e tells short is = inr
-      (inr (inl e))
-  no_scenario-at input input' output output' c c' bytes place status.InputTooLong answer p e tells short is =
-      absurd (omega (arith, p.cause.0, given-short bytes p.bytes input.left input'.left tells p.gave))
-
-  longer-at : (input input' : SourceTold) (output output' c c' : SinkTold) (bytes : List ℕ) (verdict answer : Status)
-      → IsPlayed Plays input input' output output' verdict → answer ≡ verdict → input.left ≡ Some bytes
-      → most_input < length bytes → (answer ≡ status.InputTooLong) ⊎ IsExcusedRead input input' output output' c c'
-      answer
-  longer-at input input' output output' c c' bytes status.Ok answer p e tells long =
-      absurd (omega (
-        arith,
-        p.cause.0.short,
-        ap length (whole-told bytes p.bytes input.left input'.left tells p.gave p.cause.0.end),
-      ))
-  longer-at input input' output output' c c' bytes status.Usage answer p e tells long = absurd p.cause.1
-  longer-at input input' output output' c c' bytes (status.Scenario told) answer p e tells long =
-      absurd (omega (
-        arith,
-        p.cause.0.short,
-        ap length (whole-told bytes p.bytes input.left input'.left tells p.gave p.cause.0.end),
-      ))
-  longer-at input input' output output' c c' bytes status.ReadFault answer p e tells long = inr (inl (e, p.cause.1))
-  longer-at input input' output output' c c' bytes status.WriteFault answer p e tells long =
-      inr (inr (inr (e, inl p.cause.1.1)))
-  longer-at input input' output output' c c' bytes status.OutOfMemory answer p e tells long = inr (inr (inl e))
-  longer-at input input' output output' c c' bytes status.InputTooLong answer p e tells long = inl e
-
-  complete-at : (input input' : SourceTold) (output output' c c' : SinkTold) (bytes : List ℕ) (scenario : Scenario)
-      (verdict answer : Status) → IsPlayed Plays input input' output output' verdict → answer ≡ verdict → input.left
-      ≡ Some bytes → length bytes ≤ most_input → scenario_of bytes ≡ Ok scenario → (answer ≡ status.Ok)
-      ⊎ IsExcusedRead input input' output output' c c' answer
-  complete-at input input' output output' c c' bytes scenario status.Ok answer p e tells short is = inl e
-  complete-at input input' output output' c c' bytes scenario status.Usage answer p e tells short is = absurd p.cause.1
-  complete-at input input' output output' c c' bytes scenario (status.Scenario told) answer p e tells short is =
-      let same = whole-told bytes p.bytes input.left input'.left tells p.gave p.cause.0.end in
-      let read : scenario_of bytes ≡ Err told = subst (λ (l : List ℕ). scenario_of l ≡ Err told) same p.cause.1.0 in
-      absurd (other (sym is ∙ read))
-    where
-      other : Ok scenario ≡ Err told → ⊥
-      other h = cc
-  complete-at input input' output output' c c' bytes scenario status.ReadFault answer p e tells short is =
-      inr (inl (e, p.cause.1))
-  complete-at input input' output output' c c' bytes scenario status.WriteFault answer p e tells short is =
-      inr (inr (inr (e, inl p.cause.1.1)))
-  complete-at input input' output output' c c' bytes scenario status.OutOfMemory answer p e tells short is = inr
-      (inr (inl e))
-  complete-at input input' output output' c c' bytes scenario status.InputTooLong answer p e tells short is =
-      absurd (omega (arith, p.cause.0, given-short bytes p.bytes input.left input'.left tells p.gave))
-
-  -- ---- what the account of an answer to an input says
-
-  input-answers : (input input' : SourceTold) (output output' c c' : SinkTold) (verdict answer : Status)
-      → IsPlayed Plays input input' output output' verdict → IsTold c c' verdict answer
-      → AnswersInput Plays input input' output output' c c' answer
-  input-answers input input' output output' c c' verdict answer p t =
-      let told = told-answer c c' verdict answer t in
-      record {
-        ok = λ is. ok_at (same is (λ h. ok_write h)) is;
-        refused = λ place is. cause-at input input' output output' verdict (status.Scenario place) p
-            (same is (λ h. scenario_write place h) ∙ is);
-        no_scenario = λ bytes place tells short is. elim told [
-          | inl e ↦ no_scenario-at input input' output output' c c' bytes place verdict answer p e tells short is
-          | inr x ↦ inr (inr (inr (x.0, inr x.1)))
-        ];
-        too_long = λ is. cause-at input input' output output' verdict status.InputTooLong p
-            (same is (λ h. long_write h) ∙ is);
-        longer = λ bytes tells long. elim told [
-          | inl e ↦ longer-at input input' output output' c c' bytes verdict answer p e tells long
-          | inr x ↦ inr (inr (inr (x.0, inr x.1)))
-        ];
-        read_fault = λ is. (cause-at input input' output output' verdict status.ReadFault p
-            (same is (λ h. read_write h) ∙ is)).reason_is.1;
-        complete = λ bytes scenario tells short is. elim told [
-          | inl e ↦ complete-at input input' output output' c c' bytes scenario verdict answer p e tells short is
-          | inr x ↦ inr (inr (inr (x.0, inr x.1)))
-        ];
-        out_of_memory = λ is. cause-at input input' output output' verdict status.OutOfMemory p
-            (same is (λ h. memory_write h) ∙ is);
-        bound = record {
-          bytes = p.bytes;
-          gave = p.gave;
-          reason_is = bound-at input input' output output' p.bytes
-              verdict p.cause;
-        };
-      }
-    where
-      ok_write : status.Ok ≡ status.WriteFault → ⊥
-      ok_write h = cc
-
-      scenario_write : (place : Place) → status.Scenario place ≡ status.WriteFault → ⊥
-      scenario_write place h = cc
-
-      long_write : status.InputTooLong ≡ status.WriteFault → ⊥
-      long_write h = cc
-
-      read_write : status.ReadFault ≡ status.WriteFault → ⊥
-      read_write h = cc
-
-      memory_write : status.OutOfMemory ≡ status.WriteFault → ⊥
-      memory_write h = cc
-
-      -- the verdict is the answer
-      same : {other : Status} → answer ≡ other → (other ≡ status.WriteFault → ⊥) → verdict ≡ answer
-      same is apart = told-same c c' verdict answer t (λ h. apart (sym is ∙ h))
-
-      ok_at : verdict ≡ answer → answer ≡ status.Ok
-          → GaveFor input input' (λ bytes. IsWhole bytes input' × WritesPlay Plays bytes output output' × (c' ≡ c))
-      ok_at v is =
-          let cause = cause-at input input' output output' verdict status.Ok p (v ∙ is) in
-          record {
-            bytes = cause.bytes;
-            gave = cause.gave;
-            reason_is = (
-              cause.reason_is.0,
-              cause.reason_is.1,
-              told-nothing c c' verdict (subst (λ (x : Status). IsTold c c' verdict x) is t) (v ∙ is),
-            );
-          }
-
-  -- a verdict of WriteFault has its cause
-  input-write : (input input' : SourceTold) (output output' : SinkTold) (verdict : Status)
-      → IsPlayed Plays input input' output output' verdict → verdict ≡ status.WriteFault → Failed output output'
-  input-write input input' output output' verdict p is =
-      (cause-at input input' output output' verdict status.WriteFault p is).reason_is.1.1
-
-  input-usage : (input input' : SourceTold) (output output' : SinkTold) (verdict : Status)
-      → IsPlayed Plays input input' output output' verdict → verdict ≡ status.Usage → ⊥
-  input-usage input input' output output' verdict p is =
-      (cause-at input input' output output' verdict status.Usage p is).reason_is.1
 
 -- ---- a generated scenario
 
-module _ (count : ℕ) where
+module _ (line : List ℕ) (count : ℕ) where
   summed-ok : (output output' : SinkTold) (verdict : Status) → IsSummed count output output' verdict
       → verdict ≡ status.Ok → WritesSummary count output output'
   summed-ok output output' verdict s is = subst (λ (v : Status). IsSummed count output output' v) is s
@@ -362,15 +66,15 @@ module _ (count : ℕ) where
 
   count-answers : (input input' : SourceTold) (output output' c c' : SinkTold) (verdict answer : Status) → input'
       ≡ input
-      → IsSummed count output output' verdict → IsTold c c' verdict answer
+      → IsSummed count output output' verdict → IsTold line c c' verdict answer
       → AnswersCount count input input' output output' c c' answer
   count-answers input input' output output' c c' verdict answer unread s t = record {
     unread = unread;
     ok = λ is. let v = same is (λ h. ok_write h) in (
       summed-ok output output' verdict s (v ∙ is),
-      told-nothing c c' verdict (subst (λ (x : Status). IsTold c c' verdict x) is t) (v ∙ is),
+      told-nothing line c c' verdict (subst (λ (x : Status). IsTold line c c' verdict x) is t) (v ∙ is),
     );
-    complete = elim (told-answer c c' verdict answer t) [
+    complete = elim (told-answer line c c' verdict answer t) [
       | inl e ↦ summed-complete output output' c c' verdict answer s e
       | inr x ↦ inr (inr (x.0, inr x.1))
     ];
@@ -384,23 +88,19 @@ module _ (count : ℕ) where
       memory_write h = cc
 
       same : {other : Status} → answer ≡ other → (other ≡ status.WriteFault → ⊥) → verdict ≡ answer
-      same is apart = told-same c c' verdict answer t (λ h. apart (sym is ∙ h))
+      same is apart = told-same line c c' verdict answer t (λ h. apart (sym is ∙ h))
 
 -- ---- what was written
 
--- the verdict by what came of writing the text of a play
-pub text-written : (transcripts : List Transcript) (history : List Entry) (output output' : SinkTold)
-    (written : Result (Unit {0}) Failure)
-    → OnOk written (Took output.taken output'.taken (play_text transcripts history))
-    → OnErr written (TookPart output.taken output'.taken (play_text transcripts history))
-    → (written ≡ Err failure.Fault → Rose output.faults output'.faults)
-    → (written ≡ Err failure.TookNothing → Rose output.zeros output'.zeros)
-    → IsWritten transcripts history output output' (written_status written)
-text-written transcripts history output output' (Ok u) took part fault nothing = took
-text-written transcripts history output output' (Err failure.OutOfMemory) took part fault nothing = part
-text-written transcripts history output output' (Err failure.Fault) took part fault nothing = (part, inl (fault refl))
-text-written transcripts history output output' (Err failure.TookNothing) took part fault nothing =
-    (part, inr (nothing refl))
+-- such a play was played, and its text written
+pub written-play : (Plays : Scenario → List Transcript → List Entry → Type 0) (input input' : SourceTold)
+    (output output' : SinkTold) (scenario : Scenario) (transcripts : List Transcript) (history : List Entry)
+    (verdict : Status) → IsRead scenario_of input input' scenario → Plays scenario transcripts history
+    → IsWritten (play_text transcripts history) output output' verdict
+    → IsPlayed scenario_of (IsPlayText Plays) input input' output output' verdict
+written-play Plays input input' output output' scenario transcripts history verdict r play w =
+    written-played scenario_of (IsPlayText Plays) input input' output output' scenario (play_text transcripts history)
+    verdict r (record { transcripts = transcripts; history = history; play = play; text_is = refl }) w
 
 -- the verdict by what came of writing a summary
 pub summary-outcome : (count : ℕ) (of : GeneratedPlay count) (output output' : SinkTold)
@@ -423,15 +123,15 @@ summary-outcome count of output output' (Err failure.TookNothing) took part faul
 module _ {L State : Type 0} (by : Answering State) (told : L → Told State) where
   -- where no scenario was read they are as they were
   pub over-unread : (net : Net L) (input input' : SourceTold) (output : SinkTold) (verdict : Status)
-      → IsUnread input input' verdict
+      → IsUnread scenario_of input input' verdict
       → IsPlayedOver by told net net input input' output output verdict
   unfolding unread-played
   over-unread net input input' output verdict u = record {
-    played = unread-played (IsLinked by told net net) input input' output verdict u;
+    played = unread-played scenario_of (IsPlayText (IsLinked by told net net)) input input' output verdict u;
     left = left verdict u.why;
   }
     where
-      left : (v : Status) → IsWhyNone u.bytes input input' v → AreLeft by told net net u.bytes input' v
+      left : (v : Status) → IsWhyNone scenario_of u.bytes input input' v → AreLeft by told net net u.bytes input' v
       left status.Ok why = absurd why
       left status.Usage why = absurd why
       left (status.Scenario place) why = refl
@@ -443,12 +143,12 @@ module _ {L State : Type 0} (by : Answering State) (told : L → Told State) whe
   module _ (net net' : Net L) where
     -- a play over them was refused
     pub over-refused : (input input' : SourceTold) (output : SinkTold) (scenario : Scenario) (base : ℕ)
-        → IsRead input input' scenario → IsBase net.time base
+        → IsRead scenario_of input input' scenario → IsBase net.time base
         → WasRefused by told net.links net'.links scenario base
         → IsPlayedOver by told net net' input input' output output status.OutOfMemory
     unfolding refused-played
     over-refused input input' output scenario base r base_is refused = record {
-      played = refused-played (IsLinked by told net net') input input' output scenario r;
+      played = refused-played scenario_of (IsPlayText (IsLinked by told net net')) input input' output scenario r;
       left = inr (inl (record {
         whole = r.whole;
         scenario = scenario;
@@ -461,13 +161,13 @@ module _ {L State : Type 0} (by : Answering State) (told : L → Told State) whe
 
     -- they were played over
     pub over-written : (input input' : SourceTold) (output output' : SinkTold) (scenario : Scenario)
-        (transcripts : List Transcript) (history : List Entry) (verdict : Status) → IsRead input input' scenario
+        (transcripts : List Transcript) (history : List Entry) (verdict : Status) → IsRead scenario_of input input' scenario
         → IsLinked by told net net' scenario transcripts history
-        → IsWritten transcripts history output output' verdict
+        → IsWritten (play_text transcripts history) output output' verdict
         → IsPlayedOver by told net net' input input' output output' verdict
-    unfolding written-played
+    unfolding written-play written-played
     over-written input input' output output' scenario transcripts history verdict r linked w = record {
-      played = written-played (IsLinked by told net net') input input' output output' scenario transcripts
+      played = written-play (IsLinked by told net net') input input' output output' scenario transcripts
           history verdict r linked w;
       left = left verdict w;
     }
@@ -478,13 +178,12 @@ module _ {L State : Type 0} (by : Answering State) (told : L → Told State) whe
           record {
             scenario = scenario;
             read = r.read;
-            transcripts = transcripts;
-            history = history;
-            play = linked;
+            text = play_text transcripts history;
+            is_text = record { transcripts = transcripts; history = history; play = linked; text_is = refl };
           },
         )
 
-        left : (v : Status) → IsWritten transcripts history output output' v
+        left : (v : Status) → IsWritten (play_text transcripts history) output output' v
             → AreLeft by told net net' r.bytes input' v
         left status.Ok w = played
         left status.Usage w = absurd w
@@ -503,7 +202,7 @@ module _ {L State : Type 0} (by : Answering State) (told : L → Told State) whe
         same is = subst (λ (n : Net L). HasTakenBack told net.links n.links) (sym is) (none-taken told net.links)
 
         played : HasPlayed by told net net' bytes input' → HasTakenBack told net.links net'.links
-        played p = record { back = p.1.play.over.back; took = p.1.play.over.took }
+        played p = record { back = p.1.is_text.play.over.back; took = p.1.is_text.play.over.took }
 
         back : (v : Status) → AreLeft by told net net' bytes input' v
             → HasTakenBack told net.links net'.links
@@ -544,11 +243,11 @@ module _ {L State : Type 0} (by : Answering State) (told : L → Told State) (ne
       → asked ≡ None
   not_accepted-of None input input' output output' verdict is v = refl
   not_accepted-of (Some Play) input input' output output' verdict is v =
-      absurd (input-usage IsScripted input input' output output' verdict v.0 is)
+      absurd (input-usage scenario_of (IsPlayText IsScripted) input input' output output' verdict v.0 is)
   not_accepted-of (Some Over) input input' output output' verdict is v =
-      absurd (input-usage (IsLinked by told net net') input input' output output' verdict v.played is)
+      absurd (input-usage scenario_of (IsPlayText (IsLinked by told net net')) input input' output output' verdict v.played is)
   not_accepted-of (Some (Gen count)) input input' output output' verdict is v =
-      absurd (summed-usage count output output' verdict v.0 is)
+      absurd (summed-usage [] count output output' verdict v.0 is)
 
   verdict-write : (asked : Option Subcommand) (input input' : SourceTold) (output output' : SinkTold) (verdict : Status)
       → verdict ≡ status.WriteFault → IsVerdict by told net net' asked input input' output output' verdict
@@ -558,11 +257,11 @@ module _ {L State : Type 0} (by : Answering State) (told : L → Told State) (ne
       other : status.Usage ≡ status.WriteFault → ⊥
       other h = cc
   verdict-write (Some Play) input input' output output' verdict is v =
-      input-write IsScripted input input' output output' verdict v.0 is
+      input-write scenario_of (IsPlayText IsScripted) input input' output output' verdict v.0 is
   verdict-write (Some Over) input input' output output' verdict is v =
-      input-write (IsLinked by told net net') input input' output output' verdict v.played is
+      input-write scenario_of (IsPlayText (IsLinked by told net net')) input input' output output' verdict v.played is
   verdict-write (Some (Gen count)) input input' output output' verdict is v =
-      summed-write count output output' verdict v.0 is
+      summed-write [] count output output' verdict v.0 is
 
   kept-of : (asked : Option Subcommand) (input input' : SourceTold) (output output' : SinkTold) (verdict : Status)
       → IsVerdict by told net net' asked input input' output output' verdict → asked ≢ Some Over → net' ≡ net
@@ -581,11 +280,12 @@ pub answers : {L State : Type 0} (by : Answering State) (told : L → Told State
     → Answers by told words input input' output output' c c' net net' answer
 answers by told words input input' output output' c c' net net' answer a =
     let asked = subcommand_of words in
-    let was = told-answer c c' a.verdict answer a.is_told in
+    let line = complaint a.verdict in
+    let was = told-answer line c c' a.verdict answer a.is_told in
     record {
       is_answer = a;
       usage = λ is. not_accepted-of by told net net' asked input input' output output' a.verdict
-          (told-same c c' a.verdict answer a.is_told (λ h. usage_write (sym is ∙ h)) ∙ is) a.is_verdict;
+          (told-same line c c' a.verdict answer a.is_told (λ h. usage_write (sym is ∙ h)) ∙ is) a.is_verdict;
       not_accepted = λ no_words. elim was [
         | inl e ↦ inl (e ∙ usage-of by told net net' asked input input' output output' a.verdict no_words
             a.is_verdict)
@@ -594,16 +294,17 @@ answers by told words input input' output output' c c' net net' answer a =
       play = λ is.
           let v = verdict-at by told net net' asked (Some Play) input input' output output' a.verdict is
           a.is_verdict in
-          input-answers IsScripted input input' output output' c c' a.verdict answer v.0 a.is_told;
+          input-answers scenario_of (IsPlayText IsScripted) line input input' output output' c c' a.verdict answer v.0
+          a.is_told;
       net = λ is.
           let v = verdict-at by told net net' asked (Some Over) input input' output output' a.verdict is
           a.is_verdict in
-          input-answers (IsLinked by told net net') input input' output output' c c' a.verdict answer v.played
-          a.is_told;
+          input-answers scenario_of (IsPlayText (IsLinked by told net net')) line input input' output output' c c'
+          a.verdict answer v.played a.is_told;
       gen = λ count is.
           let v = verdict-at by told net net' asked (Some (Gen count)) input input' output output' a.verdict is
           a.is_verdict in
-          count-answers count input input' output output' c c' a.verdict answer v.1 v.0 a.is_told;
+          count-answers line count input input' output output' c c' a.verdict answer v.1 v.0 a.is_told;
       kept = kept-of by told net net' asked input input' output output' a.verdict a.is_verdict;
       back = λ is.
           let v = verdict-at by told net net' asked (Some Over) input input' output output' a.verdict is
@@ -614,7 +315,7 @@ answers by told words input input' output output' c c' net net' answer a =
             a.is_verdict)
         | inr x ↦ inr x.1
       ];
-      complained = told-line c c' a.verdict answer a.is_told;
+      complained = told-line complaint c c' a.verdict answer a.is_told;
     }
   where
     usage_write : status.Usage ≡ status.WriteFault → ⊥

@@ -1,5 +1,4 @@
-pub mod Words
+pub mod Program
 pub mod Statuses
 pub mod Streams
-pub mod Program
-pub mod Private
+pub mod Words

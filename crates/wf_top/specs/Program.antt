@@ -1,15 +1,17 @@
 -- What the program answers to its words: its verdict by the words and the bytes of the input, what it has written
 -- then, and what it tells the complaints. What a play is, and that in it each document sends and sees what it would
--- alone, wf_iso's definitions say.
-use Rattle.std.specs.Prelude.{◌≡◌, ◌≢◌, ℕ, ◌+◌, ◌≤◌, ◌<◌, ◌⊎◌, min, List, length, map, Option, Some, None, Ok, Err}
+-- alone, wf_iso's definitions say; why a program comes to a verdict on an input, wf_program's.
+use Rattle.std.specs.Prelude.{◌≡◌, ◌≢◌, ℕ, ◌≤◌, ◌⊎◌, min, List, map, Option, Some, None, Ok}
 use Rattle.wf_book.specs.declared.entry.Entry.{Entry}
-use Rattle.wf_link.specs.Counts.{Rose}
 use Rattle.wf_link.specs.Sinks.{SinkTold, Took, TookPart}
-use Rattle.wf_link.specs.Sources.{Gave, IsAtEnd, SourceTold}
+use Rattle.wf_link.specs.Sources.{SourceTold}
 use Rattle.wf_script_events.specs.declared.events.Transcript.{Transcript}
 use Rattle.wf_print.specs.Summary.{summary_text}
 use Rattle.wf_print.specs.Text.{play_text}
-use Rattle.wf_script.specs.declared.place.Place.{Place}
+use Rattle.wf_program.specs.Inputs.{IsWhole}
+use Rattle.wf_program.specs.Program.{AnswersInput, Failed, IsExcused, IsPlayed, IsTold, TextOf}
+use Rattle.wf_program.specs.declared.status.Status.{Status}
+use Rattle.wf_program.specs.declared.status.Status.TheVariants as status
 use Rattle.wf_script_values.specs.declared.scenario.Scenario.{Scenario}
 use Rattle.wf_script_run.specs.Documents.{EachDocument}
 use Rattle.wf_script.specs.Generated.{generated}
@@ -20,22 +22,11 @@ use Rattle.wf_iso.specs.Plays.{IsPlay, by_rules, ways_to_servers}
 use Rattle.wf_player_seats.specs.Links.{way_of}
 use Rattle.wf_player_play.specs.Links.{HasTakenBack, IsPlayOverLinks, WasRefused}
 use Rattle.wf_top.specs.Statuses.{complaint}
-use Rattle.wf_top.specs.Streams.{Net, Failed}
+use Rattle.wf_top.specs.Streams.{Net}
 use Rattle.wf_top.specs.Words.{subcommand_of}
-use Rattle.wf_top.specs.declared.status.Status.{Status}
-use Rattle.wf_top.specs.declared.status.Status.TheVariants as status
 use Rattle.wf_top.specs.declared.words.Subcommand.{Subcommand}
 use Rattle.wf_top.specs.declared.words.Subcommand.TheVariants.{Gen, Net as Over, Play}
 use Rattle.wf_link.specs.Links.{Told}
-
--- the longest input, in bytes
-abbrev pub most_input : ℕ
-most_input = 4194304
-
--- the input was read to its end, and is not too long
-pub record IsWhole (bytes : List ℕ) (new : SourceTold) : Type 0 where
-  pub end : IsAtEnd new.left
-  pub short : length bytes ≤ most_input
 
 -- ---- plays
 
@@ -73,62 +64,22 @@ module _ {L State : Type 0} (by : Answering State) (told : L → Told State) (ol
     pub base_is : IsBase old.time base
     pub refused : WasRefused by told old.links new.links scenario base
 
--- ---- a scenario that is read
+-- ---- the text of a play
 
--- By what a play of a scenario is:
-module _ (Plays : Scenario → List Transcript → List Entry → Type 0) where
-  -- a play of the scenario that the bytes are
-  pub record PlayOf (bytes : List ℕ) : Type 0 where
-    pub scenario : Scenario
-    pub read : scenario_of bytes ≡ Ok scenario
-    pub transcripts : List Transcript
-    pub history : List Entry
-    pub play : Plays scenario transcripts history
-
-  -- the output has taken the text of a play of what the bytes say, and nothing else
-  pub record WritesPlay (bytes : List ℕ) (old new : SinkTold) : Type 0 where
-    pub of : PlayOf bytes
-    pub took : Took old.taken new.taken (play_text of.transcripts of.history)
-
-  -- it has taken nothing, or a prefix of such a text
-  pub record WritesPart (bytes : List ℕ) (old new : SinkTold) : Type 0 where
-    pub of : PlayOf bytes
-    pub took : TookPart old.taken new.taken (play_text of.transcripts of.history)
-
-  -- what the bytes of a whole input come to, and what the output has taken then
-  abbrev pub IsOutcome : List ℕ → SinkTold → SinkTold → Status → Type 0
-  IsOutcome bytes output output' status.Ok = WritesPlay bytes output output'
-  IsOutcome bytes output output' (status.Scenario place) = (scenario_of bytes ≡ Err place) × (output' ≡ output)
-  IsOutcome bytes output output' status.WriteFault = WritesPart bytes output output' × Failed output output'
-  IsOutcome bytes output output' status.OutOfMemory = (output' ≡ output) ⊎ WritesPart bytes output output'
-  IsOutcome bytes output output' status.Usage = ⊥
-  IsOutcome bytes output output' status.ReadFault = ⊥
-  IsOutcome bytes output output' status.InputTooLong = ⊥
-
-  -- Why the program comes to a verdict on the bytes that the input gave. Where memory was refused and the output
-  -- has taken something, the input was read to its end.
-  abbrev pub IsCause : List ℕ → SourceTold → SourceTold → SinkTold → SinkTold → Status → Type 0
-  IsCause bytes input input' output output' status.ReadFault =
-      (length bytes ≤ most_input) × Rose input.faults input'.faults × (output' ≡ output)
-  IsCause bytes input input' output output' status.InputTooLong =
-      (length bytes ≡ most_input + 1) × (output' ≡ output)
-  IsCause bytes input input' output output' status.OutOfMemory =
-      (length bytes ≤ most_input) × ((output' ≡ output) ⊎ (IsWhole bytes input' × WritesPart bytes output output'))
-  IsCause bytes input input' output output' verdict = IsWhole bytes input' × IsOutcome bytes output output' verdict
-
-  -- the verdict on an input
-  pub record IsPlayed (input input' : SourceTold) (output output' : SinkTold) (verdict : Status) : Type 0 where
-    -- the bytes that the input gave
-    pub bytes : List ℕ
-    pub gave : Gave input.left input'.left bytes
-    pub cause : IsCause bytes input input' output output' verdict
+-- The text is that of a play of the scenario, by what a play is.
+pub record IsPlayText (Plays : Scenario → List Transcript → List Entry → Type 0) (scenario : Scenario) (text : List ℕ)
+    : Type 0 where
+  pub transcripts : List Transcript
+  pub history : List Entry
+  pub play : Plays scenario transcripts history
+  pub text_is : text ≡ play_text transcripts history
 
 -- ---- what is left of links and clock
 
 module _ {L State : Type 0} (by : Answering State) (told : L → Told State) (old new : Net L) where
   -- the scenario that the bytes of a whole input are was played over the links
   abbrev pub HasPlayed : List ℕ → SourceTold → Type 0
-  HasPlayed bytes input' = IsWhole bytes input' × PlayOf (IsLinked by told old new) bytes
+  HasPlayed bytes input' = IsWhole bytes input' × TextOf scenario_of (IsPlayText (IsLinked by told old new)) bytes
 
   -- What is left of them where the input gave these bytes: as they were, where nothing was played; else the links were
   -- taken back.
@@ -141,7 +92,7 @@ module _ {L State : Type 0} (by : Answering State) (told : L → Told State) (ol
 
   -- the verdict on an input that is played over links, and what is left of them
   pub record IsPlayedOver (input input' : SourceTold) (output output' : SinkTold) (verdict : Status) : Type 0 where
-    pub played : IsPlayed (IsLinked by told old new) input input' output output' verdict
+    pub played : IsPlayed scenario_of (IsPlayText (IsLinked by told old new)) input input' output output' verdict
     pub left : AreLeft played.bytes input' verdict
 
 -- ---- a generated scenario
@@ -182,23 +133,11 @@ module _ {L State : Type 0} (by : Answering State) (told : L → Told State) (ne
   IsVerdict None input input' output output' verdict =
       (verdict ≡ status.Usage) × (input' ≡ input) × (output' ≡ output) × (net' ≡ net)
   IsVerdict (Some Play) input input' output output' verdict =
-      IsPlayed IsScripted input input' output output' verdict × (net' ≡ net)
+      IsPlayed scenario_of (IsPlayText IsScripted) input input' output output' verdict × (net' ≡ net)
   IsVerdict (Some Over) input input' output output' verdict =
       IsPlayedOver by told net net' input input' output output' verdict
   IsVerdict (Some (Gen count)) input input' output output' verdict =
       IsSummed count output output' verdict × (input' ≡ input) × (net' ≡ net)
-
--- the complaints have taken the verdict's line and the program answers it; or a part of the line, since
--- they failed, and it answers WriteFault
-abbrev pub IsComplained : SinkTold → SinkTold → Status → Status → Type 0
-IsComplained old new verdict answer =
-    ((answer ≡ verdict) × Took old.taken new.taken (complaint verdict))
-    ⊎ ((answer ≡ status.WriteFault) × TookPart old.taken new.taken (complaint verdict) × Failed old new)
-
--- nothing is told of Ok
-abbrev pub IsTold : SinkTold → SinkTold → Status → Status → Type 0
-IsTold old new status.Ok answer = (answer ≡ status.Ok) × (new ≡ old)
-IsTold old new verdict answer = IsComplained old new verdict answer
 
 -- How the program came to its answer: it came to a verdict first, and told it then.
 pub record IsAnswer {L State : Type 0} (by : Answering State) (told : L → Told State)
@@ -207,56 +146,7 @@ pub record IsAnswer {L State : Type 0} (by : Answering State) (told : L → Told
     (answer : Status) : Type 0 where
   pub verdict : Status
   pub is_verdict : IsVerdict by told net net' (subcommand_of words) input input' output output' verdict
-  pub is_told : IsTold complaints complaints' verdict answer
-
--- the other answers that a play without a fault of its scenario can have: memory was refused, or the complaints or
--- the output failed
-abbrev pub IsExcused : SinkTold → SinkTold → SinkTold → SinkTold → Status → Type 0
-IsExcused output output' complaints complaints' answer =
-    (answer ≡ status.OutOfMemory)
-    ⊎ ((answer ≡ status.WriteFault) × (Failed output output' ⊎ Failed complaints complaints'))
-
--- where an input was read, it may have failed too
-abbrev pub IsExcusedRead : SourceTold → SourceTold → SinkTold → SinkTold → SinkTold → SinkTold → Status → Type 0
-IsExcusedRead input input' output output' complaints complaints' answer =
-    ((answer ≡ status.ReadFault) × Rose input.faults input'.faults)
-    ⊎ IsExcused output output' complaints complaints' answer
-
--- the bytes that the input gave, and why they have this answer
-pub record GaveFor (input input' : SourceTold) (reason : List ℕ → Type 0) : Type 0 where
-  pub bytes : List ℕ
-  pub gave : Gave input.left input'.left bytes
-  pub reason_is : reason bytes
-
--- What the program promises of its answer to an input, by what a play of a scenario is.
-pub record AnswersInput (Plays : Scenario → List Transcript → List Entry → Type 0) (input input' : SourceTold)
-    (output output' complaints complaints' : SinkTold) (answer : Status) : Type 0 where
-  -- Ok only where the whole input is a scenario, whose play the output has taken, and the complaints nothing
-  pub ok : answer ≡ status.Ok → GaveFor input input' (λ bytes.
-      IsWhole bytes input' × WritesPlay Plays bytes output output' × (complaints' ≡ complaints))
-  -- Scenario only where the whole input is refused at that place, and there always, but for the excuses
-  pub refused : (place : Place) → answer ≡ status.Scenario place → GaveFor input input' (λ bytes.
-      IsWhole bytes input' × ((scenario_of bytes ≡ Err place) × (output' ≡ output)))
-  pub no_scenario : (bytes : List ℕ) (place : Place) → input.left ≡ Some bytes
-      → length bytes ≤ most_input → scenario_of bytes ≡ Err place
-      → (answer ≡ status.Scenario place) ⊎ IsExcusedRead input input' output output' complaints complaints' answer
-  -- InputTooLong only where one byte more than the longest input was read, and there always, but for the excuses
-  pub too_long : answer ≡ status.InputTooLong
-      → GaveFor input input' (λ bytes. (length bytes ≡ most_input + 1) × (output' ≡ output))
-  pub longer : (bytes : List ℕ) → input.left ≡ Some bytes → most_input < length bytes
-      → (answer ≡ status.InputTooLong) ⊎ IsExcusedRead input input' output output' complaints complaints' answer
-  -- ReadFault only where the input failed
-  pub read_fault : answer ≡ status.ReadFault → Rose input.faults input'.faults
-  -- an input that is a scenario has the answer Ok, but for the excuses
-  pub complete : (bytes : List ℕ) (scenario : Scenario) → input.left ≡ Some bytes
-      → length bytes ≤ most_input → scenario_of bytes ≡ Ok scenario
-      → (answer ≡ status.Ok) ⊎ IsExcusedRead input input' output output' complaints complaints' answer
-  -- OutOfMemory only where the output has taken nothing, or the whole input is a scenario, and it has taken a
-  -- prefix of the text of its play
-  pub out_of_memory : answer ≡ status.OutOfMemory → GaveFor input input' (λ bytes. (length bytes ≤ most_input)
-      × ((output' ≡ output) ⊎ (IsWhole bytes input' × WritesPart Plays bytes output output')))
-  -- at most one byte more than the longest input is read
-  pub bound : GaveFor input input' (λ bytes. length bytes ≤ most_input + 1)
+  pub is_told : IsTold (complaint verdict) complaints complaints' verdict answer
 
 -- What the program promises of its answer to `gen`.
 pub record AnswersCount (count : ℕ) (input input' : SourceTold) (output output' complaints complaints' : SinkTold)
@@ -283,10 +173,10 @@ pub record Answers {L State : Type 0} (by : Answering State) (told : L → Told 
       → (answer ≡ status.Usage) ⊎ ((answer ≡ status.WriteFault) × Failed complaints complaints')
   -- what the accepted words ask for
   pub play : subcommand_of words ≡ Some Play
-      → AnswersInput IsScripted input input' output output' complaints complaints' answer
+      → AnswersInput scenario_of (IsPlayText IsScripted) input input' output output' complaints complaints' answer
   pub net : subcommand_of words ≡ Some Over
-      → AnswersInput (IsLinked by told outer outer') input input' output output' complaints complaints'
-      answer
+      → AnswersInput scenario_of (IsPlayText (IsLinked by told outer outer')) input input' output output' complaints
+      complaints' answer
   pub gen : (count : ℕ) → subcommand_of words ≡ Some (Gen count)
       → AnswersCount count input input' output output' complaints complaints' answer
   -- with other words than `net` links and clock are left as they were, and with `net` each link that was made was

@@ -1,12 +1,6 @@
--- What contracts see of the program's links and clock at one moment, and that a stream failed.
-use Rattle.std.specs.Prelude.{ℕ, Option, ◌⊎◌}
-use Rattle.wf_link.specs.Counts.{Rose}
-use Rattle.wf_link.specs.Sinks.{SinkTold}
+-- What contracts see of the program's links and clock at one moment.
+use Rattle.std.specs.Prelude.{ℕ, Option}
 use Rattle.wf_player_play.specs.Links.{Maker}
-
--- a sink failed, or took nothing
-abbrev pub Failed : SinkTold → SinkTold → Type 0
-Failed old new = Rose old.faults new.faults ⊎ Rose old.zeros new.zeros
 
 -- what plays over links use besides: what makes the links, and the clock's next answer, where it tells
 pub record Net (L : Type 0) : Type 0 where

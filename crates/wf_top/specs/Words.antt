@@ -1,15 +1,10 @@
 -- The words of the program.
-use Rattle.std.specs.Prelude.{ℕ, ◌≤◌, ◌==◌, ◌&&◌, Bool, not, false, nat_le, List, [], ◌∷◌, codes, bytes_eq, String, map}
-use Rattle.std.specs.Prelude.{string_bytes, Option, Some, None, option_map, if◌then◌else◌}
-use Rattle.std.specs.Global.{Global}
+use Rattle.std.specs.Prelude.{ℕ, ◌≤◌, ◌==◌, ◌&&◌, Bool, not, false, nat_le, List, [], ◌∷◌, codes, bytes_eq}
+use Rattle.std.specs.Prelude.{Option, Some, None, option_map, if◌then◌else◌}
 use Rattle.std.specs.Str.Parse.{digits_value}
 use Rattle.wf_text.specs.Digits.{is_digits}
 use Rattle.wf_top.specs.declared.words.Subcommand.{Subcommand}
 use Rattle.wf_top.specs.declared.words.Subcommand.TheVariants.{Gen, Net, Play}
-
--- the texts of the words
-abbrev pub texts : List (String Global) → List (List ℕ)
-texts words = map string_bytes words
 
 abbrev pub begins_with_zero : List ℕ → Bool
 begins_with_zero [] = false

@@ -1,10 +1,8 @@
 // The program's top call: words and streams in, a status out.
 #![tactic(auto)]
 
-mod complaint;
 mod program;
-mod status;
 mod words;
 
 pub use program::fetchplay;
-pub use status::Status;
+pub use wf_program::Status;

@@ -1,34 +1,30 @@
-ghost use Rattle.std.specs.Prelude.{◌≡◌, ◌≤◌, Ok, IfErr, IfOk};
+ghost use Rattle.std.specs.Prelude.{◌≡◌, ◌≤◌, IfOk};
 ghost use Rattle.wf_iso.specs.Plays.{IsPlay};
 ghost use Rattle.wf_player_play.specs.Links.{maker_of};
-ghost use Rattle.wf_print.specs.Text.{HasText};
+ghost use Rattle.wf_print.specs.Text.{HasText, play_text};
+ghost use Rattle.wf_program.specs.Program.{IsPlayed};
+ghost use Rattle.wf_program.specs.Steps.{IsWritten};
+ghost use Rattle.wf_program.specs.Words.{texts};
 ghost use Rattle.wf_script.specs.Generated.{generated};
-ghost use Rattle.wf_script_values.specs.Valid.{IsValid};
+ghost use Rattle.wf_script.specs.Scenarios.{scenario_of};
 ghost use Rattle.wf_link_wire.specs.Wires.{over_link};
-ghost use Rattle.wf_top.specs.Private.Steps.{IsRead, IsUnread, IsWritten};
-ghost use Rattle.wf_top.specs.Program.{Answers, IsBase, IsPlayed, IsPlayedOver, IsScripted, IsSummed, IsVerdict};
-ghost use Rattle.wf_top.specs.Statuses.{written_status};
+ghost use Rattle.wf_top.specs.Program.{Answers, IsBase, IsPlayText, IsPlayedOver, IsScripted, IsSummed, IsVerdict};
+ghost use Rattle.wf_top.specs.Statuses.{head};
 ghost use Rattle.wf_top.specs.Streams.{net_of};
 ghost use Rattle.wf_top.specs.Words as spec;
-ghost use Rattle.wf_top.specs.Words.{texts};
 
-use crate::complaint::tell;
-use crate::status::Status;
 use crate::words::{Subcommand, subcommand_of};
 use std::alloc::Global;
 use std::sync::Wait;
 use std::thread::Threads;
 use wf_iso::law_isolated;
-use wf_link::{Clock, Links, ReadStop, Sink, Source, read_whole};
+use wf_link::{Clock, Links, Sink, Source};
 use wf_player_play::{Played, play_over, play_scripted};
-use wf_print::{Failure, write_play, write_summary};
-use wf_script::{generate, read_scenario};
-use wf_script_values::Scenario;
+use wf_print::{write_play, write_summary};
+use wf_program::{Status, scenario_in, status_of, tell};
+use wf_script::generate;
 use wf_sim::SimLink;
 use wf_text::OutOfMemory;
-
-/// The longest input that is read, in bytes.
-const MOST_INPUT: usize = 4194304;
 
 /// The latest time at which a play over links begins, in seconds.
 const MOST_BASE: u64 = 1_099_511_627_776;
@@ -66,7 +62,23 @@ pub fn fetchplay<R: Threads + Wait + Sync, S: Source, K: Sink, E: Sink, N: Links
         (net_of (maker_of N.opening N.lent N.faults links.new) C.next clock.new) result }
 {
     let verdict = verdict(rt, alloc, words, input, output, links, clock);
-    tell(verdict, complaints)
+    let head = head_of(&verdict);
+    tell(verdict, head, complaints)
+}
+
+// How the line of a verdict begins.
+fn head_of(verdict: &Status) -> &'static [u8]
+    ensures { result.now ≡ head verdict.now }
+{
+    match verdict {
+        Status::Ok => b"",
+        Status::Usage => b"fetchplay: usage: fetchplay play | net | gen N",
+        Status::Scenario(_) => b"fetchplay: scenario refused at ",
+        Status::ReadFault => b"fetchplay: reading failed",
+        Status::WriteFault => b"fetchplay: writing failed",
+        Status::OutOfMemory => b"fetchplay: out of memory",
+        Status::InputTooLong => b"fetchplay: input longer than 4194304 bytes",
+    }
 }
 
 // The verdict on the words and the input, with what was asked for written to the output.
@@ -94,27 +106,6 @@ fn verdict<R: Threads + Wait + Sync, S: Source, K: Sink, N: Links, C: Clock>(
     }
 }
 
-// The scenario that the whole input is, or else the verdict on the input.
-fn scenario_in<S: Source>(alloc: Global, input: &mut S) -> Result<Scenario, Status>
-    ensures valid { IfOk result IsValid }
-    ensures read { IfOk result (λ scenario. IsRead (S.gives input.old)
-        (S.gives input.new) scenario) }
-    ensures unread { IfErr result (IsUnread (S.gives input.old)
-        (S.gives input.new)) }
-{
-    let text = match read_whole(alloc, input, MOST_INPUT) {
-        Err(ReadStop::Fault) => return Err(Status::ReadFault),
-        Err(ReadStop::TooLong) => return Err(Status::InputTooLong),
-        Err(ReadStop::OutOfMemory) => return Err(Status::OutOfMemory),
-        Ok(text) => text,
-    };
-    match read_scenario(alloc, text.as_slice()) {
-        Err(OutOfMemory) => Err(Status::OutOfMemory),
-        Ok(Err(place)) => Err(Status::Scenario(place)),
-        Ok(Ok(scenario)) => Ok(scenario),
-    }
-}
-
 // Plays the scenario that the input is over its own servers.
 fn play_scenario<R: Threads + Wait + Sync, S: Source, K: Sink>(
     rt: &R,
@@ -122,7 +113,7 @@ fn play_scenario<R: Threads + Wait + Sync, S: Source, K: Sink>(
     input: &mut S,
     output: &mut K,
 ) -> Status
-    ensures { IsPlayed IsScripted (S.gives input.old) (S.gives input.new)
+    ensures { IsPlayed scenario_of (IsPlayText IsScripted) (S.gives input.old) (S.gives input.new)
         (K.takes output.old) (K.takes output.new) result }
 {
     law_isolated::<SimLink>();
@@ -171,22 +162,10 @@ fn play_linked<R: Threads + Wait + Sync, S: Source, K: Sink, N: Links, C: Clock>
     }
 }
 
-// The verdict by what came of writing.
-fn status_of(written: Result<(), Failure>) -> Status
-    ensures { result ≡ written_status written }
-{
-    match written {
-        Ok(()) => Status::Ok,
-        Err(Failure::OutOfMemory) => Status::OutOfMemory,
-        Err(Failure::Fault) => Status::WriteFault,
-        Err(Failure::TookNothing) => Status::WriteFault,
-    }
-}
-
 // Writes the text of a play.
 fn write_text<K: Sink>(alloc: Global, played: &Played, output: &mut K) -> Status
     requires { HasText played.now.transcripts }
-    ensures { IsWritten played.now.transcripts played.now.history (K.takes output.old)
+    ensures { IsWritten (play_text played.now.transcripts played.now.history) (K.takes output.old)
         (K.takes output.new) result }
 {
     let written = write_play(alloc, &played.transcripts, &played.history, output);

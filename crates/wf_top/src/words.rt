@@ -1,6 +1,7 @@
 ghost use Rattle.std.specs.Prelude.{◌≡◌, ◌≤◌, IfSome};
 ghost use Rattle.wf_top.specs.Words as spec;
-ghost use Rattle.wf_top.specs.Words.{IsBounded, texts};
+ghost use Rattle.wf_program.specs.Words.{texts};
+ghost use Rattle.wf_top.specs.Words.{IsBounded};
 
 use wf_text::parse_digits;
 

@@ -1,13 +1,13 @@
 use Rattle.wf_iso.specs.Plays.{by_rules, ways_to_servers}
 use Rattle.wf_top.specs.Program.{IsScripted}
-use Rattle.wf_top.proofs.ProgramLemmas.{written-played}
+use Rattle.wf_top.proofs.ProgramLemmas.{written-play}
 use Rattle.wf_top.proofs.program.play_scenario.Goals as goal
 
 pub returns : goal.returns
 returns g c =
     let scenario = c.in-Ok.scenario in
     let played = c.in-Ok-play_scripted.played in
-    written-played IsScripted
+    written-play IsScripted
     (g.S.Source.gives c.args.input.now)
     (g.S.Source.gives c.scenario_in.new.input)
     (g.K.Sink.takes c.args.output.now)
