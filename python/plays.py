@@ -42,10 +42,8 @@ class Play(scripts.Script):
 
     def begin(self, document, cookies):
         top, headers = document.get("top", document["url"]), document.get("headers", [])
-        self.client = f.Client(document["url"], top, f.ReferrerPolicy(scripts.referrer_policy(headers)), cookies=cookies)
-        for name, value in headers:
-            if name.lower() in ("content-security-policy", "content-security-policy-report-only"):
-                self.client.add_policy(value, enforced=name.lower() == "content-security-policy")
+        self.client = f.Client(document["url"], top, f.ReferrerPolicy(scripts.referrer_policy(headers)),
+                               f.Policies.of_headers(headers), cookies)
         self.lines.append(f"document 0 {f.origin(top)}")
 
     def last(self):
