@@ -17,6 +17,9 @@
 //     fiorrudda_free(&headers);
 //
 // where T(text) is (const uint8_t *)(text), strlen(text).
+//
+// A whole fetch is a loop over its acts, from fiorrudda_fetch on: docs/embedding.md tells what is to be done at each, and
+// examples/embed/client.c is such a loop over sockets and TLS.
 #pragma once
 #include <stdbool.h>
 #include <stddef.h>

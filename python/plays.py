@@ -3,10 +3,9 @@ import json
 import pathlib
 
 import fiorrudda as f
+import scripts
 from fiorrudda import printed
 
-POLICIES = {it.name.lower().replace("_", "-"): it for it in f.ReferrerPolicy if it}
-POLICIES[""] = f.ReferrerPolicy.DEFAULT
 UNKNOWN = b"HTTP/1.1 404 Scripted\r\n\r\n"
 
 
@@ -16,70 +15,69 @@ def answer(servers, act):
         if server["origin"] == act.origin:
             for rule in server["rules"]:
                 if rule.get("method", act.method) == act.method and rule.get("path", act.url) == act.url:
-                    return rule_bytes(rule)
+                    return scripts.answer(rule)
             return UNKNOWN
     return b""
 
 
-def rule_bytes(rule):
-    if "raw" in rule:
-        return rule["raw"].encode()
-    lines = "".join(f"{name}: {value}\r\n" for name, value in rule.get("headers", []))
-    return f"HTTP/1.1 {rule['status']} Scripted\r\n{lines}\r\n{rule.get('body', '')}".encode()
+def policy(asked):
+    return f.ReferrerPolicy(scripts.POLICIES.index(asked.get("referrer_policy", "")))
 
 
-class Play:
+class Play(scripts.Script):
     """A play of a scenario of one document, with its answers in pieces of so many bytes."""
 
     def __init__(self, scenario, piece):
-        self.servers, self.piece = scenario.get("servers", []), piece
-        self.limit = scenario.get("body_limit", 262144 if scenario["format"] == 1 else 1048576)
+        self.servers, self.piece, self.limit = scenario.get("servers", []), piece, scripts.body_limit(scenario)
         self.now, self.book, self.lines, self.calls, self.fetches = scenario.get("now", 0), f.Book(), [], [], 0
+        self.came = scripts.Last()
         for host in scenario.get("hsts", []):
             self.book.note(host["host"], f"max-age={host['until']}" + "; includeSubDomains" * host["subdomains"], 0)
-        document = scenario["documents"][0]
-        top = document.get("top", document["url"])
-        self.client = f.Client(document["url"], top, self.policy(document), cookies=scenario.get("cookies", []))
-        for name, value in document.get("headers", []):
-            if name.lower() in ("content-security-policy", "content-security-policy-report-only"):
-                self.client.add_policy(value, enforced=name.lower() == "content-security-policy")
-        self.lines.append(f"document 0 {f.origin(top)}")
-        for command in document["script"]:
-            self.command(command)
-
-    @staticmethod
-    def policy(document):
-        found = f.ReferrerPolicy.DEFAULT
-        for name, value in document.get("headers", []):
-            if name.lower() == "referrer-policy":
-                tokens = [token.strip().lower() for token in value.split(",")]
-                found = ([POLICIES[token] for token in tokens if token and token in POLICIES] or [found])[-1]
-        return found
-
-    def command(self, command):
-        if "wait" in command:
-            self.now += command["wait"]
-        elif "load" in command:
-            asked = dict(command["load"])
-            asked.setdefault("parser", True)
-            self.lines.append(f"load {self.fetches} {asked['kind']}")
-            self.run(f.Load, asked, loads=True)
-        else:
-            asked = dict(command["fetch"])
-            asked["referrer"] = asked.get("referrer", "client") == "client"
-            self.lines.append(f"fetch {self.fetches}")
-            self.run(f.Request, asked, loads=False)
-
-    def run(self, kind, asked, loads):
-        self.fetches += 1
-        asked["referrer_policy"] = POLICIES[asked.get("referrer_policy", "")]
+        self.begin(scenario["documents"][0], scenario.get("cookies", []))
+        self.ending = "finished"
         try:
-            fetch = f.Fetch(self.client, kind(**asked), self.now, self.limit)
+            self.play(scenario["documents"][0]["script"])
+        except scripts.Over:
+            self.ending = "limit commands"
+
+    def begin(self, document, cookies):
+        top, headers = document.get("top", document["url"]), document.get("headers", [])
+        self.client = f.Client(document["url"], top, f.ReferrerPolicy(scripts.referrer_policy(headers)),
+                               f.Policies.of_headers(headers), cookies)
+        self.lines.append(f"document 0 {f.origin(top)}")
+
+    def last(self):
+        return self.came
+
+    def wait(self, seconds):
+        self.now += seconds
+
+    def load(self, asked):
+        given = {**asked, "url": self.filled(asked["url"]), "parser": asked.get("parser", True), "referrer_policy": policy(asked)}
+        if given.get("crossorigin") == "absent":
+            del given["crossorigin"]
+        self.lines.append(f"load {self.fetches} {asked['kind']}")
+        self.run(f.Load(**given), loads=True)
+
+    def fetch(self, asked):
+        given = {**asked, "url": self.filled(asked["url"]), "referrer": asked.get("referrer", "client") == "client",
+                 "referrer_policy": policy(asked), "headers": [(name, self.filled(value)) for name, value in asked.get("headers", [])]}
+        if "body" in asked:
+            given["body"] = self.filled(asked["body"])
+        self.lines.append(f"fetch {self.fetches}")
+        self.run(f.Request(**given), loads=False)
+
+    def run(self, request, loads):
+        self.fetches += 1
+        try:
+            fetch = f.Fetch(self.client, request, self.now, self.limit)
         except f.NoRequest as fault:
             self.lines.append(printed.fault_line(fault, loads))
+            self.came = scripts.Last("failed" if loads else "type-error")
             return
         self.acts(fetch)
         self.lines += printed.outcome_lines(fetch.outcome, loads)
+        self.came = came(fetch.outcome, loads)
 
     def acts(self, fetch):
         left = b""
@@ -104,13 +102,25 @@ class Play:
 
     def text(self):
         history = [f"{turn} 0 {line}" for turn, line in enumerate(self.calls)]
-        return "\n".join(["fetchplay 1", *self.lines, "end finished", "history", *history, "done", ""])
+        return "\n".join(["fetchplay 1", *self.lines, "end " + self.ending, "history", *history, "done", ""])
 
 
-def gallery():
-    """The gallery's plays of one document: each name, scenario and text."""
-    for folder in sorted((pathlib.Path(__file__).resolve().parent.parent / "gallery").iterdir()):
-        if (folder / "scenario.json").exists():
-            scenario = json.loads((folder / "scenario.json").read_text())
-            if len(scenario["documents"]) == 1:
-                yield folder.name, scenario, (folder / "play.txt").read_text()
+def came(outcome, loads):
+    """An outcome, as conditions and templates see it."""
+    if isinstance(outcome, f.Loaded):
+        return scripts.Last("loaded")
+    if isinstance(outcome, f.NetworkError):
+        return scripts.Last("failed" if loads else "error")
+    url = None if outcome.url is None else outcome.url.encode("latin-1")
+    return scripts.Last(outcome.kind, outcome.status, url, outcome.body if outcome.end == "whole" else None, tuple(outcome.headers))
+
+
+def of_one_document(folders):
+    """Plays of one document: the name, the scenario and the text. Of the gallery, and of folders of NAME.json and NAME.out."""
+    gallery = pathlib.Path(__file__).resolve().parent.parent / "gallery"
+    pairs = [(it, it.parent / "play.txt") for it in sorted(gallery.glob("*/scenario.json"))]
+    pairs += [(it, it.with_suffix(".out")) for folder in folders for it in sorted(pathlib.Path(folder).glob("*.json"))]
+    for place, play in pairs:
+        scenario = json.loads(place.read_text(encoding="utf-8"))
+        if len(scenario["documents"]) == 1:
+            yield str(place), scenario, play.read_bytes().decode("latin-1")

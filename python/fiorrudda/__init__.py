@@ -26,6 +26,7 @@ __all__ = [
     "NotAwaited",
     "NotHttp",
     "OutOfMemory",
+    "Policies",
     "ReadBody",
     "ReadHead",
     "ReferrerPolicy",
@@ -334,5 +335,5 @@ def parse_sts(field: Text) -> Optional[Sts]:
 
 
 from .whole import (  # noqa: E402  the classes there stand on what is above
-    Ask, Client, Fetch, Load, Loaded, NetworkError, ReadBody, ReadHead, Request, Response, Send, Tell,
+    Ask, Client, Fetch, Load, Loaded, NetworkError, Policies, ReadBody, ReadHead, Request, Response, Send, Tell,
 )

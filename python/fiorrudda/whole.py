@@ -115,18 +115,33 @@ Act = Union[Ask, Send, ReadHead, ReadBody, Tell]
 Outcome = Union[Response, Loaded, NetworkError]
 
 
+class Policies:
+    """The content security policies of a document: the values of their headers, in order, and whether each is enforced or
+    only reports (CSP 3, section 2.2)."""
+
+    NAMES = {"content-security-policy": True, "content-security-policy-report-only": False}
+
+    def __init__(self, enforced=(), report_only=()) -> None:
+        self.values: List[Tuple[Text, bool]] = [(value, True) for value in enforced] + [(value, False) for value in report_only]
+
+    @classmethod
+    def of_headers(cls, headers) -> "Policies":
+        """Those among the pairs of an answer's header list."""
+        found = cls()
+        found.values = [(value, cls.NAMES[name.lower()]) for name, value in headers if name.lower() in cls.NAMES]
+        return found
+
+
 class Client(_Thing):
-    """A document that fetches: its URL, that of the page at the top, its referrer policy, the values of its policies'
-    headers (`report_only` those that only report), and pairs of a URL's origin and the value of the Cookie header."""
+    """A document that fetches: its URL, that of the page at the top, its referrer policy, its policies (`Policies`, or the
+    values of headers that are enforced), and pairs of a URL's origin and the value of the Cookie header."""
 
     def __init__(self, url: Text, top: Optional[Text] = None, policy: ReferrerPolicy = ReferrerPolicy.DEFAULT,
-                 policies=(), report_only=(), cookies=()) -> None:
+                 policies=(), cookies=()) -> None:
         given = (*_lent(url), *_lent(url if top is None else top), ReferrerPolicy(policy))
         super().__init__(lambda handle: _lib.fiorrudda_client(handle, *given))
-        for value in policies:
-            self.add_policy(value)
-        for value in report_only:
-            self.add_policy(value, enforced=False)
+        for value, enforced in (policies if isinstance(policies, Policies) else Policies(policies)).values:
+            self.add_policy(value, enforced)
         for origin, value in cookies:
             self.add_cookie(origin, value)
 
