@@ -1,19 +1,6 @@
 // Whole fetches: each call with an empty handle, with one of another kind, with a number that stands for nothing and with
 // what is not awaited; and what a fetch comes to whose connection fails or whose answer is cut.
-#include <stdio.h>
-#include <stdlib.h>
-#include <string.h>
-#include "fiorrudda.h"
-
-#define T(text) (const uint8_t *)(text), sizeof(text) - 1
-#define HOLDS(fact)                                                                               \
-    do {                                                                                          \
-        if (!(fact)) {                                                                            \
-            fprintf(stderr, "%s:%d: not %s\n", __FILE__, __LINE__, #fact);                        \
-            exit(1);                                                                              \
-        }                                                                                         \
-    } while (0)
-#define IS(code, call) HOLDS((call) == FIORRUDDA_##code)
+#include "holds.h"
 
 static fiorrudda_handle client, request, fetch, book, other;
 static uint8_t room[512];

@@ -1,18 +1,6 @@
 // Each call that allocates, with each of its allocations refused in turn: its code, and what is left then. The three
 // functions by which the library allocates stand here in place of those in the archive.
-#include <stdio.h>
-#include <stdlib.h>
-#include <string.h>
-#include "fiorrudda.h"
-
-#define T(text) (const uint8_t *)(text), sizeof(text) - 1
-#define HOLDS(fact)                                                                               \
-    do {                                                                                          \
-        if (!(fact)) {                                                                            \
-            fprintf(stderr, "%s:%d: not %s\n", __FILE__, __LINE__, #fact);                        \
-            exit(1);                                                                              \
-        }                                                                                         \
-    } while (0)
+#include "holds.h"
 
 static size_t allowed = SIZE_MAX, blocks;
 

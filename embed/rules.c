@@ -1,25 +1,5 @@
 // Each rule from C, with cases of the standards. Ends with the line of the first case that is not as it should be.
-#include <stdio.h>
-#include <stdlib.h>
-#include <string.h>
-#include "fiorrudda.h"
-
-#define T(text) (const uint8_t *)(text), sizeof(text) - 1
-#define IS(code, call)                                                                            \
-    do {                                                                                          \
-        uint32_t came = (call);                                                                   \
-        if (came != FIORRUDDA_##code) {                                                           \
-            fprintf(stderr, "%s:%d: %s is %u\n", __FILE__, __LINE__, #call, (unsigned)came);      \
-            exit(1);                                                                              \
-        }                                                                                         \
-    } while (0)
-#define HOLDS(fact)                                                                               \
-    do {                                                                                          \
-        if (!(fact)) {                                                                            \
-            fprintf(stderr, "%s:%d: not %s\n", __FILE__, __LINE__, #fact);                        \
-            exit(1);                                                                              \
-        }                                                                                         \
-    } while (0)
+#include "holds.h"
 
 static uint8_t room[64];
 static size_t len;

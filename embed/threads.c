@@ -1,10 +1,6 @@
 // Four threads, each with header lists and fetches of its own, which share a book under a lock.
 #include <pthread.h>
-#include <stdio.h>
-#include <string.h>
-#include "fiorrudda.h"
-
-#define T(text) (const uint8_t *)(text), sizeof(text) - 1
+#include "holds.h"
 
 static fiorrudda_handle book;
 static pthread_mutex_t turn = PTHREAD_MUTEX_INITIALIZER;
