@@ -232,14 +232,14 @@ ANSWERS = [
 # of connections that bin/ask makes itself
 DIRECT = [
     Way("link/tls-port", "7 12 25", lambda c: c.link == "tls-port",
-        "{c.request.origin} speaks TLS, and was asked in plain", "", "ask for {c.secure_url}", "../why.md#binask"),
+        "{c.request.origin} speaks TLS, and was asked in plain", "", "ask for {c.secure_url}", "../ask.md"),
     Way("link/certificate", "24", lambda c: c.link == "certificate",
         "this machine does not trust the certificate that {c.request.origin} shows, and a browser would not either", "",
         "let the server show a certificate for this name, with its whole chain; an authority of your own is named by "
-        "SSL_CERT_FILE", "../why.md#binask"),
+        "SSL_CERT_FILE", "../ask.md"),
     Way("link/no-tls", "24", lambda c: c.link == "no-tls",
         "{c.request.origin} was asked over TLS, and what came is none", "",
-        "ask for http, or let the server speak TLS at this port", "../why.md#binask"),
+        "ask for http, or let the server speak TLS at this port", "../ask.md"),
 ]
 
 LINKS = [
