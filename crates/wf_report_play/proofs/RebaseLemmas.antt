@@ -1,5 +1,5 @@
--- What a run asks of its document's own entries: each call has one, with the document's number, the op and the reply. So a
--- run with a book for itself, as document 0 with turns of its own, is one with the entries of another document.
+-- What a run asks of its document's own entries: each call has one, with the document's number, the op and the reply.
+-- So a run with a book for itself, as document 0 with turns of its own, is one with the entries of another document.
 use Rattle.std.proofs.Common.{ℕ, ◌+◌, List, [], length, refl, ap, ◌∙◌}
 use Rattle.wf_book.specs.declared.entry.Entry.{Entry}
 use Rattle.wf_book.specs.Entries.{entry}
@@ -33,8 +33,8 @@ module _ {State : Type 0} (by : Answering State) (limit document turn : ℕ) whe
     left = outside.left;
   }
 
-  exchanged-as : (a : World State) (first : Act) (input : Input) (b : World State) → IsExchanged by limit a first input b
-      → IsExchanged by limit (as_document a) first input (as_document b)
+  exchanged-as : (a : World State) (first : Act) (input : Input) (b : World State)
+      → IsExchanged by limit a first input b → IsExchanged by limit (as_document a) first input (as_document b)
   exchanged-as a first input b is = record {
     exchanged = is.exchanged;
     own_is = ap (numbered document turn) is.own_is;

@@ -67,8 +67,8 @@ from-next scenario number document documents from i =
 
 -- the run of a script
 script-ran : {State : Type 0} (by : Answering State) (scenario : Scenario) (number : ℕ) (document : Document)
-    (old new : Seat State) (transcript : Transcript) → IsPlayed by scenario scenario.now number document old new transcript
-    → HasEnded transcript
+    (old new : Seat State) (transcript : Transcript)
+    → IsPlayed by scenario scenario.now number document old new transcript → HasEnded transcript
     → Ran by scenario.body_limit number (document_run scenario.cookies scenario.now document) old.outside
     transcript.events transcript.ending transcript.clock new.outside
 script-ran by scenario number document old new transcript is told =
@@ -347,13 +347,14 @@ added scenario {number} {documents = document ∷ documents} (EachDelivered.one_
     {transcripts = transcripts} {links = links} {delivereds = delivereds} one more) are from many served =
     added-more scenario number document documents book history entries whole transcript transcripts link delivered
     delivereds from (omega (arith, many)) are.0 (All-head (ServesAt scenario) link links served) one
-    (added scenario {number = number + 1} more are.1 (from-next scenario number document documents from) (omega (arith, many))
-    (All-tail (ServesAt scenario) link links served))
+    (added scenario {number = number + 1} more are.1 (from-next scenario number document documents from)
+    (omega (arith, many)) (All-tail (ServesAt scenario) link links served))
 
 -- ---- the whole
 
 pub reported-play : (scenario : Scenario) (made : List (Seating SimState TurnPass)) (transcripts : List Transcript)
-    (delivereds : List Delivered) (history : List Entry) (link : SimState) (opening : ℕ → ℕ → List Route → Option SimState)
+    (delivereds : List Delivered) (history : List Entry) (link : SimState)
+    (opening : ℕ → ℕ → List Route → Option SimState)
     → link.servers ≡ scenario.servers → ((k number : ℕ) (by : List Route) → opening k number by ≡ Some link)
     → AreOpened (for_documents opening scenario.routes) (links_in made)
     → WasReported by_bytes sim_told scenario made transcripts delivereds history

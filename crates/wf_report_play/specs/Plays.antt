@@ -1,5 +1,5 @@
--- A play of a scenario with the reports of its documents: a play of its scripts, and then, in order of documents, the run
--- of each document's reports, over the scenario's servers and over the same book (this project's own; a play is wf_iso's
+-- A play of a scenario with the reports of its documents: a play of its scripts, and then, in order of documents, the
+-- run of each document's reports, over the scenario's servers and the same book (this project's own; a play is wf_iso's
 -- definition, the run of reports wf_report's, and what comes of its acts wf_player's).
 use Rattle.std.specs.Prelude.{◌≡◌, ℕ, ◌+◌, ◌<◌, ◌≤◌, List, [], ◌∷◌, ◌++◌, length}
 use Rattle.std.specs.List.{AllByRecursion}
@@ -12,9 +12,9 @@ use Rattle.wf_script_events.specs.declared.events.Transcript.{Transcript}
 use Rattle.wf_script_values.specs.declared.document.Document.{Document}
 use Rattle.wf_script_values.specs.declared.scenario.Scenario.{Scenario}
 
--- These are the reports of the scenario's document of this number: those of the violations that its script's run told, at
--- the time at which it ended. They make just the calls of the document's entries among these, in order, and come to
--- their ending.
+-- These are the reports of the scenario's document of this number: those of the violations that its script's run told,
+-- at the time at which it ended. They make just the calls of the document's entries among the reports', in order, and
+-- come to their ending.
 pub record IsReported (scenario : Scenario) (reports : List Entry) (number : ℕ) (document : Document)
     (transcript : Transcript) (delivered : Delivered) : Type 0 where
   pub document_is : delivered.document ≡ number

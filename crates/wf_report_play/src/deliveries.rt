@@ -72,8 +72,8 @@ fn append_entries(
     Ok(())
 }
 
-// Delivers the reports of each document over its link, in order of documents. The book goes from one to the next, and the
-// history grows by the entries of each.
+// Delivers the reports of each document over its link, in order of documents. The book goes from one to the next, and
+// the history grows by the entries of each.
 pub(crate) fn deliver_all<R: Threads + Wait + Sync, L: Link + Drop>(
     rt: &R,
     alloc: Global,

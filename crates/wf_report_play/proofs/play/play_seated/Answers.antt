@@ -32,9 +32,10 @@ close-book-requires g c =
     let count = length scenario.documents in
     let ready = c.requires.ready in
     let back = c.play_all.new.seats.items in
-    subst (IsWhole id) (sym (c.in_ok-links.ensures.passes ∙ ap (λ (l : List TurnPass). l ++ passes_in back) ready.alone))
-    (whole-passes id (opening_book scenario) count ready.first (passes_in c.args.seats.items) (passes_in back) ready.made
-    c.requires.valid.few_documents (belong-passes id back c.play_all.ensures.belong)
+    let same = c.in_ok-links.ensures.passes ∙ ap (λ (l : List TurnPass). l ++ passes_in back) ready.alone in
+    subst (IsWhole id) (sym same)
+    (whole-passes id (opening_book scenario) count ready.first (passes_in c.args.seats.items) (passes_in back)
+    ready.made c.requires.valid.few_documents (belong-passes id back c.play_all.ensures.belong)
     (documents-in back count c.play_all.ensures.documents))
 
 pub deliver_all-requires-clause-report : goal.deliver_all-requires-clause-report
