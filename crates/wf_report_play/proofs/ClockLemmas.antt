@@ -1,5 +1,5 @@
--- The clock at the end of a document's run is below 2^48: each command waits less than 2^32 seconds, and 16,384 start at
--- most.
+-- The clock at the end of a document's run is below 2^48: each command waits less than 2^32 seconds, and at most 16,384
+-- start.
 use Rattle.std.proofs.Common.{◌≡◌, ℕ, zero, suc, ◌+◌, ◌*◌, ◌<◌, ◌≤◌, Bool, true, false, cond, List, [], ◌∷◌}
 use Rattle.std.proofs.Common.{Option, Some, None, Result, Ok, Err, refl, arith}
 use Rattle.std.specs.Prelude.{if◌then◌else◌, nat_le}
@@ -18,8 +18,8 @@ use Rattle.wf_script_events.specs.declared.events.Ending.TheVariants.{Commands, 
 use Rattle.wf_script_events.specs.declared.events.Event.{Event}
 use Rattle.wf_script_run.specs.Play.{Play, emit, events_of, over, step}
 use Rattle.wf_script_run.specs.Results.{holds}
-use Rattle.wf_script_run.specs.Runs.{Next, Progress, Setting, after_events, asked, at_time, beginning, chosen, command_run}
-use Rattle.wf_script_run.specs.Runs.{document_run, embed, fault_event, fetch_started, fetched, filled_init, filled_load}
+use Rattle.wf_script_run.specs.Runs.{Next, Progress, Setting, after_events, asked, at_time, beginning, chosen}
+use Rattle.wf_script_run.specs.Runs.{command_run, document_run, embed, fault_event, fetch_started, fetched, filled_init, filled_load}
 use Rattle.wf_script_run.specs.Runs.{finished, last_of, limit_before, outcome_event, own_limit, repeated, script_run}
 use Rattle.wf_script_run.specs.Runs.{setting_of, showing, start_event, started, unless_limit, waited}
 use Rattle.wf_script_run.specs.Traces.{PlayTrace, shown, stepped, stop}
@@ -115,8 +115,8 @@ module _ (base : ℕ) (soon : base ≤ 1099511627776) (lent : Setting) where
   mutual
     command-early : (one : Step) → IsValidStep one → (next : Next) → Early next → EarlyBegun (command_run lent one next)
     command-early (script.fetch init) valid next early = λ progress begun.
-        asked-early destination.Fetch (new_request lent.client (filled_init (last_of progress) init)) next early progress
-        begun
+        asked-early destination.Fetch (new_request lent.client (filled_init (last_of progress) init)) next early
+        progress begun
     command-early (script.load init) valid next early = λ progress begun.
         asked-early init.kind (new_load lent.client (filled_load (last_of progress) init)) next early progress begun
     command-early (script.wait seconds) valid next early = λ progress begun.

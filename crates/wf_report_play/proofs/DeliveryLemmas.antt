@@ -1,80 +1,96 @@
 -- Reports that are delivered, one document after another.
-use Rattle.std.proofs.Common.{◌≡◌, ℕ, zero, suc, ◌+◌, List, [], ◌∷◌, ◌++◌, map, take, Option, Some}
-use Rattle.std.proofs.Common.{refl, ap, sym, subst, ◌∙◌, arith}
+use Rattle.std.proofs.Common.{◌≡◌, ℕ, zero, suc, ◌+◌, List, [], ◌∷◌, ◌++◌, length, take, Option, Some, ap, sym}
+use Rattle.std.proofs.Common.{subst, ◌∙◌, arith, take_all}
 use Rattle.std.specs.Prelude.{slice_get, unwrap_or}
 use Rattle.std.specs.List.{All}
-use Rattle.std.proofs.lemmas.List.{map_push}
+use Rattle.std.proofs.lemmas.List.{append-nil}
 use Rattle.std.proofs.lemmas.Option.{slice_get_within, unwrap_or-slice_get}
-use Rattle.wf_link.specs.Links.{Told}
+use Rattle.wf_book.specs.declared.book.Book.{Book}
+use Rattle.wf_book.specs.declared.entry.Entry.{Entry}
+use Rattle.wf_book.specs.Entries.{book_after}
+use Rattle.wf_iso.specs.Plays.{RunsOver, Way, outside_on}
 use Rattle.wf_link_wire.specs.Exchanges.{Answering}
-use Rattle.wf_player.specs.Seats.{Seat}
-use Rattle.wf_player.specs.declared.seating.Seating.{Seating}
-use Rattle.wf_player_seats.specs.Seated.{seat_seen}
+use Rattle.wf_player.specs.Playing.{Ran}
 use Rattle.wf_report.specs.declared.delivery.Delivered.{Delivered}
-use Rattle.wf_report_play.specs.Private.Delivered.{AreDelivered, EachDelivered, IsDelivered}
+use Rattle.wf_report_play.specs.Private.Delivered.{EachDelivered, numbered}
+use Rattle.wf_script_events.specs.declared.events.Ending.{Ending}
+use Rattle.wf_script_events.specs.declared.events.Event.{Event}
 use Rattle.wf_script_events.specs.declared.events.Transcript.{Transcript}
-use Rattle.wf_script_values.specs.declared.scenario.Scenario.{Scenario}
-use Rattle.wf_turn.specs.declared.pass.TurnPass.{TurnPass}
+use Rattle.wf_script_run.specs.Play.{Play}
 
--- ---- one more
+module _ {L : Type 0} {Is : Transcript → Book → L → Delivered → List Entry → Type 0} where
+  each-push : {book last : Book} {history whole : List Entry} {transcripts : List Transcript} {links : List L}
+      {delivereds : List Delivered} {transcript : Transcript} {link : L} {delivered : Delivered} {entries : List Entry}
+      → EachDelivered Is book history transcripts links delivereds last whole
+      → Is transcript last link delivered entries
+      → EachDelivered Is book history (transcripts ++ transcript ∷ []) (links ++ link ∷ [])
+      (delivereds ++ delivered ∷ []) (book_after last entries)
+      (whole ++ numbered transcript.document (length whole) entries)
+  each-push EachDelivered.none is = EachDelivered.one_more is EachDelivered.none
+  each-push (EachDelivered.one_more one more) is = EachDelivered.one_more one (each-push more is)
 
-each-push : {S : Type 0} {Is : Transcript → S → S → Delivered → Type 0} {transcripts : List Transcript} {olds news : List S}
-    {delivereds : List Delivered} {transcript : Transcript} {old new : S} {delivered : Delivered}
-    → EachDelivered Is transcripts olds news delivereds → Is transcript old new delivered
-    → EachDelivered Is (transcripts ++ transcript ∷ []) (olds ++ old ∷ []) (news ++ new ∷ [])
-    (delivereds ++ delivered ∷ [])
-each-push EachDelivered.none is = EachDelivered.one_more is EachDelivered.none
-each-push (EachDelivered.one_more one more) is = EachDelivered.one_more one (each-push more is)
+  -- nothing was delivered
+  pub delivered-none : (book : Book) (history : List Entry) (delivereds : List Delivered) → delivereds ≡ []
+      → EachDelivered Is book history [] [] delivereds book history
+  delivered-none book history delivereds empty = rw (empty) EachDelivered.none
 
-take-more : {X : Type 0} (xs : List X) (i : ℕ) (x : X) → slice_get xs i ≡ Some x
-    → take (i + 1) xs ≡ take i xs ++ x ∷ []
-take-more {X} xs i x at = ap (λ (n : ℕ). take n xs) (one-more i) ∙ go xs i at
-  where
-    one-more : (n : ℕ) → n + 1 ≡ suc n
-    one-more n = omega arith
+  -- the reports of one document more
+  pub delivered-more : (book last after : Book) (history whole longer : List Entry) (transcripts : List Transcript)
+      (number : ℕ) (links : List L) (delivereds : List Delivered) (transcript : Transcript) (link : L)
+      (delivered : Delivered) (entries : List Entry) → slice_get transcripts number ≡ Some transcript
+      → EachDelivered Is book history (take number transcripts) links delivereds last whole
+      → Is transcript last link delivered entries → after ≡ book_after last entries
+      → longer ≡ whole ++ numbered transcript.document (length whole) entries
+      → EachDelivered Is book history (take (number + 1) transcripts) (links ++ link ∷ [])
+      (delivereds ++ delivered ∷ []) after longer
+  delivered-more book last after history whole longer transcripts number links delivereds transcript link delivered
+      entries at are is goes grows =
+      rw (take-more transcripts number transcript at, goes, grows) (each-push are is)
+    where
+      one-more : (n : ℕ) → n + 1 ≡ suc n
+      one-more n = omega arith
 
-    go : (ys : List X) (k : ℕ) → slice_get ys k ≡ Some x → take (suc k) ys ≡ take k ys ++ x ∷ []
-    go [] k found = absurd (cc)
-    go (y ∷ ys) zero found = let same : y ≡ x = cc in ap (λ (z : X). z ∷ []) same
-    go (y ∷ ys) (suc k) found = ap (λ (l : List X). y ∷ l) (go ys k found)
+      go : (ys : List Transcript) (k : ℕ) (x : Transcript) → slice_get ys k ≡ Some x
+          → take (suc k) ys ≡ take k ys ++ x ∷ []
+      go [] k x found = absurd (cc)
+      go (y ∷ ys) zero x found = let same : y ≡ x = cc in ap (λ (z : Transcript). z ∷ []) same
+      go (y ∷ ys) (suc k) x found = ap (λ (l : List Transcript). y ∷ l) (go ys k x found)
 
--- the reports of one document more
-pub delivered-more : {L State : Type 0} (by : Answering State) (told : L → Told State) (scenario : Scenario)
-    (transcripts : List Transcript) (number : ℕ) (olds news : List (Seating L TurnPass)) (delivereds : List Delivered)
-    (transcript : Transcript) (old new : Seating L TurnPass) (delivered : Delivered)
-    → slice_get transcripts number ≡ Some transcript
-    → AreDelivered by told scenario (take number transcripts) olds news delivereds
-    → IsDelivered by scenario transcript (seat_seen told old) (seat_seen told new) delivered
-    → AreDelivered by told scenario (take (number + 1) transcripts) (olds ++ old ∷ []) (news ++ new ∷ [])
-    (delivereds ++ delivered ∷ [])
-delivered-more by told scenario transcripts number olds news delivereds transcript old new delivered at are is =
-    rw (
-      take-more transcripts number transcript at,
-      map_push (seat_seen told) olds old,
-      map_push (seat_seen told) news new,
-    )
-    (each-push are is)
+      take-more : (xs : List Transcript) (i : ℕ) (x : Transcript) → slice_get xs i ≡ Some x
+          → take (i + 1) xs ≡ take i xs ++ x ∷ []
+      take-more xs i x found = ap (λ (n : ℕ). take n xs) (one-more i) ∙ go xs i x found
 
--- nothing was delivered
-pub delivered-none : {L State : Type 0} (by : Answering State) (told : L → Told State) (scenario : Scenario)
-    (news : List (Seating L TurnPass)) (delivereds : List Delivered) → news ≡ [] → delivereds ≡ []
-    → AreDelivered by told scenario [] [] news delivereds
-delivered-none by told scenario news delivereds none empty = rw (none, empty) EachDelivered.none
+  -- those of all documents
+  pub delivered-all : (book last : Book) (history whole : List Entry) (transcripts : List Transcript) (number : ℕ)
+      (links yielded rest : List L) (delivereds : List Delivered)
+      → EachDelivered Is book history (take number transcripts) yielded delivereds last whole
+      → yielded ++ rest ≡ links → length rest ≡ 0 → number ≡ length yielded → length links ≡ length transcripts
+      → EachDelivered Is book history transcripts links delivereds last whole
+  delivered-all book last history whole transcripts number links yielded (x ∷ rest) delivereds are all none count many =
+      absurd (omega (arith, none))
+  delivered-all book last history whole transcripts number links yielded [] delivereds are all none count many =
+      let same : yielded ≡ links = sym (append-nil yielded) ∙ all in
+      subst (λ (l : List L). EachDelivered Is book history transcripts l delivereds last whole) same
+      (subst (λ (l : List Transcript). EachDelivered Is book history l yielded delivereds last whole)
+      (take_all number transcripts (omega (arith, count, many, ap length same))) are)
+
+-- the run of a document's reports with the book for themselves
+pub solo-runs : {State : Type 0} (by : Answering State) (limit : ℕ) (old new : Way State) (before behind : ℕ)
+    (own last entries : List Entry) (whole : Play) (events : List Event) (ending : Ending) (clock : ℕ) → own ≡ []
+    → entries ≡ last
+    → Ran by limit 0 whole (outside_on old own before) events ending clock (outside_on new last behind)
+    → RunsOver by limit 0 old new entries whole events ending clock
+solo-runs by limit old new before behind own last entries whole events ending clock none same ran = record {
+  before = before;
+  behind = behind;
+  ran = subst (λ (l : List Entry). Ran by limit 0 whole (outside_on old l before) events ending clock
+      (outside_on new entries behind)) none
+      (subst (λ (l : List Entry). Ran by limit 0 whole (outside_on old own before) events ending clock
+      (outside_on new l behind)) (sym same) ran);
+}
 
 -- what holds of each item holds of the one at an index
 pub all-at : {X : Type 0} (P : X → Type 0) (xs : List X) (k : ℕ) (x : X) → All P xs → slice_get xs k ≡ Some x → P x
 all-at {X} P xs k x all at =
     subst P (sym (unwrap_or-slice_get xs k x) ∙ ap (λ (o : Option X). unwrap_or o x) at)
     (all k x (slice_get_within xs k x at))
-
--- ---- what it leaves
-
--- the seats are for the same documents
-pub delivered-documents : {State : Type 0} (by : Answering State) (scenario : Scenario) {transcripts : List Transcript}
-    {olds news : List (Seat State)} {delivereds : List Delivered}
-    → EachDelivered (IsDelivered by scenario) transcripts olds news delivereds
-    → map (λ (s : Seat State). s.document) news ≡ map (λ (s : Seat State). s.document) olds
-delivered-documents by scenario EachDelivered.none = refl
-delivered-documents {State} by scenario (EachDelivered.one_more {old = old} {new = new} {news = news} is more) =
-    ap (λ (d : ℕ). d ∷ map (λ (s : Seat State). s.document) news) is.document_is
-    ∙ ap (λ (l : List ℕ). old.document ∷ l) (delivered-documents by scenario more)

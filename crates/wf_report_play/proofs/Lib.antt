@@ -1,3 +1,5 @@
 pub mod ClockLemmas
 pub mod DeliveryLemmas
+pub mod HistoryLemmas
+pub mod RebaseLemmas
 pub mod ReportedLemmas

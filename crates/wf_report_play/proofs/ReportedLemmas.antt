@@ -1,44 +1,42 @@
--- Documents that were played and reported on their seats, over scripted servers, and the history of their closed book,
--- are a play with reports.
+-- Scripts that were played, and reports that were delivered behind them over scripted servers, are a play with reports.
 use Rattle.std.proofs.Common.{◌≡◌, ◌≢◌, ℕ, suc, ◌+◌, ◌<◌, ◌≤◌, List, [], ◌∷◌, ◌++◌, length, map, get_or, zero, Option}
-use Rattle.std.proofs.Common.{Some, None, refl, ap, sym, subst, ◌∙◌, arith, append_assoc, length-append}
+use Rattle.std.proofs.Common.{Some, None, refl, ap, sym, subst, ◌∙◌, arith, append_assoc}
 use Rattle.std.specs.Prelude.{slice_get}
-use Rattle.std.specs.List.{All, range_with_len}
+use Rattle.std.specs.List.{All, AllByRecursion}
+use Rattle.std.proofs.lemmas.List.{append-nil}
 use Rattle.std.proofs.lemmas.List.Elements.{All-nil, All-cons, All-head, All-tail, All-map}
 use Rattle.atomic_table.specs.Seated.{TableId}
 use Rattle.wf_book.specs.declared.book.Book.{Book}
 use Rattle.wf_book.specs.declared.entry.Entry.{Entry}
-use Rattle.wf_book.specs.Entries.{entries_of}
-use Rattle.wf_iso.specs.Plays.{by_rules, opening_book, outside_on, way_to_servers}
+use Rattle.wf_book.specs.Entries.{Legal, book_after, entries_of}
+use Rattle.wf_iso.specs.Plays.{HasTurnsFrom, IsPlay, IsPlayOver, IsTranscript, RunsOver, Way, by_rules, opening_book}
+use Rattle.wf_iso.specs.Plays.{outside_on, way_to_servers}
 use Rattle.wf_link.specs.Links.{IsTold, Told}
 use Rattle.wf_link.specs.declared.target.Route.{Route}
 use Rattle.wf_link_wire.specs.Exchanges.{Answering}
-use Rattle.wf_player.proofs.AskLemmas.{outside-is}
 use Rattle.wf_player.specs.Playing.{Ran}
 use Rattle.wf_player.specs.Seats.{IsPlayed, Seat}
-use Rattle.wf_player.specs.Standings.{most_calls}
-use Rattle.wf_player.specs.Worlds.{Outside}
 use Rattle.wf_player.specs.declared.seating.Seating.{Seating}
-use Rattle.wf_player_seats.specs.Links.{AreOpened, for_documents}
+use Rattle.wf_player_seats.specs.Links.{AreOpened, for_documents, way_of}
 use Rattle.wf_player_seats.specs.Passes.{ArePasses}
-use Rattle.wf_player_seats.specs.Seated.{HasOwn, IsFresh, links_in, passes_in, seat_seen}
-use Rattle.wf_player_seats.proofs.ClosedLemmas.{Grew, HasCalled, called-on, fresh-seats, legal-history, named-history}
-use Rattle.wf_player_seats.proofs.ClosedLemmas.{own-entries, ran-calls, ran-of, turns-closed}
-use Rattle.wf_player_seats.proofs.ListLemmas.{map-map, unmap}
+use Rattle.wf_player_seats.specs.Seated.{links_in, passes_in}
+use Rattle.wf_player_seats.proofs.ClosedLemmas.{ran-of}
+use Rattle.wf_player_seats.proofs.ListLemmas.{unmap}
 use Rattle.wf_player_seats.proofs.ServerLemmas.{by_bytes, ran-by-rules, ran-state, sim_told}
 use Rattle.wf_print.specs.Text.{HasText}
 use Rattle.wf_report.specs.declared.delivery.Delivered.{Delivered}
 use Rattle.wf_report.specs.Reporting.{ending_of, reporting}
-use Rattle.wf_report_play.specs.Plays.{EachReported, IsReported, IsReportedPlay}
-use Rattle.wf_report_play.specs.Private.Delivered.{AreDelivered, CanCall, CanReport, EachDelivered, IsDelivered}
-use Rattle.wf_report_play.specs.Private.Delivered.{WasReported, WereReported}
+use Rattle.wf_report_play.specs.Plays.{AreInOrderFrom, EachReported, IsReported, IsReportedPlay}
+use Rattle.wf_report_play.specs.Private.Delivered.{CanReport, EachDelivered, IsDelivered, WasReported, numbered}
 use Rattle.wf_report_play.proofs.ClockLemmas.{document-early, ran-early}
-use Rattle.wf_report_play.proofs.DeliveryLemmas.{delivered-documents}
+use Rattle.wf_report_play.proofs.HistoryLemmas.{book-further, each-both, each-numbered, each-so, legal-further}
+use Rattle.wf_report_play.proofs.HistoryLemmas.{order-above, order-from, order-numbered, own-among, turns-further}
+use Rattle.wf_report_play.proofs.RebaseLemmas.{runs-as}
 use Rattle.wf_script_events.specs.declared.events.Ending.{Ending}
 use Rattle.wf_script_events.specs.declared.events.Ending.TheVariants.{Memory}
 use Rattle.wf_script_events.specs.declared.events.Event.{Event}
 use Rattle.wf_script_events.specs.declared.events.Transcript.{Transcript}
-use Rattle.wf_script_run.proofs.DocumentLemmas.{each-after, each-with}
+use Rattle.wf_script_run.proofs.DocumentLemmas.{each-after, each-so as documents-so, each-with}
 use Rattle.wf_script_run.specs.Documents.{EachDocument}
 use Rattle.wf_script_run.specs.Play.{Play}
 use Rattle.wf_script_run.specs.Runs.{document_run}
@@ -47,7 +45,7 @@ use Rattle.wf_script_values.specs.declared.document.Document.{Document}
 use Rattle.wf_script_values.specs.declared.scenario.Scenario.{Scenario}
 use Rattle.wf_script_values.specs.declared.servers.Server.{Server}
 use Rattle.wf_sim.specs.Sim.{SimState}
-use Rattle.wf_turn.specs.Passes.{IsOneHistory}
+use Rattle.wf_turn.specs.Passes.{IsOneHistory, opening_of}
 use Rattle.wf_turn.specs.declared.pass.TurnPass.{TurnPass}
 
 -- ---- one document
@@ -69,90 +67,13 @@ from-next scenario number document documents from i =
 
 -- the run of a script
 script-ran : {State : Type 0} (by : Answering State) (scenario : Scenario) (number : ℕ) (document : Document)
-    (old new : Seat State) (transcript : Transcript) → IsPlayed by scenario scenario.now number document old new transcript
-    → HasEnded transcript
+    (old new : Seat State) (transcript : Transcript)
+    → IsPlayed by scenario scenario.now number document old new transcript → HasEnded transcript
     → Ran by scenario.body_limit number (document_run scenario.cookies scenario.now document) old.outside
     transcript.events transcript.ending transcript.clock new.outside
 script-ran by scenario number document old new transcript is told =
     ran-of by scenario.body_limit number (document_run scenario.cookies scenario.now document) old.outside
     transcript.events transcript.ending transcript.clock new.outside told is.came
-
--- the run of its reports
-reports-ran : {State : Type 0} (by : Answering State) (scenario : Scenario) (number : ℕ) (document : Document)
-    (first old new : Seat State) (transcript : Transcript) (delivered : Delivered)
-    → slice_get scenario.documents (number + 0) ≡ Some document
-    → IsPlayed by scenario scenario.now number document first old transcript
-    → IsDelivered by scenario transcript old new delivered
-    → Ran by scenario.body_limit number (reporting scenario.cookies document transcript.clock transcript.events)
-    old.outside delivered.events (ending_of delivered.ending) transcript.clock new.outside
-reports-ran by scenario number document first old new transcript delivered at was is =
-    subst (λ (n : ℕ). Ran by scenario.body_limit n
-    (reporting scenario.cookies document transcript.clock transcript.events)
-    old.outside delivered.events (ending_of delivered.ending) transcript.clock new.outside) was.document_is
-    (is.came document (ap (slice_get scenario.documents) (same transcript.document number was.number_is) ∙ at))
-  where
-    same : (d n : ℕ) → d ≡ n → d ≡ n + 0
-    same d n e = omega (arith, e)
-
-grew-twice : {State : Type 0} (a b c : Outside State) → Grew a b → Grew b c → Grew a c
-grew-twice a b c x y = record {
-  more = x.more ++ y.more;
-  own = y.own ∙ ap (λ (l : List Entry). l ++ y.more) x.own ∙ append_assoc a.own x.more y.more;
-  fell = omega (arith, x.fell, y.fell, length-append x.more y.more);
-}
-
--- ---- turns
-
--- each call of scripts and reports has its entry
-called-all : {State : Type 0} (by : Answering State) (scenario : Scenario) {number : ℕ} {documents : List Document}
-    {olds mids news : List (Seat State)} {transcripts : List Transcript} {delivereds : List Delivered}
-    → EachDocument (IsPlayed by scenario scenario.now) number documents olds mids transcripts
-    → EachDelivered (IsDelivered by scenario) transcripts mids news delivereds → AreFrom scenario number documents
-    → All IsFresh olds → HasText transcripts → All HasCalled news
-called-all by scenario EachDocument.none EachDelivered.none from fresh text = All-nil HasCalled
-called-all {State} by scenario {number} (EachDocument.one_more {document = document} {old = old} {new = mid}
-    {transcript = transcript} {documents = documents} {olds = olds} {transcripts = transcripts} was played)
-    (EachDelivered.one_more {new = new} {delivered = delivered} {news = news} is more) from fresh text =
-    let told = All-head HasEnded transcript transcripts text in
-    let first = All-head IsFresh old olds fresh in
-    let scripted = ran-calls by scenario.body_limit number (document_run scenario.cookies scenario.now document)
-    old.outside transcript.events transcript.ending transcript.clock mid.outside
-    (script-ran by scenario number document old mid transcript was told) in
-    let reported = ran-calls by scenario.body_limit number
-    (reporting scenario.cookies document transcript.clock transcript.events) mid.outside delivered.events
-    (ending_of delivered.ending) transcript.clock new.outside
-    (reports-ran by scenario number document old mid new transcript delivered (from 0) was is) in
-    All-cons HasCalled new news
-    (called-on old new first (grew-twice old.outside mid.outside new.outside scripted reported)
-    (omega (arith, first.left_is, was.few, is.few)))
-    (called-all by scenario played more (from-next scenario number document documents from)
-    (All-tail IsFresh old olds fresh) (All-tail HasEnded transcript transcripts text))
-
--- seats whose book was closed
-pub was-reported : {L State : Type 0} (by : Answering State) (told : L → Told State) (scenario : Scenario) (id : TableId)
-    (first : TurnPass) (made back : List (Seating L TurnPass)) (book : Book) (history : List Entry)
-    (transcripts : List Transcript) (delivereds : List Delivered)
-    → ArePasses id (opening_book scenario) (length scenario.documents) first (passes_in made)
-    → map (λ (p : TurnPass). p.document) (passes_in back) ≡ range_with_len 0 (length scenario.documents)
-    → IsOneHistory (first ∷ passes_in back) book history
-    → WereReported by told scenario made back transcripts delivereds
-    → WasReported by told scenario made transcripts delivereds history
-was-reported by told scenario id first made back book history transcripts delivereds are documents closed were =
-    let fresh = fresh-seats told scenario id first made back book history are documents closed in
-    record {
-      back = back;
-      reported = were;
-      fresh = fresh;
-      own = own-entries told scenario id first made back book history are documents closed;
-      legal = legal-history told scenario id first made back book history are documents closed;
-      turns = turns-closed told scenario id first made back book history are documents closed
-          (called-all by scenario were.played were.delivered (λ i. ap (slice_get scenario.documents) (zero_before i))
-          fresh were.has_text);
-      named = named-history told scenario id first made back book history are documents closed;
-    }
-  where
-    zero_before : (n : ℕ) → 0 + n ≡ n
-    zero_before n = omega arith
 
 -- ---- what may be reported
 
@@ -177,19 +98,6 @@ can-report by scenario {number} (EachDocument.one_more {document = document} {ol
     (can-report by scenario played (All-tail HasEnded transcript transcripts text) soon
     (All-tail IsValidDocument document documents valid) (omega (arith, many)))
 
--- each pass has calls enough left for reports
-pub can-call : {L State : Type 0} (by : Answering State) (told : L → Told State) (scenario : Scenario) (id : TableId)
-    (made between : List (Seating L TurnPass)) (transcripts : List Transcript)
-    → EachDocument (IsPlayed by scenario scenario.now) 0 scenario.documents (map (seat_seen told) made)
-    (map (seat_seen told) between) transcripts → All IsFresh (map (seat_seen told) made)
-    → All (λ (s : Seating L TurnPass). s.pass.seat.table_id ≡ id) between → All (CanCall id) between
-can-call {L} {State} by told scenario id made between transcripts played fresh belong k d within =
-    let Enough : Seat State → Type 0 = λ seat. most_calls ≤ seat.outside.left in
-    let left : All Enough (map (seat_seen told) between) = each-after Enough
-    (λ number document old new transcript is. let few = is.0.few in omega (arith, few, is.1.left_is))
-    (each-with IsFresh (λ seat. Unit {0}) (λ transcript. Unit {0}) fresh (λ i e lt. tt) (λ i e lt. tt) played) in
-    (belong k d within, unmap Enough (seat_seen told) between left k d within)
-
 -- as many transcripts as documents
 pub many-transcripts : {State : Type 0} {Is : ℕ → Document → State → State → Transcript → Type 0} {number : ℕ}
     {documents : List Document} {olds news : List State} {transcripts : List Transcript}
@@ -197,159 +105,295 @@ pub many-transcripts : {State : Type 0} {Is : ℕ → Document → State → Sta
 many-transcripts EachDocument.none = refl
 many-transcripts (EachDocument.one_more is played) = ap suc (many-transcripts played)
 
--- ---- the passes that come back
+-- ---- the history
 
--- they are of the documents, in order
-pub back-documents : {L State : Type 0} (by : Answering State) (told : L → Told State) (scenario : Scenario)
-    (transcripts : List Transcript) (between back : List (Seating L TurnPass)) (delivereds : List Delivered) (count : ℕ)
-    → AreDelivered by told scenario transcripts between back delivereds
-    → map (λ (s : Seating L TurnPass). s.pass.document) between ≡ range_with_len 0 count
-    → map (λ (p : TurnPass). p.document) (passes_in back) ≡ range_with_len 0 count
-back-documents {L} {State} by told scenario transcripts between back delivereds count are documents =
-    map-map (λ (s : Seating L TurnPass). s.pass) (λ (p : TurnPass). p.document) back
-    ∙ sym (map-map (seat_seen told) (λ (s : Seat State). s.document) back) ∙ delivered-documents by scenario are
-    ∙ map-map (seat_seen told) (λ (s : Seat State). s.document) between ∙ documents
+-- the book that the scripts leave
+pub closed-book : {L : Type 0} (id : TableId) (opening : Book) (count : ℕ) (first : TurnPass)
+    (made back : List (Seating L TurnPass)) (book : Book) (history : List Entry)
+    → ArePasses id opening count first (passes_in made) → IsOneHistory (first ∷ passes_in back) book history
+    → book ≡ book_after opening history
+closed-book id opening count first made back book history are closed =
+    let Legals : TurnPass → Type 0 =
+    λ p. p.document ≡ 4294967295 → Legal (opening_of p) history × (book ≡ book_after (opening_of p) history) in
+    subst (λ (b : Book). book ≡ book_after b history) are.first_is.opening_is
+    (All-head Legals first (passes_in back) closed.legal are.first_is.document_is).1
+
+-- it stays legal, and its turns have no gap
+history-legal : {L State : Type 0} (by : Answering State) (told : L → Told State) (scenario : Scenario)
+    (opening : Book) {book last : Book} {history whole : List Entry} {transcripts : List Transcript} {links : List L}
+    {delivereds : List Delivered}
+    → EachDelivered (IsDelivered by told scenario) book history transcripts links delivereds last whole
+    → Legal opening history → HasTurnsFrom 0 history → book ≡ book_after opening history
+    → Legal opening whole × HasTurnsFrom 0 whole
+history-legal by told scenario opening EachDelivered.none legal turns is = (legal, turns)
+history-legal by told scenario opening (EachDelivered.one_more {book = book} {history = history} {entries = entries}
+    {transcript = transcript} one more) legal turns is =
+    history-legal by told scenario opening more
+    (subst (λ (n : ℕ). Legal opening (history ++ numbered transcript.document n entries)) (zero_before (length history))
+    (legal-further opening 0 0 transcript.document history entries legal turns
+    (subst (λ (b : Book). Legal b entries) is one.legal)))
+    (subst (λ (n : ℕ). HasTurnsFrom 0 (history ++ numbered transcript.document n entries))
+    (zero_before (length history)) (turns-further 0 transcript.document history entries turns))
+    (book-further opening book history transcript.document (length history) entries is)
+  where
+    zero_before : (n : ℕ) → 0 + n ≡ n
+    zero_before n = omega arith
 
 -- ---- over scripted servers
 
--- what is told of a link to the servers: they are these, it tells nothing of what was received, and it never fails
-record IsServed (servers : List Server) (seat : Seat (List Server)) : Type 0 where
-  pub state : seat.outside.state ≡ Some servers
-  pub received : seat.outside.received ≡ None
-  pub faults : seat.outside.faults ≡ 0
+-- the servers of a way
+abbrev Serves : Scenario → Way (List Server) → Type 0
+Serves scenario way = way.state ≡ Some scenario.servers
 
-record IsQuiet (seat : Seat (List Server)) : Type 0 where
-  pub received : seat.outside.received ≡ None
-  pub faults : seat.outside.faults ≡ 0
+abbrev ServesAt : Scenario → SimState → Type 0
+ServesAt scenario link = Serves scenario (way_of sim_told link)
 
--- what is outside of the seat
-on-servers : (scenario : Scenario) (seat : Seat (List Server)) (own : List Entry) → IsServed scenario.servers seat
-    → seat.outside.own ≡ own → seat.outside ≡ outside_on (way_to_servers scenario) own seat.outside.left
-on-servers scenario seat own served is =
-    outside-is seat.outside (outside_on (way_to_servers scenario) own seat.outside.left) served.state served.received
-    served.faults is refl
+-- a link to them tells nothing else
+to-servers : (scenario : Scenario) (link : SimState) → ServesAt scenario link
+    → way_of sim_told link ≡ way_to_servers scenario
+to-servers scenario link is =
+    ap (λ (o : Option (List Server)). record { state = o; received = None; faults = 0 }) is
+
+-- they are the same after a run
+serves-after : (scenario : Scenario) (limit number : ℕ) (old new : Way (List Server)) (entries : List Entry)
+    (whole : Play) (events : List Event) (ending : Ending) (clock : ℕ) → Serves scenario old
+    → RunsOver by_bytes limit number old new entries whole events ending clock → Serves scenario new
+serves-after scenario limit number old new entries whole events ending clock served run =
+    ran-state limit number whole (outside_on old [] run.before) events ending clock
+    (outside_on new entries run.behind) run.ran ∙ served
 
 -- a run over links to them is one over the servers by their rules
-ran-on : (limit number : ℕ) (whole : Play) (a a' : Outside (List Server)) (events : List Event) (ending : Ending)
-    (clock : ℕ) (b b' : Outside (List Server)) → a ≡ a' → b ≡ b'
-    → Ran by_bytes limit number whole a events ending clock b → Ran by_rules limit number whole a' events ending clock b'
-ran-on limit number whole a a' events ending clock b b' first last ran =
-    ran-by-rules limit number whole a' events ending clock b'
-    (subst (λ (o : Outside (List Server)). Ran by_bytes limit number whole o events ending clock b') first
-    (subst (λ (o : Outside (List Server)). Ran by_bytes limit number whole a events ending clock o) last ran))
+by-the-rules : (limit number : ℕ) (old new old' new' : Way (List Server)) (entries : List Entry) (whole : Play)
+    (events : List Event) (ending : Ending) (clock : ℕ) → old ≡ old' → new ≡ new'
+    → RunsOver by_bytes limit number old new entries whole events ending clock
+    → RunsOver by_rules limit number old' new' entries whole events ending clock
+by-the-rules limit number old new old' new' entries whole events ending clock first last run =
+    subst (λ (w : Way (List Server)). RunsOver by_rules limit number w new' entries whole events ending clock) first
+    (subst (λ (w : Way (List Server)). RunsOver by_rules limit number old w entries whole events ending clock) last
+    (record {
+      before = run.before;
+      behind = run.behind;
+      ran = ran-by-rules limit number whole (outside_on old [] run.before) events ending clock
+          (outside_on new entries run.behind) run.ran;
+    }))
 
--- the servers are the same after a run
-served-after : (servers : List Server) (limit number : ℕ) (whole : Play) (old new : Seat (List Server))
-    (events : List Event) (ending : Ending) (clock : ℕ) → IsServed servers old → IsQuiet new
-    → Ran by_bytes limit number whole old.outside events ending clock new.outside → IsServed servers new
-served-after servers limit number whole old new events ending clock served quiet ran = record {
-  state = ran-state limit number whole old.outside events ending clock new.outside ran ∙ served.state;
-  received = quiet.received;
-  faults = quiet.faults;
-}
+-- ---- the scripts
 
-is-reported : (scenario : Scenario) (history : List Entry) (number : ℕ) (document : Document)
-    (old mid new : Seat (List Server)) (transcript : Transcript) (delivered : Delivered)
-    → slice_get scenario.documents (number + 0) ≡ Some document → HasEnded transcript
-    → IsPlayed by_bytes scenario scenario.now number document old mid transcript
-    → IsDelivered by_bytes scenario transcript mid new delivered → IsFresh old → IsServed scenario.servers old
-    → IsQuiet mid → IsQuiet new → HasOwn history new
-    → IsReported scenario history number document transcript delivered
-is-reported scenario history number document old mid new transcript delivered at told was is fresh served quiet last
-    own =
+module _ (scenario : Scenario) (scripts : List Entry) where
+  -- the ways that are all to the servers
+  to-each : {Is : ℕ → Document → Way (List Server) → Way (List Server) → Transcript → Type 0} {number : ℕ}
+      {documents : List Document} {olds news : List (Way (List Server))} {transcripts : List Transcript}
+      → EachDocument Is number documents olds news transcripts
+      → All (λ (w : Way (List Server)). w ≡ way_to_servers scenario) olds
+      → All (λ (w : Way (List Server)). w ≡ way_to_servers scenario) news
+      → EachDocument Is number documents (map (λ (d : Document). way_to_servers scenario) documents)
+      (map (λ (d : Document). way_to_servers scenario) documents) transcripts
+  to-each EachDocument.none opened closed = EachDocument.none
+  to-each {Is} {number} (EachDocument.one_more {document = document} {old = old} {new = new}
+      {transcript = transcript} {olds = olds} {news = news} is more) opened closed =
+      let To : Way (List Server) → Type 0 = λ w. w ≡ way_to_servers scenario in
+      EachDocument.one_more
+      (subst (λ (w : Way (List Server)). Is number document w (way_to_servers scenario) transcript)
+      (All-head To old olds opened)
+      (subst (λ (w : Way (List Server)). Is number document old w transcript) (All-head To new news closed) is))
+      (to-each more (All-tail To old olds opened) (All-tail To new news closed))
+
+  -- those of links to the servers
+  all-to : (links : List SimState) → All (ServesAt scenario) links
+      → All (λ (w : Way (List Server)). w ≡ way_to_servers scenario) (map (way_of sim_told) links)
+  all-to links served = All-map (λ (w : Way (List Server)). w ≡ way_to_servers scenario) (way_of sim_told) links
+      (λ k d lt. to-servers scenario (get_or links k d) (served k d lt))
+
+  -- the links are to the same servers once the scripts have ended
+  all-serve : (made links : List SimState) (transcripts : List Transcript) → All (ServesAt scenario) made
+      → EachDocument (IsTranscript by_bytes scenario scenario.now scripts) 0 scenario.documents
+      (map (way_of sim_told) made) (map (way_of sim_told) links) transcripts → All (ServesAt scenario) links
+  all-serve made links transcripts served runs =
+      unmap (Serves scenario) (way_of sim_told) links
+      (each-after (Serves scenario) (λ number document old new transcript is. serves-after scenario scenario.body_limit
+      number old new (entries_of number scripts) (document_run scenario.cookies scenario.now document)
+      transcript.events transcript.ending transcript.clock is.1 is.0.run_is)
+      (each-with (Serves scenario) (λ way. Unit {0}) (λ transcript. Unit {0})
+      (All-map (Serves scenario) (way_of sim_told) made served) (λ i e lt. tt) (λ i e lt. tt) runs))
+
+  -- they are a play
+  scripts-play : (made links : List SimState) (transcripts : List Transcript) → All (ServesAt scenario) made
+      → All (ServesAt scenario) links
+      → IsPlayOver by_bytes scenario scenario.now (map (way_of sim_told) made) (map (way_of sim_told) links)
+      transcripts scripts
+      → IsPlay scenario transcripts scripts
+  scripts-play made links transcripts served serve play = record {
+    legal = play.legal;
+    turns = play.turns;
+    named = play.named;
+    runs = to-each (documents-so (λ number document old new transcript is. record {
+      document_is = is.document_is;
+      key_is = is.key_is;
+      run_is = by-the-rules scenario.body_limit number old new old new (entries_of number scripts)
+          (document_run scenario.cookies scenario.now document) transcript.events transcript.ending transcript.clock
+          refl refl is.run_is;
+    }) play.runs) (all-to made served) (all-to links serve);
+  }
+
+-- the transcripts are of these documents, whose numbers go on from this one
+abbrev AreNumbered : ℕ → List Document → List Transcript → Type 0
+AreNumbered number [] [] = Unit {0}
+AreNumbered number (document ∷ documents) (transcript ∷ transcripts) =
+    (transcript.document ≡ number) × AreNumbered (number + 1) documents transcripts
+AreNumbered number documents transcripts = ⊥
+
+are-numbered : {State : Type 0} (by : Answering State) (scenario : Scenario) (scripts : List Entry) {number : ℕ}
+    {documents : List Document} {olds news : List (Way State)} {transcripts : List Transcript}
+    → EachDocument (IsTranscript by scenario scenario.now scripts) number documents olds news transcripts
+    → AreNumbered number documents transcripts
+are-numbered by scenario scripts EachDocument.none = tt
+are-numbered by scenario scripts (EachDocument.one_more is more) =
+    (is.document_is, are-numbered by scenario scripts more)
+
+-- ---- the reports
+
+-- What the reports of the documents from this number on have added to the history.
+record Added (scenario : Scenario) (number : ℕ) (documents : List Document) (transcripts : List Transcript)
+    (delivereds : List Delivered) (history whole : List Entry) : Type 0 where
+  pub rest : List Entry
+  pub whole_is : whole ≡ history ++ rest
+  pub in_order : AreInOrderFrom number rest
+  pub named : AllByRecursion (λ (e : Entry). e.document < length scenario.documents) rest
+  pub each : (done : List Entry) → AllByRecursion (λ (e : Entry). e.document < number) done
+      → EachReported (IsReported scenario (done ++ rest)) number documents transcripts delivereds
+
+-- the reports of one document
+is-reported : (scenario : Scenario) (reports : List Entry) (number turn : ℕ) (document : Document) (book : Book)
+    (transcript : Transcript) (link : SimState) (delivered : Delivered) (entries : List Entry)
+    → slice_get scenario.documents (number + 0) ≡ Some document → transcript.document ≡ number
+    → ServesAt scenario link → IsDelivered by_bytes sim_told scenario transcript book link delivered entries
+    → entries_of number reports ≡ numbered transcript.document turn entries
+    → IsReported scenario reports number document transcript delivered
+is-reported scenario reports number turn document book transcript link delivered entries at is served one own =
     let limit = scenario.body_limit in
-    let whole = document_run scenario.cookies scenario.now document in
-    let rest = reporting scenario.cookies document transcript.clock transcript.events in
-    let scripted = script-ran by_bytes scenario number document old mid transcript was told in
-    let reported = reports-ran by_bytes scenario number document old mid new transcript delivered at was is in
-    let between = served-after scenario.servers limit number whole old mid transcript.events transcript.ending
-    transcript.clock served quiet scripted in
-    let behind = served-after scenario.servers limit number rest mid new delivered.events (ending_of delivered.ending)
-    transcript.clock between last reported in
+    let whole = reporting scenario.cookies document transcript.clock transcript.events in
+    let ran = one.came document (ap (slice_get scenario.documents) (same transcript.document number is) ∙ at) in
+    let old = way_of sim_told link in
+    let new = way_of sim_told one.left in
+    let ended = ending_of delivered.ending in
+    let serves = serves-after scenario limit 0 old new entries whole delivered.events ended transcript.clock served
+    ran in
     record {
-      number_is = was.number_is;
-      key_is = was.key_is told;
-      delivered_is = is.number_is ∙ was.number_is;
-      scripted = mid.outside.own;
-      before = old.outside.left;
-      between = mid.outside.left;
-      behind = new.outside.left;
-      script = ran-on limit number whole old.outside (outside_on (way_to_servers scenario) [] old.outside.left)
-          transcript.events transcript.ending transcript.clock mid.outside
-          (outside_on (way_to_servers scenario) mid.outside.own mid.outside.left)
-          (on-servers scenario old [] served fresh.own_is) (on-servers scenario mid mid.outside.own between refl)
-          scripted;
-      reports = ran-on limit number rest mid.outside
-          (outside_on (way_to_servers scenario) mid.outside.own mid.outside.left) delivered.events
-          (ending_of delivered.ending) transcript.clock new.outside
-          (outside_on (way_to_servers scenario) (entries_of number history) new.outside.left)
-          (on-servers scenario mid mid.outside.own between refl)
-          (on-servers scenario new (entries_of number history) behind
-          (sym (ap (λ (d : ℕ). entries_of d history) (sym (is.document_is ∙ was.document_is)) ∙ own)))
-          reported;
+      document_is = one.number_is ∙ is;
+      run_is = subst (λ (l : List Entry). RunsOver by_rules limit number (way_to_servers scenario)
+          (way_to_servers scenario) l whole delivered.events ended transcript.clock) (sym own)
+          (subst (λ (n : ℕ). RunsOver by_rules limit n (way_to_servers scenario) (way_to_servers scenario)
+          (numbered transcript.document turn entries) whole delivered.events ended transcript.clock) is
+          (by-the-rules limit transcript.document old new (way_to_servers scenario) (way_to_servers scenario)
+          (numbered transcript.document turn entries) whole delivered.events ended transcript.clock
+          (to-servers scenario link served) (to-servers scenario one.left serves)
+          (runs-as by_bytes limit transcript.document turn old new entries whole delivered.events ended
+          transcript.clock ran)));
+    }
+  where
+    same : (d n : ℕ) → d ≡ n → d ≡ n + 0
+    same d n e = omega (arith, e)
+
+-- those of one document, and of the documents behind it
+added-more : (scenario : Scenario) (number : ℕ) (document : Document) (documents : List Document) (book : Book)
+    (history entries whole : List Entry) (transcript : Transcript) (transcripts : List Transcript) (link : SimState)
+    (delivered : Delivered) (delivereds : List Delivered) → AreFrom scenario number (document ∷ documents)
+    → number < length scenario.documents → transcript.document ≡ number → ServesAt scenario link
+    → IsDelivered by_bytes sim_told scenario transcript book link delivered entries
+    → Added scenario (number + 1) documents transcripts delivereds
+    (history ++ numbered transcript.document (length history) entries) whole
+    → Added scenario number (document ∷ documents) (transcript ∷ transcripts) (delivered ∷ delivereds) history whole
+added-more scenario number document documents book history entries whole transcript transcripts link delivered
+    delivereds from few is served one more =
+    let turn = length history in
+    let mine = numbered transcript.document turn entries in
+    record {
+      rest = mine ++ more.rest;
+      whole_is = more.whole_is ∙ append_assoc history mine more.rest;
+      in_order = order-numbered number transcript.document turn entries more.rest (omega (arith, is))
+          (order-from transcript.document (number + 1) more.rest (omega (arith, is)) more.in_order);
+      named = each-both (λ (e : Entry). e.document < length scenario.documents) mine more.rest
+          (each-numbered (λ n. n < length scenario.documents) transcript.document turn entries
+          (omega (arith, is, few))) more.named;
+      each = λ done below. EachReported.one_more
+          (is-reported scenario (done ++ (mine ++ more.rest)) number turn document book transcript link delivered
+          entries (from 0) is served one
+          (own-among number transcript.document turn done entries more.rest is below
+          (order-above (number + 1) more.rest more.in_order)))
+          (subst (λ (l : List Entry). EachReported (IsReported scenario l) (number + 1) documents transcripts
+          delivereds) (append_assoc done mine more.rest)
+          (more.each (done ++ mine) (each-both (λ (e : Entry). e.document < number + 1) done mine
+          (each-so (λ n. n < number) (λ n. n < number + 1) done (λ n lt. omega (arith, lt)) below)
+          (each-numbered (λ n. n < number + 1) transcript.document turn entries (omega (arith, is))))));
     }
 
-each-reported : (scenario : Scenario) (history : List Entry) {number : ℕ} {documents : List Document}
-    {olds mids news : List (Seat (List Server))} {transcripts : List Transcript} {delivereds : List Delivered}
-    → EachDocument (IsPlayed by_bytes scenario scenario.now) number documents olds mids transcripts
-    → EachDelivered (IsDelivered by_bytes scenario) transcripts mids news delivereds → AreFrom scenario number documents
-    → HasText transcripts → All IsFresh olds → All (IsServed scenario.servers) olds → All IsQuiet mids → All IsQuiet news
-    → All (HasOwn history) news
-    → EachReported (IsReported scenario history) number documents transcripts delivereds
-each-reported scenario history EachDocument.none EachDelivered.none from text fresh served quiet last own =
-    EachReported.none
-each-reported scenario history {number} (EachDocument.one_more {document = document} {old = old} {new = mid}
-    {transcript = transcript} {documents = documents} {olds = olds} {news = mids} {transcripts = transcripts} was played)
-    (EachDelivered.one_more {new = new} {delivered = delivered} {news = news} is more) from text fresh served quiet last
-    own =
-    EachReported.one_more
-    (is-reported scenario history number document old mid new transcript delivered (from 0)
-    (All-head HasEnded transcript transcripts text) was is (All-head IsFresh old olds fresh)
-    (All-head (IsServed scenario.servers) old olds served) (All-head IsQuiet mid mids quiet)
-    (All-head IsQuiet new news last) (All-head (HasOwn history) new news own))
-    (each-reported scenario history played more (from-next scenario number document documents from)
-    (All-tail HasEnded transcript transcripts text) (All-tail IsFresh old olds fresh)
-    (All-tail (IsServed scenario.servers) old olds served) (All-tail IsQuiet mid mids quiet)
-    (All-tail IsQuiet new news last) (All-tail (HasOwn history) new news own))
+added : (scenario : Scenario) {number : ℕ} {documents : List Document} {book last : Book} {history whole : List Entry}
+    {transcripts : List Transcript} {links : List SimState} {delivereds : List Delivered}
+    → EachDelivered (IsDelivered by_bytes sim_told scenario) book history transcripts links delivereds last whole
+    → AreNumbered number documents transcripts → AreFrom scenario number documents
+    → number + length documents ≡ length scenario.documents → All (ServesAt scenario) links
+    → Added scenario number documents transcripts delivereds history whole
+added scenario {number} {documents = []} (EachDelivered.none {history = history}) are from many served = record {
+  rest = [];
+  whole_is = sym (append-nil history);
+  in_order = tt;
+  named = tt;
+  each = λ done below. EachReported.none;
+}
+added scenario {number} {documents = document ∷ documents} EachDelivered.none are from many served = absurd are
+added scenario {number} {documents = []} (EachDelivered.one_more one more) are from many served = absurd are
+added scenario {number} {documents = document ∷ documents} (EachDelivered.one_more {book = book} {history = history}
+    {entries = entries} {whole = whole} {transcript = transcript} {link = link} {delivered = delivered}
+    {transcripts = transcripts} {links = links} {delivereds = delivereds} one more) are from many served =
+    added-more scenario number document documents book history entries whole transcript transcripts link delivered
+    delivereds from (omega (arith, many)) are.0 (All-head (ServesAt scenario) link links served) one
+    (added scenario {number = number + 1} more are.1 (from-next scenario number document documents from)
+    (omega (arith, many)) (All-tail (ServesAt scenario) link links served))
 
--- the whole
+-- ---- the whole
+
 pub reported-play : (scenario : Scenario) (made : List (Seating SimState TurnPass)) (transcripts : List Transcript)
-    (delivereds : List Delivered) (history : List Entry) (link : SimState) (opening : ℕ → ℕ → List Route → Option SimState)
+    (delivereds : List Delivered) (history : List Entry) (link : SimState)
+    (opening : ℕ → ℕ → List Route → Option SimState)
     → link.servers ≡ scenario.servers → ((k number : ℕ) (by : List Route) → opening k number by ≡ Some link)
     → AreOpened (for_documents opening scenario.routes) (links_in made)
     → WasReported by_bytes sim_told scenario made transcripts delivereds history
     → IsReportedPlay scenario transcripts delivereds history
 reported-play scenario made transcripts delivereds history link opening servers opens opened was =
-    let were = was.reported in
-    let seen : Seating SimState TurnPass → Seat (List Server) = seat_seen sim_told in
+    let scripts = was.scripts in
+    let play = was.play in
+    let first : All (ServesAt scenario) (links_in made) = λ k d lt. at (links_in made) opened k d lt in
+    let then = all-serve scenario scripts (links_in made) was.links transcripts first play.runs in
+    let more = history-legal by_bytes sim_told scenario (opening_book scenario) was.delivered.1 play.legal play.turns
+    refl in
+    let came = added scenario was.delivered.1 (are-numbered by_bytes scenario scripts play.runs)
+    (λ i. ap (slice_get scenario.documents) (zero_before i)) (zero_before (length scenario.documents)) then in
     record {
-      legal = was.legal;
-      turns = was.turns;
-      named = was.named;
-      documents = each-reported scenario history were.played were.delivered
-          (λ i. ap (slice_get scenario.documents) (zero_before i)) were.has_text was.fresh
-          (All-map (IsServed scenario.servers) seen made (λ k d lt. record {
-            state = ap (λ (s : SimState). let o : Option (List Server) = Some s.servers in o)
-                (told-link (links_in made) opened k d.link (get_or made k d).link (at made k d lt))
-                ∙ ap (λ (s : List Server). let o : Option (List Server) = Some s in o) servers;
-            received = refl;
-            faults = refl;
-          }))
-          (All-map IsQuiet seen were.between (λ k d lt. record { received = refl; faults = refl }))
-          (All-map IsQuiet seen was.back (λ k d lt. record { received = refl; faults = refl }))
-          was.own;
+      scripts = scripts;
+      reports = came.rest;
+      play = scripts-play scenario scripts (links_in made) was.links transcripts first then play;
+      history_is = came.whole_is;
+      legal = more.0;
+      turns = more.1;
+      named = subst (AllByRecursion (λ (e : Entry). e.document < length scenario.documents)) (sym came.whole_is)
+          (each-both (λ (e : Entry). e.document < length scenario.documents) scripts came.rest play.named came.named);
+      in_order = came.in_order;
+      documents = came.each [] tt;
     }
   where
     zero_before : (n : ℕ) → 0 + n ≡ n
     zero_before n = omega arith
 
-    told-link : (links : List SimState) → AreOpened (for_documents opening scenario.routes) links → (k : ℕ)
-        (d l : SimState) → slice_get links k ≡ Some l → l ≡ link
-    told-link links are k d l found = subst (λ (o : Option SimState). IsTold o l) (opens k k scenario.routes)
-        (are k l found)
+    read : (links : List SimState) (k : ℕ) (d : SimState) → k < length links
+        → slice_get links k ≡ Some (get_or links k d)
+    read [] k d lt = absurd (omega arith)
+    read (l ∷ ls) zero d lt = refl
+    read (l ∷ ls) (suc k) d lt = read ls k d (omega arith)
 
-    at : (seats : List (Seating SimState TurnPass)) (k : ℕ) (d : Seating SimState TurnPass) → k < length seats
-        → slice_get (links_in seats) k ≡ Some (get_or seats k d).link
-    at [] k d lt = absurd (omega arith)
-    at (s ∷ seats) zero d lt = refl
-    at (s ∷ seats) (suc k) d lt = at seats k d (omega arith)
+    at : (links : List SimState) → AreOpened (for_documents opening scenario.routes) links → (k : ℕ) (d : SimState)
+        → k < length links → ServesAt scenario (get_or links k d)
+    at links are k d lt =
+        ap (λ (l : SimState). let o : Option (List Server) = Some l.servers in o)
+        (subst (λ (o : Option SimState). IsTold o (get_or links k d)) (opens k k scenario.routes)
+        (are k (get_or links k d) (read links k d lt)))
+        ∙ ap (λ (s : List Server). let o : Option (List Server) = Some s in o) servers

@@ -1,68 +1,103 @@
 // The reports of all documents, one document after another.
-ghost use Rattle.std.specs.Prelude.{◌≡◌, length, vec_len, IfOk};
+ghost use Rattle.std.specs.Prelude.{◌≡◌, ◌++◌, length, vec_len, IfOk, OnOk};
 ghost use Rattle.std.specs.List.{All};
+ghost use Rattle.wf_book.specs.Entries.{book_after};
 ghost use Rattle.wf_link_wire.specs.Wires.{over_link};
-ghost use Rattle.wf_player_seats.specs.Seated.{seat_seen};
-ghost use Rattle.wf_report_play.specs.Private.Delivered.{AreDelivered, CanCall, CanReport, IsDelivered};
+ghost use Rattle.wf_report_play.specs.Private.Delivered.{AreDelivered, CanReport, IsDelivered, numbered};
 ghost use Rattle.wf_script_values.specs.Valid.{IsValid};
 
 use std::alloc::Global;
 use std::sync::Wait;
 use std::thread::Threads;
+use wf_book::{Book, Entry, History, SoloBook};
 use wf_link::Link;
-use wf_player::Seating;
 use wf_report::{Delivered, deliver};
 use wf_script_events::{Transcript, Transcripts};
 use wf_script_values::Scenario;
 use wf_text::{Items, OutOfMemory};
-use wf_turn::{TurnBook, TurnPass};
 
-// Delivers the reports of one document from its seat.
-fn deliver_from<R: Threads + Wait + Sync, L: Link>(
+// The reports of one document, the book after them, and the entries of their calls.
+#[derive(Drop)]
+struct Delivery {
+    delivered: Delivered,
+    book: Book,
+    entries: History,
+}
+
+// Delivers the reports of one document over its link, with the book for themselves.
+fn deliver_over<R: Threads + Wait + Sync, L: Link>(
     rt: &R,
     alloc: Global,
     scenario: &Scenario,
     transcript: &Transcript,
-    book: &TurnBook,
-    seating: &mut Seating<L, TurnPass>,
-) -> Result<Delivered, OutOfMemory>
+    book: Book,
+    link: &mut L,
+) -> Result<Delivery, OutOfMemory>
     requires valid { IsValid scenario.now }
     requires report { CanReport scenario.now transcript.now }
-    requires call { CanCall book.now.table.shared.table_id seating.old }
-    ensures delivered { IfOk result (IsDelivered (over_link L.serves) scenario.entry.now transcript.entry.now
-        (seat_seen L.told seating.old) (seat_seen L.told seating.new)) }
-    ensures belongs { seating.new.pass.seat.table_id ≡ book.now.table.shared.table_id }
+    ensures delivered { IfOk result (λ one. IsDelivered (over_link L.serves) L.told scenario.entry.now
+        transcript.entry.now book link.old one.delivered one.entries) }
+    ensures book { IfOk result (λ one. one.book ≡ book_after book one.entries) }
 {
-    let Seating { pass, link } = seating;
-    deliver(rt, alloc, scenario, transcript, book, pass, link)
+    let (share, mut pass) = SoloBook::new(alloc, book);
+    let delivered = deliver(rt, alloc, scenario, transcript, &share, &mut pass, link)?;
+    let (book, entries) = share.close(pass);
+    Ok(Delivery {
+        delivered,
+        book,
+        entries,
+    })
 }
 
-// Delivers the reports of each document from its seat, in order, and gives the seats back.
+// Adds entries at the end of the history, as those of this document, with the turns that follow.
+fn append_entries(
+    alloc: Global,
+    history: &mut History,
+    document: u32,
+    entries: &History,
+) -> Result<(), OutOfMemory>
+    ensures { OnOk result (history.new
+        ≡ history.old ++ numbered document (length history.old) entries.now) }
+{
+    for entry in entries.as_slice() {
+        let turn = history.len() as u64;
+        let op = entry.op.copy(alloc)?;
+        history.push(Entry {
+            turn,
+            document,
+            op,
+            reply: entry.reply,
+        })?;
+    }
+    Ok(())
+}
+
+// Delivers the reports of each document over its link, in order of documents. The book goes from one to the next, and
+// the history grows by the entries of each.
 pub(crate) fn deliver_all<R: Threads + Wait + Sync, L: Link + Drop>(
     rt: &R,
     alloc: Global,
     scenario: &Scenario,
     transcripts: &Transcripts,
-    book: &TurnBook,
-    seats: Vec<Seating<L, TurnPass>>,
-) -> Result<(Vec<Seating<L, TurnPass>>, Items<Delivered>), OutOfMemory>
+    links: Vec<L>,
+    mut book: Book,
+    history: &mut History,
+) -> Result<Items<Delivered>, OutOfMemory>
     requires valid { IsValid scenario.now }
     requires report { All (CanReport scenario.now) transcripts.now }
-    requires call { All (CanCall book.now.table.shared.table_id) seats.items }
-    requires many { vec_len seats ≡ length transcripts.now }
-    ensures delivered { IfOk result (λ r. AreDelivered (over_link L.serves) L.told scenario.entry.now
-        transcripts.entry.now seats.items r.0.items r.1) }
-    ensures belong { IfOk result (λ r. All (λ s. s.pass.seat.table_id ≡ book.now.table.shared.table_id) r.0.items) }
+    requires many { vec_len links ≡ length transcripts.now }
+    ensures { IfOk result (λ delivereds. AreDelivered (over_link L.serves) L.told scenario.entry.now book
+        history.old transcripts.entry.now links.items delivereds history.new) }
 {
-    let mut back = Vec::with_capacity(alloc, seats.len())?;
     let mut reports = Items::new(alloc);
     let mut number = 0usize;
-    for mut seating in seats {
+    for mut link in links {
         let transcript = transcripts.at(number);
-        let delivered = deliver_from(rt, alloc, scenario, transcript, book, &mut seating)?;
-        reports.push(delivered)?;
-        back.push_reserved(seating);
+        let one = deliver_over(rt, alloc, scenario, transcript, book, &mut link)?;
+        append_entries(alloc, history, transcript.document, &one.entries)?;
+        reports.push(one.delivered)?;
+        book = one.book;
         number += 1;
     }
-    Ok((back, reports))
+    Ok(reports)
 }

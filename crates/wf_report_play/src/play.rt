@@ -1,8 +1,8 @@
-// A play with reports: the book is opened, the documents are seated and played, their reports are delivered, and the book
-// is closed.
-ghost use Rattle.std.specs.Prelude.{◌≤◌, ◌+◌, vec_capacity, vec_len, IfOk};
+// A play with reports: the book is opened, the documents are seated and played, the book is closed, and the reports are
+// delivered.
+ghost use Rattle.std.specs.Prelude.{◌≡◌, ◌≤◌, ◌+◌, ◌++◌, vec_capacity, vec_len, IfOk, OnOk};
 ghost use Rattle.wf_link_wire.specs.Wires.{over_link};
-ghost use Rattle.wf_player_seats.specs.Seated.{AreReady};
+ghost use Rattle.wf_player_seats.specs.Seated.{AreReady, links_in, passes_in};
 ghost use Rattle.wf_report_play.specs.Plays.{IsReportedPlay};
 ghost use Rattle.wf_report_play.specs.Private.Delivered.{WasReported};
 ghost use Rattle.wf_script_values.specs.Valid.{IsValid};
@@ -12,9 +12,9 @@ use std::alloc::Global;
 use std::sync::Wait;
 use std::thread::Threads;
 use wf_book::History;
-use wf_link::Links;
+use wf_link::Link;
 use wf_player::{Seating, play_all};
-use wf_player_seats::{opened, passes_of, seat_all, unseat};
+use wf_player_seats::{opened, passes_of, seat_all};
 use wf_print::has_text;
 use wf_report::Delivered;
 use wf_script_events::Transcripts;
@@ -31,30 +31,48 @@ pub struct Reported {
     pub history: History,
 }
 
-// Plays each document on its seat; once all scripts have ended delivers the reports of each, in order of documents; and
-// closes the book.
-fn play_seated<R: Threads + Wait + Sync, N: Links>(
+// The links of the seats, in order. Their passes are put behind the others, for which there is room.
+fn links_of<L: Link + Drop>(
+    alloc: Global,
+    seats: Vec<Seating<L, TurnPass>>,
+    passes: &mut Vec<TurnPass>,
+) -> Result<Vec<L>, OutOfMemory>
+    requires room { vec_len seats + vec_len passes.old ≤ vec_capacity passes.old }
+    ensures links { IfOk result (λ links. links.items ≡ links_in seats.items) }
+    ensures passes { OnOk result (passes.new.items ≡ passes.old.items ++ passes_in seats.items) }
+{
+    let mut links = Vec::with_capacity(alloc, seats.len())?;
+    for seating in seats {
+        let Seating { pass, link } = seating;
+        passes.push_reserved(pass);
+        links.push_reserved(link);
+    }
+    Ok(links)
+}
+
+// Plays each document on its seat. Once all scripts have ended and the book is closed, delivers the reports of each, in
+// order of documents.
+fn play_seated<R: Threads + Wait + Sync, L: Link + Send + Drop>(
     rt: &R,
     alloc: Global,
     scenario: &Scenario,
     book: TurnBook,
-    mut seats: Vec<Seating<N::Link, TurnPass>>,
+    mut seats: Vec<Seating<L, TurnPass>>,
     mut passes: Vec<TurnPass>,
-    links: &mut N,
 ) -> Result<Reported, OutOfMemory>
     requires valid { IsValid scenario.now }
     requires ready { AreReady book.table.shared.table_id scenario.now passes.items seats.items }
     requires room { vec_len seats + vec_len passes ≤ vec_capacity passes }
-    ensures { IfOk result (λ reported. WasReported (over_link N.Link.serves) N.Link.told scenario.entry.now seats.items
+    ensures { IfOk result (λ reported. WasReported (over_link L.serves) L.told scenario.entry.now seats.items
         reported.transcripts reported.reports reported.history) }
 {
     let transcripts = play_all(rt, alloc, scenario, scenario.now, &book, &mut seats)?;
     if !has_text(&transcripts) {
         return Err(OutOfMemory);
     }
-    let (seats, reports) = deliver_all(rt, alloc, scenario, &transcripts, &book, seats)?;
-    unseat(seats, links, &mut passes);
-    let Closed { book: _, history } = book.close(passes);
+    let links = links_of(alloc, seats, &mut passes)?;
+    let Closed { book, mut history } = book.close(passes);
+    let reports = deliver_all(rt, alloc, scenario, &transcripts, links, book, &mut history)?;
     Ok(Reported {
         transcripts,
         reports,
@@ -63,8 +81,8 @@ fn play_seated<R: Threads + Wait + Sync, N: Links>(
 }
 
 /// Plays a scenario over its own servers, from its own time on, each document on a thread of its own where one can be
-/// made; and once all scripts have ended delivers the reports of each document, in order of documents, over its own link
-/// and its own pass of the shared book.
+/// made. Once all scripts have ended it delivers the reports of each document, in order of documents, over the document's
+/// own link and the book as it is then. The one history is that of the scripts, and then that of the reports.
 ///
 /// `OutOfMemory` where memory was refused, to a document, to its reports or to what surrounds them.
 pub fn play_reported<R: Threads + Wait + Sync>(
@@ -85,5 +103,5 @@ pub fn play_reported<R: Threads + Wait + Sync>(
     let mut back = Vec::with_capacity(alloc, count + 1)?;
     back.push_reserved(first);
     seat_all(alloc, &scenario.routes, passes, &mut links, &mut seats)?;
-    play_seated(rt, alloc, scenario, book, seats, back, &mut links)
+    play_seated(rt, alloc, scenario, book, seats, back)
 }
