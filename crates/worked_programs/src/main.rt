@@ -1,7 +1,8 @@
 // Plays worked scenarios with the reports of their violations, and audits worked plays, over streams in memory, and prints
 // for each what it came to. A line of the input that begins with `#` is a title, which is printed as it is, and so is an
 // empty line. The line `audit` is an audit of an empty input; with a tab, a scenario, a tab and a play, whose line ends are
-// written `\n`, it is an audit of these in their frame. Another line is the input of cspreport's top call, with the word
+// written `\n`, it is an audit of these in their frame. Behind the word `requests` and a tab a scenario is played, and the
+// reports of its documents are shown as requests. Another line is the input of cspreport's top call, with the word
 // `play`; or its words, with commas between, a tab and the input.
 #![tactic(auto)]
 
@@ -12,8 +13,14 @@ use std::sync::Wait;
 use std::thread::Threads;
 use wf_audit_program::playaudit;
 use wf_link::{MemorySink, MemorySource};
+use wf_player_play::play_scripted;
+use wf_report::report_requests;
 use wf_report_program::cspreport;
+use wf_script::read_scenario;
+use wf_script_events::Transcript;
+use wf_script_values::Scenario;
 use wf_text::Bytes;
+use wf_types::Request;
 use worked_rows::{Failed, Held, Shown, is_title, print_text, unescaped};
 
 /// How many bytes the output and the complaints each have room for.
@@ -118,6 +125,55 @@ fn report<R: Threads + Wait + Sync>(
     Ok(())
 }
 
+// Shows a request: its method, its URL and its body.
+fn show_request(request: &Request, shown: &mut Shown) {
+    shown.add(b"\n");
+    shown.add(request.method.as_slice());
+    for url in request.urls.as_slice() {
+        shown.add(b" ");
+        shown.add(url.as_str().as_bytes());
+    }
+    shown.add(b" ");
+    if let Some(body) = &request.body {
+        shown.add(body.as_slice());
+    }
+}
+
+// Shows the reports of a document as requests.
+fn show_reports(
+    alloc: Global,
+    scenario: &Scenario,
+    transcript: &Transcript,
+    shown: &mut Shown,
+) -> Result<(), Failed> {
+    if transcript.document as usize >= scenario.documents.len() {
+        return Err(Failed);
+    }
+    let reports = report_requests(alloc, scenario, transcript)?;
+    for request in reports.as_slice() {
+        show_request(request, shown);
+    }
+    Ok(())
+}
+
+// Plays a scenario, and shows the reports of its documents as requests.
+fn requests<R: Threads + Wait + Sync>(
+    rt: &R,
+    alloc: Global,
+    line: &str,
+    shown: &mut Shown,
+) -> Result<(), Failed> {
+    let Ok(scenario) = read_scenario(alloc, line.as_bytes())? else {
+        return Err(Failed);
+    };
+    let played = play_scripted(rt, alloc, &scenario)?;
+    shown.add(b"requests");
+    for transcript in played.transcripts.as_slice() {
+        show_reports(alloc, &scenario, transcript, shown)?;
+    }
+    Ok(())
+}
+
 // Shows what a line comes to.
 fn answer<R: Threads + Wait + Sync>(
     rt: &R,
@@ -127,6 +183,7 @@ fn answer<R: Threads + Wait + Sync>(
 ) -> Result<(), Failed> {
     match line.split_once('\t') {
         Some(("audit", framed)) => audit(rt, alloc, framed, shown),
+        Some(("requests", scenario)) => requests(rt, alloc, scenario, shown),
         _ if line == "audit" => audit(rt, alloc, "", shown),
         _ => report(rt, alloc, line, shown),
     }
