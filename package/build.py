@@ -64,12 +64,13 @@ def entries_of(root):
 
 
 def changelog(entries):
-    """The changes as Debian's changelog has them."""
+    """The changes as Debian's changelog has them: of one day, each an hour after the one before it."""
     told = []
-    for version, day, text in entries:
+    for place, (version, day, text) in enumerate(entries):
+        hour = sum(earlier == day for _, earlier, _ in entries[place + 1:])
         points = re.sub(r"^- ", "  * ", text.strip(), flags=re.M)
         points = re.sub(r"^  (?=[^ *])", "    ", points, flags=re.M)
-        date = time.strftime("%a, %d %b %Y 00:00:00 +0000", time.strptime(day, "%Y-%m-%d"))
+        date = time.strftime("%a, %d %b %Y %H:00:00 +0000", time.strptime("%s %d" % (day, hour), "%Y-%m-%d %H"))
         told.append("fiorrudda (%s) unstable; urgency=medium\n\n%s\n\n -- %s  %s\n" % (version, points, MAINTAINER, date))
     return "\n".join(told)
 
