@@ -65,14 +65,21 @@ def integrity_tokens(count):
                     servers=[server([{'status': 200, 'body': 'a'}], 'https://b.test')])
 
 
-def lessons(count):
-    """Documents whose preflights teach 40 KB of header names each time, until the text is long enough."""
-    names = ','.join('x%06d' % i for i in range(5000))
+def lessons(count, names=','.join('x%06d' % i for i in range(5000))):
+    """Documents whose preflights teach as much as these header names each time, until the text is long enough."""
     allowed = [['Access-Control-Allow-Origin', '*'], ['Access-Control-Allow-Methods', 'PUT'],
                ['Access-Control-Allow-Headers', names], ['Access-Control-Max-Age', '0']]
     fetch = {'fetch': {'url': 'https://b.test/', 'method': 'PUT'}}
     return scenario([document([{'repeat': 1000, 'do': [fetch]}]) for _ in range(count)],
                     servers=[server([{'status': 200, 'headers': allowed}], 'https://b.test')])
+
+
+def short_lessons(count):
+    return lessons(count, ','.join('x' * 8000))
+
+
+def waits(size):
+    return scenario([document([{'wait': 1}] * (size // 11))])
 
 
 def redirects(count):
@@ -111,8 +118,10 @@ CASES = [
     ('directive names of a policy', directive_names, 20000, 500000, 'play'),
     ('integrity tokens against hash sources', integrity_tokens, 8000, 120000, 'play'),
     ('documents that learn and show much', lessons, 2, 128, 'play'),
+    ('documents that learn names of one letter', short_lessons, 2, 32, 'play'),
     ('documents with loads of 20 redirects', redirects, 32, 128, 'play'),
     ('routes of 128 documents', routes, 37500, 150000, 'net'),
+    ('waits, as short as commands can be', waits, 1000000, 4190000, 'play'),
     ('nested objects that are refused', nested_objects, 1000000, 4190000, 'play'),
     ('a key that is refused, with many values', refused_members, 1000000, 4190000, 'play'),
     ('chunk lines of 4,000 bytes', chunk_lines, 250, 1000, 'play'),

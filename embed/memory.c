@@ -49,7 +49,35 @@ static uint32_t known_host(void) { return fiorrudda_known_host(&book, T("a-host-
 static uint32_t essence(void) { return fiorrudda_essence(&headers, room, sizeof room, &len); }
 static uint32_t source_matches(void) { return fiorrudda_source_matches(T("https://a-host-of-a-long-name.example/p"), T("https://a-host-of-a-long-name.example/p"), T("https://a.example/"), 0); }
 
-static fiorrudda_handle client, request, fetch;
+static fiorrudda_handle client, request, fetch, policies, found, shown;
+
+// The rules on a client's request, one after the other. What is to be made is empty where memory is refused.
+static uint32_t on_request(void) {
+    uint32_t code, error;
+    uint64_t age;
+    if ((code = fiorrudda_client(&client, T("https://a-host-of-a-long-name.example/"), T("https://a.example/"), 0))) return code;
+    if ((code = fiorrudda_request(&request, T("PUT"), T("https://b.example/a-path-of-more-than-thirty-bytes")))) return code;
+    if ((code = fiorrudda_request_header(&request, T("X-A"), T("a value of more than thirty bytes")))) return code;
+    if ((code = fiorrudda_append(&headers, T("Content-Security-Policy"), T("connect-src 'self'")))) return code;
+    if ((code = fiorrudda_policies(&policies, &headers))) { HOLDS(!policies.at); return code; }
+    code = fiorrudda_check(&found, &policies, &client, &request, T("https://another-host-of-a-long-name.example/"), FIORRUDDA_CHECK_RESPONSE);
+    if (code != FIORRUDDA_NO) { HOLDS(!found.at); return code; }
+    code = fiorrudda_mixed_upgraded(&client, &request, T("http://another-host-of-a-long-name.example/"));
+    if (code != FIORRUDDA_NO) return code;
+    if ((code = fiorrudda_mixed_blocked(&client, &request, T("http://another-host-of-a-long-name.example/")))) return code;
+    len = 77;
+    if ((code = fiorrudda_preflight(&client, &request, room, 0, &len)) != FIORRUDDA_TOO_SHORT) { HOLDS(len == 77); return code; }
+    if ((code = fiorrudda_verdict(&client, &request, &headers, 200, &error, &age)) != FIORRUDDA_NO) return code;
+    if ((code = fiorrudda_refused_name(&client, &request, &headers, 200, room, sizeof room, &len)) != FIORRUDDA_NO) return code;
+    if ((code = fiorrudda_filtered(&shown, &client, &request, &headers, 200, FIORRUDDA_TAINTING_CORS, &error))) { HOLDS(!shown.at); return code; }
+    if ((code = fiorrudda_type_blocked(&request, &headers)) != FIORRUDDA_NO) return code;
+    code = fiorrudda_nosniff_blocked(&request, &headers);
+    return code == FIORRUDDA_NO ? FIORRUDDA_OK : code;
+}
+
+static uint32_t unsafe_name(void) { return fiorrudda_unsafe_name(&headers, 0, room, sizeof room, &len); }
+static uint32_t exposed_name(void) { return fiorrudda_exposed_name(&headers, false, 0, room, sizeof room, &len) == FIORRUDDA_OUT_OF_MEMORY ? FIORRUDDA_OUT_OF_MEMORY : FIORRUDDA_OK; }
+static uint32_t forbidden_header(void) { return fiorrudda_forbidden_header(T("X-HTTP-Method"), T("PUT, PATCH, TRACE")); }
 
 // What came of the act that is to be done next, of a PUT that a preflight goes before.
 static uint32_t answered(uint32_t act, bool preflight) {
@@ -100,6 +128,8 @@ static const struct { const char *name; uint32_t (*call)(void); } calls[] = {
     {"same_site", same_site}, {"trustworthy", trustworthy}, {"bad_port", bad_port},
     {"referrer", referrer}, {"integrity", integrity}, {"sts", sts}, {"note_host", note_host},
     {"known_host", known_host}, {"essence", essence}, {"source_matches", source_matches}, {"whole", whole},
+    {"on_request", on_request}, {"unsafe_name", unsafe_name}, {"exposed_name", exposed_name},
+    {"forbidden_header", forbidden_header},
 };
 
 // What the header list and the book hold is as it was: told by calls that the refused ones are not.
@@ -136,6 +166,9 @@ int main(void) {
     fiorrudda_free(&client);
     fiorrudda_free(&request);
     fiorrudda_free(&fetch);
+    fiorrudda_free(&policies);
+    fiorrudda_free(&found);
+    fiorrudda_free(&shown);
     HOLDS(blocks == 0);
     puts("memory: ok");
     return 0;

@@ -1,4 +1,4 @@
-// Fiorrudda, a browser's fetch engine that is proved, for C. Written by embed/header from crates/fiorrudda: do not edit.
+// Fiorrudda, a browser's fetch engine that is proved, for C. Written by embed/header from the exports: do not edit.
 // docs/embedding.md says what is proved of each call.
 //
 // A text is a pointer and a length in bytes, of any bytes. A pointer is never null; with length 0 it may point anywhere.
@@ -284,9 +284,27 @@ extern "C" {
 // How many methods it learns.
 #define FIORRUDDA_NUMBER_METHODS 15u
 
-// One word that holds a header list, a book, a client, a request or a fetch, or nothing: all zero it is empty. It is
-// not to be copied, written or read but by the calls below, and it is given to one call at a time, and not twice to
-// one call. What it holds is freed by `fiorrudda_free`.
+// Response taintings (Fetch, section 2.2.5): of an answer of the page's own origin.
+#define FIORRUDDA_TAINTING_BASIC 0u
+
+// Of an answer of another origin that passed the CORS check.
+#define FIORRUDDA_TAINTING_CORS 1u
+
+// Of an answer of another origin, to a request in mode no-cors.
+#define FIORRUDDA_TAINTING_OPAQUE 2u
+
+// Checks of a request: by the enforced policies, before it is sent.
+#define FIORRUDDA_CHECK_ENFORCED 0u
+
+// By the report-only policies, before it is sent.
+#define FIORRUDDA_CHECK_REPORT_ONLY 1u
+
+// By all policies, of its response.
+#define FIORRUDDA_CHECK_RESPONSE 2u
+
+// One word that holds a header list, a book, a client, a request, a fetch, policies or violations, or nothing: all
+// zero it is empty. It is not to be copied, written or read but by the calls below, and it is given to one call at a
+// time, and not twice to one call. What it holds is freed by `fiorrudda_free`.
 typedef struct fiorrudda_handle {
     void *at;
 } fiorrudda_handle;
@@ -294,9 +312,6 @@ typedef struct fiorrudda_handle {
 _Static_assert(offsetof(fiorrudda_handle, at) == 0, "at");
 _Static_assert(sizeof(fiorrudda_handle) == 8, "fiorrudda_handle");
 #endif
-
-// Frees what a handle holds, and leaves it empty. An empty handle stays so.
-void fiorrudda_free(fiorrudda_handle *handle);
 
 // "determine nosniff" of an answer's header list (Fetch): scripts and styles of another MIME type are blocked then.
 //
@@ -414,6 +429,9 @@ uint32_t fiorrudda_number(fiorrudda_handle *fetch, uint32_t which, uint64_t *num
 // FIORRUDDA_WRONG_HANDLE; FIORRUDDA_OUT_OF_MEMORY. But for FIORRUDDA_OK nothing is written to `room`, and but for
 // FIORRUDDA_OK and FIORRUDDA_TOO_SHORT nothing to `len`.
 uint32_t fiorrudda_to_send(fiorrudda_handle *fetch, uint8_t *room, size_t room_len, size_t *len);
+
+// Frees what a handle holds, and leaves it empty. An empty handle stays so.
+void fiorrudda_free(fiorrudda_handle *handle);
 
 // Makes an empty header list in a handle (Fetch, section 2.2.2). What the handle held is freed first, also where
 // memory is refused.
@@ -563,6 +581,158 @@ uint32_t fiorrudda_referrer(uint32_t policy, const uint8_t *source, size_t sourc
 //
 // FIORRUDDA_OK where it matches; FIORRUDDA_NO; FIORRUDDA_OUT_OF_MEMORY.
 uint32_t fiorrudda_integrity(const uint8_t *metadata, size_t metadata_len, const uint8_t *body, size_t body_len);
+
+// Makes in a handle the policies of a header list, parsed and read once (CSP 3, section 2.2, "parse a response's
+// Content Security Policies"): those of Content-Security-Policy, which are enforced, and then those of Content-
+// Security-Policy-Report-Only. They are numbered from 0 on in this order. What the handle held is freed first.
+//
+// FIORRUDDA_OK; FIORRUDDA_WRONG_HANDLE, of the header list; FIORRUDDA_OUT_OF_MEMORY. The handle is empty but for
+// FIORRUDDA_OK.
+uint32_t fiorrudda_policies(fiorrudda_handle *policies, fiorrudda_handle *headers);
+
+// Whether an enforced policy has `upgrade-insecure-requests`: the page's requests for http URLs are then made for
+// https ones (Upgrade Insecure Requests, "upgrade request to a potentially trustworthy URL, if appropriate").
+//
+// FIORRUDDA_OK where one has; FIORRUDDA_NO; FIORRUDDA_WRONG_HANDLE.
+uint32_t fiorrudda_upgrades(fiorrudda_handle *policies);
+
+// Makes in a handle the header list that a page sees of an answer to its request, and tells in `seen` the status that
+// it sees: those of the filtered response by one of the numbers FIORRUDDA_TAINTING_.. (Fetch, section 2.2.6). Basic
+// hides Set-Cookie; of CORS the safelisted and the exposed headers are seen, by the request's credentials mode; of
+// opaque nothing, and its status is 0, as that of an opaque-redirect filtered response. What the handle held is freed
+// first.
+//
+// FIORRUDDA_OK; FIORRUDDA_NO_SUCH_NUMBER; FIORRUDDA_WRONG_HANDLE, of the client, the request or the header list;
+// FIORRUDDA_NO_REQUEST where none can be made of what is asked for; FIORRUDDA_OUT_OF_MEMORY. The handle is empty but
+// for FIORRUDDA_OK, and but for FIORRUDDA_OK nothing is written.
+uint32_t fiorrudda_filtered(fiorrudda_handle *filtered, fiorrudda_handle *client, fiorrudda_handle *request, fiorrudda_handle *headers, uint16_t status, uint32_t tainting, uint32_t *seen);
+
+// Whether an answer to a request is blocked for its MIME type, by its header list: one of a script that is audio,
+// image, video or CSV (Fetch, "should response to request be blocked due to its MIME type").
+//
+// FIORRUDDA_OK where it is blocked; FIORRUDDA_NO; FIORRUDDA_WRONG_HANDLE; FIORRUDDA_OUT_OF_MEMORY.
+uint32_t fiorrudda_type_blocked(fiorrudda_handle *request, fiorrudda_handle *headers);
+
+// Whether an answer to a request is blocked since it says nosniff, by its header list: one of a script that is no
+// JavaScript, or of a style that is not `text/css` (Fetch, "should response to request be blocked due to nosniff").
+//
+// FIORRUDDA_OK where it is blocked; FIORRUDDA_NO; FIORRUDDA_WRONG_HANDLE; FIORRUDDA_OUT_OF_MEMORY.
+uint32_t fiorrudda_nosniff_blocked(fiorrudda_handle *request, fiorrudda_handle *headers);
+
+// Whether a client's request is upgraded as mixed content: for an image, audio or video of a page that is potentially
+// trustworthy, http becomes https (Mixed Content, section 4.1, "upgrade a mixed content request to a potentially
+// trustworthy URL, if appropriate"). `redirect` is the URL to which the request was redirected, or empty.
+//
+// FIORRUDDA_OK where it is upgraded; FIORRUDDA_NO; FIORRUDDA_WRONG_HANDLE; FIORRUDDA_NO_REQUEST where none can be
+// made of what is asked for, or nothing redirects it; FIORRUDDA_NOT_A_URL and FIORRUDDA_NOT_HTTP, of `redirect`;
+// FIORRUDDA_OUT_OF_MEMORY.
+uint32_t fiorrudda_mixed_upgraded(fiorrudda_handle *client, fiorrudda_handle *request, const uint8_t *redirect, size_t redirect_len);
+
+// Whether a client's request is blocked as mixed content (Mixed Content, section 4.4, "should fetching request be
+// blocked as mixed content?"), once it was or was not upgraded. `redirect` is the URL to which the request was
+// redirected, or empty.
+//
+// FIORRUDDA_OK where it is blocked; FIORRUDDA_NO; and the other codes of `fiorrudda_mixed_upgraded`.
+uint32_t fiorrudda_mixed_blocked(fiorrudda_handle *client, fiorrudda_handle *request, const uint8_t *redirect, size_t redirect_len);
+
+// Makes in a handle the violations of policies by a client's request, or by its response: one of the numbers
+// FIORRUDDA_CHECK_.. (CSP 3, section 4.1, "should request be blocked by Content Security Policy?", "report Content
+// Security Policy violations for request" and "should response to request be blocked by Content Security Policy?").
+// They are in the order of the policies. `redirect` is the URL to which the request was redirected, or empty. What
+// the handle held is freed first.
+//
+// FIORRUDDA_OK where nothing is violated; FIORRUDDA_NO where something is; FIORRUDDA_NO_SUCH_NUMBER;
+// FIORRUDDA_WRONG_HANDLE, of the policies, the client or the request; FIORRUDDA_NO_REQUEST where none can be made of
+// what is asked for, or nothing redirects it; FIORRUDDA_NOT_A_URL and FIORRUDDA_NOT_HTTP, of `redirect`;
+// FIORRUDDA_OUT_OF_MEMORY. The handle is empty but for FIORRUDDA_OK and FIORRUDDA_NO.
+uint32_t fiorrudda_check(fiorrudda_handle *violations, fiorrudda_handle *policies, fiorrudda_handle *client, fiorrudda_handle *request, const uint8_t *redirect, size_t redirect_len, uint32_t check);
+
+// Tells of the violation at an index, from 0 on, the number of the policy in `policy`, and 1 in `enforced` where that
+// is enforced, or 0.
+//
+// FIORRUDDA_OK; FIORRUDDA_NO behind the last; FIORRUDDA_WRONG_HANDLE. But for FIORRUDDA_OK nothing is written.
+uint32_t fiorrudda_violation(fiorrudda_handle *violations, size_t at, uint32_t *policy, uint32_t *enforced);
+
+// Writes the effective directive of the violation at an index, as `img-src`, at the beginning of `room`, with no NUL
+// after it, and tells in `len` how many bytes it is (CSP 3, section 6.8.1, "get the effective directive for
+// request").
+//
+// FIORRUDDA_OK; FIORRUDDA_NO behind the last; FIORRUDDA_TOO_SHORT where `room` has less than `len` bytes;
+// FIORRUDDA_WRONG_HANDLE. But for FIORRUDDA_OK nothing is written to `room`, and but for FIORRUDDA_OK and
+// FIORRUDDA_TOO_SHORT nothing to `len`.
+uint32_t fiorrudda_violation_directive(fiorrudda_handle *violations, size_t at, uint8_t *room, size_t room_len, size_t *len);
+
+// Writes the URL that is reported of the violation at an index, as `fiorrudda_violation_directive` its directive: the
+// request's first URL without user name, password and fragment (CSP 3, section 5.4, "strip URL for use in reports").
+//
+// The codes are the same.
+uint32_t fiorrudda_violation_url(fiorrudda_handle *violations, size_t at, uint8_t *room, size_t room_len, size_t *len);
+
+// Writes the name of the header at an index of a list, from 0 on, at the beginning of `room`, with no NUL after it,
+// and tells in `len` how many bytes it is.
+//
+// FIORRUDDA_OK; FIORRUDDA_NO behind the last; FIORRUDDA_TOO_SHORT where `room` has less than `len` bytes;
+// FIORRUDDA_WRONG_HANDLE. But for FIORRUDDA_OK nothing is written to `room`, and but for FIORRUDDA_OK and
+// FIORRUDDA_TOO_SHORT nothing to `len`.
+uint32_t fiorrudda_name_at(fiorrudda_handle *headers, size_t at, uint8_t *room, size_t room_len, size_t *len);
+
+// Writes the value of the header at an index of a list, as `fiorrudda_name_at` its name.
+//
+// The codes are the same.
+uint32_t fiorrudda_value_at(fiorrudda_handle *headers, size_t at, uint8_t *room, size_t room_len, size_t *len);
+
+// Writes one of the CORS-unsafe request-header names of a list, at an index from 0 on, at the beginning of `room`,
+// with no NUL after it, and tells in `len` how many bytes it is (Fetch, section 2.2.2). They are in lower case, each
+// once, and ascend by their bytes: those of which a preflight asks.
+//
+// FIORRUDDA_OK; FIORRUDDA_NO behind the last; FIORRUDDA_TOO_SHORT where `room` has less than `len` bytes;
+// FIORRUDDA_WRONG_HANDLE; FIORRUDDA_OUT_OF_MEMORY. But for FIORRUDDA_OK nothing is written to `room`, and but for
+// FIORRUDDA_OK and FIORRUDDA_TOO_SHORT nothing to `len`.
+uint32_t fiorrudda_unsafe_name(fiorrudda_handle *headers, size_t at, uint8_t *room, size_t room_len, size_t *len);
+
+// Writes one of the names that an answer's header list exposes to a page of another origin, at an index from 0 on, at
+// the beginning of `room`, with no NUL after it, and tells in `len` how many bytes it is (Fetch, section 2.2.6,
+// "CORS-exposed header-name list"). With `*` all names of the list are exposed, unless the credentials mode is
+// include, which `include` tells. The safelisted names, as Content-Type, are not among them.
+//
+// FIORRUDDA_OK; FIORRUDDA_NO behind the last; FIORRUDDA_TOO_SHORT where `room` has less than `len` bytes;
+// FIORRUDDA_WRONG_HANDLE; FIORRUDDA_OUT_OF_MEMORY. But for FIORRUDDA_OK nothing is written to `room`, and but for
+// FIORRUDDA_OK and FIORRUDDA_TOO_SHORT nothing to `len`.
+uint32_t fiorrudda_exposed_name(fiorrudda_handle *headers, bool include, size_t at, uint8_t *room, size_t room_len, size_t *len);
+
+// Whether a name and a value are a forbidden request-header, which no script can set (Fetch, section 2.2.2).
+//
+// FIORRUDDA_OK where they are; FIORRUDDA_NO; FIORRUDDA_NOT_A_HEADER; FIORRUDDA_OUT_OF_MEMORY.
+uint32_t fiorrudda_forbidden_header(const uint8_t *name, size_t name_len, const uint8_t *value, size_t value_len);
+
+// Writes all bytes of the CORS-preflight request of a client's request at the beginning of `room`, and tells in `len`
+// how many they are (Fetch, section 4.1, "main fetch", step 12, and section 4.8, "CORS-preflight fetch"; RFC 9112,
+// section 3). They are for the server of the request's URL. No book is asked, and no policy.
+//
+// FIORRUDDA_OK; FIORRUDDA_NO where main fetch sends no preflight; FIORRUDDA_TOO_SHORT where `room` has less than
+// `len` bytes; FIORRUDDA_WRONG_HANDLE; FIORRUDDA_NO_REQUEST where none can be made of what is asked for;
+// FIORRUDDA_NOT_HTTP, of its URL; FIORRUDDA_OUT_OF_MEMORY. But for FIORRUDDA_OK nothing is written to `room`, and but
+// for FIORRUDDA_OK and FIORRUDDA_TOO_SHORT nothing to `len`.
+uint32_t fiorrudda_preflight(fiorrudda_handle *client, fiorrudda_handle *request, uint8_t *room, size_t room_len, size_t *len);
+
+// Tells the verdict on an answer to the preflight of a client's request, of a status and a header list (Fetch,
+// section 4.8, "CORS-preflight fetch", steps 7 and 8): for a pass, in `age`, for how many seconds the preflight cache
+// learns it; for a refusal, in `error`, the number of the network error, from 7 to 11.
+//
+// FIORRUDDA_OK where it passes; FIORRUDDA_NO where it is refused; FIORRUDDA_WRONG_HANDLE; FIORRUDDA_NO_REQUEST where
+// none can be made of what is asked for; FIORRUDDA_OUT_OF_MEMORY. But for FIORRUDDA_OK nothing is written to `age`,
+// and but for FIORRUDDA_NO nothing to `error`.
+uint32_t fiorrudda_verdict(fiorrudda_handle *client, fiorrudda_handle *request, fiorrudda_handle *headers, uint16_t status, uint32_t *error, uint64_t *age);
+
+// Writes the name of the header, in lower case, for which an answer to the preflight of a client's request is
+// refused, at the beginning of `room`, with no NUL after it, and tells in `len` how many bytes it is (Fetch, section
+// 4.8, "CORS-preflight fetch", steps 7.6 and 7.7): where `fiorrudda_verdict` tells 11.
+//
+// FIORRUDDA_OK; FIORRUDDA_NO where it is not refused for a header; FIORRUDDA_TOO_SHORT where `room` has less than
+// `len` bytes; FIORRUDDA_WRONG_HANDLE; FIORRUDDA_NO_REQUEST where none can be made of what is asked for;
+// FIORRUDDA_OUT_OF_MEMORY. But for FIORRUDDA_OK nothing is written to `room`, and but for FIORRUDDA_OK and
+// FIORRUDDA_TOO_SHORT nothing to `len`.
+uint32_t fiorrudda_refused_name(fiorrudda_handle *client, fiorrudda_handle *request, fiorrudda_handle *headers, uint16_t status, uint8_t *room, size_t room_len, size_t *len);
 
 #ifdef __cplusplus
 }

@@ -32,21 +32,36 @@ __all__ = [
     "ReferrerPolicy",
     "Request",
     "Response",
+    "Seen",
     "Send",
     "Sts",
     "Tell",
     "TooLate",
+    "Verdict",
+    "Violation",
+    "exposed_names",
     "is_bad_port",
+    "is_forbidden_header",
     "is_forbidden_method",
+    "is_mixed_blocked",
+    "is_mixed_upgraded",
+    "is_nosniff_blocked",
     "is_safelisted",
     "is_trustworthy",
+    "is_type_blocked",
     "matches_integrity",
     "origin",
     "parse_sts",
+    "preflight",
+    "preflight_verdict",
     "referrer",
     "same_origin",
     "same_site",
+    "seen",
     "source_matches",
+    "unsafe_names",
+    "upgrades",
+    "violations",
 ]
 
 Text = Union[str, bytes]
@@ -83,7 +98,8 @@ class NotAwaited(FiorruddaError):
 
 
 class NoRequest(FiorruddaError):
-    """No request can be made of what is asked for: the fault by its number and name, and a bad header's index."""
+    """No request can be made of what is asked for: the fault by its number and name, and a bad header's index. Number 0 where a
+    rule was asked, and not a fetch."""
 
     code = 11
     NAMES = ("", "BadUrl", "UrlCredentials", "BadMethod", "ForbiddenMethod", "BodyWithGet", "NoCorsMethod", "BadHeader",
@@ -174,6 +190,25 @@ _CALLS = {
     "input": _HELD + [ctypes.c_uint32],
     "feed": _HELD + _TEXT + [ctypes.POINTER(ctypes.c_size_t)],
     "ask": _HELD + _HELD + [ctypes.POINTER(ctypes.c_uint32)],
+    "name_at": _HELD + [ctypes.c_size_t] + _ROOM,
+    "value_at": _HELD + [ctypes.c_size_t] + _ROOM,
+    "unsafe_name": _HELD + [ctypes.c_size_t] + _ROOM,
+    "exposed_name": _HELD + [ctypes.c_bool, ctypes.c_size_t] + _ROOM,
+    "forbidden_header": _TEXT + _TEXT,
+    "mixed_upgraded": _HELD * 2 + _TEXT,
+    "mixed_blocked": _HELD * 2 + _TEXT,
+    "policies": _HELD * 2,
+    "upgrades": _HELD,
+    "check": _HELD * 4 + _TEXT + [ctypes.c_uint32],
+    "violation": _HELD + [ctypes.c_size_t] + [ctypes.POINTER(ctypes.c_uint32)] * 2,
+    "violation_directive": _HELD + [ctypes.c_size_t] + _ROOM,
+    "violation_url": _HELD + [ctypes.c_size_t] + _ROOM,
+    "preflight": _HELD * 2 + _ROOM,
+    "verdict": _HELD * 3 + [ctypes.c_uint16, ctypes.POINTER(ctypes.c_uint32), ctypes.POINTER(ctypes.c_uint64)],
+    "refused_name": _HELD * 3 + [ctypes.c_uint16] + _ROOM,
+    "filtered": _HELD * 4 + [ctypes.c_uint16, ctypes.c_uint32, ctypes.POINTER(ctypes.c_uint32)],
+    "type_blocked": _HELD * 2,
+    "nosniff_blocked": _HELD * 2,
 }
 
 _lib = _library()
@@ -193,6 +228,8 @@ def _told(code: int) -> bool:
     """Whether it holds; or the error that the code stands for."""
     if code in (_OK, _NO):
         return code == _OK
+    if code == NoRequest.code:
+        raise NoRequest(0, 0)
     raise _ERRORS.get(code, FiorruddaError)(f"code {code}")
 
 
@@ -241,6 +278,13 @@ class Headers(_Thing):
         """ "get": the values of a name, joined by a comma and a space, or None."""
         return _written(_lib.fiorrudda_get, self._handle, *_lent(name))
 
+    def pairs(self) -> list:
+        """The headers in order, as pairs of a name and a value."""
+        found = []
+        while (name := _written(_lib.fiorrudda_name_at, self._handle, len(found))) is not None:
+            found.append((name, _written(_lib.fiorrudda_value_at, self._handle, len(found))))
+        return found
+
     def passes_cors_check(self, origin: Text, credentials: bool = False) -> bool:
         """ "CORS check" (Fetch, section 4.10), for a serialised origin; `credentials` where the mode is include."""
         return _told(_lib.fiorrudda_cors_check(*_lent(origin), credentials, self._handle))
@@ -248,7 +292,6 @@ class Headers(_Thing):
     def keeps_from(self, page: Text, url: Text) -> bool:
         """Whether the answer of a URL is kept from a page in mode no-cors ("cross-origin resource policy check")."""
         return _told(_lib.fiorrudda_resource_policy(*_lent(page), *_lent(url), self._handle))
-
 
     def says_nosniff(self) -> bool:
         """ "determine nosniff" (Fetch)."""
@@ -336,4 +379,8 @@ def parse_sts(field: Text) -> Optional[Sts]:
 
 from .whole import (  # noqa: E402  the classes there stand on what is above
     Ask, Client, Fetch, Load, Loaded, NetworkError, Policies, ReadBody, ReadHead, Request, Response, Send, Tell,
+)
+from .checks import (  # noqa: E402
+    Seen, Verdict, Violation, exposed_names, is_forbidden_header, is_mixed_blocked, is_mixed_upgraded, is_nosniff_blocked,
+    is_type_blocked, preflight, preflight_verdict, seen, unsafe_names, upgrades, violations,
 )

@@ -18,7 +18,7 @@
 import ctypes
 from typing import Iterator, List, NamedTuple, Optional, Tuple, Union
 
-from . import Book, NoRequest, ReferrerPolicy, Text, _lent, _lib, _Handle, _Thing, _time, _told, _written
+from . import Book, Headers, NoRequest, ReferrerPolicy, Text, _lent, _lib, _Handle, _Thing, _time, _told, _written
 
 _MODES = ["same-origin", "no-cors", "cors", "navigate"]
 _CREDENTIALS = ["omit", "same-origin", "include"]
@@ -123,6 +123,7 @@ class Policies:
 
     def __init__(self, enforced=(), report_only=()) -> None:
         self.values: List[Tuple[Text, bool]] = [(value, True) for value in enforced] + [(value, False) for value in report_only]
+        self._compiled: Optional[Tuple[int, _Thing]] = None
 
     @classmethod
     def of_headers(cls, headers) -> "Policies":
@@ -130,6 +131,21 @@ class Policies:
         found = cls()
         found.values = [(value, cls.NAMES[name.lower()]) for name, value in headers if name.lower() in cls.NAMES]
         return found
+
+    def compiled(self) -> _Thing:
+        """The policies, parsed and read once, the enforced ones first. `NotAHeader` where a value is none."""
+        if self._compiled is None or self._compiled[0] != len(self.values):
+            names = {enforced: name for name, enforced in self.NAMES.items()}
+            given = Headers((names[enforced], value) for value, enforced in self.values)
+            made = _Thing(lambda handle: _lib.fiorrudda_policies(handle, given._handle))
+            self._compiled = (len(self.values), made)
+        return self._compiled[1]
+
+    def violations(self, client: "Client", request: "Union[Request, Load]", of: str = "enforced",
+                   redirect: Text = "") -> list:
+        """The violations by a request, or by its response: `fiorrudda.violations`."""
+        from .checks import violations
+        return violations(self, client, request, of, redirect)
 
 
 class Client(_Thing):

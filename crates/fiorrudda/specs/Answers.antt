@@ -1,9 +1,9 @@
 -- What the headers of an answer say, where a handle holds some.
 use Rattle.std.specs.Prelude.{◌≡◌, ℕ, List, Option, Some, None}
-use Rattle.fiorrudda.specs.Codes.{yes_or_no, IsKept, IsTold}
-use Rattle.fiorrudda.specs.declared.codes.TheConstants.{WRONG_HANDLE}
-use Rattle.fiorrudda.specs.declared.thing.Thing.{Thing}
-use Rattle.fiorrudda.specs.declared.thing.Thing.TheVariants as thing
+use Rattle.fiorrudda_handle.specs.Codes.{yes_or_no, IsKept, IsTold}
+use Rattle.fiorrudda_handle.specs.declared.codes.TheConstants.{WRONG_HANDLE}
+use Rattle.fiorrudda_handle.specs.declared.thing.Thing.{Thing}
+use Rattle.fiorrudda_handle.specs.declared.thing.Thing.TheVariants as thing
 use Rattle.wf_mime.specs.Nosniff as sniffing
 use Rattle.fiorrudda_rules.specs.Types.{essence_in}
 

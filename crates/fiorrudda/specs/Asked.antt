@@ -6,10 +6,10 @@ use Rattle.fiorrudda_fetch.specs.declared.asked.Setting.{Setting}
 use Rattle.fiorrudda_fetch.specs.declared.asked.Words.{Words}
 use Rattle.fiorrudda.specs.Calls.{Done, done}
 use Rattle.fiorrudda.specs.Choices.{load_numbered}
-use Rattle.fiorrudda.specs.Codes.{yes_or_no}
-use Rattle.fiorrudda.specs.declared.codes.TheConstants.{NO_SUCH_NUMBER, OK, WRONG_HANDLE}
-use Rattle.fiorrudda.specs.declared.thing.Thing.{Thing}
-use Rattle.fiorrudda.specs.declared.thing.Thing.TheVariants as thing
+use Rattle.fiorrudda_handle.specs.Codes.{yes_or_no}
+use Rattle.fiorrudda_handle.specs.declared.codes.TheConstants.{NO_SUCH_NUMBER, OK, WRONG_HANDLE}
+use Rattle.fiorrudda_handle.specs.declared.thing.Thing.{Thing}
+use Rattle.fiorrudda_handle.specs.declared.thing.Thing.TheVariants as thing
 
 -- the handle holds the load, or is empty
 abbrev pub IsLoadOf : Option Asked → ℕ → Option Thing → Type 0

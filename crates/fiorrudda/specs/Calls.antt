@@ -8,10 +8,10 @@ use Rattle.fiorrudda_rules.specs.Cors.{is_kept_by_resource_policy}
 use Rattle.fiorrudda_rules.specs.Headers.{appending}
 use Rattle.fiorrudda_rules.specs.Hosts.{after_field, is_known_host, says}
 use Rattle.fiorrudda_rules.specs.declared.refusal.Refusal.{Refusal}
-use Rattle.fiorrudda.specs.Codes.{code_of, told, yes_or_no, IsKept, IsTold}
-use Rattle.fiorrudda.specs.declared.codes.TheConstants.{OK, WRONG_HANDLE}
-use Rattle.fiorrudda.specs.declared.thing.Thing.{Thing}
-use Rattle.fiorrudda.specs.declared.thing.Thing.TheVariants as thing
+use Rattle.fiorrudda_handle.specs.Codes.{code_of, told, yes_or_no, IsKept, IsTold}
+use Rattle.fiorrudda_handle.specs.declared.codes.TheConstants.{OK, WRONG_HANDLE}
+use Rattle.fiorrudda_handle.specs.declared.thing.Thing.{Thing}
+use Rattle.fiorrudda_handle.specs.declared.thing.Thing.TheVariants as thing
 
 -- what a call tells, and what the handle holds then
 pub record Done : Type 0 where

@@ -5,11 +5,11 @@ use Rattle.wf_types.specs.declared.mode.ReferrerPolicy.{ReferrerPolicy}
 use Rattle.fiorrudda_fetch.specs.Settings.{cookie_added, settings_of, with_policies}
 use Rattle.fiorrudda_fetch.specs.Setups.{Setup}
 use Rattle.fiorrudda.specs.Calls.{Done, done}
-use Rattle.fiorrudda.specs.Codes.{code_of}
+use Rattle.fiorrudda_handle.specs.Codes.{code_of}
 use Rattle.fiorrudda.specs.Referrers.{policy_numbered}
-use Rattle.fiorrudda.specs.declared.codes.TheConstants.{NO_SUCH_NUMBER, OK, WRONG_HANDLE}
-use Rattle.fiorrudda.specs.declared.thing.Thing.{Thing}
-use Rattle.fiorrudda.specs.declared.thing.Thing.TheVariants as thing
+use Rattle.fiorrudda_handle.specs.declared.codes.TheConstants.{NO_SUCH_NUMBER, OK, WRONG_HANDLE}
+use Rattle.fiorrudda_handle.specs.declared.thing.Thing.{Thing}
+use Rattle.fiorrudda_handle.specs.declared.thing.Thing.TheVariants as thing
 
 -- the handle holds the client, or is empty
 abbrev pub IsClientOf : Result Setup Refusal → ℕ → Option Thing → Type 0

@@ -3,10 +3,8 @@ pub mod Asked
 pub mod Calls
 pub mod Choices
 pub mod Clients
-pub mod Codes
-pub mod Crossing
 pub mod Fetches
-pub mod Handle
 pub mod Inputs
 pub mod Parts
 pub mod Referrers
+pub mod Sts

@@ -1,7 +1,7 @@
 -- Referrer policies by their numbers, and what is told of a referrer.
 use Rattle.std.specs.Prelude.{◌≡◌, ℕ, ◌==◌, List, Option, Some, None, if◌then◌else◌}
-use Rattle.fiorrudda.specs.Codes.{IsKept, IsTold}
-use Rattle.fiorrudda.specs.declared.codes.TheConstants.{NO_SUCH_NUMBER}
+use Rattle.fiorrudda_handle.specs.Codes.{IsKept, IsTold}
+use Rattle.fiorrudda_handle.specs.declared.codes.TheConstants.{NO_SUCH_NUMBER}
 use Rattle.wf_types.specs.declared.mode.ReferrerPolicy.{ReferrerPolicy}
 use Rattle.wf_types.specs.declared.mode.ReferrerPolicy.TheVariants as policy
 use Rattle.fiorrudda_rules.specs.Referrers.{told_referrer}

@@ -1,13 +1,10 @@
 // What the headers of an answer, and the words of a policy, say.
 ghost use Rattle.std.specs.Prelude.{◌≡◌, ◌≢◌, Some};
 ghost use Rattle.fiorrudda.specs.Answers.{HasEssence, nosniff};
-ghost use Rattle.fiorrudda.specs.Codes.{told};
+ghost use Rattle.fiorrudda_handle.specs.Codes.{told};
 ghost use Rattle.fiorrudda_rules.specs.Sources as sources;
 
-use crate::codes::{OUT_OF_MEMORY, WRONG_HANDLE};
-use crate::handle::Handle;
-use crate::thing::Thing;
-use crate::told::{told, write_answer, yes_or_no};
+use fiorrudda_handle::{Handle, OUT_OF_MEMORY, Thing, WRONG_HANDLE, told, write_answer, yes_or_no};
 use fiorrudda_rules::{essence_in, source_matches};
 use std::alloc::Global;
 

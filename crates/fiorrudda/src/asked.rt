@@ -6,11 +6,8 @@ ghost use Rattle.fiorrudda.specs.Choices as choices;
 ghost use Rattle.fiorrudda_fetch.specs.Asked.{fetch_of};
 
 use crate::choices::{load_numbered, setting_numbered, words_numbered};
-use crate::codes::{NO_SUCH_NUMBER, OK, OUT_OF_MEMORY, WRONG_HANDLE};
-use crate::handle::Handle;
-use crate::thing::Thing;
-use crate::told::yes_or_no;
 use fiorrudda_fetch::{Asked, Setting, Words};
+use fiorrudda_handle::{Handle, NO_SUCH_NUMBER, OK, OUT_OF_MEMORY, Thing, WRONG_HANDLE, yes_or_no};
 use std::alloc::Global;
 
 /// Makes in a handle what a script asks of `fetch`: a URL, which may be relative to the client's, by a method (Fetch,

@@ -3,12 +3,9 @@ ghost use Rattle.std.specs.Prelude.{◌≡◌, ◌≢◌, None, Some};
 ghost use Rattle.fiorrudda.specs.Clients.{add_cookie, add_policies, IsClient};
 ghost use Rattle.fiorrudda.specs.Calls.{done};
 
-use crate::codes::{NO_SUCH_NUMBER, OK, OUT_OF_MEMORY, WRONG_HANDLE};
-use crate::handle::Handle;
 use crate::policies::policy_numbered;
-use crate::thing::Thing;
-use crate::told::code_of;
 use fiorrudda_fetch::Settings;
+use fiorrudda_handle::{Handle, NO_SUCH_NUMBER, OK, OUT_OF_MEMORY, Thing, WRONG_HANDLE, code_of};
 use std::alloc::Global;
 
 /// Makes the client of a document in a handle (HTML, section 8.1.3.2, "environment settings object"): its URL, the URL of

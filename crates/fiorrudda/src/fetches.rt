@@ -5,12 +5,12 @@ ghost use Rattle.fiorrudda.specs.Parts as parts;
 ghost use Rattle.fiorrudda_rules.specs.Answers.{Answers};
 ghost use Rattle.fiorrudda.specs.Fetches.{Begins, GivesAct, GivesNumber, GivesRequest, GivesText};
 
-use crate::codes::{NO, NO_REQUEST, NO_SUCH_NUMBER, OK, OUT_OF_MEMORY, WRONG_HANDLE};
-use crate::handle::Handle;
 use crate::parts::{amount_numbered, part_numbered};
-use crate::thing::Thing;
-use crate::told::{code_of, write, write_answer};
 use fiorrudda_fetch::{Amount, Asked, Part, Settings, amount_of, begin, request_of, text_of};
+use fiorrudda_handle::{
+    Handle, NO, NO_REQUEST, NO_SUCH_NUMBER, OK, OUT_OF_MEMORY, Thing, WRONG_HANDLE, code_of, write,
+    write_answer,
+};
 use fiorrudda_rules::Refusal;
 use std::alloc::Global;
 use wf_fetch_acts::Act;

@@ -2,10 +2,7 @@
 ghost use Rattle.std.specs.Prelude.{◌≡◌, ◌≢◌, [], None, Some};
 ghost use Rattle.fiorrudda.specs.Calls.{append_to, done, IsGot};
 
-use crate::codes::{OK, OUT_OF_MEMORY, WRONG_HANDLE};
-use crate::handle::Handle;
-use crate::thing::Thing;
-use crate::told::{code_of, write_answer};
+use fiorrudda_handle::{Handle, OK, OUT_OF_MEMORY, Thing, WRONG_HANDLE, code_of, write_answer};
 use fiorrudda_rules::{append_header, value_of};
 use std::alloc::Global;
 use wf_headers::HeaderList;

@@ -1,13 +1,12 @@
 // The book, and the hosts that it knows.
 ghost use Rattle.std.specs.Prelude.{◌≡◌, ◌≢◌, None, Some};
 ghost use Rattle.fiorrudda.specs.Calls.{done, known_host, note_host};
-ghost use Rattle.fiorrudda.specs.Codes.{IsSts};
+ghost use Rattle.fiorrudda.specs.Sts.{IsSts};
 ghost use Rattle.wf_book.specs.Book.{empty};
 
-use crate::codes::{NO, OK, OUT_OF_MEMORY, WRONG_HANDLE};
-use crate::handle::Handle;
-use crate::thing::Thing;
-use crate::told::{code_of, told, yes_or_no};
+use fiorrudda_handle::{
+    Handle, NO, OK, OUT_OF_MEMORY, Thing, WRONG_HANDLE, code_of, told, yes_or_no,
+};
 use fiorrudda_rules::{is_known_host, note_field};
 use std::alloc::Global;
 use wf_book::Book;

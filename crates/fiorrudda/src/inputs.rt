@@ -4,9 +4,9 @@ ghost use Rattle.fiorrudda.specs.Inputs as spec;
 ghost use Rattle.fiorrudda.specs.Inputs.{IsAsked, IsFed, IsSaid};
 ghost use Rattle.wf_fetch_session.specs.Sessions.{standing_of};
 
-use crate::codes::{NO_SUCH_NUMBER, NOT_AWAITED, OK, OUT_OF_MEMORY, WRONG_HANDLE};
-use crate::handle::Handle;
-use crate::thing::Thing;
+use fiorrudda_handle::{
+    Handle, NO_SUCH_NUMBER, NOT_AWAITED, OK, OUT_OF_MEMORY, Thing, WRONG_HANDLE,
+};
 use std::alloc::Global;
 use wf_book::Reply;
 use wf_fetch_session::{Session, Went};

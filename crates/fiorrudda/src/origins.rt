@@ -1,10 +1,9 @@
 // Rules on URLs and their origins.
 ghost use Rattle.std.specs.Prelude.{◌≡◌, ◌≢◌};
-ghost use Rattle.fiorrudda.specs.Codes.{some_text, told, IsTold};
+ghost use Rattle.fiorrudda_handle.specs.Codes.{some_text, told, IsTold};
 ghost use Rattle.fiorrudda_rules.specs.Origins as origins;
 
-use crate::codes::OUT_OF_MEMORY;
-use crate::told::{told, write_text};
+use fiorrudda_handle::{OUT_OF_MEMORY, told, write_text};
 use fiorrudda_rules::{
     are_same_origin, are_same_site, goes_to_bad_port, is_trustworthy, origin_text,
 };

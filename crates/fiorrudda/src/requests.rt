@@ -1,10 +1,10 @@
 // What a script may send, and what asks first.
 ghost use Rattle.std.specs.Prelude.{◌≡◌};
-ghost use Rattle.fiorrudda.specs.Codes.{yes_or_no};
+ghost use Rattle.fiorrudda_handle.specs.Codes.{yes_or_no};
 ghost use Rattle.wf_safelist.specs.Forbidden as forbidden;
 ghost use Rattle.wf_safelist.specs.Safelisted as safelisted;
 
-use crate::told::yes_or_no;
+use fiorrudda_handle::yes_or_no;
 use wf_safelist::{is_forbidden_method, is_safelisted};
 
 /// Whether a name and a value are a CORS-safelisted request-header (Fetch, section 2.2.2): with it alone, no preflight is

@@ -1,15 +1,14 @@
 // Rules on an answer, on a referrer and on a body.
 ghost use Rattle.std.specs.Prelude.{◌≡◌, ◌≢◌, Some};
 ghost use Rattle.fiorrudda.specs.Calls.{cors_check, resource_policy};
-ghost use Rattle.fiorrudda.specs.Codes.{told};
+ghost use Rattle.fiorrudda_handle.specs.Codes.{told};
 ghost use Rattle.fiorrudda.specs.Referrers.{IsReferrer};
 ghost use Rattle.fiorrudda_rules.specs.Bodies.{matches_integrity};
 
-use crate::codes::{NO_SUCH_NUMBER, OUT_OF_MEMORY, WRONG_HANDLE};
-use crate::handle::Handle;
 use crate::policies::policy_numbered;
-use crate::thing::Thing;
-use crate::told::{told, write_answer, yes_or_no};
+use fiorrudda_handle::{
+    Handle, NO_SUCH_NUMBER, OUT_OF_MEMORY, Thing, WRONG_HANDLE, told, write_answer, yes_or_no,
+};
 use fiorrudda_rules::{is_kept_by_resource_policy, matches_integrity, told_referrer};
 use std::alloc::Global;
 use wf_types::passes_cors_check;

@@ -64,6 +64,13 @@ load_init_of destination.Manifest url = Some (load_as destination.Manifest url)
 abbrev pub load_of : Destination → List ℕ → Option Asked
 load_of kind url = option_map Load (load_init_of kind url)
 
+-- ---- what it is for
+
+-- "destination"
+abbrev pub destination_of : Asked → Destination
+destination_of (Fetch init) = destination.Fetch
+destination_of (Load init) = init.kind
+
 -- ---- changes
 
 -- A change that was made or not, and what there is after it.

@@ -56,6 +56,16 @@ impl Asked {
         }
     }
 
+    /// What it is for (Fetch, section 2.2.5, "destination").
+    pub fn destination(&self) -> Destination
+        ensures { result ≡ spec.destination_of self.now }
+    {
+        match self {
+            Asked::Fetch(_) => Destination::Fetch,
+            Asked::Load(asked) => asked.init.kind,
+        }
+    }
+
     /// Adds a header to a `fetch`, its value without HTTP whitespace at its ends (Fetch, section 2.2.2, "normalize"),
     /// and tells whether it is a `fetch`. What is no header is a fault of the request. Where memory is refused all is as
     /// it was.

@@ -14,8 +14,9 @@ use wf_types::{Request, TypeFault};
 /// The first time, in seconds, that is too late for a fetch.
 const END_OF_TIME: u64 = 281_474_976_710_656;
 
-// The request of what is asked for, or its fault.
-fn requested(
+/// The request that a document of these settings makes of what is asked for, or its fault (Fetch, sections 5.4 and 5.6;
+/// HTML, section 2.5.1). It is as before main fetch: its tainting is basic, and it was not redirected.
+pub fn requested(
     alloc: Global,
     settings: &Settings,
     asked: &Asked,

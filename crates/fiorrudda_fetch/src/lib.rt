@@ -13,7 +13,7 @@ mod settings;
 
 pub use amounts::{Amount, amount_of};
 pub use asked::{Asked, Setting, Words};
-pub use beginning::begin;
+pub use beginning::{begin, requested};
 pub use fetch_init::AskedFetch;
 pub use load_init::AskedLoad;
 pub use parts::{Part, request_of, text_of};

@@ -97,6 +97,7 @@ fn add_all(policies: &mut Policies, more: Policies) -> Result<(), OutOfMemory>
 }
 
 impl Settings {
+    ghost use Rattle.wf_types.specs.Requests.{IsClient};
     ghost use Rattle.fiorrudda_fetch.specs.Settings.{cookie_added, policies_in, settings_of, with_policies, IsDocumentOf};
 
     /// The settings of a document of a URL, in a page with that of another at the top, and with a referrer policy (HTML,
@@ -119,6 +120,14 @@ impl Settings {
             policies: Items::new(alloc),
             cookies: Cookies::new(alloc),
         })
+    }
+
+    /// The client of the document.
+    pub fn client(&self) -> &Client
+        ensures client { result.now ≡ self.now.client }
+        ensures valid { IsClient result.now }
+    {
+        &self.client
     }
 
     /// Adds the policies of the value of a Content-Security-Policy header, or of a report-only one (CSP 3, section 2.2).

@@ -3,6 +3,7 @@ pub mod Bodies
 pub mod Cors
 pub mod Headers
 pub mod Hosts
+pub mod Names
 pub mod Origins
 pub mod Reading
 pub mod Referrers

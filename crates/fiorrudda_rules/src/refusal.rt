@@ -13,6 +13,8 @@ pub enum Refusal {
     NotHeader,
     /// A time is 2^48 seconds or more.
     TooLate,
+    /// No request can be made of what is asked for.
+    NoRequest,
 }
 
 impl From<OutOfMemory> for Refusal {

@@ -1,17 +1,11 @@
 -- What a run adds to its document's entries.
-use Rattle.std.proofs.Common.{◌≡◌, ℕ, ◌+◌, List, [], ◌∷◌, ◌++◌, length, refl, ap, sym, ◌∙◌, arith, append_assoc}
-use Rattle.std.proofs.lemmas.List.{append-nil, length-append}
-use Rattle.std.specs.List.{AllByRecursion}
-use Rattle.wf_fetch_acts.specs.declared.act.Act.{Act}
-use Rattle.wf_fetch_acts.specs.declared.act.Act.TheVariants.{Ask, Send, ReadHead, ReadBody, Tell}
-use Rattle.wf_fetch_acts.specs.declared.act.Input.{Input}
-use Rattle.wf_book.specs.declared.entry.Entry.{Entry}
-use Rattle.wf_script_events.specs.declared.events.Event.{Event}
 use Rattle.wf_script_events.specs.declared.events.Event.TheVariants as event
-use Rattle.wf_script_run.specs.Play.{Play}
-use Rattle.wf_script_run.specs.Traces.{PlayTrace, stop, shown, stepped}
-use Rattle.wf_link_wire.specs.Exchanges.{Answering}
-use Rattle.wf_player.specs.Worlds.{Answers, IsHungUp, Outside, Settles, World}
+use Rattle.std.proofs.lemmas.List.{length-append}
+use Rattle.wf_book.specs.declared.entry.Entry.{Entry}
+use Rattle.wf_script_run.specs.Traces.{stop}
+use Rattle.wf_player.proofs.Words.{PlayTrace, shown, stepped, Act, Ask, Send, Tell, Input, ◌≡◌, ℕ, ◌+◌, List, [], ◌∷◌}
+use Rattle.wf_player.proofs.Words.{◌++◌, length, refl, ap, sym, ◌∙◌, arith, append_assoc, append-nil, AllByRecursion}
+use Rattle.wf_player.proofs.Words.{Event, Play, Answering, Answers, IsHungUp, Outside, Settles, World}
 
 -- Between two worlds these entries were added, each of them the document's, and the calls left fell by as many.
 pub record Calls {State : Type 0} (document : ℕ) (a b : World State) : Type 0 where
@@ -50,20 +44,13 @@ module _ {State : Type 0} (by : Answering State) (limit document : ℕ) where
     fell = omega (arith, is.asked.left_is);
   }
   calls-act (Send hop) input is = calls-alike is.1.own_is is.1.left_is
-  calls-act ReadHead input is = calls-alike is.own_is is.left_is
-  calls-act ReadBody input is = calls-alike is.own_is is.left_is
   calls-act (Tell violation) input is = calls-same is.1
+  calls-act first input is = calls-alike is.own_is is.left_is
 
   calls-event : {a b : World State} (shown : Event) → Settles shown a b → Calls document a b
   calls-event (event.Result outcome) is = calls-hung is
   calls-event (event.LoadFailed error) is = calls-hung is
-  calls-event (event.Fetch n) is = calls-same is
-  calls-event (event.Load n kind) is = calls-same is
-  calls-event (event.Call op reply) is = calls-same is
-  calls-event (event.Sent hop) is = calls-same is
-  calls-event (event.Told violation) is = calls-same is
-  calls-event (event.TypeError fault) is = calls-same is
-  calls-event (event.LoadError fault) is = calls-same is
+  calls-event one is = calls-same is
 
   calls-then : {a b c : World State} → Calls document a b → Calls document b c → Calls document a c
   calls-then {a = a} x y = record {

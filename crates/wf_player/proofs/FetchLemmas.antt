@@ -1,65 +1,38 @@
 -- The loop of a fetch.
-use Rattle.std.proofs.Common.{◌≡◌, ℕ, zero, suc, length, ◌+◌, ◌*◌, ◌-◌, ◌<◌, ◌≤◌, ◌^◌, List, [], ◌∷◌, ◌++◌, IsTrue}
-use Rattle.std.proofs.Common.{refl}
-use Rattle.std.proofs.Common.{ap, sym, subst, ◌∙◌, arith, append_assoc, length-append, Some}
-use Rattle.std.proofs.lemmas.List.{append-nil}
-use Rattle.wf_fetch_acts.specs.declared.act.Act.{Act}
-use Rattle.wf_fetch_acts.specs.declared.act.Act.TheVariants.{Ask, Send, ReadHead, ReadBody, Tell}
-use Rattle.wf_fetch_acts.specs.declared.act.Input.{Input}
-use Rattle.wf_fetch_acts.specs.Process.{Process, act, ended, fits, IsPlain}
+use Rattle.wf_http1.specs.declared.framing.Framing.TheVariants as framing
+use Rattle.std.proofs.Common.{length-append}
+use Rattle.std.proofs.lemmas.Nat.{mul-le}
+use Rattle.wf_player.specs.declared.fetch.FetchRun.{FetchRun}
 use Rattle.wf_fetch_acts.specs.Traces.{stop, with_events}
-use Rattle.wf_fetch_acts.specs.Within.{Anything, Within, acts, asks, price_of}
 use Rattle.wf_fetch_acts.proofs.TraceLemmas.{trace-append, trace-one, trace-tells}
 use Rattle.wf_fetch_acts.proofs.WithinLemmas.{within-more}
 use Rattle.wf_fetch.specs.declared.place.Fetching.{Fetching}
 use Rattle.wf_fetch.specs.declared.place.Step.{Step}
-use Rattle.wf_fetch.specs.declared.place.Step.TheVariants.{Going, Over}
-use Rattle.wf_fetch.specs.Fetch.{fetch}
+use Rattle.wf_fetch.specs.declared.place.Step.TheVariants.{Going}
 use Rattle.wf_fetch.specs.Machine.{Does, rest}
-use Rattle.wf_fetch.specs.Then.{Context}
-use Rattle.wf_http1.specs.declared.framing.Framing.TheVariants as framing
-use Rattle.wf_fetch_laws.specs.Laws.{most_asks}
 use Rattle.wf_fetch_laws.specs.Own.{IsOwnAct}
-use Rattle.wf_fetch_laws.specs.Prices.{fetch_price, level_price, levels}
 use Rattle.wf_fetch_laws.proofs.OwnLemmas.{asks-at-most, fetch-within}
-use Rattle.wf_script_events.specs.declared.events.Event.{Event}
-use Rattle.wf_script_run.specs.Play.{events_of}
-use Rattle.wf_script_run.specs.Runs.{Progress, after_events, at_time}
-use Rattle.wf_types.specs.declared.request.Request.{Request}
-use Rattle.wf_types.specs.declared.response.Outcome.{Outcome}
-use Rattle.wf_link_wire.specs.Exchanges.{Answering, IsIdle}
-use Rattle.wf_player.specs.Driving.{Drove, FetchCut, FetchedTo, IsBegun, LeadsOn}
-use Rattle.wf_player.specs.Private.Going.{PartNoted, WentOn, from_act}
-use Rattle.wf_player.specs.Standings.{Standing, Terms}
-use Rattle.wf_player.specs.Worlds.{Answers, CanAnswer, Outside, Refuses, World, outside_of}
+use Rattle.wf_player.specs.Driving.{Fetches}
+use Rattle.wf_player.specs.Private.Going.{GoesOn, PartNoted, WentOn, from_act}
+use Rattle.wf_player.proofs.Words.{FetchedTo, Drives, Drove, FetchCut, IsBegun, LeadsOn, Act, Ask, Send, Tell, Input}
+use Rattle.wf_player.proofs.Words.{Process, act, ended, fits, Anything, Within, acts, asks, price_of, fetch, Context}
+use Rattle.wf_player.proofs.Words.{most_asks, fetch_price, level_price, levels, ◌≡◌, ℕ, length, ◌+◌, ◌-◌, ◌<◌, ◌≤◌}
+use Rattle.wf_player.proofs.Words.{◌^◌, List, [], ◌∷◌, ◌++◌, IsTrue, refl, ap, sym, subst, ◌∙◌, arith, append_assoc}
+use Rattle.wf_player.proofs.Words.{Some, Result, Ok, Err, append-nil, IsErr, OutOfMemory, Event, events_of, Progress}
+use Rattle.wf_player.proofs.Words.{after_events, at_time, Request, Outcome, Answering, IsIdle, Standing, Terms}
+use Rattle.wf_player.proofs.Words.{Answers, Outside, Refuses, World, outside_of}
 use Rattle.wf_player.proofs.AskLemmas.{refuses-none}
+use Rattle.wf_player.proofs.PartLemmas.{lost-none, lost-then}
 
 -- every act costs one
 pub each-one : (first : Act) → price_of acts first ≡ 1
 each-one (Ask op) = refl
-each-one (Send hop) = refl
-each-one ReadHead = refl
-each-one ReadBody = refl
-each-one (Tell violation) = refl
+each-one first = refl
 
 -- an act shows one event at most
 events-few : (first : Act) (input : Input) → length (events_of first input) ≤ 1
 events-few (Ask op) input = omega arith
-events-few (Send hop) input = omega arith
-events-few ReadHead input = omega arith
-events-few ReadBody input = omega arith
-events-few (Tell violation) input = omega arith
-
--- ---- events that are added
-
-pub events-none : (progress : Progress) → progress ≡ after_events [] progress
-events-none progress = ap (λ (l : List Event). let p : Progress = record progress { shown = l } in p)
-    (sym (append-nil progress.shown))
-
-pub events-then : (old mid new : Progress) (first more : List Event) → mid ≡ after_events first old
-    → new ≡ after_events more mid → new ≡ after_events (first ++ more) old
-events-then old mid new first more x y = y ∙ ap (after_events more) x
-    ∙ ap (λ (l : List Event). let p : Progress = record old { shown = l } in p) (append_assoc old.shown first more)
+events-few first input = omega arith
 
 -- ---- worlds
 
@@ -78,260 +51,214 @@ still old = record {
   left = old.left;
 }
 
-module _ {State : Type 0} (by : Answering State) where
-  -- a call of the book costs one call, and nothing else costs any
-  left-after : (limit document : ℕ) (old new : World State) (first : Act) (input : Input)
-      → Answers by limit document old first input new → old.left ≤ new.left + price_of asks first
-  left-after limit document old new (Ask op) input is = omega (arith, is.asked.left_is)
-  left-after limit document old new (Send hop) input is = omega (arith, is.1.left_is)
-  left-after limit document old new ReadHead input is = omega (arith, is.left_is)
-  left-after limit document old new ReadBody input is = omega (arith, is.left_is)
-  left-after limit document old new (Tell violation) input is =
-      omega (arith, ap (λ (w : World State). w.left) is.1)
+-- a call of the book costs one call, and nothing else costs any
+left-after : {State : Type 0} (by : Answering State) (limit document : ℕ) (old new : World State) (first : Act)
+    (input : Input) → Answers by limit document old first input new → old.left ≤ new.left + price_of asks first
+left-after by limit document old new (Ask op) input is = omega (arith, is.asked.left_is)
+left-after by limit document old new (Send hop) input is = omega (arith, is.1.left_is)
+left-after by limit document old new (Tell violation) input is = omega (arith, ap (λ (w : World _). w.left) is.1)
+left-after by limit document old new first input is = omega (arith, is.left_is)
+
+module _ {State : Type 0} {by : Answering State} where
+  -- ---- how far a fetch has come
+
+  came-none : {place : Process} {a : Standing State} → FetchedTo by place a place a
+  came-none {a = a} =
+      record { same = refl; tape = []; made = []; added = rw append-nil refl; trace = stop }
+
+  came-then : {whole middle place : Process} {a b c : Standing State} → FetchedTo by whole a middle b
+      → FetchedTo by middle b place c → FetchedTo by whole a place c
+  came-then {middle = middle} {place = place} {a = a} {b = b} {c = c} x y = record {
+    same = y.same ∙ x.same;
+    tape = x.tape ++ y.tape;
+    made = x.made ++ y.made;
+    added = rw (y.added, x.added, append_assoc) refl;
+    trace = trace-append (with_events (Answers by a.terms.limit a.terms.document) events_of) x.trace
+        (subst (λ (t : Terms). LeadsOn by t.limit t.document middle b.world y.tape y.made place c.world) x.same
+        y.trace);
+  }
+
+  -- and then memory was refused
+  came-cut : {whole middle : Process} {a b c : Standing State} → FetchedTo by whole a middle b → FetchCut by middle b c
+      → FetchCut by whole a c
+  unfolding came-then
+  came-cut {c = c} x y = record {
+    place = y.place;
+    last = y.last;
+    came = came-then x y.came;
+    lost = lost-then x.made x.same (ap (λ (p : Progress). p.shown) x.added) y.lost;
+    kept = y.kept ∙ ap (λ (p : Progress). let q : Progress = record p { shown = c.progress.shown } in q) x.added;
+  }
+
+  -- memory was refused before anything else
+  pub cut-unbegun : {whole : Process} {a b : Standing State} → b.terms ≡ a.terms → b.progress ≡ a.progress
+      → Refuses (outside_of a.world) (outside_of b.world) → FetchCut by whole a b
+  unfolding came-none
+  cut-unbegun {whole = whole} {a = a} same kept left =
+      record { place = whole; last = a; came = came-none; lost = lost-none same kept left; kept = rw kept refl }
 
   -- ---- one act by itself
 
-  module _ (context : Context) (fetching : Fetching) (first : Act) (old new : Standing State)
-      (same : new.terms ≡ old.terms) where
-    -- memory was refused by the world
-    pub act-refused : new.progress ≡ old.progress → Refuses (outside_of old.world) (outside_of new.world)
-        → FetchCut by (from_act context fetching first) old new
-    act-refused kept refused = record {
+  act-came : (context : Context) (fetching : Fetching) (first : Act) (input : Input) {a b : Standing State}
+      → b.terms ≡ a.terms → IsTrue (fits first input)
+      → Answers by a.terms.limit a.terms.document a.world first input b.world
+      → b.progress ≡ after_events (events_of first input) a.progress
+      → FetchedTo by (from_act context fetching first) a (rest context fetching input) b
+  act-came context fetching first input {a = a} {b = b} same fit came noted = record {
+    same = same;
+    tape = input ∷ [];
+    made = events_of first input;
+    added = noted;
+    trace = trace-one (with_events (Answers by a.terms.limit a.terms.document) events_of)
+        fetching.level.request.value first (rest context fetching) input a.world b.world (events_of first input)
+        (came, refl) fit;
+  }
+
+  -- memory was refused for its events, or after them
+  pub act-cut : (context : Context) (fetching : Fetching) (first : Act) (input : Input) {a b : Standing State}
+      → b.terms ≡ a.terms → IsTrue (fits first input)
+      → Answers by a.terms.limit a.terms.document a.world first input b.world
+      → PartNoted first input a.progress b.progress → FetchCut by (from_act context fetching first) a b
+  unfolding act-came
+  act-cut context fetching first input {a = a} {b = b} same fit came x = record {
+    place = rest context fetching input;
+    last = record b { progress = after_events (events_of first input) a.progress };
+    came = act-came context fetching first input same fit came refl;
+    lost = record {
       same = same;
-      tape = [];
-      made = [];
-      missed = [];
-      few = omega arith;
-      place = from_act context fetching first;
-      last = old.world;
-      added = kept ∙ events-none old.progress;
-      trace = stop;
-      left = refused;
-    }
+      noted = x.made;
+      missed = x.missed;
+      few = omega (
+        arith,
+        events-few first input,
+        ap (λ (l : List Event). length l) x.parts,
+        length-append x.made x.missed,
+      );
+      parts = x.parts;
+      added = ap (λ (p : Progress). p.shown) x.added;
+      refused = refuses-none (outside_of b.world);
+    };
+    kept = rw x.added refl;
+  }
 
-    module _ (input : Input) (fit : IsTrue (fits first input))
-        (came : Answers by old.terms.limit old.terms.document old.world first input new.world) where
-      act-trace : LeadsOn by old.terms.limit old.terms.document (from_act context fetching first) old.world
-          (input ∷ []) (events_of first input) (rest context fetching input) new.world
-      act-trace = trace-one (with_events (Answers by old.terms.limit old.terms.document) events_of)
-          fetching.level.request.value first (rest context fetching) input old.world new.world
-          (events_of first input) (came, refl) fit
+-- ---- the loop
 
-      -- memory was refused for its events, or after them
-      pub act-cut : PartNoted first input old.progress new.progress
-          → FetchCut by (from_act context fetching first) old new
-      act-cut x = record {
-        same = same;
-        tape = input ∷ [];
-        made = x.made;
-        missed = x.missed;
-        few = omega (
+-- After so many acts the fetch has shown what was added to the events, and is at this step.
+pub record IsFetching {State : Type 0} (by : Answering State) (context : Context) (request : Request)
+    (old : Standing State) (count : ℕ) (now : Standing State) (at : Step) : Type 0 where
+  pub lent : at_time old.terms.lent context.now ≡ context
+  pub process : Process
+  pub does : Does context at process
+  pub came : FetchedTo by (fetch context request) old process now
+  pub acts_left : Within (price_of acts) Anything (IsOwnAct context) (fetch_price acts context request - count) process
+  pub calls : ℕ
+  pub asks_left : Within (price_of asks) Anything (IsOwnAct context) calls process
+  pub enough : calls + old.world.left ≤ now.world.left + most_asks
+
+pub fetching-start : {State : Type 0} {by : Answering State} {context : Context} {request : Request}
+    {old : Standing State} {at : Step} → at_time old.terms.lent context.now ≡ context
+    → Does context at (fetch context request) → context.now < 2 ^ 48 → IsFetching by context request old 0 old at
+fetching-start {context = context} {request = request} lent does timely = record {
+  lent = lent;
+  process = fetch context request;
+  does = does;
+  came = came-none;
+  acts_left = subst (λ (n : ℕ). Within (price_of acts) Anything (IsOwnAct context) n (fetch context request))
+      (omega arith) (fetch-within acts context request timely);
+  calls = most_asks;
+  asks_left = within-more (price_of asks) Anything (IsOwnAct context) (fetch_price asks context request) most_asks
+      (fetch context request) (fetch-within asks context request timely) (asks-at-most context request);
+  enough = omega arith;
+}
+
+module _ {State : Type 0} {by : Answering State} {context : Context} {request : Request} {old now : Standing State}
+    {count : ℕ} {fetching : Fetching} {first : Act}
+    (is : IsFetching by context request old count now (Going fetching first)) where
+  abbrev here : Process
+  here = act fetching.level.request.value first (rest context fetching)
+
+  acts-here : Within (price_of acts) Anything (IsOwnAct context) (fetch_price acts context request - count) here
+  acts-here = rw is.does.process at is.acts_left
+
+  asks-here : Within (price_of asks) Anything (IsOwnAct context) is.calls here
+  asks-here = rw is.does.process at is.asks_left
+
+  came-here : FetchedTo by (fetch context request) old here now
+  came-here = rw is.does.process at is.came
+
+  -- the fetch goes by the same as what it is lent now
+  same-context : at_time now.terms.lent fetching.now ≡ context
+  same-context = rw (is.came.same, is.does.now) is.lent
+
+  -- it may act once more
+  pub fetching-room : count < fetch_price acts context request
+  unfolding acts-here
+  fetching-room = omega (arith, each-one first, acts-here.1.enough)
+
+  -- one act further
+  pub fetching-went : {at : Step} {new : Standing State}
+      → WentOn by (at_time now.terms.lent fetching.now) fetching first now at new
+      → IsFetching by context request old (count + 1) new at
+  unfolding acts-here asks-here
+  fetching-went {at = at} {new = new} went =
+      let x = subst (λ (c : Context). WentOn by c fetching first now at new) same-context went in
+      record {
+        lent = is.lent;
+        process = rest context fetching x.input;
+        does = x.does;
+        came = came-then came-here (act-came context fetching first x.input x.same x.fit x.came x.noted);
+        acts_left = within-more (price_of acts) Anything (IsOwnAct context) acts-here.1.left
+            (fetch_price acts context request - (count + 1)) (rest context fetching x.input)
+            (acts-here.1.rest x.input tt) (omega (arith, each-one first, acts-here.1.enough));
+        calls = asks-here.1.left;
+        asks_left = asks-here.1.rest x.input tt;
+        enough = omega (
           arith,
-          events-few first input,
-          ap (λ (l : List Event). length l) x.parts,
-          length-append x.made x.missed,
+          is.enough,
+          asks-here.1.enough,
+          left-after by now.terms.limit now.terms.document now.world new.world first x.input x.came,
         );
-        place = rest context fetching input;
-        last = new.world;
-        added = x.added;
-        trace = subst (λ (l : List Event). LeadsOn by old.terms.limit old.terms.document
-            (from_act context fetching first) old.world (input ∷ []) l (rest context fetching input) new.world)
-            x.parts act-trace;
-        left = refuses-none (outside_of new.world);
       }
 
-  -- ---- the loop
+  -- memory was refused at this act
+  pub fetching-cut : {new : Standing State}
+      → FetchCut by (from_act (at_time now.terms.lent fetching.now) fetching first) now new
+      → FetchCut by (fetch context request) old new
+  fetching-cut {new = new} x = came-cut came-here
+      (subst (λ (c : Context). FetchCut by (from_act c fetching first) now new) same-context x)
 
-  module _ (old : Standing State) (time : ℕ) (request : Request) where
-    abbrev context : Context
-    context = at_time old.terms.lent time
+-- ---- calls that pass on want of memory
 
-    abbrev whole : Process
-    whole = fetch context request
+pub goes-refused : {State : Type 0} (by : Answering State) (context : Context) (fetching : Fetching) (first : Act)
+    {a b : Standing State} (result : Result Step OutOfMemory) → IsErr result
+    → FetchCut by (from_act context fetching first) a b → GoesOn by context fetching first a result b
+goes-refused by context fetching first (Ok step) is x = absurd cc
+goes-refused by context fetching first (Err one) is x = x
 
-    abbrev on : Process → World State → List Input → List Event → Process → World State → Type 0
-    on = LeadsOn by old.terms.limit old.terms.document
+pub fetches-refused : {State : Type 0} {by : Answering State} {whole : Process} {a b : Standing State}
+    (result : Result Outcome OutOfMemory) → IsErr result → FetchCut by whole a b → Fetches by whole a result b
+fetches-refused (Ok outcome) is x = absurd cc
+fetches-refused (Err one) is x = x
 
-    -- after so many acts the fetch has shown what was added to the events, and is at this step
-    pub record IsFetching (count : ℕ) (now : Standing State) (at : Step) : Type 0 where
-      pub same : now.terms ≡ old.terms
-      pub process : Process
-      pub does : Does context at process
-      pub tape : List Input
-      pub made : List Event
-      pub added : now.progress ≡ after_events made old.progress
-      pub trace : on whole old.world tape made process now.world
-      pub acts_left : Within (price_of acts) Anything (IsOwnAct context) (fetch_price acts context request - count)
-          process
-      pub calls : ℕ
-      pub asks_left : Within (price_of asks) Anything (IsOwnAct context) calls process
-      pub enough : calls + old.world.left ≤ now.world.left + most_asks
+pub drives-refused : {State : Type 0} {by : Answering State} {limit document : ℕ} {whole : Process}
+    {a b : Outside State} (result : Result FetchRun OutOfMemory) → IsErr result → IsBegun by limit document whole a b
+    → Drives by limit document whole a result b
+drives-refused (Ok run) is x = absurd cc
+drives-refused (Err one) is x = x
 
-    pub fetching-start : (at : Step) → Does context at whole → time < 2 ^ 48 → IsFetching 0 old at
-    fetching-start at does timely = record {
-      same = refl;
-      process = whole;
-      does = does;
-      tape = [];
-      made = [];
-      added = events-none old.progress;
-      trace = stop;
-      acts_left = subst (λ (n : ℕ). Within (price_of acts) Anything (IsOwnAct context) n whole) (omega arith)
-          (fetch-within acts context request timely);
-      calls = most_asks;
-      asks_left = within-more (price_of asks) Anything (IsOwnAct context) (fetch_price asks context request)
-          most_asks whole (fetch-within asks context request timely) (asks-at-most context request);
-      enough = omega arith;
-    }
+-- ---- a fetch by itself
 
-    module _ (count : ℕ) (now : Standing State) (fetching : Fetching) (first : Act)
-        (is : IsFetching count now (Going fetching first)) where
-      abbrev here : Process
-      here = act fetching.level.request.value first (rest context fetching)
-
-      acts-here : Within (price_of acts) Anything (IsOwnAct context) (fetch_price acts context request - count) here
-      acts-here = subst (λ (p : Process). Within (price_of acts) Anything (IsOwnAct context)
-          (fetch_price acts context request - count) p) is.does.process is.acts_left
-
-      asks-here : Within (price_of asks) Anything (IsOwnAct context) is.calls here
-      asks-here = subst (λ (p : Process). Within (price_of asks) Anything (IsOwnAct context) is.calls p)
-          is.does.process is.asks_left
-
-      trace-here : on whole old.world is.tape is.made here now.world
-      trace-here = subst (λ (p : Process). on whole old.world is.tape is.made p now.world) is.does.process is.trace
-
-      -- it may act once more
-      pub fetching-room : count < fetch_price acts context request
-      unfolding acts-here
-      fetching-room = omega (arith, each-one first, acts-here.1.enough)
-
-      can : (one : Act) → IsPlain one → IsOwnAct context fetching.level.request.value one → (left : ℕ)
-          → price_of asks one + left ≤ is.calls → most_asks ≤ old.world.left → CanAnswer one now.world.left
-      can (Ask op) plain own left enough some = (own.0, omega (arith, enough, some, is.enough))
-      can (Send hop) plain own left enough some = plain
-      can ReadHead plain own left enough some = tt
-      can ReadBody plain own left enough some = tt
-      can (Tell violation) plain own left enough some = tt
-
-      -- and the act can be answered
-      pub fetching-can : most_asks ≤ old.world.left → CanAnswer first now.world.left
-      unfolding asks-here
-      fetching-can some = can first is.does.plain asks-here.0 asks-here.1.left asks-here.1.enough some
-
-      -- where it takes no more calls than it asks for, no more were made than a fetch makes
-      pub fetching-spent : (left : ℕ) → now.world.left ≤ left + price_of asks first
-          → old.world.left ≤ left + most_asks
-      unfolding asks-here
-      fetching-spent left spent = omega (arith, spent, is.enough, asks-here.1.enough)
-
-      module _ (new : Standing State) where
-        -- one act further
-        pub fetching-went : (at : Step)
-            → WentOn by (at_time now.terms.lent fetching.now) fetching first now at new
-            → IsFetching (count + 1) new at
-        unfolding acts-here asks-here trace-here
-        fetching-went at x =
-            let came : Answers by old.terms.limit old.terms.document now.world first x.input new.world =
-            subst (λ (t : Terms). Answers by t.limit t.document now.world first x.input new.world) is.same x.came in
-            let does : Does context at (rest context fetching x.input) =
-            subst (λ (n : ℕ). Does (at_time old.terms.lent n) at (rest (at_time old.terms.lent n) fetching x.input))
-            is.does.now
-            (subst (λ (t : Terms). Does (at_time t.lent fetching.now) at
-            (rest (at_time t.lent fetching.now) fetching x.input)) is.same x.does) in
-            record {
-              same = x.same ∙ is.same;
-              process = rest context fetching x.input;
-              does = does;
-              tape = is.tape ++ x.input ∷ [];
-              made = is.made ++ events_of first x.input;
-              added = events-then old.progress now.progress new.progress is.made (events_of first x.input) is.added
-                  x.noted;
-              trace = trace-append (with_events (Answers by old.terms.limit old.terms.document) events_of) trace-here
-                  (trace-one (with_events (Answers by old.terms.limit old.terms.document) events_of)
-                  fetching.level.request.value first (rest context fetching) x.input now.world new.world
-                  (events_of first x.input) (came, refl) x.fit);
-              acts_left = within-more (price_of acts) Anything (IsOwnAct context) acts-here.1.left
-                  (fetch_price acts context request - (count + 1)) (rest context fetching x.input)
-                  (acts-here.1.rest x.input tt) (omega (arith, each-one first, acts-here.1.enough));
-              calls = asks-here.1.left;
-              asks_left = asks-here.1.rest x.input tt;
-              enough = omega (
-                arith,
-                is.enough,
-                asks-here.1.enough,
-                left-after old.terms.limit old.terms.document now.world new.world first x.input came,
-              );
-            }
-
-        -- memory was refused at this act
-        pub fetching-cut : FetchCut by (from_act (at_time now.terms.lent fetching.now) fetching first) now new
-            → FetchCut by whole old new
-        unfolding trace-here
-        fetching-cut x =
-            let after : on here now.world x.tape (x.made ++ x.missed) x.place x.last =
-            subst (λ (n : ℕ). on (from_act (at_time old.terms.lent n) fetching first) now.world x.tape
-            (x.made ++ x.missed) x.place x.last) is.does.now
-            (subst (λ (t : Terms). LeadsOn by t.limit t.document
-            (from_act (at_time t.lent fetching.now) fetching first) now.world x.tape (x.made ++ x.missed)
-            x.place x.last) is.same x.trace) in
-            record {
-              same = x.same ∙ is.same;
-              tape = is.tape ++ x.tape;
-              made = is.made ++ x.made;
-              missed = x.missed;
-              few = x.few;
-              place = x.place;
-              last = x.last;
-              added = events-then old.progress now.progress new.progress is.made x.made is.added x.added;
-              trace = subst (λ (l : List Event). on whole old.world (is.tape ++ x.tape) l x.place x.last)
-                  (sym (append_assoc is.made x.made x.missed))
-                  (trace-append (with_events (Answers by old.terms.limit old.terms.document) events_of) trace-here
-                  after);
-              left = x.left;
-            }
-
-    -- memory was refused before the first act
-    pub fetching-unbegun : FetchCut by whole old old
-    fetching-unbegun = record {
-      same = refl;
-      tape = [];
-      made = [];
-      missed = [];
-      few = omega arith;
-      place = whole;
-      last = old.world;
-      added = events-none old.progress;
-      trace = stop;
-      left = refuses-none (outside_of old.world);
-    }
-
-    -- the outcome
-    pub fetching-over : (count : ℕ) (now : Standing State) (outcome : Outcome) → IsFetching count now (Over outcome)
-        → FetchedTo by whole old outcome now
-    fetching-over count now outcome is = record {
-      same = is.same;
-      tape = is.tape;
-      made = is.made;
-      added = is.added;
-      trace = subst (λ (p : Process). on whole old.world is.tape is.made p now.world) is.does is.trace;
-    }
-
-  -- ---- a fetch by itself
-
-  module _ (whole : Process) (old last : Standing State) (from to : Outside State)
-      (begins : outside_of old.world ≡ from) (none : old.progress.shown ≡ []) where
-    -- what was shown is what was added to nothing
-    shown-made : (made : List Event) → last.progress ≡ after_events made old.progress → last.progress.shown ≡ made
-    shown-made made added =
-        ap (λ (p : Progress). p.shown) added ∙ ap (λ (l : List Event). l ++ made) none
-
+module _ {State : Type 0} {by : Answering State} where
+  module _ {whole : Process} {old last : Standing State} {from to : Outside State}
+      (begins : outside_of old.world ≡ from) (idle : IsIdle old.world.exchange) where
     -- it came to its outcome
-    pub fetch-drove : (events : List Event) (outcome : Outcome) → IsIdle old.world.exchange
-        → events ≡ last.progress.shown → FetchedTo by whole old outcome last → to ≡ outside_of last.world
+    pub fetch-drove : {events : List Event} {outcome : Outcome} → old.progress.shown ≡ []
+        → events ≡ last.progress.shown → FetchedTo by whole old (ended outcome) last → to ≡ outside_of last.world
         → Drove by old.terms.limit old.terms.document whole from events outcome to
-    fetch-drove events outcome idle shown x ends =
-        let trace = subst (λ (l : List Event). LeadsOn by old.terms.limit old.terms.document whole old.world x.tape l
-        (ended outcome) last.world) (sym (shown ∙ shown-made x.made x.added)) x.trace in
+    fetch-drove {events = events} {outcome = outcome} none shown x ends =
+        let made : x.made ≡ events = sym (shown ∙ ap (λ (p : Progress). p.shown) x.added
+        ∙ ap (λ (l : List Event). l ++ x.made) none) in
+        let trace = rw made at x.trace in
         record {
           first = old.world;
           idle = idle;
@@ -347,18 +274,18 @@ module _ {State : Type 0} (by : Answering State) where
         }
 
     -- it was cut short
-    pub fetch-begun : IsIdle old.world.exchange → FetchCut by whole old last → outside_of last.world ≡ to
+    pub fetch-begun : FetchCut by whole old last → outside_of last.world ≡ to
         → IsBegun by old.terms.limit old.terms.document whole from to
-    fetch-begun idle x ends = record {
+    fetch-begun x ends = record {
       first = old.world;
       idle = idle;
       from = begins;
-      tape = x.tape;
-      events = x.made ++ x.missed;
+      tape = x.came.tape;
+      events = x.came.made;
       place = x.place;
-      last = x.last;
-      trace = x.trace;
-      left = subst (λ (o : Outside State). Refuses (outside_of x.last) o) ends x.left;
+      last = x.last.world;
+      trace = x.came.trace;
+      left = rw (← ends) x.lost.refused;
     }
 
   -- memory was refused before it began
@@ -376,14 +303,9 @@ module _ {State : Type 0} (by : Answering State) where
     left = refuses-none old;
   })
 
--- a level less costs no more
-times-more : (k m p : ℕ) → k ≤ m → k * p ≤ m * p
-times-more zero m p le = omega arith
-times-more (suc k) zero p le = absurd (omega (arith, le))
-times-more (suc k) (suc m) p le = omega (arith, times-more k m p (omega (arith, le)))
-
 -- the acts of a fetch are few for policies that are not too many
 pub few-acts : (context : Context) (request : Request) → length context.policies < 2 ^ 64
     → fetch_price acts context request < 2 ^ 100
 few-acts context request few =
-    omega (arith, few, times-more (levels request) 21 (level_price acts context) (omega arith))
+    let price = level_price acts context in
+    omega (arith, few, mul-le (levels request) price 21 price (omega arith) (omega arith))

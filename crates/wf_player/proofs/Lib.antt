@@ -1,8 +1,8 @@
 pub mod AskLemmas
-pub mod AskingLemmas
 pub mod CallLemmas
 pub mod FetchLemmas
 pub mod PartLemmas
 pub mod RunLemmas
 pub mod ScriptLemmas
 pub mod SeatLemmas
+mod Words

@@ -1,26 +1,50 @@
 -- Parts of a run, one after another.
-use Rattle.std.proofs.Common.{List, [], ◌∷◌, ◌++◌, refl, ap, sym, subst, ◌∙◌, ◌≡◌, arith}
-use Rattle.std.proofs.Common.{append_assoc, Option, Result, Ok, Err}
-use Rattle.std.specs.Prelude.{⊤}
-use Rattle.std.specs.Result.{IsErr}
-use Rattle.std.proofs.lemmas.List.{append-nil}
-use Rattle.wf_fetch_acts.specs.Process.{Process}
-use Rattle.wf_script_events.specs.declared.events.Ending.{Ending}
-use Rattle.wf_script_events.specs.declared.events.Event.{Event}
-use Rattle.wf_text.specs.declared.memory.OutOfMemory.{OutOfMemory}
-use Rattle.wf_script_run.specs.Play.{Play}
-use Rattle.wf_script_run.specs.Runs.{Next, Progress, after_events, embed, showing}
-use Rattle.wf_script_run.specs.Traces.{shown}
 use Rattle.wf_script_run.specs.Traces as traces
+use Rattle.wf_types.specs.declared.policy.Destination.TheVariants as destination
+use Rattle.wf_types.specs.declared.response.Outcome.TheVariants as outcome
 use Rattle.wf_script_run.proofs.EmbedLemmas.{embedded}
-use Rattle.wf_script_run.proofs.PlayLemmas.{play-append}
-use Rattle.wf_types.specs.declared.response.Outcome.{Outcome}
-use Rattle.wf_link_wire.specs.Exchanges.{Answering}
-use Rattle.wf_player.specs.Driving.{FetchCut, FetchedTo}
-use Rattle.wf_player.specs.Parts.{CutShort, PlayedTo, Plays, PlaysOn, PlaysUnended, Rule, WasCut}
-use Rattle.wf_player.specs.Standings.{Standing, Terms}
-use Rattle.wf_player.specs.Worlds.{Answers, Settles, outside_of}
+use Rattle.wf_types.specs.declared.policy.Destination.{Destination}
+use Rattle.wf_player.proofs.Words.{TypeFault, Process, play-append, FetchedTo, FetchCut, HasLost, List, [], ◌∷◌, ◌++◌}
+use Rattle.wf_player.proofs.Words.{refl, ap, subst, ◌∙◌, ◌≡◌, ◌≢◌, arith, append_assoc, Option, None, Some, Result}
+use Rattle.wf_player.proofs.Words.{Ok, Err, OnOk, OnErr, ⊤, IsErr, append-nil, Ending, Memory, Event, OutOfMemory}
+use Rattle.wf_player.proofs.Words.{Play, Next, Progress, after_events, embed, showing, Outcome, Answering, CutShort}
+use Rattle.wf_player.proofs.Words.{HasPlayed, PlayedTo, Plays, PlaysOn, PlaysUnended, Rule, WasCut, Standing, Terms}
+use Rattle.wf_player.proofs.Words.{Answers, Refuses, Settles, outside_of, ℕ, sym, asked, fault_event, fetch_started}
+use Rattle.wf_player.proofs.Words.{fetched, outcome_event, start_event, started, Request, IsHungUp, World}
 use Rattle.wf_player.proofs.AskLemmas.{refuses-none}
+
+-- no ending is no want of memory
+pub no-memory : let e : Option Ending = None in e ≢ Some Memory
+no-memory = λ bad. absurd (cc)
+
+-- ---- what was lost
+
+-- nothing but what the world lost
+pub lost-none : {State : Type 0} {a b : Standing State} → b.terms ≡ a.terms → b.progress ≡ a.progress
+    → Refuses (outside_of a.world) (outside_of b.world) → HasLost [] a a b
+lost-none {a = a} same kept left = record {
+  same = same;
+  noted = [];
+  missed = [];
+  few = omega arith;
+  parts = refl;
+  added = rw (kept, append-nil) refl;
+  refused = left;
+}
+
+-- what was lost in the second of two parts, of both
+pub lost-then : {State : Type 0} {made : List Event} {a b last c : Standing State} (first : List Event)
+    → b.terms ≡ a.terms → b.progress.shown ≡ a.progress.shown ++ first → HasLost made b last c
+    → HasLost (first ++ made) a last c
+lost-then {a = a} first same added x = record {
+  same = x.same ∙ same;
+  noted = first ++ x.noted;
+  missed = x.missed;
+  few = x.few;
+  parts = rw (x.parts, append_assoc) refl;
+  added = rw (x.added, added, append_assoc) refl;
+  refused = x.refused;
+}
 
 module _ {State : Type 0} {by : Answering State} where
   -- ---- parts that were played
@@ -31,8 +55,8 @@ module _ {State : Type 0} {by : Answering State} where
     same = refl;
     tape = [];
     made = [];
-    added = sym (append-nil a.progress.shown);
-    trace = λ next. traces.stop;
+    added = rw append-nil refl;
+    trace = λ n. traces.stop;
   }
 
   -- one part, and then the next
@@ -42,10 +66,10 @@ module _ {State : Type 0} {by : Answering State} where
     same = y.same ∙ x.same;
     tape = x.tape ++ y.tape;
     made = x.made ++ y.made;
-    added = y.added ∙ ap (λ (l : List Event). l ++ y.made) x.added ∙ append_assoc a.progress.shown x.made y.made;
-    trace = λ next. play-append (Answers by a.terms.limit a.terms.document) Settles (x.trace next)
-        (subst (λ (t : Terms). PlaysOn by t.limit t.document (middle next) b.world y.tape y.made (last next) c.world)
-        x.same (y.trace next));
+    added = rw (y.added, x.added, append_assoc) refl;
+    trace = λ n. play-append (Answers by a.terms.limit a.terms.document) Settles (x.trace n)
+        (subst (λ (t : Terms). PlaysOn by t.limit t.document (middle n) b.world y.tape y.made (last n) c.world)
+        x.same (y.trace n));
   }
 
   -- inside a larger one
@@ -54,99 +78,99 @@ module _ {State : Type 0} {by : Answering State} where
   played-inside f x =
       record { same = x.same; tape = x.tape; made = x.made; added = x.added; trace = λ m. x.trace (f m) }
 
+  -- where the run inside is another, and has shown the same
+  pub played-moved : {N : Type 0} {part rest : N → Play} {a b : Standing State} → b.terms ≡ a.terms
+      → b.world ≡ a.world → b.progress.shown ≡ a.progress.shown → ((n : N) → part n ≡ rest n)
+      → PlayedTo by part a rest b
+  played-moved {a = a} same still kept alike = record {
+    same = same;
+    tape = [];
+    made = [];
+    added = rw (kept, append-nil) refl;
+    trace = λ n. rw (alike n, still) traces.stop;
+  }
+
   -- an event, and what the world comes to with it
-  pub played-event : {event : Event} {a b : Standing State} → b.terms ≡ a.terms
-      → b.progress ≡ after_events (event ∷ []) a.progress → Settles event a.world b.world
-      → PlayedTo by (λ (next : Next). showing event next a.progress) a (λ next. next b.progress) b
-  played-event {event = event} {a = a} {b = b} same noted settled = record {
+  pub played-event : {event : Event} {a b : Standing State} {progress : Progress} → b.terms ≡ a.terms
+      → progress.shown ≡ a.progress.shown → b.progress ≡ after_events (event ∷ []) progress
+      → Settles event a.world b.world
+      → PlayedTo by (λ (next : Next). showing event next progress) a (λ next. next b.progress) b
+  played-event {event = event} same kept noted settled = record {
     same = same;
     tape = [];
     made = event ∷ [];
-    added = ap (λ (p : Progress). p.shown) noted;
-    trace = λ next. subst (λ (p : Progress). PlaysOn by a.terms.limit a.terms.document (showing event next a.progress)
-        a.world [] (event ∷ []) (next p) b.world) (sym noted) (shown event settled traces.stop);
+    added = ap (λ (p : Progress). p.shown) noted ∙ ap (λ (l : List Event). l ++ event ∷ []) kept;
+    trace = λ next. rw noted (traces.shown event settled traces.stop);
   }
 
   -- a fetch
-  pub played-fetch : {whole : Process} {a b : Standing State} {outcome : Outcome} → FetchedTo by whole a outcome b
-      → PlayedTo by (λ (next : Outcome → Next). embed whole next a.progress) a (λ next. next outcome b.progress) b
-  played-fetch {whole = whole} {a = a} {b = b} {outcome = outcome} x = record {
+  pub played-fetch : {whole place : Process} {a b : Standing State} → FetchedTo by whole a place b
+      → PlayedTo by (λ (next : Outcome → Next). embed whole next a.progress) a
+      (λ next. embed place next b.progress) b
+  played-fetch {a = a} x = record {
     same = x.same;
     tape = x.tape;
     made = x.made;
     added = ap (λ (p : Progress). p.shown) x.added;
-    trace = λ next. subst (λ (p : Progress). PlaysOn by a.terms.limit a.terms.document (embed whole next a.progress)
-        a.world x.tape x.made (next outcome p) b.world) (sym x.added)
-        (embedded (Answers by a.terms.limit a.terms.document) Settles x.trace next a.progress);
+    trace = λ n. rw x.added (embedded (Answers by a.terms.limit a.terms.document) Settles x.trace n a.progress);
   }
 
   -- ---- parts that were cut short
 
   pub cut-here : {N : Type 0} {part : N → Play} {a : Standing State} → CutShort by part a a
+  unfolding played-none
   cut-here {part = part} {a = a} = record {
-    same = refl;
-    tape = [];
-    made = [];
-    missed = [];
-    few = omega arith;
     place = part;
-    last = a.world;
-    added = sym (append-nil a.progress.shown);
-    trace = λ next. traces.stop;
-    left = refuses-none (outside_of a.world);
+    last = a;
+    played = played-none;
+    lost = lost-none refl refl (refuses-none (outside_of a.world));
   }
 
   pub played-cut : {N : Type 0} {part middle : N → Play} {a b c : Standing State} → PlayedTo by part a middle b
       → CutShort by middle b c → CutShort by part a c
-  played-cut {part = part} {middle = middle} {a = a} {b = b} x y = record {
-    same = y.same ∙ x.same;
-    tape = x.tape ++ y.tape;
-    made = x.made ++ y.made;
-    missed = y.missed;
-    few = y.few;
+  unfolding played-then
+  played-cut x y = record {
     place = y.place;
     last = y.last;
-    added = y.added ∙ ap (λ (l : List Event). l ++ y.made) x.added ∙ append_assoc a.progress.shown x.made y.made;
-    trace = λ next. subst (λ (l : List Event). PlaysOn by a.terms.limit a.terms.document (part next) a.world
-        (x.tape ++ y.tape) l (y.place next) y.last) (sym (append_assoc x.made y.made y.missed))
-        (play-append (Answers by a.terms.limit a.terms.document) Settles (x.trace next)
-        (subst (λ (t : Terms). PlaysOn by t.limit t.document (middle next) b.world y.tape (y.made ++ y.missed)
-        (y.place next) y.last) x.same (y.trace next)));
-    left = y.left;
+    played = played-then x y.played;
+    lost = lost-then x.made x.same x.added y.lost;
   }
 
   pub cut-inside : {N M : Type 0} {part : N → Play} {a b : Standing State} (f : M → N) → CutShort by part a b
       → CutShort by (λ m. part (f m)) a b
-  cut-inside f x = record {
-    same = x.same;
-    tape = x.tape;
-    made = x.made;
-    missed = x.missed;
-    few = x.few;
-    place = λ m. x.place (f m);
-    last = x.last;
-    added = x.added;
-    trace = λ m. x.trace (f m);
-    left = x.left;
-  }
+  unfolding played-inside
+  cut-inside f x =
+      record { place = λ m. x.place (f m); last = x.last; played = played-inside f x.played; lost = x.lost }
 
   -- a fetch
   pub cut-fetch : {whole : Process} {a b : Standing State} → FetchCut by whole a b
       → CutShort by (λ (next : Outcome → Next). embed whole next a.progress) a b
-  cut-fetch {a = a} x = record {
-    same = x.same;
-    tape = x.tape;
-    made = x.made;
-    missed = x.missed;
-    few = x.few;
-    place = λ next. embed x.place next (after_events (x.made ++ x.missed) a.progress);
+  unfolding played-fetch
+  cut-fetch x = record {
+    place = λ next. embed x.place next x.last.progress;
     last = x.last;
-    added = ap (λ (p : Progress). p.shown) x.added;
-    trace = λ next. embedded (Answers by a.terms.limit a.terms.document) Settles x.trace next a.progress;
-    left = x.left;
+    played = played-fetch x.came;
+    lost = x.lost;
   }
 
   -- ---- rules
+
+  -- one after a part of another
+  pub plays-after : (first rule : Rule) {a b : Standing State} (c : Standing State)
+      (result : Result (Option Ending) OutOfMemory)
+      → PlayedTo by (λ (next : Next). rule a.terms.lent next a.progress) a
+      (λ next. first b.terms.lent next b.progress) b → Plays by first b result c → Plays by rule a result c
+  plays-after first rule c (Ok ending) at x =
+      record { played = played-then at x.played; rests = x.rests; told = x.told }
+  plays-after first rule c (Err refused) at x = played-cut at x
+
+  pub unended-after : (first rule : Rule) {a b : Standing State} (c : Standing State) (result : Result ⊤ OutOfMemory)
+      → PlayedTo by (λ (next : Next). rule a.terms.lent next a.progress) a
+      (λ next. first b.terms.lent next b.progress) b → PlaysUnended by first b result c
+      → PlaysUnended by rule a result c
+  unended-after first rule c (Ok done) at x =
+      record { played = played-then at x.played; rests = x.rests; told = x.told }
+  unended-after first rule c (Err refused) at x = played-cut at x
 
   -- a call that passes on want of memory
   pub plays-refused : (rule : Rule) {a b : Standing State} (result : Result (Option Ending) OutOfMemory) → IsErr result
@@ -159,6 +183,53 @@ module _ {State : Type 0} {by : Answering State} where
   unended-refused rule (Ok value) is x = absurd cc
   unended-refused rule (Err one) is x = x
 
+  -- what a rule came to, by what a call answered
+  pub unended-by : {rule : Rule} {a b : Standing State} {P Q : Type 0} (result : Result ⊤ OutOfMemory) → OnOk result P
+      → OnErr result Q → (P → HasPlayed by rule a None b) → (Q → WasCut by rule a b) → PlaysUnended by rule a result b
+  unended-by (Ok done) p q played cut = played p
+  unended-by (Err one) p q played cut = cut q
+
   -- memory was refused before the rule began
   pub rule-unbegun : (rule : Rule) {a b : Standing State} → b ≡ a → WasCut by rule a b
   rule-unbegun rule kept = rw kept cut-here
+
+-- and a call passes that on
+pub unended-unbegun : {State : Type 0} (by : Answering State) (rule : Rule) {a b : Standing State}
+    (result : Result ⊤ OutOfMemory) → IsErr result → b ≡ a → PlaysUnended by rule a result b
+unended-unbegun by rule result is kept = unended-refused rule result is (rule-unbegun rule kept)
+
+-- ---- what the world comes to with the events of a fetch and of a load
+
+settles-start : {State : Type 0} (kind : Destination) (number : ℕ) (a : World State)
+    → Settles (start_event kind number) a a
+settles-start destination.Fetch number a = refl
+settles-start kind number a = refl
+
+pub settles-fault : {State : Type 0} (kind : Destination) (fault : TypeFault) (a : World State)
+    → Settles (fault_event kind fault) a a
+settles-fault destination.Fetch fault a = refl
+settles-fault kind fault a = refl
+
+pub settles-outcome : {State : Type 0} (kind : Destination) (came : Outcome) (a b : World State) → IsHungUp a b
+    → Settles (outcome_event kind came) a b
+settles-outcome destination.Fetch came a b hung = hung
+settles-outcome kind (outcome.Error error) a b hung = hung
+settles-outcome kind came a b hung = hung
+
+-- a standing, part by part
+pub stands-as : {State : Type 0} {a b : Standing State} → b.terms ≡ a.terms → b.world ≡ a.world
+    → b.progress ≡ a.progress → b ≡ a
+stands-as same still kept = rw (same, still, kept) refl
+
+-- a fetch or a load has started
+pub asked-begun : {State : Type 0} {by : Answering State} (kind : Destination) (made : Result Request TypeFault)
+    {a b : Standing State} → b.terms ≡ a.terms → b.world ≡ a.world
+    → b.progress ≡ after_events (start_event kind a.progress.fetches ∷ []) (fetch_started (started a.progress))
+    → PlayedTo by (λ (next : Next). asked a.terms.lent kind made next (started a.progress)) a
+    (λ next. fetched b.terms.lent kind made next b.progress) b
+asked-begun {by = by} kind made {a = a} {b = b} same still noted =
+    subst (λ (t : Terms). PlayedTo by (λ (next : Next). asked a.terms.lent kind made next (started a.progress)) a
+    (λ next. fetched t.lent kind made next b.progress) b) (sym same)
+    (played-inside (fetched a.terms.lent kind made) (played-event same refl noted
+    (subst (λ (w : World _). Settles (start_event kind a.progress.fetches) a.world w) (sym still)
+    (settles-start kind a.progress.fetches a.world))))

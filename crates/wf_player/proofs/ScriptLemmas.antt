@@ -1,32 +1,17 @@
 -- The commands of a script.
-use Rattle.std.proofs.Common.{◌≡◌, ◌≢◌, ℕ, zero, suc, ◌+◌, ◌-◌, ◌≤◌, ◌<◌, List, [], ◌∷◌, Option, Some, None, true}
-use Rattle.std.proofs.Common.{false}
-use Rattle.std.proofs.Common.{refl, ap, sym, subst, arith, add-one, drop, drop-cons, cond, get_or, length, Bool}
-use Rattle.std.proofs.Common.{Result, Ok, Err}
-use Rattle.std.proofs.lemmas.List.{append-nil, drop_all}
-use Rattle.std.specs.Prelude.{is_some, nat_le, nat_lt}
-use Rattle.wf_text.specs.declared.memory.OutOfMemory.{OutOfMemory}
-use Rattle.wf_script_commands.specs.declared.command.Command.{Command}
-use Rattle.wf_script_commands.specs.declared.command.Test.{Test}
-use Rattle.wf_script_commands.specs.Commands.{step_of, steps_of}
-use Rattle.wf_script_commands.specs.Depth.{step_size, steps_size}
-use Rattle.wf_script_commands.specs.Scripts.{Step, Steps}
 use Rattle.wf_script_commands.specs.Scripts as script
+use Rattle.wf_script_commands.specs.declared.command.Command.{Command}
+use Rattle.wf_script_commands.specs.Scripts.{Step}
 use Rattle.wf_script_commands.specs.Valid.{AreValid, IsValidStep}
-use Rattle.wf_link.specs.Sources.{IsAtEnd}
-use Rattle.wf_script_events.specs.declared.events.Ending.{Ending}
-use Rattle.wf_script_events.specs.declared.events.Ending.TheVariants.{Commands, Fetches, Memory, Text}
-use Rattle.wf_script_run.specs.Results.{holds}
-use Rattle.wf_script_run.specs.Runs.{Next, Progress, chosen, command_started, last_of, limit_before}
-use Rattle.wf_script_run.specs.Runs.{most_commands, most_fetches, most_printed, own_limit, repeated, script_run}
-use Rattle.wf_script_run.specs.Runs.{started}
-use Rattle.wf_script_run.specs.Runs.{text_length, unless_limit, waited}
-use Rattle.wf_script_run.specs.Traces as traces
-use Rattle.wf_link_wire.specs.Exchanges.{Answering}
-use Rattle.wf_player.specs.Parts.{HasPlayed, PlayedTo, Plays, Rule, WasCut}
-use Rattle.wf_player.specs.Standings.{HasSpent, MayGoOn, Standing, Terms}
-use Rattle.wf_player.proofs.AskingLemmas.{no-memory}
-use Rattle.wf_player.proofs.PartLemmas.{cut-inside, played-cut, played-inside, played-none, played-then}
+use Rattle.wf_script_events.specs.declared.events.Ending.TheVariants.{Fetches}
+use Rattle.wf_player.proofs.Words.{Steps, step_of, steps_of, rules, ◌≡◌, ◌≢◌, ℕ, zero, suc, ◌+◌, ◌-◌, ◌≤◌, ◌<◌, List}
+use Rattle.wf_player.proofs.Words.{[], ◌∷◌, Option, Some, None, true, false, refl, ap, sym, subst, arith, add-one}
+use Rattle.wf_player.proofs.Words.{drop, drop-cons, cond, get_or, length, Bool, drop_all, is_some, nat_le, nat_lt}
+use Rattle.wf_player.proofs.Words.{step_size, steps_size, IsAtEnd, Ending, Memory, Text, Next, Progress}
+use Rattle.wf_player.proofs.Words.{command_started, limit_before, most_commands, most_fetches, most_printed}
+use Rattle.wf_player.proofs.Words.{own_limit, repeated, script_run, text_length, unless_limit, Answering, HasPlayed}
+use Rattle.wf_player.proofs.Words.{PlayedTo, Rule, WasCut, HasSpent, MayGoOn, Standing, Terms}
+use Rattle.wf_player.proofs.PartLemmas.{cut-inside, no-memory, played-cut, played-inside, played-none, played-then}
 
 -- no ending
 pub no-ending : {ending : Option Ending} → is_some ending ≡ false → ending ≡ None
@@ -35,25 +20,22 @@ no-ending {ending = Some ending} is = absurd (cc)
 
 -- no limit is want of memory
 no-limit : (one : Step) (progress : Progress) → limit_before one progress ≢ Some Memory
-no-limit one progress = by-test (nat_le most_commands progress.commands)
+no-limit one progress = by-test (nat_le most_commands progress.commands) (λ bad. absurd (cc)) (own one)
   where
-    by-fetches : (test full : Bool) → cond test (Some Fetches) (cond full (Some Text) None) ≢ Some Memory
-    by-fetches true full = λ bad. absurd (cc)
-    by-fetches false true = λ bad. absurd (cc)
-    by-fetches false false = λ bad. absurd (cc)
+    by-test : (test : Bool) {ending : Ending} {rest : Option Ending} → ending ≢ Memory → rest ≢ Some Memory
+        → cond test (Some ending) rest ≢ Some Memory
+    by-test true ending rest = λ bad. ending (cc)
+    by-test false ending rest = rest
+
+    fetches : let limit = cond (nat_le most_fetches progress.fetches) (Some Fetches)
+        (cond (nat_lt most_printed (text_length progress.shown)) (Some Text) None) in limit ≢ Some Memory
+    fetches = by-test (nat_le most_fetches progress.fetches) (λ bad. absurd (cc))
+        (by-test (nat_lt most_printed (text_length progress.shown)) (λ bad. absurd (cc)) (λ bad. absurd (cc)))
 
     own : (one : Step) → own_limit one progress ≢ Some Memory
-    own (script.fetch init) =
-        by-fetches (nat_le most_fetches progress.fetches) (nat_lt most_printed (text_length progress.shown))
-    own (script.load init) =
-        by-fetches (nat_le most_fetches progress.fetches) (nat_lt most_printed (text_length progress.shown))
-    own (script.wait seconds) = λ bad. absurd (cc)
-    own (script.repeat times part) = λ bad. absurd (cc)
-    own (script.choose test part other) = λ bad. absurd (cc)
-
-    by-test : (test : Bool) → cond test (Some Commands) (own_limit one progress) ≢ Some Memory
-    by-test true = λ bad. absurd (cc)
-    by-test false = own one
+    own (script.fetch init) = fetches
+    own (script.load init) = fetches
+    own one = λ bad. absurd (cc)
 
 -- ---- commands in memory
 
@@ -62,234 +44,148 @@ drop-at : (items : List Command) (index : ℕ) (one : Command) → index < lengt
 drop-at items index one lt is =
     rw (add-one, drop-cons items index one lt) (ap (λ (y : Command). y ∷ drop (suc index) items) (sym is))
 
-valid-at : (items : List Command) → AreValid (steps_of items) → (index : ℕ) (one : Command) → index < length items
-    → one ≡ get_or items index one → IsValidStep (step_of one)
-valid-at [] valid index one lt is = absurd (omega (arith, lt))
-valid-at (x ∷ items) valid zero one lt is = subst (λ (c : Command). IsValidStep (step_of c)) (sym is) valid.0
-valid-at (x ∷ items) valid (suc index) one lt is = valid-at items valid.1 index one (omega (arith, lt)) is
-
-pub valid-command : (items : List Command) {script : Steps} {index : ℕ} {one : Command} → steps_of items ≡ script
-    → AreValid script → index < length items → one ≡ get_or items index one → IsValidStep (step_of one)
-valid-command items {index = index} {one = one} same valid =
-    valid-at items (subst (λ (s : Steps). AreValid s) (sym same) valid) index one
-
-size-at : (items : List Command) (index : ℕ) (one : Command) → index < length items → one ≡ get_or items index one
-    → step_size (step_of one) ≤ steps_size (steps_of items)
-size-at [] index one lt is = absurd (omega (arith, lt))
-size-at (x ∷ items) zero one lt is = omega (arith, ap (λ (c : Command). step_size (step_of c)) is)
-size-at (x ∷ items) (suc index) one lt is = omega (arith, size-at items index one (omega (arith, lt)) is)
-
-pub command-size : (items : List Command) {script : Steps} {index : ℕ} {one : Command} → steps_of items ≡ script
-    → index < length items → one ≡ get_or items index one → step_size (step_of one) ≤ steps_size script
-command-size items {index = index} {one = one} same lt is =
-    omega (arith, size-at items index one lt is, ap steps_size same)
+-- the command at an index is valid, and no larger than the whole
+pub command-at : (items : List Command) (index : ℕ) (one : Command) → index < length items
+    → one ≡ get_or items index one → AreValid (steps_of items)
+    → IsValidStep (step_of one) × (step_size (step_of one) ≤ steps_size (steps_of items))
+command-at [] index one lt is valid = absurd (omega (arith, lt))
+command-at (x ∷ items) zero one lt is valid = rw is (valid.0, omega arith)
+command-at (x ∷ items) (suc index) one lt is valid =
+    let more = command-at items index one (omega (arith, lt)) is valid.1 in (more.0, omega (arith, more.1))
 
 -- ---- standings
-
--- the run inside is another
-pub stands-on : {State : Type 0} (a : Standing State) (p q : Progress) → p ≡ q
-    → record a { progress = p } ≡ record a { progress = q }
-stands-on {State} a p q is = ap (λ (r : Progress). let s : Standing State = record a { progress = r } in s) is
-
--- nothing was spent
-pub spent-none : {State : Type 0} {a : Standing State} → MayGoOn a → HasSpent a a
-spent-none goes = record { calls = omega arith; fetches = goes.fetches }
-
--- what was spent, one after the other
-pub spent-then : {State : Type 0} {a b c : Standing State} → HasSpent a b → HasSpent b c → HasSpent a c
-spent-then x y = record { calls = omega (arith, x.calls, y.calls); fetches = y.fetches }
 
 -- a run that has spent no more than it may goes on, where nothing is to come
 pub goes-on : {State : Type 0} {a b : Standing State} → MayGoOn a → HasSpent a b → IsAtEnd b.world.exchange.left
     → MayGoOn b
-goes-on goes spent rests =
-    record { calls = omega (arith, goes.calls, spent.calls); fetches = spent.fetches; rests = rests }
+goes-on goes spent rests = search rules
 
 module _ {State : Type 0} (by : Answering State) where
   -- ---- scripts
 
   -- the commands so far were played, and the others follow
-  abbrev pub IsAt : List Command → ℕ → Standing State → Standing State → Type 0
-  IsAt items index old now =
-      PlayedTo by (λ (next : Next). script_run old.terms.lent (steps_of items) next old.progress) old
-      (λ next. script_run now.terms.lent (steps_of (drop index items)) next now.progress) now
+  pub record IsAt (items : List Command) (index : ℕ) (old now : Standing State) : Type 0 where
+    pub played : PlayedTo by (λ (next : Next). script_run old.terms.lent (steps_of items) next old.progress) old
+        (λ next. script_run now.terms.lent (steps_of (drop index items)) next now.progress) now
 
-  module _ (script : Steps) (items : List Command) (index : ℕ) (one : Command) (reached : Option Ending)
-      (old now : Standing State) (all : steps_of items ≡ script) (within : index < length items)
-      (is : one ≡ get_or items index one) (limited : reached ≡ limit_before (step_of one) now.progress)
-      (at : IsAt items index old now) where
+  -- the rounds so far were played, and the others follow
+  pub record IsRound (times : ℕ) (part : Steps) (round : ℕ) (old now : Standing State) : Type 0 where
+    pub played : PlayedTo by (λ (next : Next). repeated times (script_run old.terms.lent part) next old.progress) old
+        (λ next. repeated (times - round) (script_run now.terms.lent part) next now.progress) now
+
+module _ {State : Type 0} {by : Answering State} where
+  -- a part of a rule was played, and the first of what is left came to an ending of the run
+  ended-in : {first rule : Rule} {ending : Option Ending} {a b c : Standing State} (onward : Next → Next)
+      → PlayedTo by (λ (next : Next). rule a.terms.lent next a.progress) a
+      (λ next. first b.terms.lent (onward next) b.progress) b
+      → is_some ending ≡ true → HasPlayed by first b ending c → HasPlayed by rule a ending c
+  ended-in {ending = None} onward at some x = absurd (cc)
+  ended-in {ending = Some ending} onward at some x =
+      record { played = played-then at (played-inside onward x.played); rests = x.rests; told = x.told }
+
+  -- or it came to a limit
+  limited-in : {rule : Rule} {ending : Option Ending} {a b : Standing State} (onward : Next → Next)
+      → PlayedTo by (λ (next : Next). rule a.terms.lent next a.progress) a
+      (λ next. unless_limit ending (onward next) b.progress) b
+      → is_some ending ≡ true → IsAtEnd b.world.exchange.left → ending ≢ Some Memory → HasPlayed by rule a ending b
+  limited-in {ending = None} onward at some rests told = absurd (cc)
+  limited-in {ending = Some ending} onward at some rests told = record { played = at; rests = rests; told = told }
+
+  -- ---- scripts
+
+  pub script-start : {items : List Command} {a : Standing State} → IsAt by items 0 a a
+  script-start = record { played = played-none }
+
+  module _ {items : List Command} {index : ℕ} {reached : Option Ending} {old now : Standing State} (one : Command)
+      (at : IsAt by items index old now) (within : index < length items) (is : one ≡ get_or items index one)
+      (limited : reached ≡ limit_before (step_of one) now.progress) where
     -- the commands behind it
     abbrev others : Next → Next
     others next = script_run now.terms.lent (steps_of (drop (index + 1) items)) next
 
     -- a limit, or the command at the index, and then the others
-    at-command : (e : Option Ending) → reached ≡ e
-        → PlayedTo by (λ (next : Next). script_run old.terms.lent script next old.progress) old
-        (λ next. unless_limit e (command_started now.terms.lent (step_of one) (others next)) now.progress) now
-    at-command e same = rw (sym same, limited, sym all)
-        (subst (λ (l : List Command). PlayedTo by
-        (λ (next : Next). script_run old.terms.lent (steps_of items) next old.progress) old
-        (λ next. script_run now.terms.lent (steps_of l) next now.progress) now) (drop-at items index one within is) at)
+    at-command : PlayedTo by (λ (next : Next). script_run old.terms.lent (steps_of items) next old.progress) old
+        (λ next. unless_limit reached (command_started now.terms.lent (step_of one) (others next)) now.progress) now
+    at-command = rw limited (rw (drop-at items index one within is) at at.played)
 
     -- a limit ends the run before the command
     pub script-limited : is_some reached ≡ true → IsAtEnd now.world.exchange.left
-        → HasPlayed by (λ lent. script_run lent script) old reached now
-    script-limited some rests = record {
-      played = limited-by reached refl some;
-      rests = rests;
-      told = subst (λ (e : Option Ending). e ≢ Some Memory) (sym limited) (no-limit (step_of one) now.progress);
-    }
-      where
-        limited-by : (e : Option Ending) → reached ≡ e → is_some e ≡ true
-            → PlayedTo by (λ (next : Next). script_run old.terms.lent script next old.progress) old
-            (λ next. unless_limit e next now.progress) now
-        limited-by None same some = absurd (cc)
-        limited-by (Some ending) same some = at-command (Some ending) same
+        → HasPlayed by (λ lent. script_run lent (steps_of items)) old reached now
+    script-limited some rests = limited-in (λ next. command_started now.terms.lent (step_of one) (others next))
+        at-command some rests (rw limited (no-limit (step_of one) now.progress))
 
     module _ (free : is_some reached ≡ false) where
       -- the command before which there is none
-      at-free : PlayedTo by (λ (next : Next). script_run old.terms.lent script next old.progress) old
+      at-free : PlayedTo by (λ (next : Next). script_run old.terms.lent (steps_of items) next old.progress) old
           (λ next. command_started now.terms.lent (step_of one) (others next) now.progress) now
-      at-free = at-command None (no-ending free)
+      at-free = rw (no-ending free) at at-command
 
       -- the command was played
-      pub script-next : (ending : Option Ending) (later : Standing State) → is_some ending ≡ false
+      pub script-next : {ending : Option Ending} {later : Standing State} → is_some ending ≡ false
           → HasPlayed by (λ lent. command_started lent (step_of one)) now ending later
-          → IsAt items (index + 1) old later
-      script-next ending later goes x = subst (λ (t : Terms). PlayedTo by
-          (λ (next : Next). script_run old.terms.lent (steps_of items) next old.progress) old
-          (λ next. script_run t.lent (steps_of (drop (index + 1) items)) next later.progress) later)
-          (sym x.played.same)
-          (rw all (played-then at-free (played-inside others (rw (no-ending goes) at x.played))))
+          → IsAt by items (index + 1) old later
+      script-next {later = later} goes x = record {
+        played = subst (λ (t : Terms). PlayedTo by (λ (next : Next). script_run old.terms.lent (steps_of items) next
+            old.progress) old (λ next. script_run t.lent (steps_of (drop (index + 1) items)) next later.progress) later)
+            (sym x.played.same) (played-then at-free (played-inside others (rw (no-ending goes) at x.played)));
+      }
 
       -- it ended the run
-      pub script-ended : (ending : Option Ending) (later : Standing State) → is_some ending ≡ true
+      pub script-ended : {ending : Option Ending} {later : Standing State} → is_some ending ≡ true
           → HasPlayed by (λ lent. command_started lent (step_of one)) now ending later
-          → HasPlayed by (λ lent. script_run lent script) old ending later
-      script-ended None later some x = absurd (cc)
-      script-ended (Some ending) later some x =
-          record { played = played-then at-free (played-inside others x.played); rests = x.rests; told = x.told }
+          → HasPlayed by (λ lent. script_run lent (steps_of items)) old ending later
+      script-ended = ended-in others at-free
 
       -- memory was refused in it
-      pub script-cut : (later : Standing State) → WasCut by (λ lent. command_started lent (step_of one)) now later
-          → WasCut by (λ lent. script_run lent script) old later
-      script-cut later x = played-cut at-free (cut-inside others x)
+      pub script-cut : {later : Standing State} → WasCut by (λ lent. command_started lent (step_of one)) now later
+          → WasCut by (λ lent. script_run lent (steps_of items)) old later
+      script-cut x = played-cut at-free (cut-inside others x)
 
   -- all commands were played
-  pub script-over : (script : Steps) (items : List Command) (index : ℕ) (old now : Standing State)
-      → steps_of items ≡ script → length items ≤ index → IsAt items index old now → IsAtEnd now.world.exchange.left
-      → HasPlayed by (λ lent. script_run lent script) old None now
-  script-over script items index old now all past at rests =
-      rw (sym all) (record { played = rw (drop_all index items past) at at; rests = rests; told = no-memory })
+  pub script-over : (items : List Command) (index : ℕ) {old now : Standing State} → IsAt by items index old now
+      → length items ≤ index → IsAtEnd now.world.exchange.left
+      → HasPlayed by (λ lent. script_run lent (steps_of items)) old None now
+  script-over items index at past rests =
+      record { played = rw (drop_all index items past) at at.played; rests = rests; told = no-memory }
 
   -- ---- a script so many times
 
-  -- the rounds so far were played, and the others follow
-  abbrev pub IsRound : ℕ → Steps → ℕ → Standing State → Standing State → Type 0
-  IsRound times part round old now =
-      PlayedTo by (λ (next : Next). repeated times (script_run old.terms.lent part) next old.progress) old
-      (λ next. repeated (times - round) (script_run now.terms.lent part) next now.progress) now
+  pub round-start : {times : ℕ} {part : Steps} {a : Standing State} → IsRound by times part 0 a a
+  round-start {times = times} =
+      record { played = rw (let e : times - 0 ≡ times = omega arith in e) played-none }
 
-  pub round-start : (times : ℕ) (part : Steps) (a : Standing State) → IsRound times part 0 a a
-  round-start times part a = rw (let e : times - 0 ≡ times = omega arith in e) played-none
-
-  module _ (times : ℕ) (part : Steps) (round : ℕ) (old now : Standing State) (within : round < times)
-      (at : IsRound times part round old now) where
+  module _ {times : ℕ} {part : Steps} {round : ℕ} {old now : Standing State} (at : IsRound by times part round old now)
+      (within : round < times) where
     -- the rounds behind it
     abbrev rounds : Next → Next
     rounds next = repeated (times - (round + 1)) (script_run now.terms.lent part) next
 
     at-round : PlayedTo by (λ (next : Next). repeated times (script_run old.terms.lent part) next old.progress) old
         (λ next. script_run now.terms.lent part (rounds next) now.progress) now
-    at-round = rw (let e : times - round ≡ suc (times - (round + 1)) = omega (arith, within) in e) at at
+    at-round = rw (let e : times - round ≡ suc (times - (round + 1)) = omega (arith, within) in e) at at.played
 
-    pub round-next : (ending : Option Ending) (later : Standing State) → is_some ending ≡ false
-        → HasPlayed by (λ lent. script_run lent part) now ending later → IsRound times part (round + 1) old later
-    round-next ending later goes x = subst (λ (t : Terms). PlayedTo by
-        (λ (next : Next). repeated times (script_run old.terms.lent part) next old.progress) old
-        (λ next. repeated (times - (round + 1)) (script_run t.lent part) next later.progress) later) (sym x.played.same)
-        (played-then at-round (played-inside rounds (rw (no-ending goes) at x.played)))
+    pub round-next : {ending : Option Ending} {later : Standing State} → is_some ending ≡ false
+        → HasPlayed by (λ lent. script_run lent part) now ending later → IsRound by times part (round + 1) old later
+    round-next {later = later} goes x = record {
+      played = subst (λ (t : Terms). PlayedTo by (λ (next : Next). repeated times (script_run old.terms.lent part) next
+          old.progress) old (λ next. repeated (times - (round + 1)) (script_run t.lent part) next later.progress) later)
+          (sym x.played.same) (played-then at-round (played-inside rounds (rw (no-ending goes) at x.played)));
+    }
 
-    pub round-ended : (ending : Option Ending) (later : Standing State) → is_some ending ≡ true
+    pub round-ended : {ending : Option Ending} {later : Standing State} → is_some ending ≡ true
         → HasPlayed by (λ lent. script_run lent part) now ending later
         → HasPlayed by (λ lent. repeated times (script_run lent part)) old ending later
-    round-ended None later some x = absurd (cc)
-    round-ended (Some ending) later some x =
-        record { played = played-then at-round (played-inside rounds x.played); rests = x.rests; told = x.told }
+    round-ended = ended-in rounds at-round
 
-    pub round-cut : (later : Standing State) → WasCut by (λ lent. script_run lent part) now later
+    pub round-cut : {later : Standing State} → WasCut by (λ lent. script_run lent part) now later
         → WasCut by (λ lent. repeated times (script_run lent part)) old later
-    round-cut later x = played-cut at-round (cut-inside rounds x)
+    round-cut x = played-cut at-round (cut-inside rounds x)
 
-  pub round-over : (times : ℕ) (part : Steps) (round : ℕ) (old now : Standing State) → times ≤ round
-      → IsRound times part round old now → IsAtEnd now.world.exchange.left
+  pub round-over : {times : ℕ} {part : Steps} {round : ℕ} {old now : Standing State}
+      → IsRound by times part round old now → times ≤ round → IsAtEnd now.world.exchange.left
       → HasPlayed by (λ lent. repeated times (script_run lent part)) old None now
-  round-over times part round old now past at rests = record {
-    played = rw (let e : times - round ≡ 0 = omega (arith, past) in e) at at;
+  round-over {times = times} {round = round} at past rests = record {
+    played = rw (let e : times - round ≡ 0 = omega (arith, past) in e) at at.played;
     rests = rests;
     told = no-memory;
   }
-
-  -- ---- one of two parts
-
-  -- the one that the condition chose, or the other
-  pub chosen-came : (test : Test) (part other : Steps) (chose : Bool) (old new : Standing State)
-      (result : Result (Option Ending) OutOfMemory) → holds test (last_of old.progress) ≡ chose
-      → Plays by (λ lent. cond chose (script_run lent part) (script_run lent other)) old result new
-      → Plays by (λ lent. chosen test (script_run lent part) (script_run lent other)) old result new
-  chosen-came test part other true old new (Ok ending) is x =
-      record { played = rw is x.played; rests = x.rests; told = x.told }
-  chosen-came test part other false old new (Ok ending) is x =
-      record { played = rw is x.played; rests = x.rests; told = x.told }
-  chosen-came test part other true old new (Err refused) is x = rw is x
-  chosen-came test part other false old new (Err refused) is x = rw is x
-
-  -- ---- commands
-
-  -- one that has started, and then its part
-  pub started-came : (rule : Rule) (old mid new : Standing State) (result : Result (Option Ending) OutOfMemory)
-      → mid ≡ record old { progress = started old.progress } → Plays by rule mid result new
-      → Plays by (λ lent next progress. rule lent next (started progress)) old result new
-  started-came rule old mid new (Ok ending) is x =
-      let y = subst (λ (s : Standing State). HasPlayed by rule s ending new) is x in
-      record {
-        played = record {
-          same = y.played.same;
-          tape = y.played.tape;
-          made = y.played.made;
-          added = y.played.added;
-          trace = y.played.trace;
-        };
-        rests = y.rests;
-        told = y.told;
-      }
-  started-came rule old mid new (Err refused) is x =
-      let y = subst (λ (s : Standing State). WasCut by rule s new) is x in
-      record {
-        same = y.same;
-        tape = y.tape;
-        made = y.made;
-        missed = y.missed;
-        few = y.few;
-        place = y.place;
-        last = y.last;
-        added = y.added;
-        trace = y.trace;
-        left = y.left;
-      }
-
-  -- a wait
-  pub command-waited : (seconds : ℕ) (old new : Standing State)
-      → new ≡ record old { progress = waited seconds (started old.progress) } → IsAtEnd old.world.exchange.left
-      → HasPlayed by (λ lent. command_started lent (script.wait seconds)) old None new
-  command-waited seconds old new is rests = rw is (record {
-    played = record {
-      same = refl;
-      tape = [];
-      made = [];
-      added = sym (append-nil old.progress.shown);
-      trace = λ next. traces.stop;
-    };
-    rests = rests;
-    told = no-memory;
-  })

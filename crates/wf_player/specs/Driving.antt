@@ -18,33 +18,38 @@ abbrev pub LeadsOn : {State : Type 0} → Answering State → ℕ → ℕ → Pr
     → Process → World State → Type 0
 LeadsOn by limit document = Trace (with_events (Answers by limit document) events_of)
 
--- The fetch came to its outcome: for some tape of the world's answers it has shown what was added to the events.
-pub record FetchedTo {State : Type 0} (by : Answering State) (whole : Process) (old : Standing State)
-    (outcome : Outcome) (new : Standing State) : Type 0 where
+-- The process came to this place: for some tape of the world's answers it has shown what was added to the events.
+pub record FetchedTo {State : Type 0} (by : Answering State) (whole : Process) (old : Standing State) (place : Process)
+    (new : Standing State) : Type 0 where
   pub same : new.terms ≡ old.terms
   pub tape : List Input
   pub made : List Event
   pub added : new.progress ≡ after_events made old.progress
-  pub trace : LeadsOn by old.terms.limit old.terms.document whole old.world tape made (ended outcome) new.world
+  pub trace : LeadsOn by old.terms.limit old.terms.document whole old.world tape made place new.world
 
--- Memory was refused: the fetch came to some place, and what was added to the events begins what it showed on the way;
--- what is missed there, one event at most, came about and was not noted.
-pub record FetchCut {State : Type 0} (by : Answering State) (whole : Process) (old new : Standing State) : Type 0 where
+-- What memory cost once these events were made, which led to a last standing: what was shown is a first part of them.
+-- What is missed, one event at most, came about and was not noted.
+pub record HasLost {State : Type 0} (made : List Event) (old last new : Standing State) : Type 0 where
   pub same : new.terms ≡ old.terms
-  pub tape : List Input
-  pub made : List Event
+  pub noted : List Event
   pub missed : List Event
   pub few : length missed ≤ 1
+  pub parts : made ≡ noted ++ missed
+  pub added : new.progress.shown ≡ old.progress.shown ++ noted
+  pub refused : Refuses (outside_of last.world) (outside_of new.world)
+
+-- Memory was refused: the fetch came to some place, and of the run inside nothing changed but what was shown.
+pub record FetchCut {State : Type 0} (by : Answering State) (whole : Process) (old new : Standing State) : Type 0 where
   pub place : Process
-  pub last : World State
-  pub added : new.progress ≡ after_events made old.progress
-  pub trace : LeadsOn by old.terms.limit old.terms.document whole old.world tape (made ++ missed) place last
-  pub left : Refuses (outside_of last) (outside_of new.world)
+  pub last : Standing State
+  pub came : FetchedTo by whole old place last
+  pub lost : HasLost came.made old last new
+  pub kept : new.progress ≡ record old.progress { shown = new.progress.shown }
 
 -- what a fetch came to, with an outcome or for want of memory
 abbrev pub Fetches : {State : Type 0} → Answering State → Process → Standing State → Result Outcome OutOfMemory
     → Standing State → Type 0
-Fetches by whole old (Ok outcome) new = FetchedTo by whole old outcome new
+Fetches by whole old (Ok outcome) new = FetchedTo by whole old (ended outcome) new
 Fetches by whole old (Err refused) new = FetchCut by whole old new
 
 -- ---- a fetch by itself

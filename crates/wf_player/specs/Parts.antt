@@ -1,5 +1,5 @@
 -- What each part of a document's run comes to in the document's world.
-use Rattle.std.specs.Prelude.{◌≡◌, ◌≢◌, ℕ, ◌≤◌, List, ◌++◌, length, Option, Some, None, Result, Ok, Err, ⊤}
+use Rattle.std.specs.Prelude.{◌≡◌, ◌≢◌, ℕ, List, ◌++◌, Option, Some, None, Result, Ok, Err, ⊤}
 use Rattle.wf_text.specs.declared.memory.OutOfMemory.{OutOfMemory}
 use Rattle.wf_fetch_acts.specs.declared.act.Input.{Input}
 use Rattle.wf_link.specs.Sources.{IsAtEnd}
@@ -10,8 +10,9 @@ use Rattle.wf_script_run.specs.Play.{Play}
 use Rattle.wf_script_run.specs.Runs.{Next, Setting, unless_limit}
 use Rattle.wf_script_run.specs.Traces.{PlayTrace}
 use Rattle.wf_link_wire.specs.Exchanges.{Answering}
+use Rattle.wf_player.specs.Driving.{HasLost}
 use Rattle.wf_player.specs.Standings.{Standing}
-use Rattle.wf_player.specs.Worlds.{Answers, Refuses, Settles, World, outside_of}
+use Rattle.wf_player.specs.Worlds.{Answers, Settles, World}
 
 -- with these items of a tape a run shows these events in the world of a document, and goes on
 abbrev pub PlaysOn : {State : Type 0} → Answering State → ℕ → ℕ → Play → World State → List Input → List Event → Play
@@ -29,21 +30,13 @@ pub record PlayedTo {State N : Type 0} (by : Answering State) (part : N → Play
   pub trace : (next : N)
       → PlaysOn by old.terms.limit old.terms.document (part next) old.world tape made (rest next) new.world
 
--- Memory was refused somewhere: the part came to some place, and what was added to the events is what it showed on the
--- way, but for one event at most.
+-- Memory was refused somewhere: the part came to some place.
 pub record CutShort {State N : Type 0} (by : Answering State) (part : N → Play) (old new : Standing State)
     : Type 0 where
-  pub same : new.terms ≡ old.terms
-  pub tape : List Input
-  pub made : List Event
-  pub missed : List Event
-  pub few : length missed ≤ 1
   pub place : N → Play
-  pub last : World State
-  pub added : new.progress.shown ≡ old.progress.shown ++ made
-  pub trace : (next : N) → PlaysOn by old.terms.limit old.terms.document (part next) old.world tape (made ++ missed)
-      (place next) last
-  pub left : Refuses (outside_of last) (outside_of new.world)
+  pub last : Standing State
+  pub played : PlayedTo by part old place last
+  pub lost : HasLost played.made old last new
 
 -- A rule of the script, by what its fetches have in common: what it does before what follows it.
 abbrev pub Rule : Type 0

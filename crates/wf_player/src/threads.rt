@@ -150,8 +150,8 @@ fn listed(alloc: Global, transcripts: Vec<Transcript>) -> Result<Transcripts, Ou
 ///
 /// The transcripts come in the order of the documents. Each, with its document's seat before and after the
 /// play, is that of a run as `drive` makes one, but that bytes may be left over its link. A document that is
-/// refused memory ends with the ending `Memory`. `OutOfMemory` where memory was refused outside of the documents' runs: then
-/// none was played and the seats are as they were, or all were played, and the calls that they made stay made.
+/// refused memory ends with the ending `Memory`. `OutOfMemory` where memory was refused outside of the documents' runs:
+/// then none was played and the seats are as they were, or all were played, and the calls that they made stay made.
 pub fn play_all<R: Threads + Wait + Sync, S: Share + Sync, L: Link + Send + Drop>(
     rt: &R,
     alloc: Global,

@@ -147,13 +147,15 @@ module _ {L State : Type 0} (by : Answering State) (told : L → Told State) (sc
   closed-play transcripts played text = record {
     legal = legal-history told scenario id first made back book history are documents closed;
     turns = turns-closed told scenario id first made back book history are documents closed
-        (called-of by scenario base played text (fresh-seats told scenario id first made back book history are documents closed));
+        (called-of by scenario base played text (fresh-seats told scenario id first made back book history are
+        documents closed));
     named = named-history told scenario id first made back book history are documents closed;
     runs = rw (
       ← ways-of told scenario id first made back book history are documents closed made,
       ← ways-of told scenario id first made back book history are documents closed back,
     )
-        (transcripts-of by scenario base history played text (fresh-seats told scenario id first made back book history are documents closed)
+        (transcripts-of by scenario base history played text (fresh-seats told scenario id first made back book
+        history are documents closed)
         (own-entries told scenario id first made back book history are documents closed));
   }
 
@@ -172,7 +174,8 @@ module _ {L State : Type 0} (by : Answering State) (told : L → Told State) (sc
       ← ways-of told scenario id first made back book history are documents closed made,
       ← ways-of told scenario id first made back book history are documents closed back,
     )
-        (have-run by scenario base history played (fresh-seats told scenario id first made back book history are documents closed)
+        (have-run by scenario base history played (fresh-seats told scenario id first made back book history are
+        documents closed)
         (own-entries told scenario id first made back book history are documents closed));
   })
 

@@ -1,5 +1,5 @@
--- What the seats of a play come to once their book is closed: one history, legal from the opening book, whose entries are
--- those of the documents' passes, and whose turns have no gap where each call has its entry.
+-- What the seats of a play come to once their book is closed: one history, legal from the opening book, whose entries
+-- are those of the documents' passes, and whose turns have no gap where each call has its entry.
 use Rattle.std.proofs.Common.{◌≡◌, ◌≢◌, ℕ, suc, ◌+◌, ◌<◌, ◌≤◌, List, [], ◌∷◌, ◌++◌, length, map}
 use Rattle.std.proofs.Common.{refl, ap, sym, subst, ◌∙◌, arith, ◌⊎◌, inl, inr, zero, Bool, true, false, cond, eq-eqb}
 use Rattle.std.specs.Prelude.{◌==◌}
@@ -205,7 +205,8 @@ named-below count first back (e ∷ es) is documents named apart = (
 -- ---- the whole
 
 -- seats that were made with the book's passes, and their passes as they came back to a book that is closed
-module _ {L State : Type 0} (told : L → Told State) (scenario : Scenario) (id : TableId) (first : TurnPass) (made back : List (Seating L TurnPass)) (book : Book)
+module _ {L State : Type 0} (told : L → Told State) (scenario : Scenario) (id : TableId) (first : TurnPass)
+    (made back : List (Seating L TurnPass)) (book : Book)
     (history : List Entry) (are : ArePasses id (opening_book scenario) (length scenario.documents) first
     (passes_in made))
     (documents : map (λ (p : TurnPass). p.document) (passes_in back) ≡ range_with_len 0 (length scenario.documents))

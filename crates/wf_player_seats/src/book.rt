@@ -28,8 +28,8 @@ fn note_host(alloc: Global, book: &mut Book, known: &KnownHost) -> Result<(), Ou
     Ok(())
 }
 
-/// The book that a play opens with: an empty one in which these hosts were noted at the time 0, one after another. They are
-/// hosts of a valid scenario.
+/// The book that a play opens with: an empty one in which these hosts were noted at the time 0, one after another. They
+/// are hosts of a valid scenario.
 pub fn opened(alloc: Global, hosts: &[KnownHost]) -> Result<Book, OutOfMemory>
     requires { All IsValidHost hosts.now }
     ensures { IfOk result (λ book. book ≡ with_hosts hosts.now empty) }

@@ -8,9 +8,9 @@ use wf_book::Book;
 use wf_text::OutOfMemory;
 use wf_turn::{TurnBook, TurnPass};
 
-/// Makes passes of a shared book for so many documents, in order, at most 128. The first pass of the book, on which no call
-/// was made and which has made no other pass, has made just these then. Where memory is refused those that were made are
-/// gone, and the book cannot be closed.
+/// Makes passes of a shared book for so many documents, in order, at most 128. The first pass of the book, on which no
+/// call was made and which has made no other pass, has made just these then. Where memory is refused those that were
+/// made are gone, and the book cannot be closed.
 pub fn passes_of(
     alloc: Global,
     book: &TurnBook,

@@ -11,9 +11,9 @@ use wf_player::Seating;
 use wf_text::OutOfMemory;
 use wf_turn::TurnPass;
 
-/// Seats the documents of these passes, at most 128: makes the link of each by these routes, in order, and puts it beside
-/// the pass. There are no seats yet, and there is room for as many. Where a link cannot be made, those made before have
-/// their seats.
+/// Seats the documents of these passes, at most 128: makes the link of each by these routes, in order, and puts it
+/// beside the pass. There are no seats yet, and there is room for as many. Where a link cannot be made, those made
+/// before have their seats.
 pub fn seat_all<N: Links>(
     alloc: Global,
     routes: &Routes,
@@ -40,8 +40,8 @@ pub fn seat_all<N: Links>(
     Ok(())
 }
 
-/// Takes the links of the seats back, in order of documents, and puts their passes behind the others, for which there is
-/// room.
+/// Takes the links of the seats back, in order of documents, and puts their passes behind the others, for which there
+/// is room.
 pub fn unseat<N: Links>(
     seats: Vec<Seating<N::Link, TurnPass>>,
     links: &mut N,

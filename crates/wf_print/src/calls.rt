@@ -2,6 +2,7 @@ ghost use Rattle.std.specs.Prelude.{◌≡◌, ◌++◌, codes, OnOk};
 ghost use Rattle.wf_script_events.specs.Calls as spec;
 
 use crate::lines::add_number;
+use crate::page::Page;
 use wf_book::{Op, Reply};
 use wf_hsts::Sts;
 use wf_precache::{Lesson, Question};
@@ -33,7 +34,7 @@ fn subdomains_text(subdomains: bool) -> &'static [u8]
 }
 
 // Adds texts, each after a comma.
-fn add_comma_texts(text: &mut Bytes, texts: &[Bytes]) -> Result<(), OutOfMemory>
+fn add_comma_texts(text: &mut Page, texts: &[Bytes]) -> Result<(), OutOfMemory>
     ensures { OnOk result (text.new ≡ text.old ++ spec.comma_texts texts.now) }
 {
     for item in texts {
@@ -44,7 +45,7 @@ fn add_comma_texts(text: &mut Bytes, texts: &[Bytes]) -> Result<(), OutOfMemory>
 }
 
 // Adds a list of texts.
-fn add_list(text: &mut Bytes, texts: &[Bytes]) -> Result<(), OutOfMemory>
+fn add_list(text: &mut Page, texts: &[Bytes]) -> Result<(), OutOfMemory>
     ensures { OnOk result (text.new ≡ text.old ++ spec.list_text texts.now) }
 {
     let Some((first, others)) = texts.split_first() else {
@@ -65,7 +66,7 @@ fn method_text(method: &Option<Bytes>) -> &[u8]
 }
 
 // Adds a word and the space after it.
-fn add_word(text: &mut Bytes, word: &[u8]) -> Result<(), OutOfMemory>
+fn add_word(text: &mut Page, word: &[u8]) -> Result<(), OutOfMemory>
     ensures { OnOk result (text.new ≡ text.old ++ (word.now ++ codes " ")) }
 {
     text.append(word)?;
@@ -73,7 +74,7 @@ fn add_word(text: &mut Bytes, word: &[u8]) -> Result<(), OutOfMemory>
 }
 
 // Adds what a Strict-Transport-Security field said.
-fn add_sts(text: &mut Bytes, sts: &Sts) -> Result<(), OutOfMemory>
+fn add_sts(text: &mut Page, sts: &Sts) -> Result<(), OutOfMemory>
     ensures { OnOk result (text.new ≡ text.old ++ spec.sts_text sts.now) }
 {
     add_number(text, sts.age)?;
@@ -82,7 +83,7 @@ fn add_sts(text: &mut Bytes, sts: &Sts) -> Result<(), OutOfMemory>
 }
 
 // Adds what a request would need of the preflight cache.
-fn add_question(text: &mut Bytes, question: &Question) -> Result<(), OutOfMemory>
+fn add_question(text: &mut Page, question: &Question) -> Result<(), OutOfMemory>
     ensures { OnOk result (text.new ≡ text.old ++ spec.question_text question.now) }
 {
     add_word(text, question.key.as_slice())?;
@@ -95,7 +96,7 @@ fn add_question(text: &mut Bytes, question: &Question) -> Result<(), OutOfMemory
 }
 
 // Adds what a preflight taught.
-fn add_lesson(text: &mut Bytes, lesson: &Lesson) -> Result<(), OutOfMemory>
+fn add_lesson(text: &mut Page, lesson: &Lesson) -> Result<(), OutOfMemory>
     ensures { OnOk result (text.new ≡ text.old ++ spec.lesson_text lesson.now) }
 {
     add_word(text, lesson.key.as_slice())?;
@@ -111,7 +112,7 @@ fn add_lesson(text: &mut Bytes, lesson: &Lesson) -> Result<(), OutOfMemory>
 }
 
 // Adds the time of an operation.
-fn add_time(text: &mut Bytes, now: u64) -> Result<(), OutOfMemory>
+fn add_time(text: &mut Page, now: u64) -> Result<(), OutOfMemory>
     ensures { OnOk result (text.new ≡ text.old ++ spec.time_text now) }
 {
     text.append(b" at ")?;
@@ -119,7 +120,7 @@ fn add_time(text: &mut Bytes, now: u64) -> Result<(), OutOfMemory>
 }
 
 // Adds an operation and its time.
-fn add_op(text: &mut Bytes, op: &Op) -> Result<(), OutOfMemory>
+fn add_op(text: &mut Page, op: &Op) -> Result<(), OutOfMemory>
     ensures { OnOk result (text.new ≡ text.old ++ spec.op_text op.now) }
 {
     match op {
@@ -155,7 +156,7 @@ fn add_op(text: &mut Bytes, op: &Op) -> Result<(), OutOfMemory>
 }
 
 // Adds an operation, and what it replied.
-pub(crate) fn add_call(text: &mut Bytes, op: &Op, reply: Reply) -> Result<(), OutOfMemory>
+pub(crate) fn add_call(text: &mut Page, op: &Op, reply: Reply) -> Result<(), OutOfMemory>
     ensures { OnOk result (text.new ≡ text.old ++ spec.call_text op.now reply) }
 {
     add_op(text, op)?;

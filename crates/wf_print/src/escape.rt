@@ -3,8 +3,9 @@ ghost use Rattle.std.specs.List.{prefix_len};
 ghost use Rattle.std.specs.Char.{digit_char};
 ghost use Rattle.wf_script_events.specs.Escapes as spec;
 
+use crate::page::Page;
 use wf_script_events::{are_plain, is_plain};
-use wf_text::{Bytes, OutOfMemory};
+use wf_text::OutOfMemory;
 
 // How many bytes are looked at together.
 const BLOCK: usize = 512;
@@ -41,7 +42,7 @@ fn hex_escape(byte: u8) -> [u8; 4]
 }
 
 // Adds a piece, escaped. Bytes that are not changed are added a run at a time.
-fn add_runs(text: &mut Bytes, piece: &[u8]) -> Result<(), OutOfMemory>
+fn add_runs(text: &mut Page, piece: &[u8]) -> Result<(), OutOfMemory>
     ensures { OnOk result (text.new ≡ text.old ++ spec.escaped piece.now) }
 {
     let mut rest = piece;
@@ -57,7 +58,7 @@ fn add_runs(text: &mut Bytes, piece: &[u8]) -> Result<(), OutOfMemory>
 }
 
 // Adds a block, escaped: as it is, where each of its bytes is written as it is.
-fn add_block(text: &mut Bytes, block: &[u8]) -> Result<(), OutOfMemory>
+fn add_block(text: &mut Page, block: &[u8]) -> Result<(), OutOfMemory>
     ensures { OnOk result (text.new ≡ text.old ++ spec.escaped block.now) }
 {
     if are_plain(block) {
@@ -68,7 +69,7 @@ fn add_block(text: &mut Bytes, block: &[u8]) -> Result<(), OutOfMemory>
 }
 
 // Adds a piece, escaped, a block at a time.
-pub(crate) fn add_escaped(text: &mut Bytes, piece: &[u8]) -> Result<(), OutOfMemory>
+fn add_blocks(text: &mut Page, piece: &[u8]) -> Result<(), OutOfMemory>
     ensures { OnOk result (text.new ≡ text.old ++ spec.escaped piece.now) }
 {
     let mut rest = piece;
@@ -78,4 +79,15 @@ pub(crate) fn add_escaped(text: &mut Bytes, piece: &[u8]) -> Result<(), OutOfMem
         rest = after;
     }
     Ok(())
+}
+
+// Adds a piece, escaped. Most are no longer than a block.
+pub(crate) fn add_escaped(text: &mut Page, piece: &[u8]) -> Result<(), OutOfMemory>
+    ensures { OnOk result (text.new ≡ text.old ++ spec.escaped piece.now) }
+{
+    if piece.len() <= BLOCK {
+        add_block(text, piece)
+    } else {
+        add_blocks(text, piece)
+    }
 }

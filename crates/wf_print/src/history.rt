@@ -4,12 +4,13 @@ ghost use Rattle.wf_print.specs.Text as spec;
 
 use crate::calls::add_call;
 use crate::lines::add_number;
+use crate::page::Page;
 use std::alloc::Global;
 use wf_book::Entry;
 use wf_text::{Bytes, OutOfMemory};
 
 // Adds an entry of the history.
-fn add_entry(text: &mut Bytes, entry: &Entry) -> Result<(), OutOfMemory>
+fn add_entry(text: &mut Page, entry: &Entry) -> Result<(), OutOfMemory>
     ensures { OnOk result (text.new ≡ text.old ++ spec.entry_line entry.now) }
 {
     add_number(text, entry.turn)?;
@@ -21,7 +22,7 @@ fn add_entry(text: &mut Bytes, entry: &Entry) -> Result<(), OutOfMemory>
 }
 
 // Adds entries of the history.
-fn add_entries(text: &mut Bytes, entries: &[Entry]) -> Result<(), OutOfMemory>
+fn add_entries(text: &mut Page, entries: &[Entry]) -> Result<(), OutOfMemory>
     ensures { OnOk result (text.new ≡ text.old ++ flat_map spec.entry_line entries.now) }
 {
     for entry in entries {
@@ -34,7 +35,7 @@ fn add_entries(text: &mut Bytes, entries: &[Entry]) -> Result<(), OutOfMemory>
 pub(crate) fn text_of_entries(alloc: Global, entries: &[Entry]) -> Result<Bytes, OutOfMemory>
     ensures { IfOk result (λ text. text ≡ flat_map spec.entry_line entries.now) }
 {
-    let mut text = Bytes::new(alloc);
+    let mut text = Page::new(alloc);
     add_entries(&mut text, entries)?;
-    Ok(text)
+    text.into_text()
 }

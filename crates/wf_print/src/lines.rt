@@ -5,6 +5,7 @@ ghost use Rattle.wf_script_events.specs.Lines as spec;
 
 use crate::calls::add_call;
 use crate::escape::add_escaped;
+use crate::page::Page;
 use itoa::{Buffer, Integer};
 use wf_book::{Op, Reply};
 use wf_headers::{Header, HeaderList};
@@ -13,7 +14,7 @@ use wf_text::{Bytes, OutOfMemory};
 use wf_types::{BodyEnd, Destination, Hop, NetError, Outcome, Response, TypeFault, Violation};
 
 /// Adds a number in decimal to a text. Where memory is refused the text is any.
-pub fn add_number<I: Integer>(text: &mut Bytes, number: I) -> Result<(), OutOfMemory>
+pub fn add_number<I: Integer>(text: &mut Page, number: I) -> Result<(), OutOfMemory>
     ensures { OnOk result (text.new ≡ text.old ++ I.text number) }
 {
     let mut buffer = Buffer::new();
@@ -21,7 +22,7 @@ pub fn add_number<I: Integer>(text: &mut Bytes, number: I) -> Result<(), OutOfMe
 }
 
 // Adds a line that ends with a number.
-fn add_number_line(text: &mut Bytes, label: &[u8], number: u32) -> Result<(), OutOfMemory>
+fn add_number_line(text: &mut Page, label: &[u8], number: u32) -> Result<(), OutOfMemory>
     ensures { OnOk result (text.new ≡ text.old ++ spec.line (label.now ++ decimal number)) }
 {
     text.append(label)?;
@@ -30,7 +31,7 @@ fn add_number_line(text: &mut Bytes, label: &[u8], number: u32) -> Result<(), Ou
 }
 
 // Adds a header as a line.
-fn add_header(text: &mut Bytes, name: &[u8], value: &[u8]) -> Result<(), OutOfMemory>
+fn add_header(text: &mut Page, name: &[u8], value: &[u8]) -> Result<(), OutOfMemory>
     ensures { OnOk result (text.new ≡ text.old ++ spec.escaped_line (name.now ++ codes ": " ++ value.now)) }
 {
     text.append(b"  ")?;
@@ -41,7 +42,7 @@ fn add_header(text: &mut Bytes, name: &[u8], value: &[u8]) -> Result<(), OutOfMe
 }
 
 // Adds the lines of a header list.
-fn add_headers(text: &mut Bytes, headers: &HeaderList) -> Result<(), OutOfMemory>
+fn add_headers(text: &mut Page, headers: &HeaderList) -> Result<(), OutOfMemory>
     ensures { OnOk result (text.new ≡ text.old ++ spec.header_lines headers.now) }
 {
     for index in 0..headers.len() {
@@ -51,7 +52,7 @@ fn add_headers(text: &mut Bytes, headers: &HeaderList) -> Result<(), OutOfMemory
 }
 
 // Adds the length of a body and its bytes.
-fn add_body(text: &mut Bytes, body: &Bytes) -> Result<(), OutOfMemory>
+fn add_body(text: &mut Page, body: &Bytes) -> Result<(), OutOfMemory>
     ensures { OnOk result (text.new ≡ text.old ++ spec.body_text body.now) }
 {
     add_number(text, body.len())?;
@@ -60,7 +61,7 @@ fn add_body(text: &mut Bytes, body: &Bytes) -> Result<(), OutOfMemory>
 }
 
 // Adds a line that ends with a body.
-fn add_body_line(text: &mut Bytes, label: &[u8], body: &Bytes) -> Result<(), OutOfMemory>
+fn add_body_line(text: &mut Page, label: &[u8], body: &Bytes) -> Result<(), OutOfMemory>
     ensures { OnOk result (text.new ≡ text.old ++ spec.line (label.now ++ spec.body_text body.now)) }
 {
     text.append(label)?;
@@ -69,7 +70,7 @@ fn add_body_line(text: &mut Bytes, label: &[u8], body: &Bytes) -> Result<(), Out
 }
 
 // Adds the line of a request's body, where there is one.
-fn add_request_body(text: &mut Bytes, body: &Option<Bytes>) -> Result<(), OutOfMemory>
+fn add_request_body(text: &mut Page, body: &Option<Bytes>) -> Result<(), OutOfMemory>
     ensures { OnOk result (text.new ≡ text.old ++ spec.request_body_lines body.now) }
 {
     match body {
@@ -79,7 +80,7 @@ fn add_request_body(text: &mut Bytes, body: &Option<Bytes>) -> Result<(), OutOfM
 }
 
 // Adds the request line.
-fn add_request_line(text: &mut Bytes, hop: &Hop) -> Result<(), OutOfMemory>
+fn add_request_line(text: &mut Page, hop: &Hop) -> Result<(), OutOfMemory>
     ensures { OnOk result (text.new ≡ text.old ++ spec.escaped_line (spec.request_line hop.now)) }
 {
     text.append(b"  ")?;
@@ -90,7 +91,7 @@ fn add_request_line(text: &mut Bytes, hop: &Hop) -> Result<(), OutOfMemory>
 }
 
 // Adds a request that was sent.
-fn add_hop(text: &mut Bytes, hop: &Hop) -> Result<(), OutOfMemory>
+fn add_hop(text: &mut Page, hop: &Hop) -> Result<(), OutOfMemory>
     ensures { OnOk result (text.new ≡ text.old ++ spec.hop_lines hop.now) }
 {
     text.append(b"send ")?;
@@ -109,7 +110,7 @@ fn disposition(enforced: bool) -> &'static [u8]
 }
 
 // Adds a violation.
-fn add_violation(text: &mut Bytes, violation: &Violation) -> Result<(), OutOfMemory>
+fn add_violation(text: &mut Page, violation: &Violation) -> Result<(), OutOfMemory>
     ensures { OnOk result (text.new ≡ text.old ++ spec.violation_line violation.now) }
 {
     text.append(b"violation ")?;
@@ -124,7 +125,7 @@ fn add_violation(text: &mut Bytes, violation: &Violation) -> Result<(), OutOfMem
 }
 
 // Adds the line of a response's body.
-fn add_body_end(text: &mut Bytes, body: &BodyEnd) -> Result<(), OutOfMemory>
+fn add_body_end(text: &mut Page, body: &BodyEnd) -> Result<(), OutOfMemory>
     ensures { OnOk result (text.new ≡ text.old ++ spec.body_line body.now) }
 {
     match body {
@@ -137,7 +138,7 @@ fn add_body_end(text: &mut Bytes, body: &BodyEnd) -> Result<(), OutOfMemory>
 }
 
 // Adds the URL of a response.
-fn add_url(text: &mut Bytes, url: &Option<Bytes>) -> Result<(), OutOfMemory>
+fn add_url(text: &mut Page, url: &Option<Bytes>) -> Result<(), OutOfMemory>
     ensures { OnOk result (text.new ≡ text.old ++ spec.url_text url.now) }
 {
     match url {
@@ -147,7 +148,7 @@ fn add_url(text: &mut Bytes, url: &Option<Bytes>) -> Result<(), OutOfMemory>
 }
 
 // Adds a response.
-fn add_response(text: &mut Bytes, response: &Response) -> Result<(), OutOfMemory>
+fn add_response(text: &mut Page, response: &Response) -> Result<(), OutOfMemory>
     ensures { OnOk result (text.new ≡ text.old ++ spec.response_lines response.now) }
 {
     text.append(b"result ")?;
@@ -162,7 +163,7 @@ fn add_response(text: &mut Bytes, response: &Response) -> Result<(), OutOfMemory
 }
 
 // Adds a network error.
-fn add_error(text: &mut Bytes, error: &NetError) -> Result<(), OutOfMemory>
+fn add_error(text: &mut Page, error: &NetError) -> Result<(), OutOfMemory>
     ensures { OnOk result (text.new ≡ text.old ++ spec.error_text error.now) }
 {
     add_number(text, error.number())?;
@@ -176,7 +177,7 @@ fn add_error(text: &mut Bytes, error: &NetError) -> Result<(), OutOfMemory>
 }
 
 // Adds a line that ends with a network error.
-fn add_error_line(text: &mut Bytes, label: &[u8], error: &NetError) -> Result<(), OutOfMemory>
+fn add_error_line(text: &mut Page, label: &[u8], error: &NetError) -> Result<(), OutOfMemory>
     ensures { OnOk result (text.new ≡ text.old ++ spec.line (label.now ++ spec.error_text error.now)) }
 {
     text.append(label)?;
@@ -185,7 +186,7 @@ fn add_error_line(text: &mut Bytes, label: &[u8], error: &NetError) -> Result<()
 }
 
 // Adds a fault of a request.
-fn add_fault(text: &mut Bytes, fault: TypeFault) -> Result<(), OutOfMemory>
+fn add_fault(text: &mut Page, fault: TypeFault) -> Result<(), OutOfMemory>
     ensures { OnOk result (text.new ≡ text.old ++ spec.fault_text fault) }
 {
     add_number(text, fault.number())?;
@@ -199,7 +200,7 @@ fn add_fault(text: &mut Bytes, fault: TypeFault) -> Result<(), OutOfMemory>
 }
 
 // Adds a line that ends with a fault of a request.
-fn add_fault_line(text: &mut Bytes, label: &[u8], fault: TypeFault) -> Result<(), OutOfMemory>
+fn add_fault_line(text: &mut Page, label: &[u8], fault: TypeFault) -> Result<(), OutOfMemory>
     ensures { OnOk result (text.new ≡ text.old ++ spec.line (label.now ++ spec.fault_text fault)) }
 {
     text.append(label)?;
@@ -208,7 +209,7 @@ fn add_fault_line(text: &mut Bytes, label: &[u8], fault: TypeFault) -> Result<()
 }
 
 // Adds what a fetch came to.
-fn add_outcome(text: &mut Bytes, outcome: &Outcome) -> Result<(), OutOfMemory>
+fn add_outcome(text: &mut Page, outcome: &Outcome) -> Result<(), OutOfMemory>
     ensures { OnOk result (text.new ≡ text.old ++ spec.outcome_lines outcome.now) }
 {
     match outcome {
@@ -219,7 +220,7 @@ fn add_outcome(text: &mut Bytes, outcome: &Outcome) -> Result<(), OutOfMemory>
 }
 
 // Adds the start of a load.
-fn add_load(text: &mut Bytes, number: u32, destination: Destination) -> Result<(), OutOfMemory>
+fn add_load(text: &mut Page, number: u32, destination: Destination) -> Result<(), OutOfMemory>
     ensures { OnOk result (text.new ≡ text.old
         ++ spec.line (codes "load " ++ decimal number ++ codes " " ++ destination_name destination)) }
 {
@@ -231,7 +232,7 @@ fn add_load(text: &mut Bytes, number: u32, destination: Destination) -> Result<(
 }
 
 // Adds an operation on the shared book.
-fn add_call_line(text: &mut Bytes, op: &Op, reply: Reply) -> Result<(), OutOfMemory>
+fn add_call_line(text: &mut Page, op: &Op, reply: Reply) -> Result<(), OutOfMemory>
     ensures { OnOk result (text.new ≡ text.old ++ spec.line (codes "call " ++ call_text op.now reply)) }
 {
     text.append(b"call ")?;
@@ -240,7 +241,7 @@ fn add_call_line(text: &mut Bytes, op: &Op, reply: Reply) -> Result<(), OutOfMem
 }
 
 /// Adds the lines of an event to a text. Where memory is refused the text is any.
-pub fn add_event(text: &mut Bytes, event: &Event) -> Result<(), OutOfMemory>
+pub fn add_event(text: &mut Page, event: &Event) -> Result<(), OutOfMemory>
     ensures { OnOk result (text.new ≡ text.old ++ spec.event_text event.now) }
 {
     match event {

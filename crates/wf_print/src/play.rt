@@ -9,6 +9,7 @@ ghost use Rattle.wf_print.specs.Writes.{Writes};
 use crate::failure::Failure;
 use crate::history::text_of_entries;
 use crate::lines::{add_event, add_number};
+use crate::page::Page;
 use std::alloc::Global;
 use wf_book::{Entry, History};
 use wf_link::{Sink, write_whole};
@@ -19,7 +20,7 @@ use wf_text::{Bytes, OutOfMemory};
 const TOGETHER: usize = 256;
 
 // Adds how a document ended.
-fn add_ending(text: &mut Bytes, ending: Ending) -> Result<(), OutOfMemory>
+fn add_ending(text: &mut Page, ending: Ending) -> Result<(), OutOfMemory>
     ensures { OnOk result (text.new ≡ text.old ++ spec.ending_line ending) }
 {
     match ending {
@@ -33,7 +34,7 @@ fn add_ending(text: &mut Bytes, ending: Ending) -> Result<(), OutOfMemory>
 }
 
 // Adds the lines of the events.
-fn add_events(text: &mut Bytes, events: &[Event]) -> Result<(), OutOfMemory>
+fn add_events(text: &mut Page, events: &[Event]) -> Result<(), OutOfMemory>
     ensures { OnOk result (text.new ≡ text.old ++ flat_map event_text events.now) }
 {
     for event in events {
@@ -42,18 +43,26 @@ fn add_events(text: &mut Bytes, events: &[Event]) -> Result<(), OutOfMemory>
     Ok(())
 }
 
+// Adds the text of a document.
+fn add_transcript(text: &mut Page, transcript: &Transcript) -> Result<(), OutOfMemory>
+    ensures { OnOk result (text.new ≡ text.old ++ spec.transcript_text transcript.now) }
+{
+    text.append(b"document ")?;
+    add_number(text, transcript.document)?;
+    text.append(b" ")?;
+    text.append(transcript.key.as_slice())?;
+    text.append(b"\n")?;
+    add_events(text, transcript.events.as_slice())?;
+    add_ending(text, transcript.ending)
+}
+
 // The text of a document.
 fn text_of(alloc: Global, transcript: &Transcript) -> Result<Bytes, OutOfMemory>
     ensures { IfOk result (λ text. text ≡ spec.transcript_text transcript.now) }
 {
-    let mut text = Bytes::of(alloc, b"document ")?;
-    add_number(&mut text, transcript.document)?;
-    text.append(b" ")?;
-    text.append(transcript.key.as_slice())?;
-    text.append(b"\n")?;
-    add_events(&mut text, transcript.events.as_slice())?;
-    add_ending(&mut text, transcript.ending)?;
-    Ok(text)
+    let mut text = Page::new(alloc);
+    add_transcript(&mut text, transcript)?;
+    text.into_text()
 }
 
 /// Writes a text whole. After a failure the sink has taken a first part of it: `Fault` where the sink failed, and

@@ -9,6 +9,7 @@ ghost use Rattle.wf_print.specs.Text.{HasText};
 
 use crate::failure::Failure;
 use crate::lines::add_number;
+use crate::page::Page;
 use crate::play::write_text;
 use itoa::Integer;
 use std::alloc::Global;
@@ -62,7 +63,7 @@ fn count(transcripts: &[Transcript], kind: Kind) -> u128
 }
 
 // Adds a line of the summary.
-fn add_count<I: Integer>(text: &mut Bytes, label: &[u8], count: I) -> Result<(), OutOfMemory>
+fn add_count<I: Integer>(text: &mut Page, label: &[u8], count: I) -> Result<(), OutOfMemory>
     ensures { OnOk result (text.new ≡ text.old ++ line (label.now ++ codes " " ++ I.text count)) }
 {
     text.append(label)?;
@@ -80,7 +81,7 @@ fn text_of(
 ) -> Result<Bytes, OutOfMemory>
     ensures { IfOk result (λ text. text ≡ spec.summary_text n transcripts.now history.now) }
 {
-    let mut text = Bytes::new(alloc);
+    let mut text = Page::new(alloc);
     add_count(&mut text, b"gen", n)?;
     add_count(&mut text, b"documents", transcripts.len())?;
     add_count(&mut text, b"fetches", count(transcripts, Kind::Fetch))?;
@@ -88,7 +89,7 @@ fn text_of(
     add_count(&mut text, b"calls", history.len())?;
     add_count(&mut text, b"responses", count(transcripts, Kind::Response))?;
     add_count(&mut text, b"errors", count(transcripts, Kind::Error))?;
-    Ok(text)
+    text.into_text()
 }
 
 // Makes the text of the summary and writes it.

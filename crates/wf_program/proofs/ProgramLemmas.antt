@@ -10,7 +10,8 @@ use Rattle.wf_print.specs.Writes.{Writes}
 use Rattle.wf_script.specs.declared.place.Place.{Place}
 use Rattle.wf_script_values.specs.declared.scenario.Scenario.{Scenario}
 use Rattle.wf_program.specs.Inputs.{GaveFor, IsWhole, most_input}
-use Rattle.wf_program.specs.Program.{AnswersInput, Failed, IsCause, IsComplained, IsExcusedRead, IsPlayed, IsTold, TextOf}
+use Rattle.wf_program.specs.Program.{AnswersInput, Failed, IsCause, IsComplained, IsExcusedRead, IsPlayed, IsTold}
+use Rattle.wf_program.specs.Program.{TextOf}
 use Rattle.wf_program.specs.Program.{WritesText}
 use Rattle.wf_program.specs.Statuses.{written_status}
 use Rattle.wf_program.specs.Steps.{IsRead, IsUnread, IsWhyNone, IsWritten}
@@ -116,12 +117,14 @@ module _ (reading : List ℕ → Result Scenario Place) (IsTextFor : Scenario �
   bound-at input input' output output' bytes status.InputTooLong c = omega (arith, c.0)
 
   -- an input of which no scenario was read
-  unfoldable pub unread-played : (input input' : SourceTold) (output : SinkTold) (verdict : Status) → IsUnread reading input input' verdict
+  unfoldable pub unread-played : (input input' : SourceTold) (output : SinkTold) (verdict : Status)
+      → IsUnread reading input input' verdict
       → IsPlayed reading IsTextFor input input' output output verdict
   unread-played input input' output verdict u =
       record { bytes = u.bytes; gave = u.gave; cause = cause verdict u.why }
     where
-      cause : (v : Status) → IsWhyNone reading u.bytes input input' v → IsCause reading IsTextFor u.bytes input input' output output v
+      cause : (v : Status) → IsWhyNone reading u.bytes input input' v
+          → IsCause reading IsTextFor u.bytes input input' output output v
       cause status.Ok why = absurd why
       cause status.Usage why = absurd why
       cause (status.Scenario place) why = (why.0, (why.1, refl))
@@ -131,14 +134,16 @@ module _ (reading : List ℕ → Result Scenario Place) (IsTextFor : Scenario �
       cause status.InputTooLong why = (why, refl)
 
   -- a scenario that could not be played
-  unfoldable pub refused-played : (input input' : SourceTold) (output : SinkTold) (scenario : Scenario) → IsRead reading input input'
+  unfoldable pub refused-played : (input input' : SourceTold) (output : SinkTold) (scenario : Scenario)
+      → IsRead reading input input'
       scenario
       → IsPlayed reading IsTextFor input input' output output status.OutOfMemory
   refused-played input input' output scenario r =
       record { bytes = r.bytes; gave = r.gave; cause = (r.whole.short, inl refl) }
 
   -- a scenario for which a text was written
-  unfoldable pub written-played : (input input' : SourceTold) (output output' : SinkTold) (scenario : Scenario) (text : List ℕ)
+  unfoldable pub written-played : (input input' : SourceTold) (output output' : SinkTold) (scenario : Scenario)
+      (text : List ℕ)
       (verdict : Status) → IsRead reading input input' scenario → IsTextFor scenario text
       → IsWritten text output output' verdict → IsPlayed reading IsTextFor input input' output output' verdict
   written-played input input' output output' scenario text verdict r is w =
@@ -161,7 +166,8 @@ module _ (reading : List ℕ → Result Scenario Place) (IsTextFor : Scenario �
 
   -- the bytes are refused, or longer, or a scenario: the verdict is this one, but for the excuses
   no_scenario-at : (input input' : SourceTold) (output output' c c' : SinkTold) (bytes : List ℕ) (place : Place)
-      (verdict answer : Status) → IsPlayed reading IsTextFor input input' output output' verdict → answer ≡ verdict → input.left
+      (verdict answer : Status) → IsPlayed reading IsTextFor input input' output output' verdict → answer ≡ verdict
+      → input.left
       ≡ Some bytes → length bytes ≤ most_input → reading bytes ≡ Err place → (answer ≡ status.Scenario place)
       ⊎ IsExcusedRead input input' output output' c c' answer
   no_scenario-at input input' output output' c c' bytes place status.Ok answer p e tells short is =
@@ -210,7 +216,8 @@ module _ (reading : List ℕ → Result Scenario Place) (IsTextFor : Scenario �
   longer-at input input' output output' c c' bytes status.InputTooLong answer p e tells long = inl e
 
   complete-at : (input input' : SourceTold) (output output' c c' : SinkTold) (bytes : List ℕ) (scenario : Scenario)
-      (verdict answer : Status) → IsPlayed reading IsTextFor input input' output output' verdict → answer ≡ verdict → input.left
+      (verdict answer : Status) → IsPlayed reading IsTextFor input input' output output' verdict → answer ≡ verdict
+      → input.left
       ≡ Some bytes → length bytes ≤ most_input → reading bytes ≡ Ok scenario → (answer ≡ status.Ok)
       ⊎ IsExcusedRead input input' output output' c c' answer
   complete-at input input' output output' c c' bytes scenario status.Ok answer p e tells short is = inl e
@@ -233,7 +240,8 @@ module _ (reading : List ℕ → Result Scenario Place) (IsTextFor : Scenario �
 
   -- ---- what the account of an answer to an input says
 
-  pub input-answers : (line : List ℕ) (input input' : SourceTold) (output output' c c' : SinkTold) (verdict answer : Status)
+  pub input-answers : (line : List ℕ) (input input' : SourceTold) (output output' c c' : SinkTold)
+      (verdict answer : Status)
       → IsPlayed reading IsTextFor input input' output output' verdict → IsTold line c c' verdict answer
       → AnswersInput reading IsTextFor input input' output output' c c' answer
   input-answers line input input' output output' c c' verdict answer p t =
@@ -288,7 +296,8 @@ module _ (reading : List ℕ → Result Scenario Place) (IsTextFor : Scenario �
       same is apart = told-same line c c' verdict answer t (λ h. apart (sym is ∙ h))
 
       ok_at : verdict ≡ answer → answer ≡ status.Ok
-          → GaveFor input input' (λ bytes. IsWhole bytes input' × WritesText reading IsTextFor bytes output output' × (c' ≡ c))
+          → GaveFor input input' (λ bytes. IsWhole bytes input' × WritesText reading IsTextFor bytes output output'
+          × (c' ≡ c))
       ok_at v is =
           let cause = cause-at input input' output output' verdict status.Ok p (v ∙ is) in
           record {
@@ -303,7 +312,8 @@ module _ (reading : List ℕ → Result Scenario Place) (IsTextFor : Scenario �
 
   -- a verdict of WriteFault has its cause
   pub input-write : (input input' : SourceTold) (output output' : SinkTold) (verdict : Status)
-      → IsPlayed reading IsTextFor input input' output output' verdict → verdict ≡ status.WriteFault → Failed output output'
+      → IsPlayed reading IsTextFor input input' output output' verdict → verdict ≡ status.WriteFault
+      → Failed output output'
   input-write input input' output output' verdict p is =
       (cause-at input input' output output' verdict status.WriteFault p is).reason_is.1.1
 

@@ -1,5 +1,5 @@
--- What a program that plays a scenario answers to an input: why it comes to a verdict, what it has written then, and what
--- it tells the complaints (this project's own).
+-- What a program that plays a scenario answers to an input: why it comes to a verdict, what it has written then, and
+-- what it tells the complaints (this project's own).
 use Rattle.std.specs.Prelude.{◌≡◌, ℕ, ◌+◌, ◌≤◌, ◌<◌, ◌⊎◌, List, length, Some, Result, Ok, Err}
 use Rattle.wf_link.specs.Counts.{Rose}
 use Rattle.wf_link.specs.Sinks.{SinkTold, Took, TookPart}

@@ -13,8 +13,8 @@ use wf_text::OutOfMemory;
 /// The longest input that is read, in bytes.
 const MOST_INPUT: usize = 4194304;
 
-/// Reads an input whole, as a scenario, which is valid. Else the verdict on the input: `Scenario` with the first refused
-/// place, `ReadFault` where the input failed, `InputTooLong` where byte 4,194,305 was read, and `OutOfMemory`.
+/// Reads an input whole, as a scenario, which is valid. Else the verdict on the input: `Scenario` with the first
+/// refused place, `ReadFault` where the input failed, `InputTooLong` where byte 4,194,305 was read, and `OutOfMemory`.
 pub fn scenario_in<S: Source>(alloc: Global, input: &mut S) -> Result<Scenario, Status>
     ensures valid { IfOk result IsValid }
     ensures read { IfOk result (IsRead scenario_of (S.gives input.old) (S.gives input.new)) }

@@ -6,7 +6,7 @@ ghost use Rattle.wf_report_program.specs.Text as spec;
 use std::alloc::Global;
 use wf_book::Entry;
 use wf_link::Sink;
-use wf_print::{Failure, add_event, add_number, write_entries, write_text};
+use wf_print::{Failure, Page, add_event, add_number, write_entries, write_text};
 use wf_report::{Delivered, DeliveredEnd};
 use wf_report_play::Reported;
 use wf_script_events::{Event, Transcript};
@@ -14,7 +14,7 @@ use wf_script_run::is_result;
 use wf_text::{Bytes, OutOfMemory};
 
 // Adds how a delivery ended.
-fn add_ending(text: &mut Bytes, ending: DeliveredEnd) -> Result<(), OutOfMemory>
+fn add_ending(text: &mut Page, ending: DeliveredEnd) -> Result<(), OutOfMemory>
     ensures { OnOk result (text.new ≡ text.old ++ spec.ending_line ending) }
 {
     match ending {
@@ -25,7 +25,7 @@ fn add_ending(text: &mut Bytes, ending: DeliveredEnd) -> Result<(), OutOfMemory>
 }
 
 // Adds the line of a report's number, where one begins.
-fn add_begun(text: &mut Bytes, begins: bool, number: usize) -> Result<(), OutOfMemory>
+fn add_begun(text: &mut Page, begins: bool, number: usize) -> Result<(), OutOfMemory>
     ensures { OnOk result (text.new ≡ text.old ++ spec.begun_line begins number) }
 {
     if !begins {
@@ -37,7 +37,7 @@ fn add_begun(text: &mut Bytes, begins: bool, number: usize) -> Result<(), OutOfM
 }
 
 // Adds the lines of the reports that show these events.
-fn add_reports(text: &mut Bytes, events: &[Event]) -> Result<(), OutOfMemory>
+fn add_reports(text: &mut Page, events: &[Event]) -> Result<(), OutOfMemory>
     ensures { OnOk result (text.new ≡ text.old ++ spec.reports_text true 0 events.now) }
 {
     let mut begins = true;
@@ -53,6 +53,23 @@ fn add_reports(text: &mut Bytes, events: &[Event]) -> Result<(), OutOfMemory>
     Ok(())
 }
 
+// Adds the text of a document with its reports.
+fn add_delivered(
+    text: &mut Page,
+    transcript: &Transcript,
+    delivered: &Delivered,
+) -> Result<(), OutOfMemory>
+    ensures { OnOk result (text.new ≡ text.old ++ spec.delivered_text transcript.now delivered.now) }
+{
+    text.append(b"document ")?;
+    add_number(text, transcript.document)?;
+    text.append(b" ")?;
+    text.append(transcript.key.as_slice())?;
+    text.append(b"\n")?;
+    add_reports(text, delivered.events.as_slice())?;
+    add_ending(text, delivered.ending)
+}
+
 // The text of a document with its reports.
 fn text_of(
     alloc: Global,
@@ -61,14 +78,9 @@ fn text_of(
 ) -> Result<Bytes, OutOfMemory>
     ensures { IfOk result (λ text. text ≡ spec.delivered_text transcript.now delivered.now) }
 {
-    let mut text = Bytes::of(alloc, b"document ")?;
-    add_number(&mut text, transcript.document)?;
-    text.append(b" ")?;
-    text.append(transcript.key.as_slice())?;
-    text.append(b"\n")?;
-    add_reports(&mut text, delivered.events.as_slice())?;
-    add_ending(&mut text, delivered.ending)?;
-    Ok(text)
+    let mut text = Page::new(alloc);
+    add_delivered(&mut text, transcript, delivered)?;
+    text.into_text()
 }
 
 // Writes each document with its reports, a document at a time.

@@ -180,7 +180,7 @@ abbrev pub scenario_of_tree : Option Data → Result Scenario Place
 scenario_of_tree None = Err (record { text = codes "json" })
 scenario_of_tree (Some tree) = told (scenario_in tree)
 
--- the tree of a text, unless it is not UTF-8 or not JSON
+-- the tree of a text, unless it is not UTF-8, not JSON, too deep, or has a number that is too large
 abbrev pub tree_of : List ℕ → Option Data
 tree_of text = option_and_then read (utf8_text text)
 

@@ -2,9 +2,9 @@
 ghost use Rattle.wf_script.specs.Scenarios as spec;
 
 use crate::texts::{CookieValue, OriginText};
-use serde_json::Value;
 use std::alloc::Global;
 use wf_script_tables::{Form, PairOf, Refused, TextThat};
+use wf_script_tree::Tree;
 use wf_types::Cookie;
 
 const COOKIE: PairOf<TextThat<OriginText>, TextThat<CookieValue>> = PairOf {
@@ -21,7 +21,7 @@ impl Form for CookiePair {
 
     ghost reads = { λ _. spec.cookie_of };
 
-    fn read(&self, alloc: Global, tree: &Value) -> Result<Cookie, Refused> {
+    fn read(&self, alloc: Global, tree: &Tree<'_, '_>) -> Result<Cookie, Refused> {
         let (origin, value) = COOKIE.read(alloc, tree)?;
         Ok(Cookie { origin, value })
     }

@@ -4,10 +4,10 @@ ghost use Rattle.wf_script.specs.Scenarios as spec;
 use crate::format::{Format, document_keys, top_url};
 use crate::headers::DocumentHeaders;
 use crate::urls::DocumentUrl;
-use serde_json::Value;
 use std::alloc::Global;
 use wf_script_steps::DocumentScript;
 use wf_script_tables::{Form, Refused, only_keys, optional, required};
+use wf_script_tree::Tree;
 use wf_script_values::Document;
 use wf_text::Items;
 use wf_types::ReferrerPolicy;
@@ -23,7 +23,7 @@ impl Form for DocumentTable {
 
     ghost reads = { λ table. spec.document_of table.format };
 
-    fn read(&self, alloc: Global, tree: &Value) -> Result<Document, Refused> {
+    fn read(&self, alloc: Global, tree: &Tree<'_, '_>) -> Result<Document, Refused> {
         only_keys(alloc, tree, document_keys(self.format))?;
         let url = required(alloc, tree, "url", &DocumentUrl)?;
         let top = top_url(alloc, self.format, &url, tree)?;

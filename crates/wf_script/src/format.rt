@@ -1,14 +1,14 @@
 // The formats of scenarios, and the keys that only one of them has.
 ghost use Rattle.std.specs.Prelude.{◌≡◌, map};
-ghost use Rattle.serde_json.specs.View.{view};
+ghost use Rattle.wf_script_tree.specs.Trees.{data_of};
 ghost use Rattle.wf_script_tables.specs.Gives.{Gives};
 ghost use Rattle.wf_script.specs.Formats as spec;
 
 use crate::urls::DocumentUrl;
-use serde_json::Value;
 use std::alloc::Global;
 use url::Url;
 use wf_script_tables::{Number, Refused, optional};
+use wf_script_tree::Tree;
 
 /// The format of a scenario.
 #[derive(Clone, Copy, Debug)]
@@ -54,8 +54,8 @@ const BODY_LIMIT: Number = Number {
 };
 
 // The format of a tree: the second where the root is an object whose `format` is the number 2.
-pub(crate) fn format_of(tree: &Value) -> Format
-    ensures { result ≡ spec.format_of (view tree.now) }
+pub(crate) fn format_of(tree: &Tree<'_, '_>) -> Format
+    ensures { result ≡ spec.format_of (data_of tree.now) }
 {
     let Some(number) = tree.get("format") else {
         return Format::First;
@@ -98,8 +98,8 @@ pub(crate) fn document_keys(format: Format) -> &'static [&'static str]
 }
 
 // The greatest number of bytes that a response's body may have.
-pub(crate) fn body_limit(alloc: Global, format: Format, tree: &Value) -> Result<u32, Refused>
-    ensures { Gives result (spec.body_limit_of format (view tree.now)) }
+pub(crate) fn body_limit(alloc: Global, format: Format, tree: &Tree<'_, '_>) -> Result<u32, Refused>
+    ensures { Gives result (spec.body_limit_of format (data_of tree.now)) }
 {
     match format {
         Format::First => Ok(262_144),
@@ -125,9 +125,9 @@ pub(crate) fn top_url(
     alloc: Global,
     format: Format,
     url: &Url,
-    tree: &Value,
+    tree: &Tree<'_, '_>,
 ) -> Result<Url, Refused>
-    ensures { Gives result (spec.top_of format url.now (view tree.now)) }
+    ensures { Gives result (spec.top_of format url.now (data_of tree.now)) }
 {
     let itself = url.clone()?;
     match format {

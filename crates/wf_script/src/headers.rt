@@ -4,13 +4,13 @@ ghost use Rattle.wf_headers.specs.Headers.{values_of};
 ghost use Rattle.wf_script.specs.Headers as spec;
 ghost use Rattle.wf_script.specs.Scenarios as table;
 
-use serde_json::Value;
 use std::alloc::Global;
 use wf_csp_text::{Policies, parse_policies};
 use wf_headers::HeaderList;
 use wf_script_tables::{
     Form, HeaderValue, ItemsOf, PairOf, Refused, TextThat, Token, refused_here,
 };
+use wf_script_tree::Tree;
 use wf_text::{OutOfMemory, eq_fold};
 use wf_types::{Pair, ReferrerPolicy, policy_of_header};
 
@@ -31,7 +31,7 @@ impl Form for PlainHeader {
 
     ghost reads = { λ _. table.plain_header_of };
 
-    fn read(&self, alloc: Global, tree: &Value) -> Result<Pair, Refused> {
+    fn read(&self, alloc: Global, tree: &Tree<'_, '_>) -> Result<Pair, Refused> {
         let (name, value) = HEADER.read(alloc, tree)?;
         Ok(Pair { name, value })
     }
@@ -127,7 +127,11 @@ impl Form for DocumentHeaders {
 
     ghost reads = { λ _. table.said_of };
 
-    fn read(&self, alloc: Global, tree: &Value) -> Result<(ReferrerPolicy, Policies), Refused> {
+    fn read(
+        &self,
+        alloc: Global,
+        tree: &Tree<'_, '_>,
+    ) -> Result<(ReferrerPolicy, Policies), Refused> {
         let headers = HEADERS.read(alloc, tree)?;
         let policies = policies_of_headers(alloc, headers.as_slice())?;
         if policies.len() > MOST_POLICIES {

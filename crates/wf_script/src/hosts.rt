@@ -4,11 +4,11 @@ ghost use Rattle.wf_script_values.specs.Hosts as hosts;
 ghost use Rattle.wf_script.specs.Scenarios as spec;
 ghost use Rattle.wf_text.specs.Mime.{is_text};
 
-use serde_json::Value;
 use std::alloc::Global;
 use url::Url;
 use wf_origin::is_local_name;
 use wf_script_tables::{Form, Number, Refused, TextTest, TextThat, Truth, only_keys, required};
+use wf_script_tree::Tree;
 use wf_script_values::KnownHost;
 use wf_text::OutOfMemory;
 use wf_types::url_alone;
@@ -75,7 +75,7 @@ impl Form for HostTable {
 
     ghost reads = { λ _. spec.host_of };
 
-    fn read(&self, alloc: Global, tree: &Value) -> Result<KnownHost, Refused> {
+    fn read(&self, alloc: Global, tree: &Tree<'_, '_>) -> Result<KnownHost, Refused> {
         only_keys(alloc, tree, KEYS)?;
         let host = required(alloc, tree, "host", &HOST)?;
         let subdomains = required(alloc, tree, "subdomains", &Truth)?;

@@ -1,6 +1,6 @@
 // The table of a scenario, and the reading of one from bytes.
-ghost use Rattle.std.specs.Prelude.{◌≡◌, IfOk, option_map};
-ghost use Rattle.serde_json.specs.View.{view};
+ghost use Rattle.std.specs.Prelude.{◌≡◌, IfOk, Some, None, option_map};
+ghost use Rattle.wf_script_tree.specs.Trees.{data_of};
 ghost use Rattle.wf_script.specs.Formats as formats;
 ghost use Rattle.wf_script.specs.Scenarios as spec;
 ghost use Rattle.wf_script_values.specs.Valid.{IsValid};
@@ -12,9 +12,9 @@ use crate::hosts::HostTable;
 use crate::place::Place;
 use crate::routes::RoutePair;
 use crate::servers::ServerTable;
-use serde_json::Value;
 use std::alloc::Global;
 use wf_script_tables::{Form, ItemsOf, ListOf, Number, Refused, only_keys, optional, required};
+use wf_script_tree::{JsonText, Scratch, Tree};
 use wf_script_values::{Scenario, Servers};
 use wf_text::{Bytes, Items, OutOfMemory};
 use wf_types::utf8_text;
@@ -61,7 +61,7 @@ impl Form for ScenarioTable {
 
     ghost reads = { λ table. spec.scenario_as table.format };
 
-    fn read(&self, alloc: Global, tree: &Value) -> Result<Scenario, Refused> {
+    fn read(&self, alloc: Global, tree: &Tree<'_, '_>) -> Result<Scenario, Refused> {
         only_keys(alloc, tree, root_keys(self.format))?;
         required(alloc, tree, "format", &format_number(self.format))?;
         let body_limit = body_limit(alloc, self.format, tree)?;
@@ -85,20 +85,6 @@ impl Form for ScenarioTable {
     }
 }
 
-// The tree of a text, unless it is not UTF-8 or not JSON.
-fn tree_of(alloc: Global, text: &[u8]) -> Result<Option<Value>, OutOfMemory>
-    ensures { IfOk result (λ tree. option_map view tree ≡ spec.tree_of text.now) }
-{
-    let Some(text) = utf8_text(text) else {
-        return Ok(None);
-    };
-    match Value::from_str(alloc, text) {
-        Ok(tree) => Ok(Some(tree)),
-        Err(error) if error.is_memory() => Err(OutOfMemory),
-        Err(_) => Ok(None),
-    }
-}
-
 // A refused place from the root, as it is told.
 fn told(alloc: Global, place: Bytes) -> Result<Place, OutOfMemory>
     ensures { IfOk result (λ refused. refused.text ≡ spec.place_text place) }
@@ -111,30 +97,61 @@ fn told(alloc: Global, place: Bytes) -> Result<Place, OutOfMemory>
     Ok(Place { text })
 }
 
+// The JSON of a text, unless it is not UTF-8, not JSON, nests too deep, or has a number that is too large.
+fn json_of<'a>(
+    alloc: Global,
+    text: &'a [u8],
+    scratch: &'a mut Scratch,
+) -> Result<Option<JsonText<'a>>, OutOfMemory>
+    ensures { IfOk result (λ found. option_map data_of found ≡ spec.tree_of text.now) }
+{
+    match utf8_text(text) {
+        Some(text) => JsonText::parse(alloc, text, scratch),
+        None => Ok(None),
+    }
+}
+
+// The refusal of a text that is no tree.
+fn refused_text(alloc: Global) -> Result<Result<Scenario, Place>, OutOfMemory>
+    ensures { IfOk result (λ read. read ≡ spec.scenario_of_tree None) }
+{
+    let text = Bytes::of(alloc, b"json")?;
+    Ok(Err(Place { text }))
+}
+
+// The scenario of a tree.
+fn scenario_of(alloc: Global, tree: &Tree<'_, '_>) -> Result<Result<Scenario, Place>, OutOfMemory>
+    ensures value { IfOk result
+        (λ read. read ≡ spec.scenario_of_tree (Some (data_of tree.now))) }
+    ensures valid { IfOk result (λ read. IfOk read IsValid) }
+{
+    let table = ScenarioTable {
+        format: format_of(tree),
+    };
+    match table.read(alloc, tree) {
+        Ok(scenario) => Ok(Ok(scenario)),
+        Err(Refused::Memory) => Err(OutOfMemory),
+        Err(Refused::At(place)) => Ok(Err(told(alloc, place)?)),
+    }
+}
+
 /// Reads a scenario of format 1 or 2 from the JSON tree (RFC 8259) of a text, or answers the
-/// place at which the text is refused: `json` exactly where it is no tree, since it is not UTF-8
-/// or not JSON, and else the first place, in the order in which the tables are walked, depth
-/// first. The tables of format 2 hold exactly where the root is an object whose `format` is the
+/// place at which the text is refused: `json` exactly where it is no tree, since it is not UTF-8,
+/// not JSON, nests too deep, or has a number that is too large, and else the first place, in the
+/// order in which the tables are walked, depth first. The tables of format 2 hold exactly where the root is an object whose `format` is the
 /// number 2. An object that is none, or has a key that its table lacks, is refused at its own
 /// place, a required key that is missing and a value that is not taken at the key, an item of a
 /// list at its number, as in `/documents/0/script/0/fetch/headers/0/1`; a `repeat` inside eight
 /// others and an `if` inside 16 others at that key. The place of the root is `/`. What is read
-/// is valid: its counts and values keep the format's bounds. `OutOfMemory` tells want of memory
-/// alone.
+/// is valid: its counts and values keep the format's bounds. `OutOfMemory` tells want of memory,
+/// and a text of more than 4,294,967,040 bytes.
 pub fn read_scenario(alloc: Global, text: &[u8]) -> Result<Result<Scenario, Place>, OutOfMemory>
     ensures value { IfOk result (λ read. read ≡ spec.scenario_of text.now) }
     ensures valid { IfOk result (λ read. IfOk read IsValid) }
 {
-    let Some(tree) = tree_of(alloc, text)? else {
-        let text = Bytes::of(alloc, b"json")?;
-        return Ok(Err(Place { text }));
-    };
-    let table = ScenarioTable {
-        format: format_of(&tree),
-    };
-    match table.read(alloc, &tree) {
-        Ok(scenario) => Ok(Ok(scenario)),
-        Err(Refused::Memory) => Err(OutOfMemory),
-        Err(Refused::At(place)) => Ok(Err(told(alloc, place)?)),
+    let mut scratch = Scratch::new(alloc);
+    match json_of(alloc, text, &mut scratch)? {
+        None => refused_text(alloc),
+        Some(json) => scenario_of(alloc, &json.root()),
     }
 }

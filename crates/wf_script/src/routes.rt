@@ -2,10 +2,10 @@
 ghost use Rattle.wf_script.specs.Scenarios as spec;
 
 use crate::texts::OriginText;
-use serde_json::Value;
 use std::alloc::Global;
 use wf_link::Route;
 use wf_script_tables::{AnyText, Form, PairOf, Refused, TextThat};
+use wf_script_tree::Tree;
 
 const ROUTE: PairOf<TextThat<OriginText>, TextThat<AnyText>> = PairOf {
     first: TextThat { test: OriginText },
@@ -21,7 +21,7 @@ impl Form for RoutePair {
 
     ghost reads = { λ _. spec.route_of };
 
-    fn read(&self, alloc: Global, tree: &Value) -> Result<Route, Refused> {
+    fn read(&self, alloc: Global, tree: &Tree<'_, '_>) -> Result<Route, Refused> {
         let (origin, address) = ROUTE.read(alloc, tree)?;
         Ok(Route { origin, address })
     }

@@ -1,17 +1,17 @@
 // The tables of servers and their rules.
 ghost use Rattle.wf_script.specs.Scenarios as spec;
 ghost use Rattle.std.specs.Prelude.{◌≡◌, map, is_some};
-ghost use Rattle.serde_json.specs.View.{view};
+ghost use Rattle.wf_script_tree.specs.Trees.{data_of};
 ghost use Rattle.wf_script_tables.specs.Gives.{Gives};
 
 use crate::answers::answer_bytes;
 use crate::headers::PlainHeader;
 use crate::texts::OriginText;
-use serde_json::Value;
 use std::alloc::Global;
 use wf_script_tables::{
     AnyText, Form, Given, ItemsOf, Number, Refused, TextThat, Token, only_keys, optional, required,
 };
+use wf_script_tree::Tree;
 use wf_script_values::{Rule, Server};
 use wf_text::{Bytes, Items};
 
@@ -43,8 +43,8 @@ const ORIGIN: TextThat<OriginText> = TextThat { test: OriginText };
 const RULES: ItemsOf<RuleTable> = ItemsOf { item: RuleTable };
 
 // The bytes of an answer by its status.
-fn status_answer(alloc: Global, tree: &Value) -> Result<Bytes, Refused>
-    ensures { Gives result (spec.status_answer_of (view tree.now)) }
+fn status_answer(alloc: Global, tree: &Tree<'_, '_>) -> Result<Bytes, Refused>
+    ensures { Gives result (spec.status_answer_of (data_of tree.now)) }
 {
     let status = required(alloc, tree, "status", &STATUS)?;
     let headers = optional(alloc, tree, "headers", Items::new(alloc), &HEADERS)?;
@@ -53,8 +53,8 @@ fn status_answer(alloc: Global, tree: &Value) -> Result<Bytes, Refused>
 }
 
 // The bytes of an answer, as they are written or by its status.
-fn rule_answer(alloc: Global, raw: bool, tree: &Value) -> Result<Bytes, Refused>
-    ensures { Gives result (spec.answer_of raw (view tree.now)) }
+fn rule_answer(alloc: Global, raw: bool, tree: &Tree<'_, '_>) -> Result<Bytes, Refused>
+    ensures { Gives result (spec.answer_of raw (data_of tree.now)) }
 {
     if raw {
         required(alloc, tree, "raw", &TEXT)
@@ -79,7 +79,7 @@ impl Form for RuleTable {
 
     ghost reads = { λ _. spec.rule_of };
 
-    fn read(&self, alloc: Global, tree: &Value) -> Result<Rule, Refused> {
+    fn read(&self, alloc: Global, tree: &Tree<'_, '_>) -> Result<Rule, Refused> {
         let raw = tree.get("raw").is_some();
         only_keys(alloc, tree, rule_keys(raw))?;
         let method = optional(alloc, tree, "method", None, &METHOD)?;
@@ -102,7 +102,7 @@ impl Form for ServerTable {
 
     ghost reads = { λ _. spec.server_of };
 
-    fn read(&self, alloc: Global, tree: &Value) -> Result<Server, Refused> {
+    fn read(&self, alloc: Global, tree: &Tree<'_, '_>) -> Result<Server, Refused> {
         only_keys(alloc, tree, &["origin", "rules"])?;
         let origin = required(alloc, tree, "origin", &ORIGIN)?;
         let rules = required(alloc, tree, "rules", &RULES)?;

@@ -3,11 +3,11 @@ ghost use Rattle.std.specs.Prelude.{◌≡◌};
 ghost use Rattle.wf_script_values.specs.Urls.{is_document_url};
 ghost use Rattle.wf_script.specs.Urls as spec;
 
-use serde_json::Value;
 use std::alloc::Global;
 use url::Url;
 use wf_origin::is_http_url;
 use wf_script_tables::{Form, Refused, refused_here};
+use wf_script_tree::Tree;
 use wf_types::{has_credentials, is_short_url, url_alone};
 
 // Whether it is an http or https URL without credentials, of at most 8,192 bytes.
@@ -26,7 +26,7 @@ impl Form for DocumentUrl {
 
     ghost reads = { λ _. spec.document_url_of };
 
-    fn read(&self, alloc: Global, tree: &Value) -> Result<Url, Refused> {
+    fn read(&self, alloc: Global, tree: &Tree<'_, '_>) -> Result<Url, Refused> {
         let Some(text) = tree.as_str() else {
             return refused_here(alloc);
         };

@@ -1,5 +1,8 @@
--- How long an escaped text is.
-use Rattle.std.proofs.Common.{◌≡◌, ℕ, ◌+◌, ◌*◌, ◌&&◌, Bool, true, false, List, [], ◌∷◌, ◌++◌, cond, length, refl, arith}
+-- How long an escaped text is, and texts of bytes that are written as they are.
+use Rattle.std.proofs.Common.{◌≡◌, ◌∙◌, ap, ℕ, ◌+◌, ◌*◌, ◌&&◌, Bool, true, false, List, [], ◌∷◌, ◌++◌, cond, drop, length}
+use Rattle.std.proofs.Common.{refl, arith, zero, suc}
+use Rattle.std.proofs.Math.Bool.{and-true}
+use Rattle.std.proofs.lemmas.List.Folds.{list_all-append}
 use Rattle.std.specs.Prelude.{not, filter}
 use Rattle.std.specs.List.{list_all}
 use Rattle.wf_script_events.specs.Escapes.{escaped, hex_escape, is_plain}
@@ -29,3 +32,20 @@ escaped_length (byte ∷ text) = split (is_plain byte) (escaped_length text)
         ≡ length (byte ∷ text) + length (cond (not v) (byte ∷ others text) (others text)) * 3
     split true more = omega (arith, more)
     split false more = omega (arith, more)
+
+-- of plain bytes those from a place on are plain
+pub plain-dropped : (n : ℕ) (text : List ℕ) → list_all is_plain text ≡ true → list_all is_plain (drop n text) ≡ true
+plain-dropped zero text all = all
+plain-dropped (suc n) [] all = refl
+plain-dropped (suc n) (byte ∷ text) all = plain-dropped n text (others-plain (is_plain byte) all)
+  where
+    others-plain : (v : Bool) → (v && list_all is_plain text) ≡ true → list_all is_plain text ≡ true
+    others-plain true both = both
+    others-plain false both = cc
+
+-- plain bytes after a text change nothing
+pub plain-behind : (text more : List ℕ) → list_all is_plain more ≡ true
+    → list_all is_plain (text ++ more) ≡ list_all is_plain text
+plain-behind text more all =
+    list_all-append is_plain text more ∙ ap (λ (v : Bool). list_all is_plain text && v) all
+    ∙ and-true (list_all is_plain text)

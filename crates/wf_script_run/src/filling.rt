@@ -43,6 +43,9 @@ fn fill(alloc: Global, last: Option<&Event>, template: &[u8]) -> Result<Bytes, O
     ensures { IfOk result (λ text. text ≡ filled (value_of (lent_result last.entry)) template.now) }
 {
     let (first, mut rest) = next_piece(template);
+    if rest.is_none() {
+        return Bytes::of(alloc, first);
+    }
     let mut text = Vec::with_capacity(alloc, template.len())?;
     text.extend_from_slice(first)?;
     while let Some(behind) = rest {

@@ -1,10 +1,7 @@
 -- What the readers of scripts come to.
-use Rattle.std.proofs.Common.{◌≡◌, ℕ, zero, suc, List, [], ◌∷◌, ◌++◌, length, None, refl, ap}
+use Rattle.std.proofs.Common.{◌≡◌, ℕ, zero, suc, ◌+◌, List, [], ◌∷◌, ◌++◌, refl, ap, arith}
 use Rattle.serde_json.specs.Data.{Data}
-use Rattle.serde_json.specs.View.{items_view}
-use Rattle.serde_json.specs.declared.value.Value.{Value}
-use Rattle.wf_script_commands.specs.Scripts.{Step, Steps, no_steps, step, and_step}
-use Rattle.wf_script_steps.specs.Conditions.{parts_of}
+use Rattle.wf_script_commands.specs.Scripts.{Step, Steps, no_steps, step, and_step, count}
 use Rattle.wf_script_steps.specs.Scripts.{in_order, commands_of, command_in, script_of}
 
 -- the steps of a script, as a list
@@ -15,6 +12,10 @@ listed (step one more) = one ∷ listed more
 pub listed-and_step : (script : Steps) (last : Step) → listed (and_step script last) ≡ listed script ++ last ∷ []
 listed-and_step no_steps last = refl
 listed-and_step (step one more) last = ap (λ (steps : List Step). one ∷ steps) (listed-and_step more last)
+
+pub count-and_step : (script : Steps) (last : Step) → count (and_step script last) ≡ count script + 1
+count-and_step no_steps last = refl
+count-and_step (step one more) last = omega (arith, count-and_step more last)
 
 pub in_order-listed : (script : Steps) → in_order (listed script) ≡ script
 in_order-listed no_steps = refl
@@ -27,11 +28,3 @@ script_of_is zero zero tree = refl
 script_of_is zero (suc ifs) tree = refl
 script_of_is (suc repeats) zero tree = refl
 script_of_is (suc repeats) (suc ifs) tree = refl
-
--- the parts of a list of another length than one or two
-pub parts_of-None : (items : List Value) → (length items ≡ 1 → ⊥) → (length items ≡ 2 → ⊥)
-    → None ≡ parts_of (items_view items)
-parts_of-None [] one two = refl
-parts_of-None (x ∷ []) one two = absurd (one refl)
-parts_of-None (x ∷ y ∷ []) one two = absurd (two refl)
-parts_of-None (x ∷ y ∷ z ∷ items) one two = refl

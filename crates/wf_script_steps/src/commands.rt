@@ -1,5 +1,5 @@
 // The tables of the commands that have no scripts inside them.
-ghost use Rattle.serde_json.specs.View.{view};
+ghost use Rattle.wf_script_tree.specs.Trees.{data_of};
 ghost use Rattle.std.specs.Prelude.{[], Err};
 ghost use Rattle.wf_script_commands.specs.Commands.{step_of};
 ghost use Rattle.wf_script_tables.specs.Gives.{GivesAs};
@@ -8,10 +8,10 @@ ghost use Rattle.wf_script_steps.specs.Scripts as spec;
 
 use crate::fetches::FetchTable;
 use crate::loads::LoadTable;
-use serde_json::Value;
 use std::alloc::Global;
 use wf_script_commands::Command;
 use wf_script_tables::{Number, Refused, only_keys, refused_under, required};
+use wf_script_tree::Tree;
 use wf_text::Bytes;
 
 const SECONDS: Number = Number {
@@ -20,8 +20,8 @@ const SECONDS: Number = Number {
 };
 
 // A call of `fetch`.
-pub(crate) fn fetch_command(alloc: Global, tree: &Value) -> Result<Command, Refused>
-    ensures { GivesAs step_of result (spec.fetch_command_of (view tree.now)) }
+pub(crate) fn fetch_command(alloc: Global, tree: &Tree<'_, '_>) -> Result<Command, Refused>
+    ensures { GivesAs step_of result (spec.fetch_command_of (data_of tree.now)) }
 {
     only_keys(alloc, tree, &["fetch"])?;
     let init = required(alloc, tree, "fetch", &FetchTable)?;
@@ -29,8 +29,8 @@ pub(crate) fn fetch_command(alloc: Global, tree: &Value) -> Result<Command, Refu
 }
 
 // A load by an element.
-pub(crate) fn load_command(alloc: Global, tree: &Value) -> Result<Command, Refused>
-    ensures { GivesAs step_of result (spec.load_command_of (view tree.now)) }
+pub(crate) fn load_command(alloc: Global, tree: &Tree<'_, '_>) -> Result<Command, Refused>
+    ensures { GivesAs step_of result (spec.load_command_of (data_of tree.now)) }
 {
     only_keys(alloc, tree, &["load"])?;
     let init = required(alloc, tree, "load", &LoadTable)?;
@@ -38,8 +38,8 @@ pub(crate) fn load_command(alloc: Global, tree: &Value) -> Result<Command, Refus
 }
 
 // A number of seconds that pass.
-pub(crate) fn wait_command(alloc: Global, tree: &Value) -> Result<Command, Refused>
-    ensures { GivesAs step_of result (spec.wait_command_of (view tree.now)) }
+pub(crate) fn wait_command(alloc: Global, tree: &Tree<'_, '_>) -> Result<Command, Refused>
+    ensures { GivesAs step_of result (spec.wait_command_of (data_of tree.now)) }
 {
     only_keys(alloc, tree, &["wait"])?;
     let seconds = required(alloc, tree, "wait", &SECONDS)?;

@@ -1,15 +1,15 @@
 // The conditions of an `if`.
 ghost use Rattle.std.specs.Prelude.{◌≡◌, option_map, option_and_then};
 ghost use Rattle.serde_json.specs.Find.{as_array};
-ghost use Rattle.serde_json.specs.View.{view};
+ghost use Rattle.wf_script_tree.specs.Trees.{data_of};
 ghost use Rattle.wf_script_tables.specs.Gives.{Gives};
 ghost use Rattle.wf_script_steps.specs.Conditions as spec;
 
 use crate::texts::TEXT;
-use serde_json::Value;
 use std::alloc::Global;
 use wf_script_commands::Test;
 use wf_script_tables::{Form, Number, Refused, Word, item_at, refused_here};
+use wf_script_tree::Tree;
 
 /// What a condition is about.
 #[derive(Clone, Copy, Debug)]
@@ -37,21 +37,24 @@ const STATUS: Number = Number {
 };
 
 // The first part of a list of one or two, and the second, where there is one.
-fn parts_of(tree: &Value) -> Option<(&Value, Option<&Value>)>
-    ensures { option_map
-        (λ parts. (view parts.0.now, option_map (λ second. view second.now) parts.1)) result
-        ≡ option_and_then spec.parts_of (as_array (view tree.now)) }
+fn parts_of<'t, 'a>(tree: &Tree<'t, 'a>) -> Option<(Tree<'t, 'a>, Option<Tree<'t, 'a>>)>
+    ensures { option_map (λ parts. (data_of parts.0, option_map data_of parts.1)) result
+        ≡ option_and_then spec.parts_of (as_array (data_of tree.now)) }
 {
-    match tree.as_array()?.as_slice() {
-        [first] => Some((first, None)),
-        [first, second] => Some((first, Some(second))),
-        _ => None,
+    let mut items = tree.items()?;
+    let first = items.next()?;
+    let Some(second) = items.next() else {
+        return Some((first, None));
+    };
+    match items.next() {
+        Some(_) => None,
+        None => Some((first, Some(second))),
     }
 }
 
 // A condition that has no second part.
-fn alone(alloc: Global, test: Test, second: Option<&Value>) -> Result<Test, Refused>
-    ensures { Gives result (spec.alone test (option_map (λ part. view part.now) second.entry)) }
+fn alone(alloc: Global, test: Test, second: Option<Tree<'_, '_>>) -> Result<Test, Refused>
+    ensures { Gives result (spec.alone test (option_map data_of second.entry)) }
 {
     match second {
         None => Ok(test),
@@ -60,20 +63,24 @@ fn alone(alloc: Global, test: Test, second: Option<&Value>) -> Result<Test, Refu
 }
 
 // The second part of a condition that has one.
-fn second_part<F: Form>(alloc: Global, second: Option<&Value>, form: &F) -> Result<F::Out, Refused>
+fn second_part<F: Form>(
+    alloc: Global,
+    second: Option<Tree<'_, '_>>,
+    form: &F,
+) -> Result<F::Out, Refused>
     ensures { Gives result
-        (spec.second_part (F.reads form.now) (option_map (λ part. view part.now) second.entry)) }
+        (spec.second_part (F.reads form.now) (option_map data_of second.entry)) }
 {
     match second {
         None => refused_here(alloc),
-        Some(second) => item_at(alloc, 1, second, form),
+        Some(second) => item_at(alloc, 1, &second, form),
     }
 }
 
 // The condition of a word and a second part.
-fn test_about(alloc: Global, about: Subject, second: Option<&Value>) -> Result<Test, Refused>
+fn test_about(alloc: Global, about: Subject, second: Option<Tree<'_, '_>>) -> Result<Test, Refused>
     ensures { Gives result
-        (spec.test_about about (option_map (λ part. view part.now) second.entry)) }
+        (spec.test_about about (option_map data_of second.entry)) }
 {
     match about {
         Subject::Success => alone(alloc, Test::IsOk, second),
@@ -96,11 +103,11 @@ impl Form for Condition {
 
     ghost reads = { λ _. spec.test_of };
 
-    fn read(&self, alloc: Global, tree: &Value) -> Result<Test, Refused> {
+    fn read(&self, alloc: Global, tree: &Tree<'_, '_>) -> Result<Test, Refused> {
         let Some((first, second)) = parts_of(tree) else {
             return refused_here(alloc);
         };
-        let about = item_at(alloc, 0, first, &SUBJECT)?;
+        let about = item_at(alloc, 0, &first, &SUBJECT)?;
         test_about(alloc, about, second)
     }
 }

@@ -1,15 +1,15 @@
 // The table of what a fetch asks for.
-ghost use Rattle.serde_json.specs.View.{view};
+ghost use Rattle.wf_script_tree.specs.Trees.{data_of};
 ghost use Rattle.wf_script_tables.specs.Gives.{Gives};
 ghost use Rattle.wf_script_steps.specs.Fetches as spec;
 
 use crate::texts::{TEMPLATE, TEXT, Template, policy};
-use serde_json::Value;
 use std::alloc::Global;
 use wf_script_tables::{
     AnyText, Form, Given, ListOf, PairOf, Refused, TextThat, Truth, Word, only_keys, optional,
     required,
 };
+use wf_script_tree::Tree;
 use wf_text::{Bytes, Items};
 use wf_types::{Credentials, Init, Mode, Pair, Pairs, RedirectMode, ReferrerPolicy};
 
@@ -78,15 +78,15 @@ impl Form for HeaderPair {
 
     ghost reads = { λ _. spec.header_of };
 
-    fn read(&self, alloc: Global, tree: &Value) -> Result<Pair, Refused> {
+    fn read(&self, alloc: Global, tree: &Tree<'_, '_>) -> Result<Pair, Refused> {
         let (name, value) = HEADER.read(alloc, tree)?;
         Ok(Pair { name, value })
     }
 }
 
 // How the request is made: its mode, its credentials mode and its redirect mode.
-fn manner(alloc: Global, tree: &Value) -> Result<(Mode, Credentials, RedirectMode), Refused>
-    ensures { Gives result (spec.manner_of (view tree.now)) }
+fn manner(alloc: Global, tree: &Tree<'_, '_>) -> Result<(Mode, Credentials, RedirectMode), Refused>
+    ensures { Gives result (spec.manner_of (data_of tree.now)) }
 {
     let mode = optional(alloc, tree, "mode", Mode::Cors, &MODE)?;
     let same_origin = Credentials::SameOrigin;
@@ -96,8 +96,8 @@ fn manner(alloc: Global, tree: &Value) -> Result<(Mode, Credentials, RedirectMod
 }
 
 // What is sent: headers, and a body.
-fn content(alloc: Global, tree: &Value) -> Result<(Pairs, Option<Bytes>), Refused>
-    ensures { Gives result (spec.content_of (view tree.now)) }
+fn content(alloc: Global, tree: &Tree<'_, '_>) -> Result<(Pairs, Option<Bytes>), Refused>
+    ensures { Gives result (spec.content_of (data_of tree.now)) }
 {
     let headers = optional(alloc, tree, "headers", Items::new(alloc), &HEADERS)?;
     let body = optional(alloc, tree, "body", None, &BODY)?;
@@ -105,8 +105,8 @@ fn content(alloc: Global, tree: &Value) -> Result<(Pairs, Option<Bytes>), Refuse
 }
 
 // Whether its referrer is the client, and its referrer policy.
-fn referring(alloc: Global, tree: &Value) -> Result<(bool, ReferrerPolicy), Refused>
-    ensures { Gives result (spec.referring_of (view tree.now)) }
+fn referring(alloc: Global, tree: &Tree<'_, '_>) -> Result<(bool, ReferrerPolicy), Refused>
+    ensures { Gives result (spec.referring_of (data_of tree.now)) }
 {
     let client = optional(alloc, tree, "referrer", true, &REFERRER)?;
     let policy = policy(alloc, tree)?;
@@ -122,7 +122,7 @@ impl Form for FetchTable {
 
     ghost reads = { λ _. spec.fetch_of };
 
-    fn read(&self, alloc: Global, tree: &Value) -> Result<Init, Refused> {
+    fn read(&self, alloc: Global, tree: &Tree<'_, '_>) -> Result<Init, Refused> {
         only_keys(alloc, tree, KEYS)?;
         let url = required(alloc, tree, "url", &TEMPLATE)?;
         let get = Bytes::of(alloc, b"GET")?;

@@ -2,9 +2,9 @@
 ghost use Rattle.wf_script_steps.specs.Loads as spec;
 
 use crate::texts::{TEMPLATE, TEXT, policy};
-use serde_json::Value;
 use std::alloc::Global;
 use wf_script_tables::{Form, Refused, Truth, Word, only_keys, optional, required};
+use wf_script_tree::Tree;
 use wf_text::Bytes;
 use wf_types::{CrossOrigin, Destination, LoadInit};
 
@@ -47,7 +47,7 @@ impl Form for LoadTable {
 
     ghost reads = { λ _. spec.load_of };
 
-    fn read(&self, alloc: Global, tree: &Value) -> Result<LoadInit, Refused> {
+    fn read(&self, alloc: Global, tree: &Tree<'_, '_>) -> Result<LoadInit, Refused> {
         only_keys(alloc, tree, KEYS)?;
         let kind = required(alloc, tree, "kind", &KIND)?;
         let url = required(alloc, tree, "url", &TEMPLATE)?;

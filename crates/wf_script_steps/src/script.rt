@@ -1,6 +1,6 @@
 // Scripts, with the scripts inside their commands.
 ghost use Rattle.std.specs.Prelude.{decimal};
-ghost use Rattle.serde_json.specs.View.{view, items_view};
+ghost use Rattle.wf_script_tree.specs.Trees.{data_of, trees_of};
 ghost use Rattle.wf_script_commands.specs.Commands.{step_of};
 ghost use Rattle.wf_script_commands.specs.Scripts.{no_steps};
 ghost use Rattle.wf_script_tables.specs.Gives.{Gives, GivesAs};
@@ -9,12 +9,12 @@ ghost use Rattle.wf_script_steps.specs.Scripts as spec;
 
 use crate::commands::{fetch_command, load_command, refused_command, refused_key, wait_command};
 use crate::conditions::Condition;
-use serde_json::Value;
 use std::alloc::Global;
 use wf_script_commands::{Command, Script};
 use wf_script_tables::{
     Form, Number, Refused, at_segment, only_keys, refused_at, refused_here, required,
 };
+use wf_script_tree::{Tree, Trees};
 
 // How many `repeat` may be inside each other.
 const REPEATS: u32 = 8;
@@ -30,23 +30,24 @@ const TIMES: Number = Number {
 // A script, in which at most `repeats` `repeat` and `ifs` `if` are inside each other.
 #[cycle(scripts)]
 #[tactic(auto, using(crate::proofs::StepLemmas::script_of_is))]
-fn script(alloc: Global, tree: &Value, repeats: u32, ifs: u32) -> Result<Script, Refused>
-    ensures { Gives result (spec.script_of repeats ifs (view tree.now)) }
+fn script(alloc: Global, tree: &Tree<'_, '_>, repeats: u32, ifs: u32) -> Result<Script, Refused>
+    ensures { Gives result (spec.script_of repeats ifs (data_of tree.now)) }
 {
-    match tree.as_array() {
-        Some(items) => commands(alloc, items.as_slice(), repeats, ifs),
+    match tree.items() {
+        Some(items) => commands(alloc, items, repeats, ifs),
         None => refused_here(alloc),
     }
 }
 
 // The commands of a list, in order.
 #[cycle(scripts)]
-fn commands(alloc: Global, items: &[Value], repeats: u32, ifs: u32) -> Result<Script, Refused>
-    ensures { Gives result (spec.steps_in (spec.command_in repeats ifs) (items_view items.now)) }
+fn commands(alloc: Global, items: Trees<'_, '_>, repeats: u32, ifs: u32) -> Result<Script, Refused>
+    ensures { Gives result (spec.steps_in (spec.command_in repeats ifs) (trees_of items.entry)) }
 {
+    let mut items = items;
     let mut script = Script::new(alloc);
-    for (i, item) in items.iter().enumerate() {
-        let next = command_at(alloc, i, item, repeats, ifs)?;
+    while let Some(item) = items.next() {
+        let next = command_at(alloc, script.len(), &item, repeats, ifs)?;
         script.push(next)?;
     }
     Ok(script)
@@ -57,12 +58,12 @@ fn commands(alloc: Global, items: &[Value], repeats: u32, ifs: u32) -> Result<Sc
 fn command_at(
     alloc: Global,
     index: usize,
-    item: &Value,
+    item: &Tree<'_, '_>,
     repeats: u32,
     ifs: u32,
 ) -> Result<Command, Refused>
     ensures { GivesAs step_of result
-        (under (decimal index) (spec.command_in repeats ifs (view item.now))) }
+        (under (decimal index) (spec.command_in repeats ifs (data_of item.now))) }
 {
     match command(alloc, item, repeats, ifs) {
         Ok(command) => Ok(command),
@@ -72,8 +73,8 @@ fn command_at(
 
 // A command, told by its key.
 #[cycle(scripts)]
-fn command(alloc: Global, tree: &Value, repeats: u32, ifs: u32) -> Result<Command, Refused>
-    ensures { GivesAs step_of result (spec.command_in repeats ifs (view tree.now)) }
+fn command(alloc: Global, tree: &Tree<'_, '_>, repeats: u32, ifs: u32) -> Result<Command, Refused>
+    ensures { GivesAs step_of result (spec.command_in repeats ifs (data_of tree.now)) }
 {
     if tree.get("fetch").is_some() {
         fetch_command(alloc, tree)
@@ -92,9 +93,14 @@ fn command(alloc: Global, tree: &Value, repeats: u32, ifs: u32) -> Result<Comman
 
 // A script that is repeated.
 #[cycle(scripts)]
-fn repeat_command(alloc: Global, tree: &Value, repeats: u32, ifs: u32) -> Result<Command, Refused>
+fn repeat_command(
+    alloc: Global,
+    tree: &Tree<'_, '_>,
+    repeats: u32,
+    ifs: u32,
+) -> Result<Command, Refused>
     ensures { GivesAs step_of result
-        (spec.repeat_command_of (spec.inside_repeat repeats ifs) (view tree.now)) }
+        (spec.repeat_command_of (spec.inside_repeat repeats ifs) (data_of tree.now)) }
 {
     only_keys(alloc, tree, &["repeat", "do"])?;
     if repeats == 0 {
@@ -107,9 +113,14 @@ fn repeat_command(alloc: Global, tree: &Value, repeats: u32, ifs: u32) -> Result
 
 // One of two scripts, by a condition.
 #[cycle(scripts)]
-fn if_command(alloc: Global, tree: &Value, repeats: u32, ifs: u32) -> Result<Command, Refused>
+fn if_command(
+    alloc: Global,
+    tree: &Tree<'_, '_>,
+    repeats: u32,
+    ifs: u32,
+) -> Result<Command, Refused>
     ensures { GivesAs step_of result
-        (spec.if_command_of (spec.inside_if repeats ifs) (view tree.now)) }
+        (spec.if_command_of (spec.inside_if repeats ifs) (data_of tree.now)) }
 {
     only_keys(alloc, tree, &["if", "then", "else"])?;
     if ifs == 0 {
@@ -125,15 +136,15 @@ fn if_command(alloc: Global, tree: &Value, repeats: u32, ifs: u32) -> Result<Com
 #[cycle(scripts)]
 fn script_under(
     alloc: Global,
-    tree: &Value,
+    tree: &Tree<'_, '_>,
     name: &str,
     repeats: u32,
     ifs: u32,
 ) -> Result<Script, Refused>
-    ensures { Gives result (required name.now (spec.script_of repeats ifs) (view tree.now)) }
+    ensures { Gives result (required name.now (spec.script_of repeats ifs) (data_of tree.now)) }
 {
     match tree.get(name) {
-        Some(found) => at_segment(alloc, name, script(alloc, found, repeats, ifs)),
+        Some(found) => at_segment(alloc, name, script(alloc, &found, repeats, ifs)),
         None => at_segment(alloc, name, refused_here(alloc)),
     }
 }
@@ -142,16 +153,16 @@ fn script_under(
 #[cycle(scripts)]
 fn script_or_none(
     alloc: Global,
-    tree: &Value,
+    tree: &Tree<'_, '_>,
     name: &str,
     repeats: u32,
     ifs: u32,
 ) -> Result<Script, Refused>
     ensures { Gives result
-        (optional name.now no_steps (spec.script_of repeats ifs) (view tree.now)) }
+        (optional name.now no_steps (spec.script_of repeats ifs) (data_of tree.now)) }
 {
     match tree.get(name) {
-        Some(found) => at_segment(alloc, name, script(alloc, found, repeats, ifs)),
+        Some(found) => at_segment(alloc, name, script(alloc, &found, repeats, ifs)),
         None => Ok(Script::new(alloc)),
     }
 }
@@ -170,7 +181,7 @@ impl Form for DocumentScript {
 
     ghost reads = { λ _. spec.document_script_of };
 
-    fn read(&self, alloc: Global, tree: &Value) -> Result<Script, Refused> {
+    fn read(&self, alloc: Global, tree: &Tree<'_, '_>) -> Result<Script, Refused> {
         script(alloc, tree, REPEATS, IFS)
     }
 }

@@ -1,13 +1,13 @@
 // Texts that are templates, and the words for referrer policies.
-ghost use Rattle.serde_json.specs.View.{view};
+ghost use Rattle.wf_script_tree.specs.Trees.{data_of};
 ghost use Rattle.wf_script_commands.specs.Templates.{is_template};
 ghost use Rattle.wf_script_tables.specs.Gives.{Gives};
 ghost use Rattle.wf_script_steps.specs.Referring as spec;
 
-use serde_json::Value;
 use std::alloc::Global;
 use wf_script_commands::is_template;
 use wf_script_tables::{AnyText, Refused, TextTest, TextThat, Word, optional};
+use wf_script_tree::Tree;
 use wf_text::OutOfMemory;
 use wf_types::ReferrerPolicy;
 
@@ -53,8 +53,8 @@ const POLICY: Word<'static, ReferrerPolicy> = Word {
 };
 
 // The referrer policy of a fetch or a load.
-pub(crate) fn policy(alloc: Global, tree: &Value) -> Result<ReferrerPolicy, Refused>
-    ensures { Gives result (spec.policy_of (view tree.now)) }
+pub(crate) fn policy(alloc: Global, tree: &Tree<'_, '_>) -> Result<ReferrerPolicy, Refused>
+    ensures { Gives result (spec.policy_of (data_of tree.now)) }
 {
     let empty = ReferrerPolicy::Empty;
     optional(alloc, tree, "referrer_policy", empty, &POLICY)

@@ -1,10 +1,11 @@
 -- Reading a JSON tree (RFC 8259) by tables of keys: the value, or the first refused place. A place is
 -- written from the value that is being read: a segment is put before it at each level.
-use Rattle.std.specs.Prelude.{ℕ, ◌+◌, ◌&&◌, Bool, true, false, nat_le, List, [], ◌∷◌, ◌++◌, codes, decimal}
+use Rattle.std.specs.Prelude.{ℕ, ◌+◌, ◌&&◌, Bool, true, nat_le, List, [], ◌∷◌, ◌++◌, codes, decimal}
 use Rattle.std.specs.Prelude.{bytes_eq, Option, Some, None, is_some, option_and_then, Result, Ok, Err, if◌then◌else◌, ⊤}
-use Rattle.std.specs.List.{list_any}
-use Rattle.serde_json.specs.Data.{Data, Items, no_items, item, Members, no_members, member}
+use Rattle.serde_json.specs.Data.{Data, Items, no_items, item}
 use Rattle.serde_json.specs.Find.{get, as_bool, as_number, as_u64, as_str, as_array, as_object}
+pub use Rattle.wf_script_tree.specs.Keys.{is_one_of, known, has_keys}
+pub use Rattle.wf_script_tree.specs.Trees.{count}
 
 -- a value, or the place that is refused
 abbrev pub Read : Type 0 → Type 0
@@ -75,20 +76,6 @@ some_of read tree = do
 
 -- ---- objects
 
--- the key is one of the names
-abbrev pub is_one_of : List (List ℕ) → List ℕ → Bool
-is_one_of names key = list_any (λ name. bytes_eq name key) names
-
--- each key is one of the names
-abbrev pub known : List (List ℕ) → Members → Bool
-known names no_members = true
-known names (member key value members) = is_one_of names key && known names members
-
--- an object with no keys but these
-abbrev pub has_keys : List (List ℕ) → Option Members → Bool
-has_keys names None = false
-has_keys names (Some members) = known names members
-
 -- refused where the tree is no object, or has a key that is not named
 abbrev pub only_keys : List (List ℕ) → Data → Read ⊤
 only_keys names tree = given (has_keys names (as_object tree)) tt
@@ -111,11 +98,6 @@ abbrev pub optional : {A : Type 0} → List ℕ → A → (Data → Read A) → 
 optional name default read tree = under name (found_or (Ok default) read (get name tree))
 
 -- ---- lists
-
--- how many items there are
-abbrev pub count : Items → ℕ
-count no_items = 0
-count (item tree items) = count items + 1
 
 -- each item, counted from i
 abbrev pub each_from : {A : Type 0} → (Data → Read A) → ℕ → Items → Read (List A)

@@ -1,12 +1,12 @@
 ghost use Rattle.std.specs.Prelude.{◌≡◌, [], Err, IfOk, decimal};
 ghost use Rattle.serde_json.specs.Data.{Data};
-ghost use Rattle.serde_json.specs.View.{view};
+ghost use Rattle.wf_script_tree.specs.Trees.{data_of};
 ghost use Rattle.wf_script_tables.specs.Gives.{Gives, IsUnder};
 ghost use Rattle.wf_script_tables.specs.Reading.{Read, under, below};
 
 use crate::refused::Refused;
-use serde_json::Value;
 use std::alloc::Global;
+use wf_script_tree::Tree;
 use wf_text::{Bytes, OutOfMemory};
 
 /// What a value of a JSON tree (RFC 8259) has to be, and what it is read as.
@@ -19,8 +19,8 @@ pub trait Form {
     /// Reads the value. One that is not of the form is refused by `At`, with the place of the first
     /// bad part, from the value: empty where it is the value itself, and else with a `/` and then the
     /// segment for each step on the way down. `Memory` tells want of memory alone.
-    fn read(&self, alloc: Global, tree: &Value) -> Result<Self::Out, Refused>
-        ensures { Gives result (reads self.now (view tree.now)) };
+    fn read(&self, alloc: Global, tree: &Tree<'_, '_>) -> Result<Self::Out, Refused>
+        ensures { Gives result (reads self.now (data_of tree.now)) };
 }
 
 /// Refuses the value that is being read: by `At`, with the empty place.

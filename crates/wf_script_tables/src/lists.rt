@@ -1,14 +1,14 @@
 ghost use Rattle.std.specs.Prelude.{◌≡◌, decimal, option_map, option_and_then};
 ghost use Rattle.serde_json.specs.Find.{as_array};
-ghost use Rattle.serde_json.specs.View.{view, items_view};
+ghost use Rattle.wf_script_tree.specs.Trees.{data_of, trees_of};
 ghost use Rattle.wf_script_tables.specs.Reading as spec;
 ghost use Rattle.wf_script_tables.specs.Gives.{Gives};
 ghost use Rattle.wf_script_tables.specs.Reading.{under};
 
 use crate::form::{Form, refused_at, refused_here};
 use crate::refused::Refused;
-use serde_json::Value;
 use std::alloc::Global;
+use wf_script_tree::{Tree, Trees};
 use wf_text::Items;
 
 /// A list of any number of items of one form. A value that is no list is refused at its own place,
@@ -23,9 +23,9 @@ impl<F: Form> Form for ItemsOf<F> {
 
     ghost reads = { λ list. spec.items_of (F.reads list.item) };
 
-    fn read(&self, alloc: Global, tree: &Value) -> Result<Items<F::Out>, Refused> {
-        match tree.as_array() {
-            Some(items) => each(alloc, items.as_slice(), &self.item),
+    fn read(&self, alloc: Global, tree: &Tree<'_, '_>) -> Result<Items<F::Out>, Refused> {
+        match tree.items() {
+            Some(items) => each(alloc, items, &self.item),
             None => refused_here(alloc),
         }
     }
@@ -45,22 +45,25 @@ impl<F: Form> Form for ListOf<F> {
 
     ghost reads = { λ list. spec.list_of list.most (F.reads list.item) };
 
-    #[tactic(auto, using(crate::proofs::ReadingLemmas::counting))]
-    fn read(&self, alloc: Global, tree: &Value) -> Result<Items<F::Out>, Refused> {
-        match tree.as_array() {
-            Some(items) if items.len() <= self.most => each(alloc, items.as_slice(), &self.item),
-            _ => refused_here(alloc),
+    fn read(&self, alloc: Global, tree: &Tree<'_, '_>) -> Result<Items<F::Out>, Refused> {
+        let (Some(counted), Some(items)) = (tree.items(), tree.items()) else {
+            return refused_here(alloc);
+        };
+        if counted.are_more_than(self.most) {
+            return refused_here(alloc);
         }
+        each(alloc, items, &self.item)
     }
 }
 
 // The items, in order.
-fn each<F: Form>(alloc: Global, items: &[Value], form: &F) -> Result<Items<F::Out>, Refused>
-    ensures { Gives result (spec.each_from (F.reads form.now) 0 (items_view items.now)) }
+fn each<F: Form>(alloc: Global, items: Trees<'_, '_>, form: &F) -> Result<Items<F::Out>, Refused>
+    ensures { Gives result (spec.each_from (F.reads form.now) 0 (trees_of items.entry)) }
 {
+    let mut items = items;
     let mut read = Items::new(alloc);
-    for (i, item) in items.iter().enumerate() {
-        let next = item_at(alloc, i, item, form)?;
+    while let Some(item) = items.next() {
+        let next = item_at(alloc, read.len(), &item, form)?;
         read.push(next)?;
     }
     Ok(read)
@@ -71,10 +74,10 @@ fn each<F: Form>(alloc: Global, items: &[Value], form: &F) -> Result<Items<F::Ou
 pub fn item_at<F: Form>(
     alloc: Global,
     index: usize,
-    item: &Value,
+    item: &Tree<'_, '_>,
     form: &F,
 ) -> Result<F::Out, Refused>
-    ensures { Gives result (under (decimal index) (F.reads form.now (view item.now))) }
+    ensures { Gives result (under (decimal index) (F.reads form.now (data_of item.now))) }
 {
     match form.read(alloc, item) {
         Ok(x) => Ok(x),
@@ -95,23 +98,26 @@ impl<F: Form, G: Form> Form for PairOf<F, G> {
 
     ghost reads = { λ pair. spec.pair_of (F.reads pair.first) (G.reads pair.second) };
 
-    fn read(&self, alloc: Global, tree: &Value) -> Result<(F::Out, G::Out), Refused> {
+    fn read(&self, alloc: Global, tree: &Tree<'_, '_>) -> Result<(F::Out, G::Out), Refused> {
         let Some((first, second)) = two_of(tree) else {
             return refused_here(alloc);
         };
-        let first = item_at(alloc, 0, first, &self.first)?;
-        let second = item_at(alloc, 1, second, &self.second)?;
+        let first = item_at(alloc, 0, &first, &self.first)?;
+        let second = item_at(alloc, 1, &second, &self.second)?;
         Ok((first, second))
     }
 }
 
 // The two items of a list of two.
-fn two_of(tree: &Value) -> Option<(&Value, &Value)>
-    ensures { option_map (λ two. (view two.0.now, view two.1.now)) result
-        ≡ option_and_then spec.two_of (as_array (view tree.now)) }
+fn two_of<'t, 'a>(tree: &Tree<'t, 'a>) -> Option<(Tree<'t, 'a>, Tree<'t, 'a>)>
+    ensures { option_map (λ two. (data_of two.0, data_of two.1)) result
+        ≡ option_and_then spec.two_of (as_array (data_of tree.now)) }
 {
-    match tree.as_array()?.as_slice() {
-        [first, second] => Some((first, second)),
-        _ => None,
+    let mut items = tree.items()?;
+    let first = items.next()?;
+    let second = items.next()?;
+    match items.next() {
+        Some(_) => None,
+        None => Some((first, second)),
     }
 }

@@ -5,8 +5,8 @@ ghost use Rattle.wf_script_tables.specs.Reading.{any, text_that};
 
 use crate::form::{Form, refused_here};
 use crate::refused::Refused;
-use serde_json::Value;
 use std::alloc::Global;
+use wf_script_tree::Tree;
 use wf_text::{Bytes, OutOfMemory, is_token, is_value};
 
 /// A test that a text has to pass.
@@ -31,7 +31,7 @@ impl<T: TextTest> Form for TextThat<T> {
 
     ghost reads = { λ form. text_that (T.taken form.test) };
 
-    fn read(&self, alloc: Global, tree: &Value) -> Result<Bytes, Refused> {
+    fn read(&self, alloc: Global, tree: &Tree<'_, '_>) -> Result<Bytes, Refused> {
         let Some(text) = tree.as_str() else {
             return refused_here(alloc);
         };

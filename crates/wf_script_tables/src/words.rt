@@ -3,8 +3,8 @@ ghost use Rattle.wf_script_tables.specs.Reading as spec;
 
 use crate::form::{Form, refused_here};
 use crate::refused::Refused;
-use serde_json::Value;
 use std::alloc::Global;
+use wf_script_tree::Tree;
 
 /// One of these words, read as its meaning; of equal words the first counts. Any other text, and any
 /// other value, is refused at its own place.
@@ -18,7 +18,7 @@ impl<T: Copy + Drop> Form for Word<'_, T> {
 
     ghost reads = { λ word. spec.word_of (map (λ entry. (entry.0.now, entry.1)) word.words.now) };
 
-    fn read(&self, alloc: Global, tree: &Value) -> Result<T, Refused> {
+    fn read(&self, alloc: Global, tree: &Tree<'_, '_>) -> Result<T, Refused> {
         let Some(text) = tree.as_str() else {
             return refused_here(alloc);
         };

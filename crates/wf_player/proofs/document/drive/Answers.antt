@@ -1,6 +1,4 @@
-use Rattle.wf_script_run.specs.Runs.{document_run}
-use Rattle.wf_link_wire.specs.Wires.{over_link}
-use Rattle.wf_player.specs.Worlds.{outside}
+use Rattle.wf_player.proofs.Words.{document_run, over_link, outside}
 use Rattle.wf_player.proofs.RunLemmas.{run-unbegun}
 use Rattle.wf_player.proofs.document.drive.Goals as goal
 

@@ -1,12 +1,7 @@
-use Rattle.std.proofs.Common.{◌≡◌, ap, arith, refl, rules, ◌∙◌}
-use Rattle.wf_link.specs.Sources.{IsAtEnd}
-use Rattle.wf_script_run.specs.Runs.{Progress, beginning, finished, script_run}
-use Rattle.wf_link_wire.specs.Wires.{over_link, window_of}
-use Rattle.wf_player.specs.Playing.{Came}
-use Rattle.wf_player.specs.Standings.{KeepsPass, most_calls, setting_of, standing}
-use Rattle.wf_player.specs.Worlds.{outside, world_of}
-use Rattle.wf_player.proofs.AskLemmas.{both-moved, end-left, keeps-pass, moved}
-use Rattle.wf_player.proofs.RunLemmas.{run-rests, script-came}
+use Rattle.wf_player.proofs.Words.{◌≡◌, ap, arith, refl, rules, ◌∙◌, IsAtEnd, Progress, finished, script_run}
+use Rattle.wf_player.proofs.Words.{over_link, window_of, KeepsPass, most_calls, setting_of, standing}
+use Rattle.wf_player.proofs.AskLemmas.{outside-is, end-left, keeps-pass, moved}
+use Rattle.wf_player.proofs.RunLemmas.{run-came, run-rests}
 use Rattle.wf_player.proofs.document.play_script.Goals as goal
 
 pub script-requires-clause-goes : goal.script-requires-clause-goes
@@ -21,28 +16,11 @@ returns-clause-came g c =
     let last = c.script.new.self in
     let shown : c.into_events.result ≡ last.running.now.shown = search rules in
     let ticks : c.now-clock.result ≡ last.running.now.clock = search rules in
-    both-moved (λ p l. Came (over_link g.L.Link.serves) c.args.lent.now.limit
-    (g.S.Share.account c.args.pass.now).document
-    (script_run (setting_of c.args.lent.now) c.args.script.now finished (beginning c.args.base))
-    (outside g.S.Share.account g.L.Link.told c.args.pass.now c.args.link.now) c.into_events.result
-    c.ended_by-ending.result c.now-clock.result (outside g.S.Share.account g.L.Link.told p l)) last.pass.now _
-    last.link.now _ (search rules) (search rules)
-    (script-came (over_link g.L.Link.serves) c.args.script.now c.args.base
-    (record {
-      terms = record {
-        lent = setting_of c.args.lent.now;
-        limit = c.args.lent.now.limit;
-        document = (g.S.Share.account c.args.pass.now).document;
-      };
-      world = world_of g.S.Share.account g.L.Link.told c.args.pass.now c.args.link.now c.args.wire.now;
-      progress = c.new-running.result;
-    })
-    (standing g.S.Share.account g.L.Link.told last)
-    (outside g.S.Share.account g.L.Link.told c.args.pass.now c.args.link.now)
-    (outside g.S.Share.account g.L.Link.told last.pass.now last.link.now) c.script.result c.into_events.result
-    c.ended_by-ending.result c.now-clock.result c.new-running.ensures c.requires.idle refl refl shown
-    c.ended_by-ending.ensures
-    ticks c.script.ensures.came)
+    rw (shown, ticks, c.ended_by-ending.ensures) (run-came _ _ (standing g.S.Share.account g.L.Link.told last)
+    c.requires.idle refl (search (rules, outside-is)) (ap (λ (p : Progress). p.shown) c.new-running.ensures)
+    c.args.script.now c.script.result
+    (ap (script_run (setting_of c.args.lent.now) c.args.script.now finished) c.new-running.ensures)
+    c.script.ensures.came)
 
 pub returns-clause-rests : goal.returns-clause-rests
 returns-clause-rests g c = λ told.

@@ -1,6 +1,5 @@
-use Rattle.std.proofs.Common.{◌≡◌, ◌+◌, ◌≤◌, length, vec_capacity, vec_len}
-use Rattle.std.specs.Vec.Iter.{into_iter_len}
-use Rattle.wf_player.specs.Private.Rows.{seatings_of, transcripts_of}
+use Rattle.wf_player.proofs.Words.{◌≡◌, ◌+◌, ◌≤◌, length, vec_capacity, vec_len, into_iter_len, seatings_of}
+use Rattle.wf_player.proofs.Words.{transcripts_of}
 use Rattle.wf_player.proofs.threads.from_rows.Given as goal
 
 -- of the rows so far the seats and the transcripts are back, and there is room for the others

@@ -1,4 +1,4 @@
-use Rattle.std.proofs.Common.{◌≡◌}
+use Rattle.wf_player.proofs.Words.{◌≡◌}
 use Rattle.wf_player.proofs.threads.listed.Given as goal
 
 abbrev pub invariant-loop-transcript : goal.invariant-loop-transcript

@@ -1,6 +1,4 @@
-use Rattle.std.proofs.Common.{◌≡◌, ◌+◌, ◌≤◌, length, vec_capacity, vec_len}
-use Rattle.std.specs.Vec.Iter.{into_iter_len}
-use Rattle.wf_player.specs.Private.Rows.{seatings_of}
+use Rattle.wf_player.proofs.Words.{◌≡◌, ◌+◌, ◌≤◌, length, vec_capacity, vec_len, into_iter_len, seatings_of}
 use Rattle.wf_player.proofs.threads.to_rows.Given as goal
 
 -- the seats so far are in the rows, and there is room for the others

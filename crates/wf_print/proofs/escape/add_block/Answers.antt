@@ -7,4 +7,4 @@ use Rattle.wf_print.proofs.escape.add_block.Goals as goal
 pub returns-then-are_plain : goal.returns-then-are_plain
 returns-then-are_plain c =
     let plain : list_all spec.is_plain c.args.block.now ≡ true = sym c.are_plain.ensures ∙ c.if-are_plain.true in
-    rw (escaped-all_plain c.args.block.now plain) c.append.ensures.ok
+    rw (escaped-all_plain c.args.block.now plain) c.append.ensures

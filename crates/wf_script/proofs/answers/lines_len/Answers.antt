@@ -2,7 +2,7 @@ use Rattle.std.proofs.Common.{List, ap, arith, length}
 use Rattle.std.specs.List.{flat_map}
 use Rattle.wf_types.specs.declared.init.Pair.{Pair}
 use Rattle.wf_script.specs.Answers.{header_line}
-use Rattle.wf_script_tables.proofs.ReadingLemmas.{drop-past}
+use Rattle.std.proofs.lemmas.List.{drop_all}
 use Rattle.wf_script.proofs.answers.lines_len.Goals as goal
 
 pub returns : goal.returns
@@ -12,5 +12,5 @@ returns c =
       c.loop-header.invariant.0,
       c.loop-header.invariant.1,
       ap (λ (headers : List Pair). length (flat_map header_line headers))
-          (drop-past c.args.headers.now c.loop-header.header-index c.loop-header-test.false),
+          (drop_all c.loop-header.header-index c.args.headers.now c.loop-header-test.false),
     )

@@ -1,5 +1,6 @@
-use Rattle.std.proofs.Common.{◌≡◌, ◌+◌, ◌*◌, drop}
-use Rattle.serde_json.specs.View.{items_view}
+use Rattle.std.proofs.Common.{◌≡◌, ◌+◌, ◌*◌, length}
+use Rattle.wf_script_commands.specs.Scripts.{count}
+use Rattle.wf_script_tree.specs.Trees.{trees_of}
 use Rattle.wf_script_tables.specs.Reading.{each_from}
 use Rattle.wf_script_tables.proofs.ReadingLemmas.{with_front}
 use Rattle.wf_script_steps.specs.Scripts.{command_in}
@@ -7,10 +8,13 @@ use Rattle.wf_script_steps.proofs.StepLemmas.{listed}
 use Rattle.wf_script_steps.proofs.script.+scripts.Given as goal
 
 -- the commands so far come before those that are left
-abbrev pub invariant-commands-loop-i : goal.invariant-commands-loop-i
-invariant-commands-loop-i l =
-    each_from (command_in l.repeats l.ifs) 0 (items_view l.items)
-    ≡ with_front (listed l.script) (each_from (command_in l.repeats l.ifs) l.i (items_view (drop l.i l.items)))
+abbrev pub invariant-commands-loop-item : goal.invariant-commands-loop-item
+invariant-commands-loop-item l =
+    each_from (command_in l.repeats l.ifs) 0 (trees_of l.fn.items)
+    ≡ with_front (listed l.script) (each_from (command_in l.repeats l.ifs) (count l.script) (trees_of l.items))
+
+abbrev pub decreases-commands-loop-item : goal.decreases-commands-loop-item
+decreases-commands-loop-item l = length l.items
 
 abbrev pub decreases-script_under : goal.decreases-script_under
 decreases-script_under l = 8 * (l.repeats + l.ifs) + 7

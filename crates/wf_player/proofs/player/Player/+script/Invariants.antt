@@ -1,9 +1,5 @@
-use Rattle.std.proofs.Common.{◌+◌, ◌*◌, max}
-use Rattle.wf_script_commands.specs.Commands.{step_of}
-use Rattle.wf_script_commands.specs.Depth.{step_size, steps_size}
-use Rattle.wf_link.specs.Sources.{IsAtEnd}
-use Rattle.wf_link_wire.specs.Wires.{over_link}
-use Rattle.wf_player.specs.Standings.{HasSpent, Keeps, standing}
+use Rattle.wf_player.proofs.Words.{step_of, ◌+◌, ◌*◌, max, step_size, steps_size, IsAtEnd, over_link, HasSpent, Keeps}
+use Rattle.wf_player.proofs.Words.{standing}
 use Rattle.wf_player.proofs.ScriptLemmas.{IsAt, IsRound}
 use Rattle.wf_player.proofs.player.Player.+script.Given as goal
 

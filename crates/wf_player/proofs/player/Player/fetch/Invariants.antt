@@ -1,17 +1,13 @@
-use Rattle.std.proofs.Common.{◌-◌}
-use Rattle.wf_fetch_acts.specs.Within.{acts}
-use Rattle.wf_fetch_laws.specs.Prices.{fetch_price}
-use Rattle.wf_script_run.specs.Runs.{at_time}
-use Rattle.wf_link_wire.specs.Wires.{over_link}
-use Rattle.wf_player.specs.Standings.{Keeps, setting_of, standing}
+use Rattle.wf_player.proofs.Words.{acts, fetch_price, ◌-◌, at_time, over_link, Keeps, setting_of, standing}
 use Rattle.wf_player.proofs.FetchLemmas.{IsFetching}
 use Rattle.wf_player.proofs.player.Player.fetch.Given as goal
 
 -- the fetch is at this step, and has shown what was added to the events; what plays is as every call leaves it
 abbrev pub invariant-loop-step : goal.invariant-loop-step
 invariant-loop-step g l = record {
-  fetching : IsFetching (over_link g.L.Link.serves) (standing g.S.Share.account g.L.Link.told l.fn.self) l.fn.now
-      l.fn.request l.acts (standing g.S.Share.account g.L.Link.told l.self) l.step;
+  fetching : IsFetching (over_link g.L.Link.serves) (at_time (setting_of l.fn.self.lent.now) l.fn.now) l.fn.request
+      (standing g.S.Share.account g.L.Link.told l.fn.self) l.acts (standing g.S.Share.account g.L.Link.told l.self)
+      l.step;
   kept : Keeps g.S.Share.account g.S.Share.belongs l.fn.self l.self;
 }
 

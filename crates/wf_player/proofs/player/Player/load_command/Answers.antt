@@ -1,23 +1,10 @@
-use Rattle.std.proofs.Common.{refl}
-use Rattle.wf_script_commands.specs.Scripts.{load}
-use Rattle.wf_script_run.specs.Results.{lent_result}
-use Rattle.wf_script_run.specs.Runs.{command_started, filled_load}
-use Rattle.wf_send.specs.Loading.{new_load}
-use Rattle.wf_link_wire.specs.Wires.{over_link}
-use Rattle.wf_player.specs.Standings.{standing}
-use Rattle.wf_player.proofs.AskingLemmas.{asked-as}
-use Rattle.wf_player.proofs.PartLemmas.{rule-unbegun, unended-refused}
+use Rattle.wf_player.proofs.Words.{refl}
+use Rattle.wf_player.proofs.PartLemmas.{played-none, unended-after, unended-unbegun}
 use Rattle.wf_player.proofs.player.Player.load_command.Goals as goal
 
 pub returns-in_err-made-clause-came : goal.returns-in_err-made-clause-came
-returns-in_err-made-clause-came g c =
-    unended-refused _ c.from_residual.result c.from_residual.ensures.0
-    (rule-unbegun (λ lent. command_started lent (load c.args.init.now)) refl)
+returns-in_err-made-clause-came g c = unended-unbegun _ _ c.from_residual.result c.from_residual.ensures.0 refl
 
 pub returns-clause-came : goal.returns-clause-came
-returns-clause-came g c =
-    asked-as (over_link g.L.Link.serves) c.args.init.now.kind c.in_ok-made.made
-    (λ client last. new_load client (filled_load last c.args.init.now)) (lent_result c.last.result)
-    (standing g.S.Share.account g.L.Link.told c.args.self.now)
-    (standing g.S.Share.account g.L.Link.told c.asked.new.self) c.asked.result c.last.ensures
-    c.in_ok-made.ensures.value c.asked.ensures.came
+returns-clause-came g c = unended-after _ _ _ c.asked.result
+    (rw (← c.last.ensures, ← c.in_ok-made.ensures.value) played-none) c.asked.ensures.came

@@ -1,0 +1,5 @@
+pub mod Answers
+pub mod Checks
+pub mod Policies
+pub mod Preflights
+pub mod Requested

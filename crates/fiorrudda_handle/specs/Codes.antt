@@ -1,0 +1,49 @@
+-- What the codes tell, and what is written beside them.
+use Rattle.std.specs.Prelude.{◌≡◌, ℕ, Bool, true, false, List, drop, length, nat_lt, take, MatchBool}
+use Rattle.std.specs.Prelude.{Option, Some, None, Result, Ok, Err, if◌then◌else◌}
+use Rattle.fiorrudda_handle.specs.declared.codes.TheConstants.{OK, NO, OUT_OF_MEMORY, TOO_SHORT, NOT_A_URL, NOT_HTTP}
+use Rattle.fiorrudda_handle.specs.declared.codes.TheConstants.{NOT_A_HEADER, NO_REQUEST, TOO_LATE}
+use Rattle.fiorrudda_rules.specs.declared.refusal.Refusal.{Refusal}
+use Rattle.fiorrudda_rules.specs.declared.refusal.Refusal.TheVariants.{OutOfMemory, NotUrl, NotHttp, NotHeader, TooLate}
+use Rattle.fiorrudda_rules.specs.declared.refusal.Refusal.TheVariants.{NoRequest}
+
+-- the code of a refusal
+abbrev pub code_of : Refusal → ℕ
+code_of OutOfMemory = OUT_OF_MEMORY
+code_of NotUrl = NOT_A_URL
+code_of NotHttp = NOT_HTTP
+code_of NotHeader = NOT_A_HEADER
+code_of TooLate = TOO_LATE
+code_of NoRequest = NO_REQUEST
+
+-- whether it holds
+abbrev pub yes_or_no : Bool → ℕ
+yes_or_no true = OK
+yes_or_no false = NO
+
+-- whether it holds, or why there is no answer
+abbrev pub told : Result Bool Refusal → ℕ
+told (Ok holds) = yes_or_no holds
+told (Err refusal) = code_of refusal
+
+-- The text is written at the beginning of the room, if it is long enough, and the rest of the room stays. Its length is
+-- told in both cases.
+abbrev pub IsWritten : List ℕ → List ℕ → List ℕ → ℕ → ℕ → Type 0
+IsWritten text room after len code =
+    (len ≡ length text) × MatchBool (nat_lt (length room) (length text)) ((code ≡ TOO_SHORT) × (after ≡ room))
+    ((code ≡ OK) × (take len after ≡ text) × (drop len after ≡ drop len room))
+
+-- nothing is written
+abbrev pub IsKept : List ℕ → List ℕ → ℕ → ℕ → Type 0
+IsKept room after len_before len = (after ≡ room) × (len ≡ len_before)
+
+-- a text that there may be is written, or why there is no answer is told
+abbrev pub IsTold : Result (Option (List ℕ)) Refusal → List ℕ → List ℕ → ℕ → ℕ → ℕ → Type 0
+IsTold (Ok (Some text)) room after len_before len code = IsWritten text room after len code
+IsTold (Ok None) room after len_before len code = (code ≡ NO) × IsKept room after len_before len
+IsTold (Err refusal) room after len_before len code = (code ≡ code_of refusal) × IsKept room after len_before len
+
+-- a text, as one that there may be
+abbrev pub some_text : Result (List ℕ) Refusal → Result (Option (List ℕ)) Refusal
+some_text (Ok text) = Ok (Some text)
+some_text (Err refusal) = Err refusal

@@ -1,0 +1,3 @@
+pub mod Codes
+pub mod Crossing
+pub mod Handle

@@ -1,0 +1,76 @@
+-- What the calls tell that look at a request before it is sent.
+use Rattle.std.specs.Prelude.{◌≡◌, ℕ, ◌==◌, Bool, List, length, slice_get, Option, Some, None, Result, Ok, Err}
+use Rattle.std.specs.Prelude.{option_map, if◌then◌else◌}
+use Rattle.wf_types.specs.Names.{directive_name}
+use Rattle.wf_types.specs.declared.policy.Violation.{Violation}
+use Rattle.fiorrudda_checks.specs.Checks as checks
+use Rattle.fiorrudda_checks.specs.Checks.{violations_of}
+use Rattle.fiorrudda_checks.specs.declared.checks.Check.{Check}
+use Rattle.fiorrudda_checks.specs.declared.checks.Check.TheVariants.{Enforced, ReportOnly, Response}
+use Rattle.fiorrudda_handle.specs.Codes.{code_of, told, yes_or_no, IsKept, IsTold}
+use Rattle.fiorrudda_handle.specs.declared.codes.TheConstants.{NO, NO_SUCH_NUMBER, OK, WRONG_HANDLE}
+use Rattle.fiorrudda_handle.specs.declared.thing.Thing.{Thing}
+use Rattle.fiorrudda_handle.specs.declared.thing.Thing.TheVariants as thing
+use Rattle.fiorrudda_rules.specs.declared.refusal.Refusal.{Refusal}
+use Rattle.fiorrudda_policies.specs.Headers.{IsNotHeld}
+
+-- ---- mixed content
+
+abbrev pub mixed_upgraded : Option Thing → Option Thing → List ℕ → ℕ
+mixed_upgraded (Some (thing.Client settings)) (Some (thing.Request asked)) redirect =
+    told (checks.is_mixed_upgraded settings asked redirect)
+mixed_upgraded _ _ redirect = WRONG_HANDLE
+
+abbrev pub mixed_blocked : Option Thing → Option Thing → List ℕ → ℕ
+mixed_blocked (Some (thing.Client settings)) (Some (thing.Request asked)) redirect =
+    told (checks.is_mixed_blocked settings asked redirect)
+mixed_blocked _ _ redirect = WRONG_HANDLE
+
+-- ---- violations
+
+-- the check of a number
+abbrev pub check_numbered : ℕ → Option Check
+check_numbered number =
+    if number == 0 then Some Enforced
+    else if number == 1 then Some ReportOnly
+    else if number == 2 then Some Response
+    else None
+
+-- the handle holds what was found, or is empty
+abbrev pub HasFound : Result (List Violation) Refusal → ℕ → Option Thing → Type 0
+HasFound (Ok found) code held =
+    (code ≡ yes_or_no (length found == 0)) × (held ≡ Some (thing.Violations found))
+HasFound (Err refusal) code held = (code ≡ code_of refusal) × (held ≡ None)
+
+-- no check was made
+abbrev pub IsUnchecked : ℕ → ℕ → Option Thing → Type 0
+IsUnchecked expected code held = (code ≡ expected) × (held ≡ None)
+
+abbrev pub HasFoundBy : Option Check → Option Thing → Option Thing → Option Thing → List ℕ → ℕ → Option Thing → Type 0
+HasFoundBy (Some check) (Some (thing.Policies policies)) (Some (thing.Client settings)) (Some (thing.Request asked))
+    redirect = HasFound (violations_of check policies settings asked redirect)
+HasFoundBy None policies client request redirect = IsUnchecked NO_SUCH_NUMBER
+HasFoundBy (Some check) _ _ _ redirect = IsUnchecked WRONG_HANDLE
+
+-- a violation's policy is told, if there is one
+abbrev pub IsViolation : Option Violation → ℕ → ℕ → ℕ → ℕ → ℕ → Type 0
+IsViolation None policy_before policy enforced_before enforced code =
+    (code ≡ NO) × (policy ≡ policy_before) × (enforced ≡ enforced_before)
+IsViolation (Some violation) policy_before policy enforced_before enforced code =
+    (code ≡ OK) × (policy ≡ violation.policy) × (enforced ≡ (if violation.enforced then 1 else 0))
+
+abbrev pub IsViolationAt : ℕ → Option Thing → ℕ → ℕ → ℕ → ℕ → ℕ → Type 0
+IsViolationAt at (Some (thing.Violations found)) = IsViolation (slice_get found at)
+IsViolationAt at _ = λ policy_before policy enforced_before enforced code.
+    (code ≡ WRONG_HANDLE) × (policy ≡ policy_before) × (enforced ≡ enforced_before)
+
+-- the effective directive of a violation, and the URL that is reported
+abbrev pub IsDirectiveAt : ℕ → Option Thing → List ℕ → List ℕ → ℕ → ℕ → ℕ → Type 0
+IsDirectiveAt at (Some (thing.Violations found)) =
+    IsTold (Ok (option_map (λ violation. directive_name violation.directive) (slice_get found at)))
+IsDirectiveAt at _ = IsNotHeld
+
+abbrev pub IsUrlAt : ℕ → Option Thing → List ℕ → List ℕ → ℕ → ℕ → ℕ → Type 0
+IsUrlAt at (Some (thing.Violations found)) =
+    IsTold (Ok (option_map (λ violation. violation.url) (slice_get found at)))
+IsUrlAt at _ = IsNotHeld

@@ -1,0 +1,200 @@
+// What a page sees of an answer, and which answers are blocked for their MIME type.
+ghost use Rattle.std.specs.Prelude.{◌≡◌, ◌≢◌, None, Some};
+ghost use Rattle.fiorrudda_policies.specs.Answers as spec;
+ghost use Rattle.fiorrudda_policies.specs.Answers.{ShowsBy};
+
+use fiorrudda_checks::{is_nosniff_blocked, is_type_blocked, seen_response};
+use fiorrudda_handle::{
+    Handle, NO_SUCH_NUMBER, OK, OUT_OF_MEMORY, Thing, WRONG_HANDLE, code_of, told,
+};
+use std::alloc::Global;
+use wf_types::Tainting;
+
+/// Response taintings (Fetch, section 2.2.5): of an answer of the page's own origin.
+pub const TAINTING_BASIC: u32 = 0;
+
+/// Of an answer of another origin that passed the CORS check.
+pub const TAINTING_CORS: u32 = 1;
+
+/// Of an answer of another origin, to a request in mode no-cors.
+pub const TAINTING_OPAQUE: u32 = 2;
+
+// The response tainting of a number.
+fn tainting_numbered(number: u32) -> Option<Tainting>
+    ensures { result ≡ spec.tainting_numbered number }
+{
+    match number {
+        TAINTING_BASIC => Some(Tainting::Basic),
+        TAINTING_CORS => Some(Tainting::Cors),
+        TAINTING_OPAQUE => Some(Tainting::Opaque),
+        _ => None,
+    }
+}
+
+// Makes in a handle that is empty what is seen of a thing that is a header list.
+fn shown(
+    alloc: Global,
+    filtered: &mut Handle,
+    client: &Thing,
+    request: &Thing,
+    headers: &Thing,
+    status: u16,
+    tainting: Tainting,
+    seen: &mut u32,
+) -> u32
+    requires { filtered.old.held ≡ None }
+    ensures told { result ≢ OUT_OF_MEMORY → ShowsBy (Some tainting) status (Some client.now) (Some request.now)
+        (Some headers.now) result filtered.new.held seen.old seen.new }
+    ensures out_of_memory { result ≡ OUT_OF_MEMORY → (filtered.new.held ≡ None) × (seen.new ≡ seen.old) }
+{
+    let Thing::Client(settings) = client else {
+        return WRONG_HANDLE;
+    };
+    let Thing::Request(asked) = request else {
+        return WRONG_HANDLE;
+    };
+    let Thing::Headers(list) = headers else {
+        return WRONG_HANDLE;
+    };
+    match seen_response(alloc, settings, asked, tainting, status, list) {
+        Err(refusal) => code_of(refusal),
+        Ok(response) => {
+            let code = filtered.fill(alloc, Thing::Headers(response.headers));
+            if code == OK {
+                *seen = u32::from(response.status);
+            }
+            code
+        }
+    }
+}
+
+/// Makes in a handle the header list that a page sees of an answer to its request, and tells in `seen` the status that
+/// it sees: those of the filtered response by one of the numbers `TAINTING_..` (Fetch, section 2.2.6). Basic hides
+/// Set-Cookie; of CORS the safelisted and the exposed headers are seen, by the request's credentials mode; of opaque
+/// nothing, and its status is 0, as that of an opaque-redirect filtered response. What the handle held is freed first.
+///
+/// `OK`; `NO_SUCH_NUMBER`; `WRONG_HANDLE`, of the client, the request or the header list; `NO_REQUEST` where none can
+/// be made of what is asked for; `OUT_OF_MEMORY`. The handle is empty but for `OK`, and but for `OK` nothing is
+/// written.
+#[unsafe(no_mangle)]
+pub extern "C" fn fiorrudda_filtered(
+    alloc: Global,
+    filtered: &mut Handle,
+    client: &mut Handle,
+    request: &mut Handle,
+    headers: &mut Handle,
+    status: u16,
+    tainting: u32,
+    seen: &mut u32,
+) -> u32
+    ensures told { result ≢ OUT_OF_MEMORY → ShowsBy (spec.tainting_numbered tainting) status client.old.held
+        request.old.held headers.old.held result filtered.new.held seen.old seen.new }
+    ensures out_of_memory { result ≡ OUT_OF_MEMORY → (filtered.new.held ≡ None) × (seen.new ≡ seen.old) }
+    ensures client { client.new.held ≡ client.old.held }
+    ensures request { request.new.held ≡ request.old.held }
+    ensures headers { headers.new.held ≡ headers.old.held }
+{
+    drop(filtered.take(alloc));
+    let Some(tainting) = tainting_numbered(tainting) else {
+        return NO_SUCH_NUMBER;
+    };
+    let Some(settings) = client.take(alloc) else {
+        return WRONG_HANDLE;
+    };
+    let Some(asked) = request.take(alloc) else {
+        client.put(settings);
+        return WRONG_HANDLE;
+    };
+    let Some(list) = headers.take(alloc) else {
+        client.put(settings);
+        request.put(asked);
+        return WRONG_HANDLE;
+    };
+    let code = shown(
+        alloc, filtered, &settings, &asked, &list, status, tainting, seen,
+    );
+    client.put(settings);
+    request.put(asked);
+    headers.put(list);
+    code
+}
+
+// Whether a thing that is a header list is blocked for its MIME type.
+fn type_blocked(alloc: Global, request: &Thing, headers: &Thing) -> u32
+    ensures { result ≢ OUT_OF_MEMORY → result ≡ spec.type_blocked (Some request.now) (Some headers.now) }
+{
+    let Thing::Request(asked) = request else {
+        return WRONG_HANDLE;
+    };
+    let Thing::Headers(list) = headers else {
+        return WRONG_HANDLE;
+    };
+    told(is_type_blocked(alloc, asked, list))
+}
+
+/// Whether an answer to a request is blocked for its MIME type, by its header list: one of a script that is audio,
+/// image, video or CSV (Fetch, "should response to request be blocked due to its MIME type").
+///
+/// `OK` where it is blocked; `NO`; `WRONG_HANDLE`; `OUT_OF_MEMORY`.
+#[unsafe(no_mangle)]
+pub extern "C" fn fiorrudda_type_blocked(
+    alloc: Global,
+    request: &mut Handle,
+    headers: &mut Handle,
+) -> u32
+    ensures told { result ≢ OUT_OF_MEMORY → result ≡ spec.type_blocked request.old.held headers.old.held }
+    ensures request { request.new.held ≡ request.old.held }
+    ensures headers { headers.new.held ≡ headers.old.held }
+{
+    let Some(asked) = request.take(alloc) else {
+        return WRONG_HANDLE;
+    };
+    let Some(list) = headers.take(alloc) else {
+        request.put(asked);
+        return WRONG_HANDLE;
+    };
+    let code = type_blocked(alloc, &asked, &list);
+    request.put(asked);
+    headers.put(list);
+    code
+}
+
+// Whether a thing that is a header list is blocked since it says nosniff.
+fn nosniff_blocked(alloc: Global, request: &Thing, headers: &Thing) -> u32
+    ensures { result ≢ OUT_OF_MEMORY → result ≡ spec.nosniff_blocked (Some request.now) (Some headers.now) }
+{
+    let Thing::Request(asked) = request else {
+        return WRONG_HANDLE;
+    };
+    let Thing::Headers(list) = headers else {
+        return WRONG_HANDLE;
+    };
+    told(is_nosniff_blocked(alloc, asked, list))
+}
+
+/// Whether an answer to a request is blocked since it says nosniff, by its header list: one of a script that is no
+/// JavaScript, or of a style that is not `text/css` (Fetch, "should response to request be blocked due to nosniff").
+///
+/// `OK` where it is blocked; `NO`; `WRONG_HANDLE`; `OUT_OF_MEMORY`.
+#[unsafe(no_mangle)]
+pub extern "C" fn fiorrudda_nosniff_blocked(
+    alloc: Global,
+    request: &mut Handle,
+    headers: &mut Handle,
+) -> u32
+    ensures told { result ≢ OUT_OF_MEMORY → result ≡ spec.nosniff_blocked request.old.held headers.old.held }
+    ensures request { request.new.held ≡ request.old.held }
+    ensures headers { headers.new.held ≡ headers.old.held }
+{
+    let Some(asked) = request.take(alloc) else {
+        return WRONG_HANDLE;
+    };
+    let Some(list) = headers.take(alloc) else {
+        request.put(asked);
+        return WRONG_HANDLE;
+    };
+    let code = nosniff_blocked(alloc, &asked, &list);
+    request.put(asked);
+    headers.put(list);
+    code
+}

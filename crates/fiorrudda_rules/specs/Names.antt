@@ -1,0 +1,30 @@
+-- Names of headers: those that a server is asked about first, those that it exposes, and those that a script may not set.
+use Rattle.std.specs.Prelude.{ℕ, Bool, true, false, List, [], slice_get, Option, Result, Ok, Err}
+use Rattle.wf_filter.specs.Exposed.{exposed_names}
+use Rattle.wf_headers.specs.declared.headers.Header.{Header}
+use Rattle.wf_safelist.specs.Guards.{outcome}
+use Rattle.wf_safelist.specs.UnsafeNames.{unsafe_names}
+use Rattle.wf_safelist.specs.declared.guard.Appended.{Appended}
+use Rattle.wf_safelist.specs.declared.guard.Appended.TheVariants.{Kept, Ignored, BadName, BadValue}
+use Rattle.wf_safelist.specs.declared.guard.Guard.TheVariants.{Request}
+use Rattle.fiorrudda_rules.specs.declared.refusal.Refusal.{Refusal}
+use Rattle.fiorrudda_rules.specs.declared.refusal.Refusal.TheVariants.{NotHeader}
+
+-- "CORS-unsafe request-header names" of a header list, that at an index; no list is refused
+abbrev pub unsafe_name_at : List Header → ℕ → Result (Option (List ℕ)) Refusal
+unsafe_name_at list at = Ok (slice_get (unsafe_names list) at)
+
+-- "CORS-exposed header-name list" of an answer's header list, the name at an index; no list is refused
+abbrev pub exposed_name_at : Bool → List Header → ℕ → Result (Option (List ℕ)) Refusal
+exposed_name_at include list at = Ok (slice_get (exposed_names include list) at)
+
+-- whether what comes of appending a header is that the guard ignores it
+abbrev pub ignored : Appended → Result Bool Refusal
+ignored Kept = Ok false
+ignored Ignored = Ok true
+ignored BadName = Err NotHeader
+ignored BadValue = Err NotHeader
+
+-- "forbidden request-header", of a name and a value that are a header: the guard "request" ignores just these
+abbrev pub is_forbidden : List ℕ → List ℕ → Result Bool Refusal
+is_forbidden name value = ignored (outcome Request name value [])

@@ -1,0 +1,6 @@
+mod NumberLemmas
+mod TreeLemmas
+mod FindLemmas
+mod ItemLemmas
+mod TakenLemmas
+mod DocumentLemmas

@@ -1,0 +1,3 @@
+pub mod Keys
+pub mod Private
+pub mod Trees

@@ -1,0 +1,4 @@
+-- What the crate's private contracts alone cite: how it holds what the files beside this one say.
+pub mod Taken
+pub mod Trees
+pub mod Written

@@ -1,0 +1,162 @@
+"""Rules on a request that a client makes: policies, mixed content, preflights, and what a page sees of an answer.
+
+    page = Client("https://app.example/")
+    image = Load("image", "http://cdn.example/i.png")
+    is_mixed_blocked(page, image)                                   # True: http, from a page of https
+    Policies(["img-src 'self'"]).violations(page, image)            # what the policy says to it
+    preflight(page, Request("https://api.example/", "PUT"))         # the bytes that ask the server first
+
+A list of headers is a `Headers`, or pairs of a name and a value. `NoRequest` where no request can be made of what is
+asked for: `Fetch` says why.
+"""
+import ctypes
+from typing import List, NamedTuple, Optional, Tuple, Union
+
+from . import Headers, Text, _Handle, _lent, _lib, _told, _written
+from .whole import Client, Load, Policies, Request
+
+__all__ = [
+    "Seen", "Verdict", "Violation", "exposed_names", "is_forbidden_header", "is_mixed_blocked", "is_mixed_upgraded",
+    "is_nosniff_blocked", "is_type_blocked", "preflight", "preflight_verdict", "seen", "unsafe_names", "upgrades",
+    "violations",
+]
+
+Asked = Union[Request, Load]
+_CHECKS = ["enforced", "report-only", "response"]
+_TAINTINGS = ["basic", "cors", "opaque"]
+_ERRORS = {7: "PreflightCors", 8: "PreflightStatus", 9: "PreflightList", 10: "PreflightMethod", 11: "PreflightHeader"}
+
+
+class Violation(NamedTuple):
+    """A violation: the policy's number, the enforced ones first; whether it is enforced; the effective directive; the URL
+    that is reported."""
+
+    policy: int
+    enforced: bool
+    directive: str
+    url: str
+
+
+class Verdict(NamedTuple):
+    """The verdict on a preflight's answer: for how many seconds it is learnt, or the number and name of the network error,
+    and the header that is not allowed."""
+
+    age: Optional[int]
+    error: Optional[int] = None
+    name: Optional[str] = None
+    header: Optional[str] = None
+
+    @property
+    def passes(self) -> bool:
+        """Whether the request may be sent."""
+        return self.error is None
+
+
+class Seen(NamedTuple):
+    """What a page sees of an answer: its status and its headers."""
+
+    status: int
+    headers: Headers
+
+
+def _list(headers) -> Headers:
+    return headers if isinstance(headers, Headers) else Headers(headers)
+
+
+def _each(call, *given) -> Tuple[bytes, ...]:
+    """The texts that a call writes by their index, until there is none."""
+    found: List[bytes] = []
+    while (text := _written(call, *given, len(found))) is not None:
+        found.append(text)
+    return tuple(found)
+
+
+def unsafe_names(headers) -> Tuple[str, ...]:
+    """The CORS-unsafe request-header names of a list, in lower case and in order (Fetch, section 2.2.2)."""
+    asked = _list(headers)
+    return tuple(name.decode("latin-1") for name in _each(_lib.fiorrudda_unsafe_name, asked._handle))
+
+
+def exposed_names(headers, credentials: bool = False) -> Tuple[str, ...]:
+    """The names that an answer's list exposes; `credentials` where the mode is include (Fetch, section 2.2.6)."""
+    answer = _list(headers)
+    found = _each(_lib.fiorrudda_exposed_name, answer._handle, credentials)
+    return tuple(name.decode("latin-1") for name in found)
+
+
+def is_forbidden_header(name: Text, value: Text) -> bool:
+    """Whether a name and a value are a forbidden request-header, which no script can set (Fetch, section 2.2.2)."""
+    return _told(_lib.fiorrudda_forbidden_header(*_lent(name), *_lent(value)))
+
+
+def is_mixed_upgraded(client: Client, request: Asked, redirect: Text = "") -> bool:
+    """Whether a request, redirected to a URL if one is given, is upgraded as mixed content (section 4.1 there)."""
+    return _told(_lib.fiorrudda_mixed_upgraded(client._handle, request._handle, *_lent(redirect)))
+
+
+def is_mixed_blocked(client: Client, request: Asked, redirect: Text = "") -> bool:
+    """Whether a request, redirected to a URL if one is given, is blocked as mixed content (section 4.4 there)."""
+    return _told(_lib.fiorrudda_mixed_blocked(client._handle, request._handle, *_lent(redirect)))
+
+
+def upgrades(policies: Policies) -> bool:
+    """Whether an enforced policy has `upgrade-insecure-requests`."""
+    return _told(_lib.fiorrudda_upgrades(policies.compiled()._handle))
+
+
+def violations(policies: Policies, client: Client, request: Asked, of: str = "enforced",
+               redirect: Text = "") -> List[Violation]:
+    """The violations of the `enforced` or the `report-only` policies by a request, or of all by its `response`, redirected
+    to a URL if one is given (CSP 3, section 4.1)."""
+    found = _Handle()
+    given = policies.compiled()._handle, client._handle, request._handle, *_lent(redirect), _CHECKS.index(of)
+    try:
+        _told(_lib.fiorrudda_check(found, *given))
+        return _violations(found)
+    finally:
+        _lib.fiorrudda_free(found)
+
+
+def _violations(found: _Handle) -> List[Violation]:
+    told: List[Violation] = []
+    policy, enforced = ctypes.c_uint32(0), ctypes.c_uint32(0)
+    while _told(_lib.fiorrudda_violation(found, len(told), policy, enforced)):
+        directive = _written(_lib.fiorrudda_violation_directive, found, len(told)) or b""
+        url = _written(_lib.fiorrudda_violation_url, found, len(told)) or b""
+        told.append(Violation(policy.value, bool(enforced.value), directive.decode(), url.decode("latin-1")))
+    return told
+
+
+def preflight(client: Client, request: Asked) -> Optional[bytes]:
+    """All bytes of the CORS-preflight request, or None where main fetch sends none (Fetch, section 4.8)."""
+    return _written(_lib.fiorrudda_preflight, client._handle, request._handle)
+
+
+def preflight_verdict(client: Client, request: Asked, status: int, headers) -> Verdict:
+    """The verdict on an answer to the preflight of a request (Fetch, section 4.8, steps 7 and 8)."""
+    error, age, answer = ctypes.c_uint32(0), ctypes.c_uint64(0), _list(headers)
+    given = client._handle, request._handle, answer._handle, status
+    if _told(_lib.fiorrudda_verdict(*given, error, age)):
+        return Verdict(age.value)
+    header = _written(_lib.fiorrudda_refused_name, *given)
+    return Verdict(None, error.value, _ERRORS[error.value], None if header is None else header.decode("latin-1"))
+
+
+def seen(client: Client, request: Asked, status: int, headers, tainting: str = "cors") -> Seen:
+    """What a page sees of an answer: the `basic`, `cors` or `opaque` filtered response (Fetch, section 2.2.6)."""
+    shown, status_seen, answer = Headers(), ctypes.c_uint32(0), _list(headers)
+    _told(_lib.fiorrudda_filtered(shown._handle, client._handle, request._handle, answer._handle, status,
+                                  _TAINTINGS.index(tainting), status_seen))
+    return Seen(status_seen.value, shown)
+
+
+def is_type_blocked(request: Asked, headers) -> bool:
+    """Whether an answer to a request is blocked for its MIME type (Fetch)."""
+    answer = _list(headers)
+    return _told(_lib.fiorrudda_type_blocked(request._handle, answer._handle))
+
+
+def is_nosniff_blocked(request: Asked, headers) -> bool:
+    """Whether an answer to a request is blocked since it says nosniff (Fetch)."""
+    answer = _list(headers)
+    return _told(_lib.fiorrudda_nosniff_blocked(request._handle, answer._handle))
