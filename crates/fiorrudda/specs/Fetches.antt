@@ -18,7 +18,8 @@ use Rattle.fiorrudda_fetch.specs.declared.asked.Asked.{Asked}
 use Rattle.fiorrudda_fetch.specs.declared.parts.Part.{Part}
 use Rattle.fiorrudda_fetch.specs.Setups.{Setup}
 use Rattle.fiorrudda_handle.specs.Codes.{IsKept, IsTold}
-use Rattle.fiorrudda_handle.specs.declared.codes.TheConstants.{NO, NO_REQUEST, NO_SUCH_NUMBER, OK, TOO_LATE, WRONG_HANDLE}
+use Rattle.fiorrudda_handle.specs.declared.codes.TheConstants.{NO, NO_REQUEST, NO_SUCH_NUMBER, OK}
+use Rattle.fiorrudda_handle.specs.declared.codes.TheConstants.{TOO_LATE, WRONG_HANDLE}
 use Rattle.fiorrudda_handle.specs.declared.thing.Thing.{Thing}
 use Rattle.fiorrudda_handle.specs.declared.thing.Thing.TheVariants as thing
 

@@ -11,7 +11,8 @@ use Rattle.wf_fetch_session.specs.Standings.{Standing}
 use Rattle.wf_fetch_session.specs.declared.session.Session.{Session}
 use Rattle.wf_fetch_session.specs.declared.session.Went.{Went}
 use Rattle.wf_fetch_session.specs.declared.session.Went.TheVariants as went
-use Rattle.fiorrudda_handle.specs.declared.codes.TheConstants.{NO_SUCH_NUMBER, NOT_AWAITED, OK, OUT_OF_MEMORY, WRONG_HANDLE}
+use Rattle.fiorrudda_handle.specs.declared.codes.TheConstants.{NO_SUCH_NUMBER, NOT_AWAITED, OK}
+use Rattle.fiorrudda_handle.specs.declared.codes.TheConstants.{OUT_OF_MEMORY, WRONG_HANDLE}
 use Rattle.fiorrudda.specs.declared.inputs.Said.{Said}
 use Rattle.fiorrudda.specs.declared.inputs.Said.TheVariants as said
 use Rattle.fiorrudda_handle.specs.declared.thing.Thing.{Thing}

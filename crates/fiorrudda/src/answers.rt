@@ -45,8 +45,8 @@ fn essence(alloc: Global, thing: &Thing, room: &mut [u8], len: &mut usize) -> u3
     }
 }
 
-/// Writes the essence of the MIME type of an answer, in lower case, at the beginning of `room`, with no NUL after it, and
-/// tells in `len` how many bytes it is (Fetch, "extract a MIME type").
+/// Writes the essence of the MIME type of an answer, in lower case, at the beginning of `room`, with no NUL after it,
+/// and tells in `len` how many bytes it is (Fetch, "extract a MIME type").
 ///
 /// `OK`; `NO` where the list gives no MIME type; `TOO_SHORT` where `room` has less than `len` bytes; `WRONG_HANDLE`;
 /// `OUT_OF_MEMORY`. But for `OK` nothing is written to `room`, and but for `OK` and `TOO_SHORT` nothing to `len`.

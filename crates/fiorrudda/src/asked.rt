@@ -145,8 +145,8 @@ fn chosen(thing: &mut Thing, setting: Option<Setting>) -> u32
 
 /// Makes a choice of a request: one of the numbers `CHOOSE_..`, and the number that it is set to.
 ///
-/// `OK`; `NO` where the request has no such choice, as a load has no mode; `WRONG_HANDLE`; `NO_SUCH_NUMBER`. The request is
-/// as it was but for `OK`.
+/// `OK`; `NO` where the request has no such choice, as a load has no mode; `WRONG_HANDLE`; `NO_SUCH_NUMBER`. The
+/// request is as it was but for `OK`.
 #[unsafe(no_mangle)]
 pub extern "C" fn fiorrudda_request_choose(
     alloc: Global,

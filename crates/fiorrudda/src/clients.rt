@@ -8,11 +8,12 @@ use fiorrudda_fetch::Settings;
 use fiorrudda_handle::{Handle, NO_SUCH_NUMBER, OK, OUT_OF_MEMORY, Thing, WRONG_HANDLE, code_of};
 use std::alloc::Global;
 
-/// Makes the client of a document in a handle (HTML, section 8.1.3.2, "environment settings object"): its URL, the URL of
-/// the page at the top, which is its own where it is not embedded, and its referrer policy, one of the numbers
+/// Makes the client of a document in a handle (HTML, section 8.1.3.2, "environment settings object"): its URL, the URL
+/// of the page at the top, which is its own where it is not embedded, and its referrer policy, one of the numbers
 /// `REFERRER_..`. It has no content security policies and no cookies. What the handle held is freed first.
 ///
-/// `OK`; `NO_SUCH_NUMBER`; `NOT_A_URL` and `NOT_HTTP`, of either URL; `OUT_OF_MEMORY`. The handle is empty but for `OK`.
+/// `OK`; `NO_SUCH_NUMBER`; `NOT_A_URL` and `NOT_HTTP`, of either URL; `OUT_OF_MEMORY`. The handle is empty but for
+/// `OK`.
 #[unsafe(no_mangle)]
 pub extern "C" fn fiorrudda_client(
     alloc: Global,
@@ -48,8 +49,9 @@ fn with_policies(alloc: Global, thing: &mut Thing, value: &[u8], enforced: bool)
     }
 }
 
-/// Gives a client the policies of the value of a Content-Security-Policy header, or of a Content-Security-Policy-Report-Only
-/// one where `enforced` is false (CSP 3, section 2.2). They are numbered from 0 on, in the order in which they are given.
+/// Gives a client the policies of the value of a Content-Security-Policy header, or of a
+/// Content-Security-Policy-Report-Only one where `enforced` is false (CSP 3, section 2.2). They are numbered from 0 on,
+/// in the order in which they are given.
 ///
 /// `OK`; `WRONG_HANDLE`; `OUT_OF_MEMORY`.
 #[unsafe(no_mangle)]
@@ -88,7 +90,8 @@ fn with_cookie(alloc: Global, thing: &mut Thing, url: &[u8], value: &[u8]) -> u3
 /// Gives a client the value of the Cookie header for requests to the origin of a URL. The first of an origin counts.
 /// Which cookies a request has is for the caller to say: it is sent with each request that includes credentials.
 ///
-/// `OK`; `WRONG_HANDLE`; `NOT_A_URL`; `NOT_HTTP`; `NOT_A_HEADER`; `OUT_OF_MEMORY`. The client is as it was but for `OK`.
+/// `OK`; `WRONG_HANDLE`; `NOT_A_URL`; `NOT_HTTP`; `NOT_A_HEADER`; `OUT_OF_MEMORY`. The client is as it was but for
+/// `OK`.
 #[unsafe(no_mangle)]
 pub extern "C" fn fiorrudda_client_cookie(
     alloc: Global,

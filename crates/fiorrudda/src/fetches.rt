@@ -103,14 +103,14 @@ fn begun_of(
     begun(alloc, fetch, settings, asked, now, limit, fault, header)
 }
 
-/// Begins in a handle the fetch of a request for a client, at a time in seconds since any fixed moment, with bodies of at
-/// most `limit` bytes (Fetch, section 4.1, "main fetch"). Nothing is kept of the client and the request: each may be used
-/// again. What the handle held is freed first. The fetch is then done by a loop over its acts: `fiorrudda_act` says what is
-/// to be done, and a call tells what came of it, until it is `ACT_OVER`.
+/// Begins in a handle the fetch of a request for a client, at a time in seconds since any fixed moment, with bodies of
+/// at most `limit` bytes (Fetch, section 4.1, "main fetch"). Nothing is kept of the client and the request: each may be
+/// used again. What the handle held is freed first. The fetch is then done by a loop over its acts: `fiorrudda_act`
+/// says what is to be done, and a call tells what came of it, until it is `ACT_OVER`.
 ///
-/// `OK`; `WRONG_HANDLE`; `NO_REQUEST` where no request can be made of it: `fault` is then the number of the reason, from 1
-/// to 9, and `header` the index of a header that is none (Fetch, sections 5.4 and 5.6); `TOO_LATE`; `OUT_OF_MEMORY`. The
-/// handle is empty but for `OK`, and but for `NO_REQUEST` nothing is written.
+/// `OK`; `WRONG_HANDLE`; `NO_REQUEST` where no request can be made of it: `fault` is then the number of the reason,
+/// from 1 to 9, and `header` the index of a header that is none (Fetch, sections 5.4 and 5.6); `TOO_LATE`;
+/// `OUT_OF_MEMORY`. The handle is empty but for `OK`, and but for `NO_REQUEST` nothing is written.
 #[unsafe(no_mangle)]
 pub extern "C" fn fiorrudda_fetch(
     alloc: Global,
@@ -171,8 +171,8 @@ fn act_in(thing: &Thing, act: &mut u32) -> u32
     OK
 }
 
-/// Tells in `act` what a fetch does next, by one of the numbers `ACT_..`. `fiorrudda_text` and `fiorrudda_number` have the
-/// act's parts, or those of the outcome of a fetch that is over.
+/// Tells in `act` what a fetch does next, by one of the numbers `ACT_..`. `fiorrudda_text` and `fiorrudda_number` have
+/// the act's parts, or those of the outcome of a fetch that is over.
 ///
 /// `OK`; `WRONG_HANDLE`, and then nothing is written.
 #[unsafe(no_mangle)]
@@ -205,11 +205,12 @@ fn text_in(thing: &Thing, part: Option<Part>, at: usize, room: &mut [u8], len: &
     }
 }
 
-/// Writes a text that the act of a fetch has, or its outcome, at the beginning of `room`, with no NUL after it, and tells in
-/// `len` how many bytes it is. The text is one of the numbers `TEXT_..`; of a list it is that at the index `at`.
+/// Writes a text that the act of a fetch has, or its outcome, at the beginning of `room`, with no NUL after it, and
+/// tells in `len` how many bytes it is. The text is one of the numbers `TEXT_..`; of a list it is that at the index
+/// `at`.
 ///
-/// `OK`; `NO` where there is none; `TOO_SHORT` where `room` has less than `len` bytes; `WRONG_HANDLE`; `NO_SUCH_NUMBER`. But
-/// for `OK` nothing is written to `room`, and but for `OK` and `TOO_SHORT` nothing to `len`.
+/// `OK`; `NO` where there is none; `TOO_SHORT` where `room` has less than `len` bytes; `WRONG_HANDLE`;
+/// `NO_SUCH_NUMBER`. But for `OK` nothing is written to `room`, and but for `OK` and `TOO_SHORT` nothing to `len`.
 #[unsafe(no_mangle)]
 pub extern "C" fn fiorrudda_text(
     alloc: Global,
@@ -288,11 +289,11 @@ fn request_in(alloc: Global, thing: &Thing, room: &mut [u8], len: &mut usize) ->
     write_answer(request_bytes(alloc, session), room, len)
 }
 
-/// Writes all bytes of the request that a fetch sends (RFC 9112, section 3) at the beginning of `room`, and tells in `len`
-/// how many they are. They are for the server of `TEXT_ORIGIN`, over a connection of their own.
+/// Writes all bytes of the request that a fetch sends (RFC 9112, section 3) at the beginning of `room`, and tells in
+/// `len` how many they are. They are for the server of `TEXT_ORIGIN`, over a connection of their own.
 ///
-/// `OK`; `NO` where nothing is sent; `TOO_SHORT` where `room` has less than `len` bytes; `WRONG_HANDLE`; `OUT_OF_MEMORY`.
-/// But for `OK` nothing is written to `room`, and but for `OK` and `TOO_SHORT` nothing to `len`.
+/// `OK`; `NO` where nothing is sent; `TOO_SHORT` where `room` has less than `len` bytes; `WRONG_HANDLE`;
+/// `OUT_OF_MEMORY`. But for `OK` nothing is written to `room`, and but for `OK` and `TOO_SHORT` nothing to `len`.
 #[unsafe(no_mangle)]
 pub extern "C" fn fiorrudda_to_send(
     alloc: Global,

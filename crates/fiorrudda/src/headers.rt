@@ -7,8 +7,8 @@ use fiorrudda_rules::{append_header, value_of};
 use std::alloc::Global;
 use wf_headers::HeaderList;
 
-/// Makes an empty header list in a handle (Fetch, section 2.2.2). What the handle held is freed first, also where memory
-/// is refused.
+/// Makes an empty header list in a handle (Fetch, section 2.2.2). What the handle held is freed first, also where
+/// memory is refused.
 ///
 /// `OK` or `OUT_OF_MEMORY`.
 #[unsafe(no_mangle)]

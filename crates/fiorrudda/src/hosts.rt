@@ -12,8 +12,8 @@ use std::alloc::Global;
 use wf_book::Book;
 use wf_hsts::parse_sts;
 
-/// Makes an empty book in a handle: no known HSTS hosts, and an empty CORS-preflight cache. What the handle held is freed
-/// first, also where memory is refused. Threads that share a book call it under a lock of their own.
+/// Makes an empty book in a handle: no known HSTS hosts, and an empty CORS-preflight cache. What the handle held is
+/// freed first, also where memory is refused. Threads that share a book call it under a lock of their own.
 ///
 /// `OK` or `OUT_OF_MEMORY`.
 #[unsafe(no_mangle)]
@@ -38,11 +38,12 @@ fn noted(alloc: Global, thing: &mut Thing, host: &[u8], field: &[u8], now: u64) 
     }
 }
 
-/// Has a book note what the value of a Strict-Transport-Security field of a host says (RFC 6797, section 8.1), at a time
-/// in seconds since any fixed moment. The host is the domain of a URL, in lower case, and the field came over https.
+/// Has a book note what the value of a Strict-Transport-Security field of a host says (RFC 6797, section 8.1), at a
+/// time in seconds since any fixed moment. The host is the domain of a URL, in lower case, and the field came over
+/// https.
 ///
-/// `OK` where the field says something; `NO` where it is to be ignored; `WRONG_HANDLE`; `TOO_LATE`; `OUT_OF_MEMORY`. The
-/// book is as it was but for `OK`.
+/// `OK` where the field says something; `NO` where it is to be ignored; `WRONG_HANDLE`; `TOO_LATE`; `OUT_OF_MEMORY`.
+/// The book is as it was but for `OK`.
 #[unsafe(no_mangle)]
 pub extern "C" fn fiorrudda_note_host(
     alloc: Global,
@@ -73,8 +74,8 @@ fn known(alloc: Global, thing: &mut Thing, host: &[u8], now: u64) -> u32
     told(is_known_host(alloc, book, host, now))
 }
 
-/// Whether a host is a known HSTS host of a book at a time in seconds (RFC 6797, section 8.2): http URLs of it are to be
-/// asked by https.
+/// Whether a host is a known HSTS host of a book at a time in seconds (RFC 6797, section 8.2): http URLs of it are to
+/// be asked by https.
 ///
 /// `OK` where it is; `NO`; `WRONG_HANDLE`; `TOO_LATE`; `OUT_OF_MEMORY`.
 #[unsafe(no_mangle)]

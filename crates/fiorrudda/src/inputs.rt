@@ -126,10 +126,10 @@ fn fed(alloc: Global, thing: &mut Thing, bytes: &[u8], used: &mut usize) -> u32
     code_of_went(fed.went)
 }
 
-/// Hands a fetch the next bytes of the answer, in any piece, be it empty, and tells in `used` how many of them were read
-/// (RFC 9112, sections 4, 6 and 7). Where a head ends in the piece, the bytes behind it are not read: they are the first of
-/// the body, and are handed in again where the next act is `ACT_READ_BODY`, also where there are none. What follows a body
-/// is of no use, and the connection is to be closed.
+/// Hands a fetch the next bytes of the answer, in any piece, be it empty, and tells in `used` how many of them were
+/// read (RFC 9112, sections 4, 6 and 7). Where a head ends in the piece, the bytes behind it are not read: they are the
+/// first of the body, and are handed in again where the next act is `ACT_READ_BODY`, also where there are none. What
+/// follows a body is of no use, and the connection is to be closed.
 ///
 /// `OK`; `NOT_AWAITED` where no bytes are read now, and then the fetch stands where it stood; `WRONG_HANDLE`;
 /// `OUT_OF_MEMORY`, and then the fetch is gone: its act is `ACT_GONE`. But for `OK` none are read; for `WRONG_HANDLE`
@@ -186,12 +186,12 @@ fn asked(alloc: Global, fetch: &mut Thing, book: &mut Thing, reply: &mut u32) ->
     code_of_went(replied.went)
 }
 
-/// Has a fetch ask a book what its act asks for, or tell it that, and goes on from what the book replies, which is told in
-/// `reply`: `INPUT_YES`, `INPUT_NO` or `INPUT_DONE`. Threads that share a book call it under a lock of their own.
+/// Has a fetch ask a book what its act asks for, or tell it that, and goes on from what the book replies, which is told
+/// in `reply`: `INPUT_YES`, `INPUT_NO` or `INPUT_DONE`. Threads that share a book call it under a lock of their own.
 ///
 /// `OK`; `NOT_AWAITED` where the act asks no book, and then the fetch stands where it stood and the book is as it was;
-/// `WRONG_HANDLE`; `OUT_OF_MEMORY`, and then the fetch is gone: its act is `ACT_GONE`. The book is then as it was, or as it is
-/// after the call. But for `OK` nothing is written to `reply`.
+/// `WRONG_HANDLE`; `OUT_OF_MEMORY`, and then the fetch is gone: its act is `ACT_GONE`. The book is then as it was, or
+/// as it is after the call. But for `OK` nothing is written to `reply`.
 #[unsafe(no_mangle)]
 pub extern "C" fn fiorrudda_ask(
     alloc: Global,

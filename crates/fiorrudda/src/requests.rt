@@ -7,8 +7,8 @@ ghost use Rattle.wf_safelist.specs.Safelisted as safelisted;
 use fiorrudda_handle::yes_or_no;
 use wf_safelist::{is_forbidden_method, is_safelisted};
 
-/// Whether a name and a value are a CORS-safelisted request-header (Fetch, section 2.2.2): with it alone, no preflight is
-/// sent.
+/// Whether a name and a value are a CORS-safelisted request-header (Fetch, section 2.2.2): with it alone, no preflight
+/// is sent.
 ///
 /// `OK` where they are; `NO`.
 #[unsafe(no_mangle)]

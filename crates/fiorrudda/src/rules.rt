@@ -79,9 +79,9 @@ pub extern "C" fn fiorrudda_resource_policy(
     code
 }
 
-/// Writes the referrer that a policy tells the URL `target` of the page `source` at the beginning of `room`, with no NUL
-/// after it, and tells in `len` how many bytes it is (Referrer Policy, section 8.3, "determine request's Referrer"). The
-/// policy is one of the numbers `REFERRER_..`.
+/// Writes the referrer that a policy tells the URL `target` of the page `source` at the beginning of `room`, with no
+/// NUL after it, and tells in `len` how many bytes it is (Referrer Policy, section 8.3, "determine request's
+/// Referrer"). The policy is one of the numbers `REFERRER_..`.
 ///
 /// `OK`; `NO` where none is told; `TOO_SHORT` where `room` has less than `len` bytes; `NO_SUCH_NUMBER`; `NOT_A_URL` and
 /// `NOT_HTTP`, of the page or of the URL; `OUT_OF_MEMORY`. But for `OK` nothing is written to `room`, and but for `OK`

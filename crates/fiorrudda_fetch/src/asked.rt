@@ -67,8 +67,8 @@ impl Asked {
     }
 
     /// Adds a header to a `fetch`, its value without HTTP whitespace at its ends (Fetch, section 2.2.2, "normalize"),
-    /// and tells whether it is a `fetch`. What is no header is a fault of the request. Where memory is refused all is as
-    /// it was.
+    /// and tells whether it is a `fetch`. What is no header is a fault of the request. Where memory is refused all is
+    /// as it was.
     pub fn add_header(
         &mut self,
         alloc: Global,

@@ -30,9 +30,9 @@ pub fn requested(
     }
 }
 
-/// Begins what is asked for, for a document of these settings, at a time in seconds, with bodies of so many bytes at most
-/// (Fetch, sections 4.1, 5.4 and 5.6; HTML, section 2.5.1). There is no fetch where no request can be made of it: the
-/// fault is told. `TooLate` at 2^48 seconds.
+/// Begins what is asked for, for a document of these settings, at a time in seconds, with bodies of so many bytes at
+/// most (Fetch, sections 4.1, 5.4 and 5.6; HTML, section 2.5.1). There is no fetch where no request can be made of it:
+/// the fault is told. `TooLate` at 2^48 seconds.
 pub fn begin(
     alloc: Global,
     settings: &Settings,

@@ -17,10 +17,11 @@ use wf_types::{BodyEnd, Hop, NetError, Outcome, Response, Violation};
 /// looked at.
 #[derive(Clone, Copy, Debug, PartialEq, Eq)]
 pub enum Part {
-    /// The serialised origin: of the server that is sent to, or of the request that a call of the preflight cache is for.
+    /// The serialised origin: of the server that is sent to, or of the request that a call of the preflight cache is
+    /// for.
     Origin,
-    /// The request target that is sent, the URL of a call of the preflight cache, the one that violates a policy, or the
-    /// response's.
+    /// The request target that is sent, the URL of a call of the preflight cache, the one that violates a policy, or
+    /// the response's.
     Url,
     /// The method that is sent, or that the preflight cache is asked for, if any.
     Method,

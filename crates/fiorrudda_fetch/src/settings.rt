@@ -100,9 +100,9 @@ impl Settings {
     ghost use Rattle.wf_types.specs.Requests.{IsClient};
     ghost use Rattle.fiorrudda_fetch.specs.Settings.{cookie_added, policies_in, settings_of, with_policies, IsDocumentOf};
 
-    /// The settings of a document of a URL, in a page with that of another at the top, and with a referrer policy (HTML,
-    /// section 8.1.3.2, "environment settings object"). It has no policies and no cookies. The empty referrer policy is
-    /// as the default one. `NotUrl` or `NotHttp`, of the first URL that is refused.
+    /// The settings of a document of a URL, in a page with that of another at the top, and with a referrer policy
+    /// (HTML, section 8.1.3.2, "environment settings object"). It has no policies and no cookies. The empty referrer
+    /// policy is as the default one. `NotUrl` or `NotHttp`, of the first URL that is refused.
     pub fn new(
         alloc: Global,
         url: &[u8],
@@ -130,8 +130,8 @@ impl Settings {
         &self.client
     }
 
-    /// Adds the policies of the value of a Content-Security-Policy header, or of a report-only one (CSP 3, section 2.2).
-    /// Where memory is refused all is as it was.
+    /// Adds the policies of the value of a Content-Security-Policy header, or of a report-only one (CSP 3, section
+    /// 2.2). Where memory is refused all is as it was.
     pub fn add_policies(
         &mut self,
         alloc: Global,
@@ -145,8 +145,8 @@ impl Settings {
         self.policies.push(PolicyValue { value, enforced })
     }
 
-    /// Adds the value of the Cookie header for requests to the origin of a URL; the first of an origin counts. `NotUrl`,
-    /// `NotHttp`, or `NotHeader` where it is no header value. What is refused leaves all as it was.
+    /// Adds the value of the Cookie header for requests to the origin of a URL; the first of an origin counts.
+    /// `NotUrl`, `NotHttp`, or `NotHeader` where it is no header value. What is refused leaves all as it was.
     pub fn add_cookie(&mut self, alloc: Global, url: &[u8], value: &[u8]) -> Result<(), Refusal>
         ensures ok { OnOk result (cookie_added url.now value.now self.old ≡ Ok self.new) }
         ensures refused { IfErr result (λ refusal. refusal ≢ Refusal.OutOfMemory

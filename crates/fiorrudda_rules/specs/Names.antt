@@ -1,4 +1,4 @@
--- Names of headers: those that a server is asked about first, those that it exposes, and those that a script may not set.
+-- Names of headers: those that a server is asked about first, those that it exposes, and those that no script may set.
 use Rattle.std.specs.Prelude.{ℕ, Bool, true, false, List, [], slice_get, Option, Result, Ok, Err}
 use Rattle.wf_filter.specs.Exposed.{exposed_names}
 use Rattle.wf_headers.specs.declared.headers.Header.{Header}

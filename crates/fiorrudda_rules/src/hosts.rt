@@ -37,8 +37,8 @@ pub fn note_field(
     Ok(true)
 }
 
-/// Whether a host is a known HSTS host at a time in seconds (RFC 6797, section 8.2). `TooLate` at 2^48 seconds. The book
-/// stays as it was.
+/// Whether a host is a known HSTS host at a time in seconds (RFC 6797, section 8.2). `TooLate` at 2^48 seconds. The
+/// book stays as it was.
 pub fn is_known_host(alloc: Global, book: &mut Book, host: &[u8], now: u64) -> Result<bool, Refusal>
     ensures told { Answers result (spec.is_known_host host.now now book.old) }
     ensures kept { book.new ≡ book.old }

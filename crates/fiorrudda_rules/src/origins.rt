@@ -29,9 +29,9 @@ pub fn are_same_origin(alloc: Global, a: &[u8], b: &[u8]) -> Result<bool, Refusa
     Ok(have_same_origin(&a, &b))
 }
 
-/// Whether the origins of two http or https URLs are of one site, whatever their schemes and ports (HTML, section 7.1.1,
-/// "schemelessly same site", with the last two labels of a domain in the place of a registrable domain). `NotUrl` or
-/// `NotHttp`, of the first URL that is refused.
+/// Whether the origins of two http or https URLs are of one site, whatever their schemes and ports (HTML, section
+/// 7.1.1, "schemelessly same site", with the last two labels of a domain in the place of a registrable domain).
+/// `NotUrl` or `NotHttp`, of the first URL that is refused.
 pub fn are_same_site(alloc: Global, a: &[u8], b: &[u8]) -> Result<bool, Refusal>
     ensures { Answers result (spec.are_same_site a.now b.now) }
 {

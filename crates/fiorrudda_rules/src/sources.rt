@@ -8,8 +8,9 @@ use std::alloc::Global;
 use wf_csp_match::{matches, parse_source};
 use wf_origin::tuple_origin;
 
-/// Whether a word of a policy, as a source expression, matches a URL, for a page and a number of redirects (CSP 3, "does
-/// url match expression in origin with redirect count"). `NotUrl`, of the first that is refused; `NotHttp` of the page.
+/// Whether a word of a policy, as a source expression, matches a URL, for a page and a number of redirects (CSP 3,
+/// "does url match expression in origin with redirect count"). `NotUrl`, of the first that is refused; `NotHttp` of the
+/// page.
 pub fn source_matches(
     alloc: Global,
     word: &[u8],

@@ -7,8 +7,8 @@ use std::alloc::Global;
 use wf_headers::HeaderList;
 use wf_text::Bytes;
 
-/// The essence, in lower case, of the MIME type that a header list gives, or nothing where it gives none (Fetch, "extract
-/// a MIME type").
+/// The essence, in lower case, of the MIME type that a header list gives, or nothing where it gives none (Fetch,
+/// "extract a MIME type").
 pub fn essence_in(alloc: Global, list: &HeaderList) -> Result<Option<Bytes>, Refusal>
     ensures { Answers result (spec.essence_in list.now) }
 {

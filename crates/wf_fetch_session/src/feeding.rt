@@ -147,8 +147,8 @@ impl Session {
         }
     }
 
-    /// The next bytes of the answer came, in any piece, be it empty. Where a head ends in the piece, the bytes behind it
-    /// are not read: they are the first of the body, and are fed again if one is read, also where there are none.
+    /// The next bytes of the answer came, in any piece, be it empty. Where a head ends in the piece, the bytes behind
+    /// it are not read: they are the first of the body, and are fed again if one is read, also where there are none.
     pub fn feed(&mut self, alloc: Global, piece: &[u8]) -> Fed
         ensures { spec.Fed piece.now (standing_of self.old) result.went result.used (standing_of self.new) }
     {

@@ -1,4 +1,5 @@
-// A whole fetch that touches nothing: it says what is to be done next, and is told what came of it, bytes in any pieces.
+// A whole fetch that touches nothing: it says what is to be done next, and is told what came of it, bytes in any
+// pieces.
 #![tactic(auto)]
 
 mod asking;

@@ -15,7 +15,8 @@ use Rattle.wf_script_events.specs.declared.events.Ending.TheVariants as ending
 use Rattle.wf_script_events.specs.declared.events.Event.{Event}
 use Rattle.wf_script_events.specs.declared.events.Event.TheVariants as event
 use Rattle.wf_script_run.specs.Play.{Play, PlayRun, over, run_play}
-use Rattle.wf_script_run.specs.Runs.{Next, Progress, Setting, after_events, at_time, embed, fetch_limit, fetch_started, showing}
+use Rattle.wf_script_run.specs.Runs.{Next, Progress, Setting, after_events, at_time}
+use Rattle.wf_script_run.specs.Runs.{embed, fetch_limit, fetch_started, showing}
 use Rattle.wf_script_run.specs.Runs.{beginning, document_client, finished, setting, unless_limit}
 use Rattle.wf_script_run.specs.Traces.{stop}
 use Rattle.wf_script_run.proofs.EmbedLemmas.{embedded}
@@ -52,7 +53,8 @@ module _ {State : Type 0} (by : Answering State) (limit document : ℕ) (whole :
       → reports_played lent (request ∷ requests) next progress
       ≡ report_played lent request (reports_played lent requests next) progress
   report-begun lent request requests next progress none =
-      ap (λ (l : Option Ending). unless_limit l (report_played lent request (reports_played lent requests next)) progress)
+      ap (λ (l : Option Ending). unless_limit l (report_played lent request (reports_played lent requests next))
+      progress)
       none
 
   -- a path that goes on
@@ -124,7 +126,8 @@ module _ {State : Type 0} (by : Answering State) (limit document : ℕ) (whole :
       subst (λ (p : Play). Path by limit document whole old shown p x.first)
       (report-begun lent request requests next progress none) (path x.first x.idle x.from) in
       path-cut (shown ++ x.events) place x.last new (path-then shown x.events begun place x.first x.last x.tape to
-      (embedded (Answers by limit document) Settles x.trace (onward lent requests next) (fetch_started progress))) x.left
+      (embedded (Answers by limit document) Settles x.trace (onward lent requests next)
+      (fetch_started progress))) x.left
 
   -- memory was refused between reports
   pub reached-refused : (events : List Event) (rest : Play) (now new : Outside State)

@@ -3,7 +3,8 @@ ghost use Rattle.std.specs.Prelude.{◌≡◌, ◌<◌, ◌≤◌, ◌^◌, [], 
 ghost use Rattle.wf_link.specs.Sources.{IsAtEnd};
 ghost use Rattle.wf_player.specs.Standings.{KeepsPass, most_calls};
 ghost use Rattle.wf_player.specs.Worlds.{outside};
-ghost use Rattle.wf_script_run.specs.Runs.{after_events, beginning, document_client, fetch_limit, fetch_started, finished};
+ghost use Rattle.wf_script_run.specs.Runs.{after_events, beginning, document_client, fetch_limit};
+ghost use Rattle.wf_script_run.specs.Runs.{fetch_started, finished};
 ghost use Rattle.wf_script_run.specs.Runs.{most_fetches, setting};
 ghost use Rattle.wf_script_values.specs.Valid.{IsValid, IsValidDocument};
 ghost use Rattle.wf_script_values.specs.declared.document.Document.{Document as OneDocument};
@@ -215,8 +216,8 @@ fn client_of(alloc: Global, document: &Document) -> Result<Client, OutOfMemory>
 }
 
 /// Delivers the reports of the violations that a document was told in its run, which is one of the scenario's, over a
-/// link and a share of the book. Each is played as a fetch without policies, at the time at which the run ended, which is
-/// below 2^48. They make 129,024 calls of the book at most, which the pass has left.
+/// link and a share of the book. Each is played as a fetch without policies, at the time at which the run ended, which
+/// is below 2^48. They make 129,024 calls of the book at most, which the pass has left.
 ///
 /// Before a report the delivery ends where 1,024 of them were played, or where the lines of what they have shown, each
 /// with its result, are longer than 8,388,608 bytes.

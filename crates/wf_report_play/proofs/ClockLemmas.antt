@@ -19,7 +19,8 @@ use Rattle.wf_script_events.specs.declared.events.Event.{Event}
 use Rattle.wf_script_run.specs.Play.{Play, emit, events_of, over, step}
 use Rattle.wf_script_run.specs.Results.{holds}
 use Rattle.wf_script_run.specs.Runs.{Next, Progress, Setting, after_events, asked, at_time, beginning, chosen}
-use Rattle.wf_script_run.specs.Runs.{command_run, document_run, embed, fault_event, fetch_started, fetched, filled_init, filled_load}
+use Rattle.wf_script_run.specs.Runs.{command_run, document_run, embed, fault_event, fetch_started}
+use Rattle.wf_script_run.specs.Runs.{fetched, filled_init, filled_load}
 use Rattle.wf_script_run.specs.Runs.{finished, last_of, limit_before, outcome_event, own_limit, repeated, script_run}
 use Rattle.wf_script_run.specs.Runs.{setting_of, showing, start_event, started, unless_limit, waited}
 use Rattle.wf_script_run.specs.Traces.{PlayTrace, shown, stepped, stop}

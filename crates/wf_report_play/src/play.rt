@@ -81,8 +81,9 @@ fn play_seated<R: Threads + Wait + Sync, L: Link + Send + Drop>(
 }
 
 /// Plays a scenario over its own servers, from its own time on, each document on a thread of its own where one can be
-/// made. Once all scripts have ended it delivers the reports of each document, in order of documents, over the document's
-/// own link and the book as it is then. The one history is that of the scripts, and then that of the reports.
+/// made. Once all scripts have ended it delivers the reports of each document, in order of documents, over the
+/// document's own link and the book as it is then. The one history is that of the scripts, and then that of the
+/// reports.
 ///
 /// `OutOfMemory` where memory was refused, to a document, to its reports or to what surrounds them.
 pub fn play_reported<R: Threads + Wait + Sync>(

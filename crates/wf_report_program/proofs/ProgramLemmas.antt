@@ -48,7 +48,8 @@ pub reports-played : (input input' : SourceTold) (output output' : SinkTold) (sc
     → IsPlayed reported_scenario IsReportText input input' output output' (written_status written)
 reports-played input input' output output' scenario transcripts delivereds history written read play writes =
     let text = report_text transcripts delivereds history in
-    written-played reported_scenario IsReportText input input' output output' scenario text (written_status written) read
+    written-played reported_scenario IsReportText input input' output output' scenario text (written_status written)
+    read
     (record {
       transcripts = transcripts;
       delivereds = delivereds;

@@ -1,5 +1,5 @@
--- What the program answers to its words: its verdict by the words and the input, and what it tells the complaints. Why it
--- comes to a verdict on an input, and what it has written then, wf_program's definitions say.
+-- What the program answers to its words: its verdict by the words and the input, and what it tells the complaints. Why
+-- it comes to a verdict on an input, and what it has written then, wf_program's definitions say.
 use Rattle.std.specs.Prelude.{◌≡◌, ◌≢◌, ℕ, ◌⊎◌, Bool, true, false, List}
 use Rattle.wf_link.specs.Sinks.{SinkTold, Took}
 use Rattle.wf_link.specs.Sources.{SourceTold}
@@ -11,8 +11,8 @@ use Rattle.wf_report_program.specs.Statuses.{complaint}
 use Rattle.wf_report_program.specs.Text.{IsReportText}
 use Rattle.wf_report_program.specs.Words.{are_accepted}
 
--- The verdict: Usage exactly where the words are not accepted, and then nothing was read or written. Else the scenario of
--- the input is played, and the text of its reports is written.
+-- The verdict: Usage exactly where the words are not accepted, and then nothing was read or written. Else the scenario
+-- of the input is played, and the text of its reports is written.
 abbrev pub IsVerdict : Bool → SourceTold → SourceTold → SinkTold → SinkTold → Status → Type 0
 IsVerdict false input input' output output' verdict =
     (verdict ≡ status.Usage) × (input' ≡ input) × (output' ≡ output)
@@ -20,14 +20,16 @@ IsVerdict true input input' output output' verdict =
     IsPlayed reported_scenario IsReportText input input' output output' verdict
 
 -- How the program came to its answer: it came to a verdict first, and told it then.
-pub record IsAnswer (words : List (List ℕ)) (input input' : SourceTold) (output output' complaints complaints' : SinkTold)
+pub record IsAnswer (words : List (List ℕ)) (input input' : SourceTold)
+    (output output' complaints complaints' : SinkTold)
     (answer : Status) : Type 0 where
   pub verdict : Status
   pub is_verdict : IsVerdict (are_accepted words) input input' output output' verdict
   pub is_told : IsTold (complaint verdict) complaints complaints' verdict answer
 
 -- What the program promises of its answer. The first field says all; the others are what it says of each status.
-pub record Answers (words : List (List ℕ)) (input input' : SourceTold) (output output' complaints complaints' : SinkTold)
+pub record Answers (words : List (List ℕ)) (input input' : SourceTold)
+    (output output' complaints complaints' : SinkTold)
     (answer : Status) : Type 0 where
   pub is_answer : IsAnswer words input input' output output' complaints complaints' answer
   -- Usage only where the words are not accepted, and there always, unless the complaints failed

@@ -24,16 +24,17 @@ use wf_text::{Bytes, OutOfMemory};
 /// The most documents whose reports are played.
 const MOST_DOCUMENTS: usize = 16;
 
-/// The program, from its words to its status. The words are tested first: `play` alone is accepted. The input is then read
-/// whole, read as a scenario, and played over the scenario's own servers, each document on a thread of its own where one can
-/// be made. Once all scripts have ended the reports of each document are delivered, in order of documents, over its own link
-/// and its own pass of the shared book, and the text of the reports is written to the output. A status other than `Ok` is
-/// told by one line on the complaints; where that line cannot be written the answer is `WriteFault`.
+/// The program, from its words to its status. The words are tested first: `play` alone is accepted. The input is then
+/// read whole, read as a scenario, and played over the scenario's own servers, each document on a thread of its own
+/// where one can be made. Once all scripts have ended the reports of each document are delivered, in order of
+/// documents, over its own link and its own pass of the shared book, and the text of the reports is written to the
+/// output. A status other than `Ok` is told by one line on the complaints; where that line cannot be written the answer
+/// is `WriteFault`.
 ///
 /// `Usage` exactly where the words are not accepted, and then nothing is read or written. `Scenario` exactly where the
-/// input is no scenario, with the first refused place, or one of more than 16 documents, with `/documents`. `ReadFault` only
-/// where the input failed, `WriteFault` only where the output or the complaints failed or took nothing. `InputTooLong`
-/// exactly where byte 4,194,305 was read. `OutOfMemory` where memory was refused.
+/// input is no scenario, with the first refused place, or one of more than 16 documents, with `/documents`. `ReadFault`
+/// only where the input failed, `WriteFault` only where the output or the complaints failed or took nothing.
+/// `InputTooLong` exactly where byte 4,194,305 was read. `OutOfMemory` where memory was refused.
 pub fn cspreport<R: Threads + Wait + Sync, S: Source, K: Sink, E: Sink>(
     rt: &R,
     alloc: Global,

@@ -135,16 +135,15 @@ fn scenario_of(alloc: Global, tree: &Tree<'_, '_>) -> Result<Result<Scenario, Pl
     }
 }
 
-/// Reads a scenario of format 1 or 2 from the JSON tree (RFC 8259) of a text, or answers the
-/// place at which the text is refused: `json` exactly where it is no tree, since it is not UTF-8,
-/// not JSON, nests too deep, or has a number that is too large, and else the first place, in the
-/// order in which the tables are walked, depth first. The tables of format 2 hold exactly where the root is an object whose `format` is the
-/// number 2. An object that is none, or has a key that its table lacks, is refused at its own
-/// place, a required key that is missing and a value that is not taken at the key, an item of a
-/// list at its number, as in `/documents/0/script/0/fetch/headers/0/1`; a `repeat` inside eight
-/// others and an `if` inside 16 others at that key. The place of the root is `/`. What is read
-/// is valid: its counts and values keep the format's bounds. `OutOfMemory` tells want of memory,
-/// and a text of more than 4,294,967,040 bytes.
+/// Reads a scenario of format 1 or 2 from the JSON tree (RFC 8259) of a text, or answers the place at which the text is
+/// refused: `json` exactly where it is no tree, since it is not UTF-8, not JSON, nests too deep, or has a number that
+/// is too large, and else the first place, in the order in which the tables are walked, depth first. The tables of
+/// format 2 hold exactly where the root is an object whose `format` is the number 2. An object that is none, or has a
+/// key that its table lacks, is refused at its own place, a required key that is missing and a value that is not taken
+/// at the key, an item of a list at its number, as in `/documents/0/script/0/fetch/headers/0/1`; a `repeat` inside
+/// eight others and an `if` inside 16 others at that key. The place of the root is `/`. What is read is valid: its
+/// counts and values keep the format's bounds. `OutOfMemory` tells want of memory, and a text of more than
+/// 4,294,967,040 bytes.
 pub fn read_scenario(alloc: Global, text: &[u8]) -> Result<Result<Scenario, Place>, OutOfMemory>
     ensures value { IfOk result (λ read. read ≡ spec.scenario_of text.now) }
     ensures valid { IfOk result (λ read. IfOk read IsValid) }

@@ -58,7 +58,8 @@ pub data-of : (tokens : List Token) (j : json.Json) (d : Data) → BeginsWith to
     → data_of tokens ≡ d
 unfolding data_of
 data-of tokens j d begins means =
-    let spelt : tokens ≡ written.json_tokens j ++ begins.1 = value-json_tokens_back begins.0 tokens begins.1 j begins.2 in
+    let spelt : tokens ≡ written.json_tokens j ++ begins.1 =
+    value-json_tokens_back begins.0 tokens begins.1 j begins.2 in
     let deep : written.depth j ≤ length tokens =
     omega (arith, depth-tokens j, length-append (written.json_tokens j) begins.1, ap length spelt) in
     let read : json.value (length tokens) tokens ≡ Some (j, begins.1) =

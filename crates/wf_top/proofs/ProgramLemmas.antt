@@ -18,7 +18,8 @@ use Rattle.wf_link_wire.specs.Exchanges.{Answering}
 use Rattle.wf_player_play.specs.Links.{HasTakenBack, WasRefused}
 use Rattle.wf_player_play.proofs.LinkLemmas.{none-taken}
 use Rattle.wf_program.proofs.ProgramLemmas.{input-answers, input-usage, input-write, refused-played}
-use Rattle.wf_program.proofs.ProgramLemmas.{told-answer, told-line, told-nothing, told-same, unread-played, written-played}
+use Rattle.wf_program.proofs.ProgramLemmas.{told-answer, told-line, told-nothing, told-same}
+use Rattle.wf_program.proofs.ProgramLemmas.{unread-played, written-played}
 use Rattle.wf_program.specs.Program.{Failed, IsExcused, IsPlayed, IsTold}
 use Rattle.wf_program.specs.Statuses.{written_status}
 use Rattle.wf_program.specs.Steps.{IsRead, IsUnread, IsWhyNone, IsWritten}
@@ -161,7 +162,8 @@ module _ {L State : Type 0} (by : Answering State) (told : L → Told State) whe
 
     -- they were played over
     pub over-written : (input input' : SourceTold) (output output' : SinkTold) (scenario : Scenario)
-        (transcripts : List Transcript) (history : List Entry) (verdict : Status) → IsRead scenario_of input input' scenario
+        (transcripts : List Transcript) (history : List Entry) (verdict : Status)
+        → IsRead scenario_of input input' scenario
         → IsLinked by told net net' scenario transcripts history
         → IsWritten (play_text transcripts history) output output' verdict
         → IsPlayedOver by told net net' input input' output output' verdict
@@ -245,7 +247,9 @@ module _ {L State : Type 0} (by : Answering State) (told : L → Told State) (ne
   not_accepted-of (Some Play) input input' output output' verdict is v =
       absurd (input-usage scenario_of (IsPlayText IsScripted) input input' output output' verdict v.0 is)
   not_accepted-of (Some Over) input input' output output' verdict is v =
-      absurd (input-usage scenario_of (IsPlayText (IsLinked by told net net')) input input' output output' verdict v.played is)
+      absurd (input-usage scenario_of (IsPlayText (IsLinked by told net net')) input input' output output' verdict
+      v.played
+      is)
   not_accepted-of (Some (Gen count)) input input' output output' verdict is v =
       absurd (summed-usage [] count output output' verdict v.0 is)
 

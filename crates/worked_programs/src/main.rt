@@ -1,9 +1,9 @@
-// Plays worked scenarios with the reports of their violations, and audits worked plays, over streams in memory, and prints
-// for each what it came to. A line of the input that begins with `#` is a title, which is printed as it is, and so is an
-// empty line. The line `audit` is an audit of an empty input; with a tab, a scenario, a tab and a play, whose line ends are
-// written `\n`, it is an audit of these in their frame. Behind the word `requests` and a tab a scenario is played, and the
-// reports of its documents are shown as requests. Another line is the input of cspreport's top call, with the word
-// `play`; or its words, with commas between, a tab and the input.
+// Plays worked scenarios with the reports of their violations, and audits worked plays, over streams in memory, and
+// prints for each what it came to. A line of the input that begins with `#` is a title, which is printed as it is, and
+// so is an empty line. The line `audit` is an audit of an empty input; with a tab, a scenario, a tab and a play, whose
+// line ends are written `\n`, it is an audit of these in their frame. Behind the word `requests` and a tab a scenario
+// is played, and the reports of its documents are shown as requests. Another line is the input of cspreport's top call,
+// with the word `play`; or its words, with commas between, a tab and the input.
 #![tactic(auto)]
 
 use std::alloc::Global;

@@ -8,7 +8,8 @@ returns-clause-came g c =
     let made = c.in_ok-wire.ensures in
     rw (
       ← outside-is (outside g.S.Share.account g.L.Link.told c.args.pass.now c.new.new.link)
-          (outside g.S.Share.account g.L.Link.told c.args.pass.now c.args.link.now) made.state made.received made.faults refl
+          (outside g.S.Share.account g.L.Link.told c.args.pass.now c.args.link.now) made.state made.received
+          made.faults refl
           refl,
       ← run-of c.args.document.now c.in_ok-client.client c.in_ok-policies.policies c.args.scenario.now.cookies
           c.args.base c.in_ok-client.ensures c.in_ok-policies.ensures,

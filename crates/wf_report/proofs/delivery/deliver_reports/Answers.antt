@@ -25,7 +25,8 @@ loop-log-init g c =
     let left : reports_left c.new-queue.result ≡ report_requests c.args.document.now c.args.transcript.now.events =
     c.new-queue.ensures ∙ ap (report_requests c.args.document.now) c.as_slice.ensures in
     record {
-      reached = delivery-start by limit number whole old lent finished c.new-log.result (reports_left c.new-queue.result)
+      reached = delivery-start by limit number whole old lent finished c.new-log.result
+          (reports_left c.new-queue.result)
           (sym (ap (λ (l : List Request). reports_played lent l finished c.new-log.result) left
           ∙ ap (λ (p : Progress). reports_played lent (report_requests c.args.document.now c.args.transcript.now.events)
           finished p) c.new-log.ensures))
@@ -84,7 +85,8 @@ returns-in_err-run-clause-came g c =
     let new = outside g.S.Share.account g.L.Link.told c.drive_fetch.new.pass c.drive_fetch.new.link in
     let taken = rw c.in-Some.is at c.in_ok-report.ensures.taken in
     let none : None ≡ fetch_limit c.loop-log.log = c.in_default-limit.ensures.limit in
-    refused (λ r. Delivers by limit number whole old c.args.transcript.now.clock r new) c.from_residual-in_err-run.result
+    refused (λ r. Delivers by limit number whole old c.args.transcript.now.clock r new)
+    c.from_residual-in_err-run.result
     c.from_residual-in_err-run.ensures.0 (λ one. delivery-cut by limit number whole old lent finished c.loop-log.log
     (reports_left c.loop-log.queue) (reports_left c.next.new.self) c.in-Some.report
     (g.S.Share.account c.loop-log.pass).document c.args.transcript.now.clock now new c.loop-log.invariant.reached taken
