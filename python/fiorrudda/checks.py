@@ -1,9 +1,9 @@
 """Rules on a request that a client makes: policies, mixed content, preflights, and what a page sees of an answer.
 
     page = Client("https://app.example/")
-    image = Load("image", "http://cdn.example/i.png")
-    is_mixed_blocked(page, image)                                   # True: http, from a page of https
-    Policies(["img-src 'self'"]).violations(page, image)            # what the policy says to it
+    script = Load("script", "http://cdn.example/s.js")
+    is_mixed_blocked(page, script)                                  # True: http, from a page of https
+    Policies(["script-src 'self'"]).violations(page, script)        # what the policy says to it
     preflight(page, Request("https://api.example/", "PUT"))         # the bytes that ask the server first
 
 A list of headers is a `Headers`, or pairs of a name and a value. `NoRequest` where no request can be made of what is
@@ -132,10 +132,16 @@ def preflight(client: Client, request: Asked) -> Optional[bytes]:
     return _written(_lib.fiorrudda_preflight, client._handle, request._handle)
 
 
+def _status(status: int) -> int:
+    if not 0 <= status < 2**16:
+        raise ValueError(f"{status} is no status")
+    return status
+
+
 def preflight_verdict(client: Client, request: Asked, status: int, headers) -> Verdict:
     """The verdict on an answer to the preflight of a request (Fetch, section 4.8, steps 7 and 8)."""
     error, age, answer = ctypes.c_uint32(0), ctypes.c_uint64(0), _list(headers)
-    given = client._handle, request._handle, answer._handle, status
+    given = client._handle, request._handle, answer._handle, _status(status)
     if _told(_lib.fiorrudda_verdict(*given, error, age)):
         return Verdict(age.value)
     header = _written(_lib.fiorrudda_refused_name, *given)
@@ -145,7 +151,7 @@ def preflight_verdict(client: Client, request: Asked, status: int, headers) -> V
 def seen(client: Client, request: Asked, status: int, headers, tainting: str = "cors") -> Seen:
     """What a page sees of an answer: the `basic`, `cors` or `opaque` filtered response (Fetch, section 2.2.6)."""
     shown, status_seen, answer = Headers(), ctypes.c_uint32(0), _list(headers)
-    _told(_lib.fiorrudda_filtered(shown._handle, client._handle, request._handle, answer._handle, status,
+    _told(_lib.fiorrudda_filtered(shown._handle, client._handle, request._handle, answer._handle, _status(status),
                                   _TAINTINGS.index(tainting), status_seen))
     return Seen(status_seen.value, shown)
 

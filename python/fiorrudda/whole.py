@@ -122,14 +122,21 @@ class Policies:
     NAMES = {"content-security-policy": True, "content-security-policy-report-only": False}
 
     def __init__(self, enforced=(), report_only=()) -> None:
+        for given in (enforced, report_only):
+            if isinstance(given, (str, bytes)):
+                raise TypeError("policies are a list of header values, not one text")
         self.values: List[Tuple[Text, bool]] = [(value, True) for value in enforced] + [(value, False) for value in report_only]
         self._compiled: Optional[Tuple[int, _Thing]] = None
 
     @classmethod
     def of_headers(cls, headers) -> "Policies":
-        """Those among the pairs of an answer's header list."""
+        """Those among the pairs of an answer's header list, or in a `Headers`: the enforced ones first, in which order the
+        violations number them."""
+        pairs = headers.pairs() if isinstance(headers, Headers) else headers
+        named = [(name.decode("latin-1") if isinstance(name, bytes) else name, value) for name, value in pairs]
+        given = [(value, cls.NAMES[name.lower()]) for name, value in named if name.lower() in cls.NAMES]
         found = cls()
-        found.values = [(value, cls.NAMES[name.lower()]) for name, value in headers if name.lower() in cls.NAMES]
+        found.values = sorted(given, key=lambda one: not one[1])
         return found
 
     def compiled(self) -> _Thing:
@@ -225,6 +232,8 @@ class Fetch(_Thing):
         fault, header = ctypes.c_uint32(0), ctypes.c_uint32(0)
 
         def make(handle: _Handle) -> int:
+            if not 0 <= limit < 2**32:
+                raise ValueError(f"{limit} is no number of bytes below 2^32")
             code = _lib.fiorrudda_fetch(handle, client._handle, request._handle, _time(now), limit, fault, header)
             if code == NoRequest.code:
                 raise NoRequest(fault.value, header.value)

@@ -39,8 +39,8 @@ fn noted(alloc: Global, thing: &mut Thing, host: &[u8], field: &[u8], now: u64) 
 }
 
 /// Has a book note what the value of a Strict-Transport-Security field of a host says (RFC 6797, section 8.1), at a
-/// time in seconds since any fixed moment. The host is the domain of a URL, in lower case, and the field came over
-/// https.
+/// time in seconds since any fixed moment. The host is the domain of a URL, in lower case: no IP address and no
+/// localhost name, which is not looked at. The field came over https.
 ///
 /// `OK` where the field says something; `NO` where it is to be ignored; `WRONG_HANDLE`; `TOO_LATE`; `OUT_OF_MEMORY`.
 /// The book is as it was but for `OK`.
@@ -75,7 +75,7 @@ fn known(alloc: Global, thing: &mut Thing, host: &[u8], now: u64) -> u32
 }
 
 /// Whether a host is a known HSTS host of a book at a time in seconds (RFC 6797, section 8.2): http URLs of it are to
-/// be asked by https.
+/// be asked by https. The host is the domain of a URL, in lower case: no IP address and no localhost name.
 ///
 /// `OK` where it is; `NO`; `WRONG_HANDLE`; `TOO_LATE`; `OUT_OF_MEMORY`.
 #[unsafe(no_mangle)]

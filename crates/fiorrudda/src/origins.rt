@@ -61,7 +61,8 @@ pub extern "C" fn fiorrudda_trustworthy(alloc: Global, url: &[u8]) -> u32
 
 /// Whether a URL has a bad port, to which nothing is sent (Fetch, section 2.9, "bad port").
 ///
-/// `OK` where the port is bad; `NO`; `NOT_A_URL`; `NOT_HTTP`; `OUT_OF_MEMORY`.
+/// `OK` where the port is bad; `NO`; `NOT_A_URL`; `NOT_HTTP`; `OUT_OF_MEMORY`. Test for `NO`: then no error is taken
+/// for leave.
 #[unsafe(no_mangle)]
 pub extern "C" fn fiorrudda_bad_port(alloc: Global, url: &[u8]) -> u32
     ensures { result ≢ OUT_OF_MEMORY → result ≡ told (origins.goes_to_bad_port url.now) }

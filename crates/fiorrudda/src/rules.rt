@@ -60,7 +60,7 @@ fn kept(alloc: Global, thing: &Thing, page: &[u8], url: &[u8]) -> u32
 /// check", of the page's origin and the URL's).
 ///
 /// `OK` where it is kept from them; `NO`; `WRONG_HANDLE`; `NOT_A_URL` and `NOT_HTTP`, of the page or of the URL;
-/// `OUT_OF_MEMORY`.
+/// `OUT_OF_MEMORY`. Test for `NO`: then no error is taken for leave.
 #[unsafe(no_mangle)]
 pub extern "C" fn fiorrudda_resource_policy(
     alloc: Global,

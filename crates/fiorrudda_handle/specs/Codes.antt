@@ -2,10 +2,16 @@
 use Rattle.std.specs.Prelude.{◌≡◌, ℕ, Bool, true, false, List, drop, length, nat_lt, take, MatchBool}
 use Rattle.std.specs.Prelude.{Option, Some, None, Result, Ok, Err, if◌then◌else◌}
 use Rattle.fiorrudda_handle.specs.declared.codes.TheConstants.{OK, NO, OUT_OF_MEMORY, TOO_SHORT, NOT_A_URL, NOT_HTTP}
-use Rattle.fiorrudda_handle.specs.declared.codes.TheConstants.{NOT_A_HEADER, NO_REQUEST, TOO_LATE}
+use Rattle.fiorrudda_handle.specs.declared.codes.TheConstants.{NOT_A_HEADER, NOT_AWAITED, NO_REQUEST, NO_SUCH_NUMBER}
+use Rattle.fiorrudda_handle.specs.declared.codes.TheConstants.{TOO_LATE, WRONG_HANDLE}
 use Rattle.fiorrudda_rules.specs.declared.refusal.Refusal.{Refusal}
 use Rattle.fiorrudda_rules.specs.declared.refusal.Refusal.TheVariants.{OutOfMemory, NotUrl, NotHttp, NotHeader, TooLate}
 use Rattle.fiorrudda_rules.specs.declared.refusal.Refusal.TheVariants.{NoRequest}
+
+-- the numbers of the codes
+abbrev pub AreNumbered : Type 0
+AreNumbered = (OK ≡ 0) × (NO ≡ 1) × (WRONG_HANDLE ≡ 2) × (OUT_OF_MEMORY ≡ 3) × (TOO_SHORT ≡ 4) × (NO_SUCH_NUMBER ≡ 5)
+    × (NOT_A_URL ≡ 6) × (NOT_HTTP ≡ 7) × (NOT_A_HEADER ≡ 8) × (TOO_LATE ≡ 9) × (NOT_AWAITED ≡ 10) × (NO_REQUEST ≡ 11)
 
 -- the code of a refusal
 abbrev pub code_of : Refusal → ℕ

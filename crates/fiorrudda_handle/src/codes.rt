@@ -6,11 +6,13 @@ pub const OK: u32 = 0;
 /// It does not hold; it does not pass; there is none.
 pub const NO: u32 = 1;
 
-/// The handle holds nothing of the kind that the call is for. Nothing is changed.
+/// A handle holds nothing of the kind that the call is for. Nothing is changed, but that a handle in which the call
+/// makes something is empty.
 pub const WRONG_HANDLE: u32 = 2;
 
-/// Memory was refused. Nothing is written, and what handles hold is as it was; a call that makes something in a handle
-/// leaves it empty, and a fetch that was told something is gone.
+/// Memory was refused. What handles hold is as it was, but that a handle in which the call makes something is empty,
+/// that a fetch which was told something is gone, and that a book which was asked may have taken the call. No answer is
+/// written.
 pub const OUT_OF_MEMORY: u32 = 3;
 
 /// The room for the answer is too short. Nothing is written but how many bytes the answer has.
@@ -34,5 +36,5 @@ pub const TOO_LATE: u32 = 9;
 /// What came is not what the fetch awaits. Nothing is changed.
 pub const NOT_AWAITED: u32 = 10;
 
-/// No request can be made of what is asked for; why is told.
+/// No request can be made of what is asked for; `fiorrudda_fetch` tells why.
 pub const NO_REQUEST: u32 = 11;

@@ -12,6 +12,6 @@ pub use codes::{
     OUT_OF_MEMORY, TOO_LATE, TOO_SHORT, WRONG_HANDLE,
 };
 pub use handle::Handle;
-pub use laws::law_handle_crosses;
+pub use laws::{law_codes, law_handle_crosses};
 pub use telling::{code_of, told, write, write_answer, write_text, yes_or_no};
 pub use thing::Thing;

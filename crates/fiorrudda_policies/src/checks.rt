@@ -78,10 +78,11 @@ fn blocked(alloc: Global, client: &Thing, request: &Thing, redirect: &[u8]) -> u
 }
 
 /// Whether a client's request is blocked as mixed content (Mixed Content, section 4.4, "should fetching request be
-/// blocked as mixed content?"), once it was or was not upgraded. `redirect` is the URL to which the request was
-/// redirected, or empty.
+/// blocked as mixed content?"). Ask first whether it is upgraded: one that is, is not blocked. `redirect` is the URL to
+/// which the request was redirected, or empty.
 ///
-/// `OK` where it is blocked; `NO`; and the other codes of `fiorrudda_mixed_upgraded`.
+/// `OK` where it is blocked; `NO`; and the other codes of `fiorrudda_mixed_upgraded`. Test for `NO`: then no error is
+/// taken for leave.
 #[unsafe(no_mangle)]
 pub extern "C" fn fiorrudda_mixed_blocked(
     alloc: Global,
@@ -203,6 +204,9 @@ fn found_for(
 /// `OK` where nothing is violated; `NO` where something is; `NO_SUCH_NUMBER`; `WRONG_HANDLE`, of the policies, the
 /// client or the request; `NO_REQUEST` where none can be made of what is asked for, or nothing redirects it;
 /// `NOT_A_URL` and `NOT_HTTP`, of `redirect`; `OUT_OF_MEMORY`. The handle is empty but for `OK` and `NO`.
+///
+/// A response is blocked where one of the violations is enforced. The client's own policies are not asked. A request
+/// that a policy or Mixed Content upgrades is to be asked with its https URL.
 #[unsafe(no_mangle)]
 pub extern "C" fn fiorrudda_check(
     alloc: Global,

@@ -140,7 +140,8 @@ fn exposed_in(
 /// Writes one of the names that an answer's header list exposes to a page of another origin, at an index from 0 on, at
 /// the beginning of `room`, with no NUL after it, and tells in `len` how many bytes it is (Fetch, section 2.2.6,
 /// "CORS-exposed header-name list"). With `*` all names of the list are exposed, unless the credentials mode is
-/// include, which `include` tells. The safelisted names, as Content-Type, are not among them.
+/// include, which `include` tells. A page sees the safelisted names, as Content-Type, without their being named, and
+/// never Set-Cookie, even where it is named here: `fiorrudda_filtered` has what it sees.
 ///
 /// `OK`; `NO` behind the last; `TOO_SHORT` where `room` has less than `len` bytes; `WRONG_HANDLE`; `OUT_OF_MEMORY`. But
 /// for `OK` nothing is written to `room`, and but for `OK` and `TOO_SHORT` nothing to `len`.
@@ -168,7 +169,7 @@ pub extern "C" fn fiorrudda_exposed_name(
 
 /// Whether a name and a value are a forbidden request-header, which no script can set (Fetch, section 2.2.2).
 ///
-/// `OK` where they are; `NO`; `NOT_A_HEADER`; `OUT_OF_MEMORY`.
+/// `OK` where they are; `NO`; `NOT_A_HEADER`; `OUT_OF_MEMORY`. Test for `NO`: then no error is taken for leave.
 #[unsafe(no_mangle)]
 pub extern "C" fn fiorrudda_forbidden_header(alloc: Global, name: &[u8], value: &[u8]) -> u32
     ensures { result ≢ OUT_OF_MEMORY → result ≡ told (names.is_forbidden name.now value.now) }

@@ -36,9 +36,12 @@ fn preflight_in(
 /// how many they are (Fetch, section 4.1, "main fetch", step 12, and section 4.8, "CORS-preflight fetch"; RFC 9112,
 /// section 3). They are for the server of the request's URL. No book is asked, and no policy.
 ///
-/// `OK`; `NO` where main fetch sends no preflight; `TOO_SHORT` where `room` has less than `len` bytes; `WRONG_HANDLE`;
-/// `NO_REQUEST` where none can be made of what is asked for; `NOT_HTTP`, of its URL; `OUT_OF_MEMORY`. But for `OK`
-/// nothing is written to `room`, and but for `OK` and `TOO_SHORT` nothing to `len`.
+/// It is not looked at whether main fetch blocks the request before, by its port, as mixed content or by a policy, or
+/// upgrades its URL.
+///
+/// `OK`; `NO` where the request's mode, method and headers ask for no preflight; `TOO_SHORT` where `room` has less than
+/// `len` bytes; `WRONG_HANDLE`; `NO_REQUEST` where none can be made of what is asked for; `NOT_HTTP`, of its URL;
+/// `OUT_OF_MEMORY`. But for `OK` nothing is written to `room`, and but for `OK` and `TOO_SHORT` nothing to `len`.
 #[unsafe(no_mangle)]
 pub extern "C" fn fiorrudda_preflight(
     alloc: Global,
@@ -117,7 +120,8 @@ fn verdict_in(
 
 /// Tells the verdict on an answer to the preflight of a client's request, of a status and a header list (Fetch, section
 /// 4.8, "CORS-preflight fetch", steps 7 and 8): for a pass, in `age`, for how many seconds the preflight cache learns
-/// it; for a refusal, in `error`, the number of the network error, from 7 to 11.
+/// it; for a refusal, in `error`, the number of the network error, from 7 to 11. It also answers where the request asks
+/// for no preflight.
 ///
 /// `OK` where it passes; `NO` where it is refused; `WRONG_HANDLE`; `NO_REQUEST` where none can be made of what is asked
 /// for; `OUT_OF_MEMORY`. But for `OK` nothing is written to `age`, and but for `NO` nothing to `error`.
