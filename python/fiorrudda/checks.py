@@ -128,7 +128,8 @@ def _violations(found: _Handle) -> List[Violation]:
 
 
 def preflight(client: Client, request: Asked) -> Optional[bytes]:
-    """All bytes of the CORS-preflight request, or None where main fetch sends none (Fetch, section 4.8)."""
+    """All bytes of the CORS-preflight request, or None where its mode, method and headers ask for none (Fetch,
+    section 4.8)."""
     return _written(_lib.fiorrudda_preflight, client._handle, request._handle)
 
 
