@@ -34,11 +34,13 @@ extern "C" {
 // It does not hold; it does not pass; there is none.
 #define FIORRUDDA_NO 1u
 
-// The handle holds nothing of the kind that the call is for. Nothing is changed.
+// A handle holds nothing of the kind that the call is for. Nothing is changed, but that a handle in which the call
+// makes something is empty.
 #define FIORRUDDA_WRONG_HANDLE 2u
 
-// Memory was refused. Nothing is written, and what handles hold is as it was; a call that makes something in a handle
-// leaves it empty, and a fetch that was told something is gone.
+// Memory was refused. What handles hold is as it was, but that a handle in which the call makes something is empty,
+// that a fetch which was told something is gone, and that a book which was asked may have taken the call. No answer
+// is written.
 #define FIORRUDDA_OUT_OF_MEMORY 3u
 
 // The room for the answer is too short. Nothing is written but how many bytes the answer has.
@@ -62,7 +64,7 @@ extern "C" {
 // What came is not what the fetch awaits. Nothing is changed.
 #define FIORRUDDA_NOT_AWAITED 10u
 
-// No request can be made of what is asked for; why is told.
+// No request can be made of what is asked for; `fiorrudda_fetch` tells why.
 #define FIORRUDDA_NO_REQUEST 11u
 
 // No policy: the default one, strict-origin-when-cross-origin, counts.
@@ -478,15 +480,15 @@ uint32_t fiorrudda_get(fiorrudda_handle *headers, const uint8_t *name, size_t na
 uint32_t fiorrudda_book(fiorrudda_handle *book);
 
 // Has a book note what the value of a Strict-Transport-Security field of a host says (RFC 6797, section 8.1), at a
-// time in seconds since any fixed moment. The host is the domain of a URL, in lower case, and the field came over
-// https.
+// time in seconds since any fixed moment. The host is the domain of a URL, in lower case: no IP address and no
+// localhost name, which is not looked at. The field came over https.
 //
 // FIORRUDDA_OK where the field says something; FIORRUDDA_NO where it is to be ignored; FIORRUDDA_WRONG_HANDLE;
 // FIORRUDDA_TOO_LATE; FIORRUDDA_OUT_OF_MEMORY. The book is as it was but for FIORRUDDA_OK.
 uint32_t fiorrudda_note_host(fiorrudda_handle *book, const uint8_t *host, size_t host_len, const uint8_t *field, size_t field_len, uint64_t now);
 
 // Whether a host is a known HSTS host of a book at a time in seconds (RFC 6797, section 8.2): http URLs of it are to
-// be asked by https.
+// be asked by https. The host is the domain of a URL, in lower case: no IP address and no localhost name.
 //
 // FIORRUDDA_OK where it is; FIORRUDDA_NO; FIORRUDDA_WRONG_HANDLE; FIORRUDDA_TOO_LATE; FIORRUDDA_OUT_OF_MEMORY.
 uint32_t fiorrudda_known_host(fiorrudda_handle *book, const uint8_t *host, size_t host_len, uint64_t now);
@@ -557,6 +559,7 @@ uint32_t fiorrudda_trustworthy(const uint8_t *url, size_t url_len);
 // Whether a URL has a bad port, to which nothing is sent (Fetch, section 2.9, "bad port").
 //
 // FIORRUDDA_OK where the port is bad; FIORRUDDA_NO; FIORRUDDA_NOT_A_URL; FIORRUDDA_NOT_HTTP; FIORRUDDA_OUT_OF_MEMORY.
+// Test for FIORRUDDA_NO: then no error is taken for leave.
 uint32_t fiorrudda_bad_port(const uint8_t *url, size_t url_len);
 
 // Whether a name and a value are a CORS-safelisted request-header (Fetch, section 2.2.2): with it alone, no preflight
@@ -581,7 +584,8 @@ uint32_t fiorrudda_cors_check(const uint8_t *origin, size_t origin_len, bool inc
 // check", of the page's origin and the URL's).
 //
 // FIORRUDDA_OK where it is kept from them; FIORRUDDA_NO; FIORRUDDA_WRONG_HANDLE; FIORRUDDA_NOT_A_URL and
-// FIORRUDDA_NOT_HTTP, of the page or of the URL; FIORRUDDA_OUT_OF_MEMORY.
+// FIORRUDDA_NOT_HTTP, of the page or of the URL; FIORRUDDA_OUT_OF_MEMORY. Test for FIORRUDDA_NO: then no error is
+// taken for leave.
 uint32_t fiorrudda_resource_policy(const uint8_t *page, size_t page_len, const uint8_t *url, size_t url_len, fiorrudda_handle *headers);
 
 // Writes the referrer that a policy tells the URL `target` of the page `source` at the beginning of `room`, with no
@@ -628,13 +632,15 @@ uint32_t fiorrudda_filtered(fiorrudda_handle *filtered, fiorrudda_handle *client
 // Whether an answer to a request is blocked for its MIME type, by its header list: one of a script that is audio,
 // image, video or CSV (Fetch, "should response to request be blocked due to its MIME type").
 //
-// FIORRUDDA_OK where it is blocked; FIORRUDDA_NO; FIORRUDDA_WRONG_HANDLE; FIORRUDDA_OUT_OF_MEMORY.
+// FIORRUDDA_OK where it is blocked; FIORRUDDA_NO; FIORRUDDA_WRONG_HANDLE; FIORRUDDA_OUT_OF_MEMORY. Test for
+// FIORRUDDA_NO: then no error is taken for leave.
 uint32_t fiorrudda_type_blocked(fiorrudda_handle *request, fiorrudda_handle *headers);
 
 // Whether an answer to a request is blocked since it says nosniff, by its header list: one of a script that is no
 // JavaScript, or of a style that is not `text/css` (Fetch, "should response to request be blocked due to nosniff").
 //
-// FIORRUDDA_OK where it is blocked; FIORRUDDA_NO; FIORRUDDA_WRONG_HANDLE; FIORRUDDA_OUT_OF_MEMORY.
+// FIORRUDDA_OK where it is blocked; FIORRUDDA_NO; FIORRUDDA_WRONG_HANDLE; FIORRUDDA_OUT_OF_MEMORY. Test for
+// FIORRUDDA_NO: then no error is taken for leave.
 uint32_t fiorrudda_nosniff_blocked(fiorrudda_handle *request, fiorrudda_handle *headers);
 
 // Whether a client's request is upgraded as mixed content: for an image, audio or video of a page that is potentially
@@ -647,10 +653,11 @@ uint32_t fiorrudda_nosniff_blocked(fiorrudda_handle *request, fiorrudda_handle *
 uint32_t fiorrudda_mixed_upgraded(fiorrudda_handle *client, fiorrudda_handle *request, const uint8_t *redirect, size_t redirect_len);
 
 // Whether a client's request is blocked as mixed content (Mixed Content, section 4.4, "should fetching request be
-// blocked as mixed content?"), once it was or was not upgraded. `redirect` is the URL to which the request was
-// redirected, or empty.
+// blocked as mixed content?"). Ask first whether it is upgraded: one that is, is not blocked. `redirect` is the URL
+// to which the request was redirected, or empty.
 //
-// FIORRUDDA_OK where it is blocked; FIORRUDDA_NO; and the other codes of `fiorrudda_mixed_upgraded`.
+// FIORRUDDA_OK where it is blocked; FIORRUDDA_NO; and the other codes of `fiorrudda_mixed_upgraded`. Test for
+// FIORRUDDA_NO: then no error is taken for leave.
 uint32_t fiorrudda_mixed_blocked(fiorrudda_handle *client, fiorrudda_handle *request, const uint8_t *redirect, size_t redirect_len);
 
 // Makes in a handle the violations of policies by a client's request, or by its response: one of the numbers
@@ -663,6 +670,9 @@ uint32_t fiorrudda_mixed_blocked(fiorrudda_handle *client, fiorrudda_handle *req
 // FIORRUDDA_WRONG_HANDLE, of the policies, the client or the request; FIORRUDDA_NO_REQUEST where none can be made of
 // what is asked for, or nothing redirects it; FIORRUDDA_NOT_A_URL and FIORRUDDA_NOT_HTTP, of `redirect`;
 // FIORRUDDA_OUT_OF_MEMORY. The handle is empty but for FIORRUDDA_OK and FIORRUDDA_NO.
+//
+// A response is blocked where one of the violations is enforced. The client's own policies are not asked. A request
+// that a policy or Mixed Content upgrades is to be asked with its https URL.
 uint32_t fiorrudda_check(fiorrudda_handle *violations, fiorrudda_handle *policies, fiorrudda_handle *client, fiorrudda_handle *request, const uint8_t *redirect, size_t redirect_len, uint32_t check);
 
 // Tells of the violation at an index, from 0 on, the number of the policy in `policy`, and 1 in `enforced` where that
@@ -711,7 +721,8 @@ uint32_t fiorrudda_unsafe_name(fiorrudda_handle *headers, size_t at, uint8_t *ro
 // Writes one of the names that an answer's header list exposes to a page of another origin, at an index from 0 on, at
 // the beginning of `room`, with no NUL after it, and tells in `len` how many bytes it is (Fetch, section 2.2.6,
 // "CORS-exposed header-name list"). With `*` all names of the list are exposed, unless the credentials mode is
-// include, which `include` tells. The safelisted names, as Content-Type, are not among them.
+// include, which `include` tells. A page sees the safelisted names, as Content-Type, without their being named, and
+// never Set-Cookie, even where it is named here: `fiorrudda_filtered` has what it sees.
 //
 // FIORRUDDA_OK; FIORRUDDA_NO behind the last; FIORRUDDA_TOO_SHORT where `room` has less than `len` bytes;
 // FIORRUDDA_WRONG_HANDLE; FIORRUDDA_OUT_OF_MEMORY. But for FIORRUDDA_OK nothing is written to `room`, and but for
@@ -720,22 +731,27 @@ uint32_t fiorrudda_exposed_name(fiorrudda_handle *headers, bool include, size_t 
 
 // Whether a name and a value are a forbidden request-header, which no script can set (Fetch, section 2.2.2).
 //
-// FIORRUDDA_OK where they are; FIORRUDDA_NO; FIORRUDDA_NOT_A_HEADER; FIORRUDDA_OUT_OF_MEMORY.
+// FIORRUDDA_OK where they are; FIORRUDDA_NO; FIORRUDDA_NOT_A_HEADER; FIORRUDDA_OUT_OF_MEMORY. Test for FIORRUDDA_NO:
+// then no error is taken for leave.
 uint32_t fiorrudda_forbidden_header(const uint8_t *name, size_t name_len, const uint8_t *value, size_t value_len);
 
 // Writes all bytes of the CORS-preflight request of a client's request at the beginning of `room`, and tells in `len`
 // how many they are (Fetch, section 4.1, "main fetch", step 12, and section 4.8, "CORS-preflight fetch"; RFC 9112,
 // section 3). They are for the server of the request's URL. No book is asked, and no policy.
 //
-// FIORRUDDA_OK; FIORRUDDA_NO where main fetch sends no preflight; FIORRUDDA_TOO_SHORT where `room` has less than
-// `len` bytes; FIORRUDDA_WRONG_HANDLE; FIORRUDDA_NO_REQUEST where none can be made of what is asked for;
-// FIORRUDDA_NOT_HTTP, of its URL; FIORRUDDA_OUT_OF_MEMORY. But for FIORRUDDA_OK nothing is written to `room`, and but
-// for FIORRUDDA_OK and FIORRUDDA_TOO_SHORT nothing to `len`.
+// It is not looked at whether main fetch blocks the request before, by its port, as mixed content or by a policy, or
+// upgrades its URL.
+//
+// FIORRUDDA_OK; FIORRUDDA_NO where the request's mode, method and headers ask for no preflight; FIORRUDDA_TOO_SHORT
+// where `room` has less than `len` bytes; FIORRUDDA_WRONG_HANDLE; FIORRUDDA_NO_REQUEST where none can be made of what
+// is asked for; FIORRUDDA_NOT_HTTP, of its URL; FIORRUDDA_OUT_OF_MEMORY. But for FIORRUDDA_OK nothing is written to
+// `room`, and but for FIORRUDDA_OK and FIORRUDDA_TOO_SHORT nothing to `len`.
 uint32_t fiorrudda_preflight(fiorrudda_handle *client, fiorrudda_handle *request, uint8_t *room, size_t room_len, size_t *len);
 
 // Tells the verdict on an answer to the preflight of a client's request, of a status and a header list (Fetch,
 // section 4.8, "CORS-preflight fetch", steps 7 and 8): for a pass, in `age`, for how many seconds the preflight cache
-// learns it; for a refusal, in `error`, the number of the network error, from 7 to 11.
+// learns it; for a refusal, in `error`, the number of the network error, from 7 to 11. It also answers where the
+// request asks for no preflight.
 //
 // FIORRUDDA_OK where it passes; FIORRUDDA_NO where it is refused; FIORRUDDA_WRONG_HANDLE; FIORRUDDA_NO_REQUEST where
 // none can be made of what is asked for; FIORRUDDA_OUT_OF_MEMORY. But for FIORRUDDA_OK nothing is written to `age`,
