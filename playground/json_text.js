@@ -55,10 +55,17 @@ class JsonReader {
     }
     const number = this.take(NUMBER_FORM);
     if (number !== null && " \t\n\r{}[],:\"".includes(this.text[this.at] || " ")) {
-      return { kind: "number", start: this.at - number.length, end: this.at, value: Number(number),
-        float: /[.eE]/.test(number) || number === "-0" };
+      return this.number(this.at - number.length, number);
     }
     return this.word(number === null ? "" : number);
+  }
+
+  number(start, text) {
+    const value = Number(text);
+    if (!Number.isFinite(value)) {
+      this.fault(start, this.at, "this number is greater than any that is read");
+    }
+    return { kind: "number", start, end: this.at, value, float: /[.eE]/.test(text) || text === "-0" };
   }
 
   // true, false or null; any other word is a fault, and is skipped.
