@@ -250,6 +250,15 @@ impl HeaderList {
         }
     }
 
+    /// The empty list, with room for so many headers.
+    pub fn with_room(alloc: Global, count: usize) -> Result<HeaderList, OutOfMemory>
+        ensures { IfOk result (λ list. list ≡ []) }
+    {
+        Ok(HeaderList {
+            headers: Vec::with_capacity(alloc, count)?,
+        })
+    }
+
     /// The headers, in order.
     pub fn as_slice(&self) -> &[Header]
         ensures { result.now ≡ self.now }

@@ -68,7 +68,7 @@ pub(crate) fn headers_of(
     requires { All (IsHeaderWithin (length block.now)) lines.now }
     ensures { IfOk result (λ headers. headers ≡ with_pairs [] (map (header_bytes block.now) lines.now)) }
 {
-    let mut headers = HeaderList::new(alloc);
+    let mut headers = HeaderList::with_room(alloc, lines.len())?;
     for line in lines {
         headers.append(line.name.of(block), line.value.of(block))?;
     }

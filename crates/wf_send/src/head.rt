@@ -14,6 +14,9 @@ use wf_types::{
     host_value, is_post_or_put, origin_value, referrer_value, slice_of,
 };
 
+// How many lines are sent beside the request's own at most: Host, and those of `append_added`.
+const MOST_ADDED: usize = 8;
+
 /// Whether credentials are included: in mode include, and in mode same-origin while the tainting is
 /// basic (Fetch, section 4.6, step 8.3). It takes no memory.
 pub fn includes_credentials(credentials: Credentials, tainting: Tainting) -> bool
@@ -142,7 +145,10 @@ pub(crate) fn head_lines(
     requires { origin.now ≡ origin_text (origins.origin_of url.now) }
     ensures { IfOk result (λ headers. headers ≡ spec.head_lines cookies.now request.now url.now) }
 {
-    let mut headers = HeaderList::new(alloc);
+    let mut headers = HeaderList::with_room(
+        alloc,
+        request.headers.len().saturating_add(MOST_ADDED),
+    )?;
     headers.append(b"Host", host_value(url).as_bytes())?;
     headers.append_all(request.headers.as_slice())?;
     append_added(alloc, &mut headers, cookies, request, url, origin)?;

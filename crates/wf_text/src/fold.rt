@@ -9,7 +9,8 @@ use std::alloc::Global;
 pub fn eq_fold(a: &[u8], b: &[u8]) -> bool
     ensures { result ≡ str_eq_ignore_ascii_case a.now b.now }
 {
-    a.eq_ignore_ascii_case(b)
+    // most names come as they are looked for, and are compared faster as they are
+    a == b || a.eq_ignore_ascii_case(b)
 }
 
 /// A copy of the text with its ASCII letters in lower case.
