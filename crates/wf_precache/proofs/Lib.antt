@@ -3,4 +3,5 @@ pub mod Computed
 pub mod KeyLaws
 pub mod KeyLemmas
 pub mod ListLemmas
+pub mod PackLemmas
 pub mod TeachLemmas

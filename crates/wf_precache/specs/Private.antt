@@ -1,2 +1,3 @@
 -- What the crate's private contracts alone cite: how it holds what the files beside this one say.
+pub mod Packs
 pub mod Partitions

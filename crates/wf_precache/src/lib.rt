@@ -4,10 +4,13 @@
 mod cache;
 mod entry;
 mod laws;
+mod names;
+mod packed;
 mod partition;
 mod question;
 
 pub use cache::Precache;
 pub use entry::{Allowed, CacheEntry};
 pub use laws::{law_caches, law_clears, law_lessons};
+pub use names::Names;
 pub use question::{Lesson, Question};

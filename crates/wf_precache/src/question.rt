@@ -1,7 +1,8 @@
 ghost use Rattle.std.specs.Prelude.{◌≡◌, IfOk};
 
+use crate::names::Names;
 use std::alloc::Global;
-use wf_text::{Bytes, BytesList, OutOfMemory, copy_of};
+use wf_text::{Bytes, OutOfMemory, copy_of};
 
 /// What a request would need of the cache: an entry for its method, where one is named, and for each
 /// of the header names (Fetch, "HTTP fetch", the check before a CORS-preflight fetch).
@@ -15,7 +16,7 @@ pub struct Question {
     /// Whether the request's credentials mode is include.
     pub include: bool,
     pub method: Option<Bytes>,
-    pub names: BytesList,
+    pub names: Names,
 }
 
 /// What a CORS-preflight fetch taught: the methods and header names that a server allows.
@@ -30,8 +31,8 @@ pub struct Lesson {
     pub include: bool,
     /// The max-age, in seconds.
     pub age: u64,
-    pub methods: BytesList,
-    pub names: BytesList,
+    pub methods: Names,
+    pub names: Names,
 }
 
 impl Question {
