@@ -1,3 +1,4 @@
+pub mod CommaLemmas
 pub mod DigitLemmas
 pub mod EscapeLemmas
 pub mod SumLemmas

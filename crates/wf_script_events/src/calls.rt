@@ -1,14 +1,14 @@
 // The lengths of the calls of the shared book.
 #![tactic(auto, using(crate::proofs::SumLemmas::length_of_both))]
 
-ghost use Rattle.std.specs.Prelude.{◌≡◌, ◌++◌, codes};
+ghost use Rattle.std.specs.Prelude.{◌≡◌, ◌++◌, codes, drop};
 ghost use Rattle.wf_script_events.specs.Calls as spec;
 ghost use Rattle.wf_script_events.specs.Private.Sums.{length_of};
 
 use crate::length::{Length, number, text};
 use wf_book::{Op, Reply};
 use wf_hsts::Sts;
-use wf_precache::{Lesson, Question};
+use wf_precache::{Lesson, Names, Question};
 use wf_text::Bytes;
 
 // The length of a reply.
@@ -45,30 +45,31 @@ fn subdomains_length(subdomains: bool) -> Length
 }
 
 // The length of a text after a comma.
-fn comma_text_length(item: &Bytes) -> Length
+fn comma_text_length(item: &[u8]) -> Length
     ensures { result ≡ length_of (codes "," ++ item.now) }
 {
-    text(b",").plus(text(item.as_slice()))
+    text(b",").plus(text(item))
 }
 
-// The length of texts, each after a comma.
-fn comma_texts_length(texts: &[Bytes]) -> Length
-    ensures { result ≡ length_of (spec.comma_texts texts.now) }
+// The length of texts but the first, each after a comma.
+fn comma_texts_length(texts: &Names) -> Length
+    ensures { result ≡ length_of (spec.comma_texts (drop 1 texts.now)) }
 {
     let mut length = text(b"");
-    for item in texts {
-        length = length.plus(comma_text_length(item));
+    for index in 1..texts.len() {
+        length = length.plus(comma_text_length(texts.at(index)));
     }
     length
 }
 
 // The length of a list of texts.
-fn list_length(texts: &[Bytes]) -> Length
+fn list_length(texts: &Names) -> Length
     ensures { result ≡ length_of (spec.list_text texts.now) }
 {
-    match texts.split_first() {
-        None => text(b"()"),
-        Some((first, others)) => text(first.as_slice()).plus(comma_texts_length(others)),
+    if texts.is_empty() {
+        text(b"()")
+    } else {
+        text(texts.at(0)).plus(comma_texts_length(texts))
     }
 }
 
@@ -103,7 +104,7 @@ fn question_length(question: &Question) -> Length
         .plus(text(b" "))
         .plus(method_length(&question.method))
         .plus(text(b" "))
-        .plus(list_length(question.names.as_slice()))
+        .plus(list_length(&question.names))
         .plus(text(b" "))
         .plus(text(question.url.as_slice()))
 }
@@ -120,9 +121,9 @@ fn lesson_length(lesson: &Lesson) -> Length
         .plus(text(b" "))
         .plus(number(lesson.age))
         .plus(text(b" "))
-        .plus(list_length(lesson.methods.as_slice()))
+        .plus(list_length(&lesson.methods))
         .plus(text(b" "))
-        .plus(list_length(lesson.names.as_slice()))
+        .plus(list_length(&lesson.names))
         .plus(text(b" "))
         .plus(text(lesson.url.as_slice()))
 }
