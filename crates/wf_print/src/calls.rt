@@ -1,11 +1,11 @@
-ghost use Rattle.std.specs.Prelude.{◌≡◌, ◌++◌, codes, OnOk};
+ghost use Rattle.std.specs.Prelude.{◌≡◌, ◌++◌, codes, drop, OnOk};
 ghost use Rattle.wf_script_events.specs.Calls as spec;
 
 use crate::lines::add_number;
 use crate::page::Page;
 use wf_book::{Op, Reply};
 use wf_hsts::Sts;
-use wf_precache::{Lesson, Question};
+use wf_precache::{Lesson, Names, Question};
 use wf_text::{Bytes, OutOfMemory};
 
 // What an operation replied.
@@ -33,26 +33,26 @@ fn subdomains_text(subdomains: bool) -> &'static [u8]
     if subdomains { b"sub" } else { b"exact" }
 }
 
-// Adds texts, each after a comma.
-fn add_comma_texts(text: &mut Page, texts: &[Bytes]) -> Result<(), OutOfMemory>
-    ensures { OnOk result (text.new ≡ text.old ++ spec.comma_texts texts.now) }
+// Adds the texts but the first, each after a comma.
+fn add_comma_texts(text: &mut Page, texts: &Names) -> Result<(), OutOfMemory>
+    ensures { OnOk result (text.new ≡ text.old ++ spec.comma_texts (drop 1 texts.now)) }
 {
-    for item in texts {
+    for index in 1..texts.len() {
         text.append(b",")?;
-        text.append(item.as_slice())?;
+        text.append(texts.at(index))?;
     }
     Ok(())
 }
 
 // Adds a list of texts.
-fn add_list(text: &mut Page, texts: &[Bytes]) -> Result<(), OutOfMemory>
+fn add_list(text: &mut Page, texts: &Names) -> Result<(), OutOfMemory>
     ensures { OnOk result (text.new ≡ text.old ++ spec.list_text texts.now) }
 {
-    let Some((first, others)) = texts.split_first() else {
+    if texts.is_empty() {
         return text.append(b"()");
-    };
-    text.append(first.as_slice())?;
-    add_comma_texts(text, others)
+    }
+    text.append(texts.at(0))?;
+    add_comma_texts(text, texts)
 }
 
 // The method that is asked for.
@@ -90,7 +90,7 @@ fn add_question(text: &mut Page, question: &Question) -> Result<(), OutOfMemory>
     add_word(text, question.origin.as_slice())?;
     add_word(text, credentials_text(question.include))?;
     add_word(text, method_text(&question.method))?;
-    add_list(text, question.names.as_slice())?;
+    add_list(text, &question.names)?;
     text.append(b" ")?;
     text.append(question.url.as_slice())
 }
@@ -104,9 +104,9 @@ fn add_lesson(text: &mut Page, lesson: &Lesson) -> Result<(), OutOfMemory>
     add_word(text, credentials_text(lesson.include))?;
     add_number(text, lesson.age)?;
     text.append(b" ")?;
-    add_list(text, lesson.methods.as_slice())?;
+    add_list(text, &lesson.methods)?;
     text.append(b" ")?;
-    add_list(text, lesson.names.as_slice())?;
+    add_list(text, &lesson.names)?;
     text.append(b" ")?;
     text.append(lesson.url.as_slice())
 }
