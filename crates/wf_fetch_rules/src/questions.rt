@@ -4,7 +4,7 @@ ghost use Rattle.wf_types.specs.Requests.{IsRequest};
 
 use std::alloc::Global;
 use wf_book::Op;
-use wf_precache::{Lesson, Question};
+use wf_precache::{Lesson, Names, Question};
 use wf_safelist::unsafe_names;
 use wf_text::{Bytes, BytesList, OutOfMemory};
 use wf_types::{Client, Request, is_safelisted_method, serialized_origin};
@@ -40,13 +40,14 @@ pub fn covers_of(
     requires { IsRequest request.now }
     ensures { IfOk result (λ op. op ≡ spec.covers_of client.now request.now now) }
 {
+    let names = unsafe_names(alloc, &request.headers)?;
     let question = Question {
         key: client.key.copy(alloc)?,
         origin: serialized_origin(alloc, request)?,
         url: url_text(alloc, request)?,
         include: request.credentials.is_include(),
         method: asked_method(alloc, request)?,
-        names: unsafe_names(alloc, &request.headers)?,
+        names: Names::of(alloc, names.as_slice())?,
     };
     Ok(Op::Covers(question, now))
 }
@@ -71,8 +72,8 @@ pub fn learn_of(
         url: url_text(alloc, request)?,
         include: request.credentials.is_include(),
         age,
-        methods,
-        names,
+        methods: Names::of(alloc, methods.as_slice())?,
+        names: Names::of(alloc, names.as_slice())?,
     };
     Ok(Op::Learn(lesson, now))
 }

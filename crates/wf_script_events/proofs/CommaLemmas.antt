@@ -1,6 +1,6 @@
 -- Texts that are joined by commas: the first, and the others, each after a comma.
-use Rattle.std.proofs.Common.{◌≡◌, ℕ, ◌<◌, ◌≤◌, ◌+◌, ◌-◌, List, [], ◌∷◌, ◌++◌, codes, get_or, length, take, drop, refl, suc}
-use Rattle.std.proofs.Common.{slice_get, Some, ap, sym, ◌∙◌, arith, add-one, drop-cons, length-drop}
+use Rattle.std.proofs.Common.{◌≡◌, ℕ, ◌<◌, ◌≤◌, ◌+◌, ◌-◌, List, [], ◌∷◌, ◌++◌, codes, get_or, length, take, drop}
+use Rattle.std.proofs.Common.{refl, suc, slice_get, Some, ap, sym, ◌∙◌, arith, add-one, drop-cons, length-drop}
 use Rattle.std.proofs.lemmas.List.{get_or-drop}
 use Rattle.std.proofs.lemmas.Option.{get_or_from_slice_get, slice_get_within}
 use Rattle.wf_script_events.specs.Calls.{comma_texts, list_text}
