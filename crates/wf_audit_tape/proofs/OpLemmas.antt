@@ -1,9 +1,10 @@
 -- Two ops are one exactly where their parts are.
 use Rattle.std.proofs.Common.{◌≡◌, ℕ, Bool, true, false, List, [], ◌∷◌, length, suc, refl, ap, sym, ◌∙◌, Option, Some}
-use Rattle.std.proofs.Common.{None}
+use Rattle.std.proofs.Common.{None, ◌+◌, drop, slice_get, add-one, drop-cons}
 use Rattle.std.proofs.lemmas.Bool.Decides.{Decides-eqb}
+use Rattle.std.proofs.lemmas.Option.{get_or_from_slice_get, slice_get_within}
 use Rattle.std.proofs.lemmas.Slice.Eq.{bytes_eq-Decides}
-use Rattle.std.specs.Prelude.{◌==◌, ◌&&◌, bytes_eq}
+use Rattle.std.specs.Prelude.{◌==◌, ◌&&◌, bytes_eq, not}
 use Rattle.wf_book.specs.declared.op.Op.{Op}
 use Rattle.wf_book.specs.declared.op.Op.TheVariants.{Match, Note, Covers, Learn, Clear}
 use Rattle.wf_hsts.specs.declared.sts.Sts.{Sts}
@@ -198,6 +199,43 @@ lengths-differ [] (y ∷ b) ne = refl
 lengths-differ (x ∷ a) [] ne = refl
 lengths-differ (x ∷ a) (y ∷ b) ne =
     and-no (bytes_eq x y) (texts_eq a b) (lengths-differ a b (λ same. ne (ap suc same)))
+
+text-from : (texts : List (List ℕ)) (index : ℕ) (text : List ℕ) → slice_get texts index ≡ Some text
+    → drop index texts ≡ text ∷ drop (index + 1) texts
+text-from texts index text is =
+    drop-cons texts index text (slice_get_within texts index text is)
+    ∙ ap (λ (t : List ℕ). t ∷ drop (suc index) texts) (get_or_from_slice_get texts index text text is)
+    ∙ rw (add-one index) refl
+
+-- two lists from an index on
+texts-from : (a b : List (List ℕ)) (index : ℕ) (x y : List ℕ) → slice_get a index ≡ Some x
+    → slice_get b index ≡ Some y
+    → texts_eq (drop index a) (drop index b) ≡ (bytes_eq x y && texts_eq (drop (index + 1) a) (drop (index + 1) b))
+texts-from a b index x y one other = rw (text-from a index x one, text-from b index y other) refl
+
+and-unequal : (a b : Bool) → true ≡ not a → (a && b) ≡ false
+and-unequal true b is = cc
+and-unequal false b is = refl
+
+and-equal : (a b : Bool) → false ≡ not a → (a && b) ≡ b
+and-equal true b is = refl
+and-equal false b is = cc
+
+-- lists that are one up to an index differ where their texts there do
+pub texts-other : (a b : List (List ℕ)) (index : ℕ) (x y : List ℕ) → slice_get a index ≡ Some x
+    → slice_get b index ≡ Some y → texts_eq a b ≡ texts_eq (drop index a) (drop index b) → true ≡ not (bytes_eq x y)
+    → false ≡ texts_eq a b
+texts-other a b index x y one other so differ =
+    sym (so ∙ texts-from a b index x y one other
+    ∙ and-unequal (bytes_eq x y) (texts_eq (drop (index + 1) a) (drop (index + 1) b)) differ)
+
+-- and are one up to the next where those are equal
+pub texts-so-far : (a b : List (List ℕ)) (index : ℕ) (x y : List ℕ) → slice_get a index ≡ Some x
+    → slice_get b index ≡ Some y → texts_eq a b ≡ texts_eq (drop index a) (drop index b) → false ≡ not (bytes_eq x y)
+    → texts_eq a b ≡ texts_eq (drop (index + 1) a) (drop (index + 1) b)
+texts-so-far a b index x y one other so same =
+    so ∙ texts-from a b index x y one other
+    ∙ and-equal (bytes_eq x y) (texts_eq (drop (index + 1) a) (drop (index + 1) b)) same
 
 pub op-equal : (a b : Op) (same : Bool) → same ≡ op_eq a b → same ≡ true → a ≡ b
 op-equal a b same tells equal = op-same a b (sym tells ∙ equal)

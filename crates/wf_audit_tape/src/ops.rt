@@ -4,7 +4,7 @@ ghost use Rattle.wf_audit_tape.specs.Private.Ops as spec;
 
 use wf_book::Op;
 use wf_hsts::Sts;
-use wf_precache::{Lesson, Question};
+use wf_precache::{Lesson, Names, Question};
 use wf_text::Bytes;
 
 fn same(one: &Bytes, other: &Bytes) -> bool
@@ -19,14 +19,14 @@ fn same_flag(one: bool, other: bool) -> bool
     if one { other } else { !other }
 }
 
-fn same_texts(one: &[Bytes], other: &[Bytes]) -> bool
+fn same_texts(one: &Names, other: &Names) -> bool
     ensures { result ≡ spec.texts_eq one.now other.now }
 {
     if one.len() != other.len() {
         return false;
     }
     for index in 0..one.len() {
-        if !same(&one[index], &other[index]) {
+        if one.at(index) != other.at(index) {
             return false;
         }
     }
@@ -57,7 +57,7 @@ fn same_question(one: &Question, other: &Question) -> bool
         && same(&one.url, &other.url)
         && same_flag(one.include, other.include)
         && same_method(&one.method, &other.method)
-        && same_texts(one.names.as_slice(), other.names.as_slice())
+        && same_texts(&one.names, &other.names)
 }
 
 fn same_lesson(one: &Lesson, other: &Lesson) -> bool
@@ -68,8 +68,8 @@ fn same_lesson(one: &Lesson, other: &Lesson) -> bool
         && same(&one.url, &other.url)
         && same_flag(one.include, other.include)
         && one.age == other.age
-        && same_texts(one.methods.as_slice(), other.methods.as_slice())
-        && same_texts(one.names.as_slice(), other.names.as_slice())
+        && same_texts(&one.methods, &other.methods)
+        && same_texts(&one.names, &other.names)
 }
 
 // Whether the two ops are one.
