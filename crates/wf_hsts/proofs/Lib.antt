@@ -14,3 +14,4 @@ pub mod SortedLemmas
 pub mod StsLemmas
 pub mod TwiceLemmas
 pub mod UnderLemmas
+pub mod WalkLemmas

@@ -1,8 +1,8 @@
 -- Known HSTS hosts (RFC 6797, sections 6.1.1, 8.1, 8.1.1 and 8.2): which names are known, and what a
 -- Strict-Transport-Security field changes. A list of them is sorted by the bytes of the host.
-use Rattle.std.specs.Prelude.{◌≡◌, ℕ, ◌+◌, ◌≤◌, ◌==◌, ◌||◌, ◌&&◌, not, Bool, List, [], ◌∷◌, ◌++◌, length}
+use Rattle.std.specs.Prelude.{◌≡◌, ◌↔◌, ℕ, ◌+◌, ◌≤◌, ◌==◌, ◌||◌, ◌&&◌, not, Bool, true, List, [], ◌∷◌, ◌++◌, length}
 use Rattle.std.specs.Prelude.{nat_eq, nat_lt, filter, if◌then◌else◌}
-use Rattle.std.specs.List.{AllByRecursion, ends_with, list_any}
+use Rattle.std.specs.List.{AllByRecursion, ends_with, list_all, list_any}
 use Rattle.std.specs.declared.cmp.Ordering.TheVariants.{Less}
 use Rattle.std.specs.Ordering.{is_gt, is_lt, nat_cmp, ordering_then}
 use Rattle.std.specs.Str.{bytes_eq}
@@ -66,3 +66,17 @@ abbrev pub noted : List ℕ → Sts → ℕ → List KnownHost → List KnownHos
 noted host sts now hosts =
     if sts.age == 0 then without host hosts
     else with_host (known_host host sts.subdomains (now + sts.age)) (with_room (without host hosts))
+
+-- a host may stand last: it comes after each of these, which are fewer than 4,096
+abbrev pub may_stand_last : KnownHost → List KnownHost → Bool
+may_stand_last new hosts =
+    nat_lt (length hosts) 4096 && list_all (λ known. is_lt (text_cmp known.host new.host)) hosts
+
+-- the list with this host as its last, where it may stand there
+abbrev pub extended : KnownHost → List KnownHost → List KnownHost
+extended new hosts = if may_stand_last new hosts then hosts ++ new ∷ [] else hosts
+
+-- a host may stand last exactly where the list with it is one of known hosts
+abbrev pub ExtendsExactly : Type 0
+ExtendsExactly = (new : KnownHost) (hosts : List KnownHost) → AreHosts hosts
+    → may_stand_last new hosts ≡ true ↔ AreHosts (hosts ++ new ∷ [])

@@ -1,5 +1,5 @@
 ghost use Rattle.std.specs.Prelude.{◌≡◌, ◌^◌, ◌<◌, ◌≤◌, ◌&&◌, [], length, nat_lt, IfOk, OnOk, OnErr};
-ghost use Rattle.wf_hsts.specs.Hosts.{AreHosts, matches_host, noted, without};
+ghost use Rattle.wf_hsts.specs.Hosts.{AreHosts, extended, matches_host, may_stand_last, noted, without};
 ghost use Rattle.wf_hsts.specs.Private.Terms.{IsLeaving, begins_under, covers, holds_alive, is_under, passes};
 
 use crate::index::{Index, Term};
@@ -148,6 +148,41 @@ impl HstsList {
         ensures hosts { AreHosts self.now }
     {
         holds_alive(&self.index, host, now) || is_under(&self.index, host, now)
+    }
+
+    /// Copies of the hosts, in the order of their bytes.
+    pub fn copies(&self, alloc: Global) -> Result<Vec<KnownHost>, OutOfMemory>
+        ensures copies { IfOk result (λ hosts. hosts.items ≡ self.now) }
+        ensures hosts { AreHosts self.now }
+    {
+        self.index.copies(alloc)
+    }
+
+    // Whether the host may stand last.
+    fn may_stand_last(&self, known: &KnownHost) -> bool
+        ensures { result ≡ may_stand_last known.now self.now }
+    {
+        self.index.len() < MOST_HOSTS && self.index.are_before(known.host.as_slice())
+    }
+
+    /// Adds a host behind all others, as where a list is read back. It tells whether it was added: exactly where its
+    /// bytes come after those of each other host, and fewer than 4,096 are known. Else, and where memory is refused,
+    /// the list is as it was.
+    pub fn extend(&mut self, known: KnownHost) -> Result<bool, OutOfMemory>
+        ensures told { IfOk result (λ added. added ≡ may_stand_last known self.old) }
+        ensures ok { OnOk result (self.new ≡ extended known self.old) }
+        ensures err { OnErr result (self.new ≡ self.old) }
+        ensures hosts { AreHosts self.new }
+    {
+        if !self.may_stand_last(&known) {
+            return Ok(false);
+        }
+        let term = Term {
+            subdomains: known.subdomains,
+            until: known.until,
+        };
+        self.index.put(self.alloc, known.host, term)?;
+        Ok(true)
     }
 
     /// Takes the host out, if it is there. It takes no memory.

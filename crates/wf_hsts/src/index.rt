@@ -1,7 +1,12 @@
-ghost use Rattle.std.specs.Prelude.{◌≡◌, [], length, Some, None, OnOk, OnErr, option_copied};
+ghost use Rattle.std.specs.Prelude.{◌≡◌, [], length, Some, None, IfOk, OnOk, OnErr, option_copied};
+ghost use Rattle.std.specs.List.{list_all};
+ghost use Rattle.std.specs.Ordering.{is_lt};
+ghost use Rattle.wf_text.specs.Orders.{text_cmp};
 ghost use Rattle.wf_hsts.specs.Hosts.{AreSorted, known_host, with_host, without};
 ghost use Rattle.wf_hsts.specs.Private.Terms.{IsFirstToEnd, term_in};
 
+use crate::hosts::KnownHost;
+use crate::walk::{are_before, copies};
 use std::alloc::Global;
 use std::collections::{BTreeMap, BTreeSet};
 use std::marker::Model;
@@ -71,6 +76,21 @@ impl Index {
             Some((_, name)) => Some(name.as_slice()),
             None => None,
         }
+    }
+
+    // Whether each host comes before this one in the order of bytes.
+    pub(crate) fn are_before(&self, host: &[u8]) -> bool
+        ensures before { result ≡ list_all (λ known. is_lt (text_cmp known.host host.now)) self.now }
+        ensures sorted { AreSorted self.now }
+    {
+        are_before(&self.terms, host)
+    }
+
+    // Copies of the hosts, in order.
+    pub(crate) fn copies(&self, alloc: Global) -> Result<Vec<KnownHost>, OutOfMemory>
+        ensures { IfOk result (λ hosts. hosts.items ≡ self.now) }
+    {
+        copies(alloc, &self.terms)
     }
 
     // Takes a host out, if it is there.

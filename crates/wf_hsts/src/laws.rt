@@ -1,3 +1,4 @@
+ghost use Rattle.wf_hsts.specs.Hosts.{ExtendsExactly};
 ghost use Rattle.wf_hsts.specs.Reading.{AgesAreBounded, ReadsTheGrammar};
 
 /// What is read of a field's value, from front to back, is what the grammar of RFC 6797, section 6.1, and the
@@ -9,4 +10,9 @@ pub fn law_sts_grammar()
 /// No field says an age above 4,294,967,295.
 pub fn law_ages()
     ensures { AgesAreBounded }
+{}
+
+/// A host may stand last in a list exactly where the list with it is one of known hosts again.
+pub fn law_extends()
+    ensures { ExtendsExactly }
 {}

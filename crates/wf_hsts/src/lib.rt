@@ -7,7 +7,8 @@ mod index;
 mod laws;
 mod pieces;
 mod sts;
+mod walk;
 
 pub use hosts::{HstsList, KnownHost};
-pub use laws::{law_ages, law_sts_grammar};
+pub use laws::{law_ages, law_extends, law_sts_grammar};
 pub use sts::{Sts, parse_sts};
