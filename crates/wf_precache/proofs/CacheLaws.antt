@@ -52,7 +52,7 @@ taught-most lesson now entries most =
     items-most lesson now (methods_of lesson ++ names_of lesson) (filter (is_alive now) entries)
     (omega (arith, kept-most (is_alive now) entries, most))
 
-either : (b : Bool) (xs ys : List CacheEntry) → length xs ≤ 64 → length ys ≤ 64 → length (cond b xs ys) ≤ 64
+pub either : (b : Bool) (xs ys : List CacheEntry) → length xs ≤ 64 → length ys ≤ 64 → length (cond b xs ys) ≤ 64
 either true xs ys x y = x
 either false xs ys x y = y
 
@@ -99,7 +99,7 @@ sorted-append (x ∷ xs) ys xs_sorted ys_sorted apart = (
   sorted-append xs ys xs_sorted.1 ys_sorted apart.1,
 )
 
-less-is : (o : Ordering) → is_lt o ≡ true → o ≡ Less
+pub less-is : (o : Ordering) → is_lt o ≡ true → o ≡ Less
 less-is Less is = refl
 less-is Equal is = absurd (true≢false (sym is))
 less-is Greater is = absurd (true≢false (sym is))
@@ -108,7 +108,7 @@ less-is Greater is = absurd (true≢false (sym is))
 not-back : (a b : List ℕ) → slice_cmp nat_cmp a b ≡ Less → stands_before b a ≡ false
 not-back a b less = ap is_lt (nat_list_cmp_total.antisymm b a ∙ ap ordering_reverse less)
 
-not-itself : (a : List ℕ) → stands_before a a ≡ false
+pub not-itself : (a : List ℕ) → stands_before a a ≡ false
 not-itself a = ap is_lt (tied_itself nat_list_cmp_total a)
 
 own-sorted : (key : List ℕ) (entries : List CacheEntry) → AreSorted (map (keyed key) entries)
@@ -143,7 +143,7 @@ module _ (key : List ℕ) (entries : List CacheEntry) (cache : List Keyed) where
   own-behind [] = tt
   own-behind (e ∷ es) = (behind-own, own-behind es)
 
-  with-sorted : AreSorted cache → AreSorted (with_entries key entries cache)
+  pub with-sorted : AreSorted cache → AreSorted (with_entries key entries cache)
   with-sorted sorted =
       sorted-append (before key cache) (map (keyed key) entries
       ++ behind key cache) (sorted-kept (λ k. stands_before k.key key) cache sorted)

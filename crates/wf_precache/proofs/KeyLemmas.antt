@@ -1,4 +1,5 @@
 -- Lists of entries under keys in order: look-ups and changes of one key, as filters of the one list.
+use Rattle.std.proofs.Common.{◌<◌, length, subst}
 use Rattle.std.proofs.Common.{arith, ◌≡◌, ◌++◌, ◌∷◌, [], ℕ, List, Bool, true, false, cond, not, ◌&&◌, map, filter}
 use Rattle.std.proofs.Common.{refl, sym, ap, ◌∙◌, Option, Some, None, append_assoc}
 use Rattle.std.specs.declared.cmp.Ordering.{Ordering}
@@ -42,7 +43,7 @@ module _ (key other : List ℕ) (o : Ordering) (is : slice_cmp nat_cmp key other
   pub high-by : stands_before key other ≡ is_lt o
   high-by = ap is_lt is
 
-equal-keys : (key other : List ℕ) → slice_cmp nat_cmp key other ≡ Equal → other ≡ key
+pub equal-keys : (key other : List ℕ) → slice_cmp nat_cmp key other ≡ Equal → other ≡ key
 equal-keys key other is = (bytes_decides other key).0 (same-by key other Equal is)
 
 pub entries-back : (key : List ℕ) (entries : List CacheEntry)
@@ -396,3 +397,81 @@ module _ {K : Type 0} (bytes : K → List ℕ) where
       → IsStrictlySortedBy (key_cmp bytes) (keys_of ps) → entries_of key (listed bytes ps) ≡ []
       → listed bytes (remove_entry (is_at (compare key)) ps) ≡ listed bytes ps
   entries-emptied key ps sorted none = emptied key ps (sym (entries-found key ps sorted) ∙ none)
+
+  -- a key that is found, with other entries
+  module _ (key : List ℕ) (entries : List CacheEntry) where
+    abbrev replaced : List (K × List CacheEntry) → List (K × List CacheEntry)
+    replaced ps = set_value (is_at (compare key)) ps entries
+
+    abbrev keyed-here : List Keyed
+    keyed-here = map (keyed key) entries
+
+    never-found : (ps : List (K × List CacheEntry)) → AllHigh key ps → found key ps ≡ None
+    never-found [] all = refl
+    never-found (p ∷ ps) all =
+        ap (λ (b : Bool). cond b (Some p.1) (found key ps)) (ap is_eq all.0) ∙ never-found ps all.1
+
+    replaced-by : (p : K × List CacheEntry) (ps : List (K × List CacheEntry)) (old : List CacheEntry)
+        → IsStrictlySortedBy (key_cmp bytes) (keys_of (p ∷ ps)) → found key (p ∷ ps) ≡ Some old
+        → (found key ps ≡ Some old → listed bytes (replaced ps) ≡ among key keyed-here ps)
+        → (o : Ordering) → compare key p.0 ≡ o → listed bytes (replaced (p ∷ ps)) ≡ among key keyed-here (p ∷ ps)
+    replaced-by p ps old sorted at rest Less is =
+        let none : None ≡ Some old = sym (never-found (p ∷ ps) (high-less key p ps sorted is)) ∙ at in absurd (cc)
+    replaced-by p ps old sorted at rest Equal is =
+        ap (λ (b : Bool). listed bytes (cond b ((p.0, entries) ∷ ps) (p ∷ replaced ps))) (ap is_eq is)
+        ∙ (ap (λ (b : List ℕ). map (keyed b) entries ++ listed bytes ps) (equal-keys key (bytes p.0) is)
+        ∙ sym (among-equal key keyed-here p ps is (high-equal key p ps sorted is)))
+    replaced-by p ps old sorted at rest Greater is =
+        ap (λ (b : Bool). listed bytes (cond b ((p.0, entries) ∷ ps) (p ∷ replaced ps))) (ap is_eq is)
+        ∙ (ap (λ (ks : List Keyed). map (keyed (bytes p.0)) p.1 ++ ks)
+        (rest (found-behind key [] [] p ps (Some old) (ap is_eq is) at))
+        ∙ sym (among-greater key keyed-here p ps is))
+
+    replaced-among : (ps : List (K × List CacheEntry)) (old : List CacheEntry)
+        → IsStrictlySortedBy (key_cmp bytes) (keys_of ps) → found key ps ≡ Some old
+        → listed bytes (replaced ps) ≡ among key keyed-here ps
+    replaced-among [] old sorted at = absurd (cc)
+    replaced-among (p ∷ ps) old sorted at =
+        replaced-by p ps old sorted at
+        (replaced-among ps old (sorted_tail (key_cmp bytes) p.0 (keys_of ps) sorted)) (compare key p.0) refl
+
+    pub entries-replaced : (ps : List (K × List CacheEntry)) (old : List CacheEntry)
+        → IsStrictlySortedBy (key_cmp bytes) (keys_of ps) → found key ps ≡ Some old
+        → listed bytes (replaced ps) ≡ with_entries key entries (listed bytes ps)
+    entries-replaced ps old sorted at = replaced-among ps old sorted at ∙ sym (among-sifted key entries ps)
+
+  -- a key that is found, with one entry more
+  pub entries-pushed : (key at : List ℕ) (entry : CacheEntry) (ps new : List (K × List CacheEntry))
+      (old after : List CacheEntry) → at ≡ key → IsStrictlySortedBy (key_cmp bytes) (keys_of ps)
+      → found at ps ≡ Some old → new ≡ set_value (is_at (compare at)) ps after → after ≡ old ++ entry ∷ []
+      → listed bytes new ≡ with_entries key (entries_of key (listed bytes ps) ++ entry ∷ []) (listed bytes ps)
+  entries-pushed key at entry ps new old after same sorted there is more =
+      let own : entries_of at (listed bytes ps) ≡ old =
+      entries-found at ps sorted ∙ ap (λ (o : Option (List CacheEntry)). unwrap_or o []) there in
+      ap (listed bytes) is ∙ (entries-replaced at after ps old sorted there
+      ∙ (ap (λ (entries : List CacheEntry). with_entries at entries (listed bytes ps))
+      (more ∙ ap (λ (entries : List CacheEntry). entries ++ entry ∷ []) (sym own))
+      ∙ ap (λ (key : List ℕ). with_entries key (entries_of key (listed bytes ps) ++ entry ∷ []) (listed bytes ps)) same))
+
+  -- a key that is not, with its first entry
+  pub entries-begun : (key at : List ℕ) (entry : CacheEntry) (k : K) (ps new : List (K × List CacheEntry))
+      (after : List CacheEntry) → at ≡ key → bytes k ≡ key → IsStrictlySortedBy (key_cmp bytes) (keys_of ps)
+      → found at ps ≡ None → new ≡ insert_entry (key_cmp bytes) ps k after → after ≡ entry ∷ []
+      → listed bytes new ≡ with_entries key (entries_of key (listed bytes ps) ++ entry ∷ []) (listed bytes ps)
+  entries-begun key at entry k ps new after same named sorted none is one =
+      let own : entries_of key (listed bytes ps) ≡ [] =
+      ap (λ (key : List ℕ). entries_of key (listed bytes ps)) (sym same)
+      ∙ (entries-found at ps sorted ∙ ap (λ (o : Option (List CacheEntry)). unwrap_or o []) none) in
+      ap (listed bytes) is ∙ (entries-inserted k after ps sorted
+      ∙ ((λ i. with_entries (named i) (one i) (listed bytes ps))
+      ∙ ap (λ (entries : List CacheEntry). with_entries key (entries ++ entry ∷ []) (listed bytes ps)) (sym own)))
+
+  -- there is room where the key has few entries
+  pub found-few : (key at : List ℕ) (ps : List (K × List CacheEntry)) (old : List CacheEntry) → at ≡ key
+      → IsStrictlySortedBy (key_cmp bytes) (keys_of ps) → found at ps ≡ Some old
+      → length (entries_of key (listed bytes ps)) < 64 → length old < 64
+  found-few key at ps old same sorted there few =
+      let own : entries_of at (listed bytes ps) ≡ old =
+      entries-found at ps sorted ∙ ap (λ (o : Option (List CacheEntry)). unwrap_or o []) there in
+      subst (λ (l : List CacheEntry). length l < 64) own
+      (subst (λ (key : List ℕ). length (entries_of key (listed bytes ps)) < 64) (sym same) few)

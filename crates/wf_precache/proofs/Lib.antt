@@ -5,3 +5,4 @@ pub mod KeyLemmas
 pub mod ListLemmas
 pub mod PackLemmas
 pub mod TeachLemmas
+pub mod WalkLemmas

@@ -1,15 +1,12 @@
 -- The entries of all keys as one list, in the order of the keys' bytes.
-use Rattle.std.specs.Prelude.{◌≡◌, ℕ, ◌≤◌, Bool, false, List, [], ◌∷◌, ◌++◌, length, map, filter}
-use Rattle.std.specs.List.{AllByRecursion}
+use Rattle.std.specs.Prelude.{◌≡◌, ◌↔◌, ℕ, ◌≤◌, ◌&&◌, not, Bool, true, false, List, [], ◌∷◌, ◌++◌, length, map, filter, nat_lt}
+use Rattle.std.specs.Prelude.{if◌then◌else◌}
+use Rattle.std.specs.List.{AllByRecursion, list_all}
 use Rattle.std.specs.Str.{bytes_eq}
 use Rattle.std.specs.Ordering.{is_lt}
 use Rattle.wf_text.specs.Orders.{text_cmp}
 use Rattle.wf_precache.specs.declared.entry.CacheEntry.{CacheEntry}
-
--- an entry and the network partition key that it is kept under
-pub record Keyed : Type 0 where
-  pub key : List ℕ
-  pub entry : CacheEntry
+pub use Rattle.wf_precache.specs.declared.entry.Keyed.{Keyed}
 
 abbrev pub keyed : List ℕ → CacheEntry → Keyed
 keyed key entry = record { key = key; entry = entry }
@@ -42,3 +39,17 @@ behind key cache = filter (λ k. stands_before key k.key) cache
 -- the list with these as the entries of the key
 abbrev pub with_entries : List ℕ → List CacheEntry → List Keyed → List Keyed
 with_entries key entries cache = before key cache ++ (map (keyed key) entries ++ behind key cache)
+
+-- an entry may stand last: no key comes after its own, which has fewer than 64
+abbrev pub may_stand_last : Keyed → List Keyed → Bool
+may_stand_last new cache =
+    nat_lt (length (entries_of new.key cache)) 64 && list_all (λ k. not (stands_before new.key k.key)) cache
+
+-- the list with this entry as its last, where it may stand there
+abbrev pub extended : Keyed → List Keyed → List Keyed
+extended new cache = if may_stand_last new cache then cache ++ new ∷ [] else cache
+
+-- an entry may stand last exactly where the list with it is a cache
+abbrev pub ExtendsExactly : Type 0
+ExtendsExactly = (new : Keyed) (cache : List Keyed) → IsCache cache
+    → may_stand_last new cache ≡ true ↔ IsCache (cache ++ new ∷ [])

@@ -1,12 +1,13 @@
-ghost use Rattle.std.specs.Prelude.{◌≡◌, ◌≤◌, [], length, OnOk, OnErr};
+ghost use Rattle.std.specs.Prelude.{◌≡◌, ◌≤◌, [], length, IfOk, OnOk, OnErr};
 ghost use Rattle.std.specs.BTreeMap.{IsOrdered};
 ghost use Rattle.wf_precache.specs.Cache.{cleared, covers, learned};
-ghost use Rattle.wf_precache.specs.Keys.{IsCache, entries_of, with_entries};
+ghost use Rattle.wf_precache.specs.Keys.{IsCache, entries_of, extended, may_stand_last, with_entries};
 ghost use Rattle.wf_precache.specs.Private.Partitions.{key_cmp, listed};
 
-use crate::entry::CacheEntry;
-use crate::partition::{Partition, covers};
+use crate::entry::{CacheEntry, Keyed};
+use crate::partition::{MOST, Partition, covers};
 use crate::question::{Lesson, Question};
+use crate::walk::{add, copies, none_after};
 use std::alloc::Global;
 use std::collections::BTreeMap;
 use std::marker::Model;
@@ -92,6 +93,18 @@ fn drop_empty(partitions: &mut BTreeMap<Vec<u8>, Partition>, key: &[u8])
     }
 }
 
+// Whether the entry may stand last.
+fn may_stand_last(partitions: &mut BTreeMap<Vec<u8>, Partition>, new: &Keyed) -> bool
+    requires { IsOrdered (key_cmp (λ key. key.items)) partitions.old }
+    ensures may { result ≡ may_stand_last new.now (listed (λ key. key.items) partitions.old.entries) }
+    ensures listed { listed (λ key. key.items) partitions.new.entries
+        ≡ listed (λ key. key.items) partitions.old.entries }
+    ensures ordered { IsOrdered (key_cmp (λ key. key.items)) partitions.new }
+{
+    let key = new.key.as_slice();
+    entries_of(partitions, key).len() < MOST && none_after(partitions, key)
+}
+
 impl Precache {
     /// The empty cache. It takes no memory.
     pub fn new(alloc: Global) -> Precache
@@ -142,6 +155,30 @@ impl Precache {
             lesson.key.as_slice(),
             partition,
         )
+    }
+
+    /// Copies of all entries, in the order of their keys' bytes, those of one key in the order of their creation.
+    pub fn copies(&self, alloc: Global) -> Result<Vec<Keyed>, OutOfMemory>
+        ensures copies { IfOk result (λ entries. entries.items ≡ self.now) }
+        ensures cache { IsCache self.now }
+    {
+        copies(alloc, &self.partitions)
+    }
+
+    /// Adds an entry behind all others, as where a cache is read back. It tells whether it was added: exactly where no
+    /// other key comes after its own, and its key has fewer than 64 entries. Else, and where memory is refused, the
+    /// cache is as it was.
+    pub fn extend(&mut self, new: Keyed) -> Result<bool, OutOfMemory>
+        ensures told { IfOk result (λ added. added ≡ may_stand_last new self.old) }
+        ensures ok { OnOk result (self.new ≡ extended new self.old) }
+        ensures err { OnErr result (self.new ≡ self.old) }
+        ensures cache { IsCache self.new }
+    {
+        if !may_stand_last(&mut self.partitions, &new) {
+            return Ok(false);
+        }
+        add(self.alloc, &mut self.partitions, new)?;
+        Ok(true)
     }
 
     /// "clear cache entries": takes out the entries of a key, an origin and a URL. It takes no memory.

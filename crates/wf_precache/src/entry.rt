@@ -27,6 +27,13 @@ pub struct CacheEntry {
     pub allowed: Allowed,
 }
 
+/// An entry, and the network partition key that it is kept under.
+#[derive(Drop)]
+pub struct Keyed {
+    pub key: Bytes,
+    pub entry: CacheEntry,
+}
+
 impl Allowed {
     // Whether this is the method or the wildcard.
     pub(crate) fn allows_method(&self, method: &[u8]) -> bool

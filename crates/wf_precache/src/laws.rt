@@ -1,3 +1,4 @@
+ghost use Rattle.wf_precache.specs.Keys.{ExtendsExactly};
 ghost use Rattle.wf_precache.specs.Laws.{ChangesKeepCaches, ClearsKeepOtherKeys, LessonsKeepOtherKeys};
 
 /// A lesson teaches the entries of its own key, and leaves those of every other key.
@@ -13,4 +14,9 @@ pub fn law_clears()
 /// Every cache is sorted by the bytes of its keys, and has at most 64 entries of each.
 pub fn law_caches()
     ensures { ChangesKeepCaches }
+{}
+
+/// An entry may stand last in a cache exactly where the list with it is a cache again.
+pub fn law_extends()
+    ensures { ExtendsExactly }
 {}

@@ -8,9 +8,10 @@ mod names;
 mod packed;
 mod partition;
 mod question;
+mod walk;
 
 pub use cache::Precache;
-pub use entry::{Allowed, CacheEntry};
-pub use laws::{law_caches, law_clears, law_lessons};
+pub use entry::{Allowed, CacheEntry, Keyed};
+pub use laws::{law_caches, law_clears, law_extends, law_lessons};
 pub use names::Names;
 pub use question::{Lesson, Question};

@@ -1,4 +1,4 @@
-ghost use Rattle.std.specs.Prelude.{◌≡◌, ◌≤◌, ◌++◌, ◌∷◌, [], length, map, filter, not, IfOk, OnOk};
+ghost use Rattle.std.specs.Prelude.{◌≡◌, ◌<◌, ◌≤◌, ◌++◌, ◌∷◌, [], length, map, filter, not, IfOk, OnOk, OnErr};
 ghost use Rattle.std.specs.List.{fold, list_all, list_any};
 ghost use Rattle.wf_precache.specs.Entries.{covered, has_match, has_method_match, is_alive, is_of};
 ghost use Rattle.wf_precache.specs.Teaching.{created, is_known, methods_of, names_of, newest, renewed, taught};
@@ -13,7 +13,7 @@ use std::marker::Model;
 use wf_text::{Bytes, OutOfMemory};
 
 /// How many entries a key holds at most.
-const MOST: usize = 64;
+pub(crate) const MOST: usize = 64;
 
 /// The entries of one network partition key, in the order of their creation.
 #[derive(Drop)]
@@ -259,6 +259,25 @@ impl Partition {
         partition.teach_methods(alloc, lesson, now)?;
         partition.teach_names(alloc, lesson, now)?;
         Ok(partition)
+    }
+
+    // One entry.
+    pub(crate) fn of_one(alloc: Global, entry: CacheEntry) -> Result<Partition, OutOfMemory>
+        ensures { IfOk result (λ partition. partition ≡ entry ∷ []) }
+    {
+        let mut entries = Vec::new(alloc);
+        entries.push(entry)?;
+        Ok(Partition { entries })
+    }
+
+    // Adds an entry where there is room.
+    pub(crate) fn push(&mut self, entry: CacheEntry) -> Result<(), OutOfMemory>
+        requires { length self.old < 64 }
+        ensures ok { OnOk result (self.new ≡ self.old ++ entry ∷ []) }
+        ensures err { OnErr result (self.new ≡ self.old) }
+    {
+        self.entries.push(entry)?;
+        Ok(())
     }
 
     // Takes out the entries of the origin and the URL.
