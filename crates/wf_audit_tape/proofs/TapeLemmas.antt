@@ -32,7 +32,7 @@ use Rattle.wf_precache.specs.Cache.{cleared, covers}
 use Rattle.wf_precache.specs.Entries.{allows, covered, has_match, has_method_match, is_alive, is_match}
 use Rattle.wf_precache.specs.Entries.{is_of}
 use Rattle.wf_precache.specs.Keys as keys
-use Rattle.wf_precache.specs.Keys.{Keyed}
+use Rattle.wf_precache.specs.declared.entry.Keyed.{Keyed}
 use Rattle.wf_audit_history.specs.Legality.{AreRight}
 use Rattle.wf_audit_tape.specs.Private.Calls.{IsNext, IsNone, IsPassed, IsStrayed}
 use Rattle.wf_audit_tape.specs.Tapes.{account_of, asks_nothing, before_stray, first_op, IsParted, IsTape, IsUsedUp}

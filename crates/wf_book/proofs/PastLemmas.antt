@@ -9,7 +9,8 @@ use Rattle.wf_precache.specs.declared.entry.CacheEntry.{CacheEntry}
 use Rattle.wf_precache.specs.declared.question.Lesson.{Lesson}
 use Rattle.wf_precache.specs.Cache.{cleared, learned}
 use Rattle.wf_precache.specs.Entries.{covered, is_of}
-use Rattle.wf_precache.specs.Keys.{Keyed, entries_of}
+use Rattle.wf_precache.specs.Keys.{entries_of}
+use Rattle.wf_precache.specs.declared.entry.Keyed.{Keyed}
 use Rattle.wf_precache.specs.Laws.{ClearsKeepOtherKeys, LessonsKeepOtherKeys}
 use Rattle.wf_precache.specs.Teaching.{taught}
 use Rattle.wf_book.specs.declared.book.Book.{Book}

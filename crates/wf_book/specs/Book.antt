@@ -1,13 +1,19 @@
 -- The book that all documents share: the known HSTS hosts and the CORS-preflight cache (RFC 6797;
 -- Fetch, "CORS-preflight cache"); what an operation replies, and what it leaves.
-use Rattle.std.specs.Prelude.{Bool, true, false, []}
+use Rattle.std.specs.Prelude.{Bool, true, false, List, []}
 use Rattle.wf_hsts.specs.Hosts.{matches_host, noted}
+use Rattle.wf_hsts.specs.declared.hosts.KnownHost.{KnownHost}
+use Rattle.wf_precache.specs.declared.entry.Keyed.{Keyed}
 use Rattle.wf_precache.specs.Cache.{cleared, covers, learned}
 use Rattle.wf_book.specs.declared.book.Book.{Book}
 use Rattle.wf_book.specs.declared.op.Op.{Op}
 use Rattle.wf_book.specs.declared.op.Op.TheVariants.{Match, Note, Covers, Learn, Clear}
 use Rattle.wf_book.specs.declared.op.Reply.{Reply}
 use Rattle.wf_book.specs.declared.op.Reply.TheVariants.{Yes, No, Done}
+
+-- the book of these hosts and these entries
+abbrev pub book_of : List KnownHost → List Keyed → Book
+book_of hosts cache = record { hosts = hosts; cache = cache }
 
 -- no hosts and no entries
 abbrev pub empty : Book

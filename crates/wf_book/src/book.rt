@@ -1,5 +1,5 @@
 ghost use Rattle.std.specs.Prelude.{◌≡◌, IfOk, OnOk, OnErr};
-ghost use Rattle.wf_book.specs.Book.{after, empty, reply, yes_or_no};
+ghost use Rattle.wf_book.specs.Book.{after, book_of, empty, reply, yes_or_no};
 ghost use Rattle.wf_book.specs.Ops.{InRange};
 
 use crate::op::{Op, Reply};
@@ -31,6 +31,27 @@ impl Book {
             hosts: HstsList::new(alloc),
             cache: Precache::new(alloc),
         }
+    }
+
+    /// The book of these known hosts and this cache.
+    pub fn of(hosts: HstsList, cache: Precache) -> Book
+        ensures { result ≡ book_of hosts cache }
+    {
+        Book { hosts, cache }
+    }
+
+    /// The known hosts.
+    pub fn hosts(&self) -> &HstsList
+        ensures { result.now ≡ self.now.hosts }
+    {
+        &self.hosts
+    }
+
+    /// The CORS-preflight cache.
+    pub fn cache(&self) -> &Precache
+        ensures { result.now ≡ self.now.cache }
+    {
+        &self.cache
     }
 
     /// Does an operation that is in range. A refused one leaves the book as it was.

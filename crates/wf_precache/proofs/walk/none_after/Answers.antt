@@ -20,6 +20,6 @@ loop-last-preserved-else-not-is_empty c = (
   popped (λ key. key.items) c.loop-last.partitions.entries c.pop_last.new.self.entries c.pop_last.result
       c.in-Some.last.now c.in-Some.partition.now c.as_slice.result.now c.in-Some.ensures.last
       c.as_slice.ensures.entries c.if-not-is_empty.ensures c.pop_last.ensures.removal c.pop_last.ensures.unchanged
-  ∙ c.loop-last.invariant.0,
+      ∙ c.loop-last.invariant.0,
   c.pop_last.ensures.ordered,
 )
