@@ -1,0 +1,5 @@
+pub mod BookLemmas
+pub mod FieldLemmas
+pub mod LineLemmas
+pub mod NumberLemmas
+pub mod TestLemmas

@@ -1,0 +1,42 @@
+-- What tests and choices tell.
+use Rattle.std.proofs.Common.{◌≡◌, Bool, true, false, refl, Option, Some, None}
+use Rattle.std.specs.Prelude.{◌&&◌, if◌then◌else◌, option_and_then, option_map}
+
+pub and-left : (a b : Bool) → (a && b) ≡ true → a ≡ true
+and-left true b e = refl
+and-left false b e = e
+
+pub and-right : (a b : Bool) → (a && b) ≡ true → b ≡ true
+and-right true b e = e
+and-right false b e = cc
+
+pub and-both : (a b : Bool) → a ≡ true → b ≡ true → (a && b) ≡ true
+and-both true b p q = q
+and-both false b p q = p
+
+-- what was chosen was chosen by its test
+pub chosen : {A : Type 0} (b : Bool) (o : Option A) (y : A) → (if b then o else None) ≡ Some y
+    → (b ≡ true) × (o ≡ Some y)
+chosen true o y e = (refl, e)
+chosen false o y e = cc
+
+pub choose : {A : Type 0} (b : Bool) (o : Option A) (y : A) → b ≡ true → o ≡ Some y
+    → (if b then o else None) ≡ Some y
+choose true o y p q = q
+choose false o y p q = cc
+
+-- what was done with a value was done with the one that is there
+pub mapped : {A B : Type 0} (f : A → B) (o : Option A) (y : B) → option_map f o ≡ Some y
+    → (x : A) × (o ≡ Some x) × (f x ≡ y)
+mapped f None y e = cc
+mapped f (Some x) y e = (x, refl, cc)
+
+pub done : {A B : Type 0} (f : A → Option B) (o : Option A) (y : B) → option_and_then f o ≡ Some y
+    → (x : A) × (o ≡ Some x) × (f x ≡ Some y)
+done f None y e = cc
+done f (Some x) y e = (x, refl, e)
+
+-- where the test does not hold, what is chosen is the other
+pub otherwise : {A : Type 0} (b : Bool) (x o y : A) → b ≡ false → o ≡ y → (if b then x else o) ≡ y
+otherwise true x o y p q = cc
+otherwise false x o y p q = q

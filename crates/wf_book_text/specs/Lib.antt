@@ -1,0 +1,4 @@
+pub mod Laws
+pub mod Private
+pub mod Reading
+pub mod Texts

@@ -1,0 +1,44 @@
+ghost use Rattle.std.specs.Prelude.{◌≡◌};
+ghost use Rattle.wf_book_text.specs.declared.refusal.ReadError.TheVariants.{Memory};
+
+use wf_text::OutOfMemory;
+
+/// Why a text is not that of a book.
+#[derive(Clone, Copy, Debug, PartialEq, Eq)]
+pub enum Reason {
+    /// The first line is not that of a book.
+    NoBook,
+    /// It is that of a book in another format.
+    OtherFormat,
+    /// The line is not what stands at its place.
+    BadLine,
+    /// A host, or the key of an entry, does not come after the one before it.
+    Order,
+    /// A key has 64 entries before this one.
+    Full,
+    /// The text goes on behind its last line.
+    TooLong,
+}
+
+/// The first line of a text that is not that of a book's text, counted from 1, and why. A line ends behind its last
+/// field, so that an LF within a text is part of its line.
+#[derive(Clone, Copy, Debug, PartialEq, Eq)]
+pub struct Refusal {
+    pub line: u64,
+    pub reason: Reason,
+}
+
+/// Why no book was read: memory was refused, or the text.
+#[derive(Clone, Copy, Debug, PartialEq, Eq)]
+pub enum ReadError {
+    Memory,
+    Refused(Refusal),
+}
+
+impl From<OutOfMemory> for ReadError {
+    ghost from_gives = { λ _ e. e ≡ Memory };
+
+    fn from(_error: OutOfMemory) -> Self {
+        ReadError::Memory
+    }
+}
