@@ -3,9 +3,9 @@ use Rattle.std.specs.Borrow.{Bor}
 use Rattle.wf_book.specs.Accounts.{Account}
 use Rattle.wf_player.specs.declared.lent.Lent.{Lent}
 use Rattle.wf_player.specs.declared.player.Player.{Player}
-use Rattle.wf_player.proofs.Words.{received-none, ◌≡◌, ℕ, List, [], ◌∷◌, Option, Some, None, refl, subst, ◌∙◌, rules}
-use Rattle.wf_player.proofs.Words.{◌+◌, ◌≤◌, IsErr, Result, Ok, Err, OnErr, OutOfMemory, IsAtEnd, onto_left, Keeps}
-use Rattle.wf_player.proofs.Words.{KeepsPass, terms_of, Outside, Refuses}
+use Rattle.wf_player.proofs.Words.{[], ℕ, ◌+◌, ◌∙◌, ◌∷◌, ◌≡◌, ◌≤◌, Err, IsAtEnd, Keeps, KeepsPass, List, None, Ok}
+use Rattle.wf_player.proofs.Words.{OnErr, Option, OutOfMemory, Outside, Refuses, Result, Some, onto_left, received-none}
+use Rattle.wf_player.proofs.Words.{refl, rules, subst, terms_of}
 
 -- nothing happened
 pub refuses-none : {State : Type 0} (a : Outside State) → Refuses a a
@@ -15,18 +15,6 @@ refuses-none a = search (rules, received-none a.received)
 pub on-err : {T : Type 0} {P : Type 0} (result : Result T OutOfMemory) → P → OnErr result P
 on-err (Ok value) p = tt
 on-err (Err refused) p = p
-
--- what follows from it follows there
-pub on-err-map : {T : Type 0} {P Q : Type 0} (result : Result T OutOfMemory) → (P → Q) → OnErr result P
-    → OnErr result Q
-on-err-map (Ok value) f p = tt
-on-err-map (Err refused) f p = f p
-
--- a call that passes on want of memory
-pub refused : {T : Type 0} (P : Result T OutOfMemory → Type 0) (result : Result T OutOfMemory) → IsErr result
-    → ((one : OutOfMemory) → P (Err one)) → P result
-refused P (Ok value) is p = absurd cc
-refused P (Err one) is p = p one
 
 -- what outlives a run, part by part
 pub outside-is : {State : Type 0} (a b : Outside State) → a.state ≡ b.state → a.received ≡ b.received
@@ -50,19 +38,17 @@ module _ {R S L P : Type 0} {account : P → Account} {belongs : S → P → Typ
   pub same-terms : {a b : Player R S L P} → Keeps account belongs a b → terms_of account b ≡ terms_of account a
   same-terms x = rw (x.lent, x.document) refl
 
-  -- and the pass is as a call leaves it that was lent it
-  pub keeps-pass : {a b : Player R S L P} {most : ℕ} → Keeps account belongs a b
+  -- and the pass that comes back is as a call leaves it that was lent it
+  pub keeps-pass : {a b : Player R S L P} {pass : P} {most : ℕ} → Keeps account belongs a b → b.pass.now ≡ pass
       → (account a.pass.now).left ≤ (account b.pass.now).left + most
-      → KeepsPass account (belongs a.lent.now.share.now) most a.pass.now b.pass.now
-  keeps-pass {b = b} x few = record {
+      → KeepsPass account (belongs a.lent.now.share.now) most a.pass.now pass
+  keeps-pass {b = b} x back few = rw (← back) (record {
     belongs_to = subst (λ (l : Bor (Lent R S)). belongs l.now.share.now b.pass.now) x.lent x.ready.belongs_to;
     document = x.document;
     opening = x.opening;
     few = few;
-  }
+  })
 
--- ---- what was lent and has come back
-
--- what holds of what was left holds of what came back
+-- what holds of what was lent holds of what came back
 pub moved : {A : Type 0} (P : A → Type 0) (x y : A) → x ≡ y → P x → P y
 moved P x y same p = subst P same p

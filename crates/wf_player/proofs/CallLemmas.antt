@@ -3,9 +3,9 @@ use Rattle.wf_script_events.specs.declared.events.Event.TheVariants as event
 use Rattle.std.proofs.lemmas.List.{length-append}
 use Rattle.wf_book.specs.declared.entry.Entry.{Entry}
 use Rattle.wf_script_run.specs.Traces.{stop}
-use Rattle.wf_player.proofs.Words.{PlayTrace, shown, stepped, Act, Ask, Send, Tell, Input, ◌≡◌, ℕ, ◌+◌, List, [], ◌∷◌}
-use Rattle.wf_player.proofs.Words.{◌++◌, length, refl, ap, sym, ◌∙◌, arith, append_assoc, append-nil, AllByRecursion}
-use Rattle.wf_player.proofs.Words.{Event, Play, Answering, Answers, IsHungUp, Outside, Settles, World}
+use Rattle.wf_player.proofs.Words.{[], ℕ, ◌++◌, ◌+◌, ◌∙◌, ◌∷◌, ◌≡◌, Act, AllByRecursion, Answering, Answers, Ask, Event}
+use Rattle.wf_player.proofs.Words.{Input, IsHungUp, List, Outside, Play, PlayTrace, Send, Settles, Tell, World, ap}
+use Rattle.wf_player.proofs.Words.{append-nil, append_assoc, arith, length, refl, shown, stepped, sym}
 
 -- Between two worlds these entries were added, each of them the document's, and the calls left fell by as many.
 pub record Calls {State : Type 0} (document : ℕ) (a b : World State) : Type 0 where

@@ -2,7 +2,6 @@
 use Rattle.wf_http1.specs.declared.framing.Framing.TheVariants as framing
 use Rattle.std.proofs.Common.{length-append}
 use Rattle.std.proofs.lemmas.Nat.{mul-le}
-use Rattle.wf_player.specs.declared.fetch.FetchRun.{FetchRun}
 use Rattle.wf_fetch_acts.specs.Traces.{stop, with_events}
 use Rattle.wf_fetch_acts.proofs.TraceLemmas.{trace-append, trace-one, trace-tells}
 use Rattle.wf_fetch_acts.proofs.WithinLemmas.{within-more}
@@ -12,15 +11,13 @@ use Rattle.wf_fetch.specs.declared.place.Step.TheVariants.{Going}
 use Rattle.wf_fetch.specs.Machine.{Does, rest}
 use Rattle.wf_fetch_laws.specs.Own.{IsOwnAct}
 use Rattle.wf_fetch_laws.proofs.OwnLemmas.{asks-at-most, fetch-within}
-use Rattle.wf_player.specs.Driving.{Fetches}
-use Rattle.wf_player.specs.Private.Going.{GoesOn, PartNoted, WentOn, from_act}
-use Rattle.wf_player.proofs.Words.{FetchedTo, Drives, Drove, FetchCut, IsBegun, LeadsOn, Act, Ask, Send, Tell, Input}
-use Rattle.wf_player.proofs.Words.{Process, act, ended, fits, Anything, Within, acts, asks, price_of, fetch, Context}
-use Rattle.wf_player.proofs.Words.{most_asks, fetch_price, level_price, levels, ◌≡◌, ℕ, length, ◌+◌, ◌-◌, ◌<◌, ◌≤◌}
-use Rattle.wf_player.proofs.Words.{◌^◌, List, [], ◌∷◌, ◌++◌, IsTrue, refl, ap, sym, subst, ◌∙◌, arith, append_assoc}
-use Rattle.wf_player.proofs.Words.{Some, Result, Ok, Err, append-nil, IsErr, OutOfMemory, Event, events_of, Progress}
-use Rattle.wf_player.proofs.Words.{after_events, at_time, Request, Outcome, Answering, IsIdle, Standing, Terms}
-use Rattle.wf_player.proofs.Words.{Answers, Outside, Refuses, World, outside_of}
+use Rattle.wf_player.specs.Private.Going.{PartNoted, WentOn, from_act}
+use Rattle.wf_player.proofs.Words.{[], ℕ, ◌++◌, ◌+◌, ◌-◌, ◌<◌, ◌^◌, ◌∙◌, ◌∷◌, ◌≡◌, ◌≤◌, Act, Answering, Answers}
+use Rattle.wf_player.proofs.Words.{Anything, Ask, Context, Drove, Event, FetchCut, FetchedTo, Input, IsBegun, IsIdle}
+use Rattle.wf_player.proofs.Words.{IsTrue, LeadsOn, List, Outcome, Outside, Process, Progress, Refuses, Request, Send}
+use Rattle.wf_player.proofs.Words.{Some, Standing, Tell, Terms, Within, World, act, acts, after_events, ap, append-nil}
+use Rattle.wf_player.proofs.Words.{append_assoc, arith, asks, at_time, ended, events_of, fetch, fetch_price, fits}
+use Rattle.wf_player.proofs.Words.{length, level_price, levels, most_asks, outside_of, price_of, refl, subst, sym}
 use Rattle.wf_player.proofs.AskLemmas.{refuses-none}
 use Rattle.wf_player.proofs.PartLemmas.{lost-none, lost-then}
 
@@ -226,25 +223,6 @@ module _ {State : Type 0} {by : Answering State} {context : Context} {request : 
       → FetchCut by (fetch context request) old new
   fetching-cut {new = new} x = came-cut came-here
       (subst (λ (c : Context). FetchCut by (from_act c fetching first) now new) same-context x)
-
--- ---- calls that pass on want of memory
-
-pub goes-refused : {State : Type 0} (by : Answering State) (context : Context) (fetching : Fetching) (first : Act)
-    {a b : Standing State} (result : Result Step OutOfMemory) → IsErr result
-    → FetchCut by (from_act context fetching first) a b → GoesOn by context fetching first a result b
-goes-refused by context fetching first (Ok step) is x = absurd cc
-goes-refused by context fetching first (Err one) is x = x
-
-pub fetches-refused : {State : Type 0} {by : Answering State} {whole : Process} {a b : Standing State}
-    (result : Result Outcome OutOfMemory) → IsErr result → FetchCut by whole a b → Fetches by whole a result b
-fetches-refused (Ok outcome) is x = absurd cc
-fetches-refused (Err one) is x = x
-
-pub drives-refused : {State : Type 0} {by : Answering State} {limit document : ℕ} {whole : Process}
-    {a b : Outside State} (result : Result FetchRun OutOfMemory) → IsErr result → IsBegun by limit document whole a b
-    → Drives by limit document whole a result b
-drives-refused (Ok run) is x = absurd cc
-drives-refused (Err one) is x = x
 
 -- ---- a fetch by itself
 

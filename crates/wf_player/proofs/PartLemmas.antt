@@ -4,18 +4,14 @@ use Rattle.wf_types.specs.declared.policy.Destination.TheVariants as destination
 use Rattle.wf_types.specs.declared.response.Outcome.TheVariants as outcome
 use Rattle.wf_script_run.proofs.EmbedLemmas.{embedded}
 use Rattle.wf_types.specs.declared.policy.Destination.{Destination}
-use Rattle.wf_player.proofs.Words.{TypeFault, Process, play-append, FetchedTo, FetchCut, HasLost, List, [], ◌∷◌, ◌++◌}
-use Rattle.wf_player.proofs.Words.{refl, ap, subst, ◌∙◌, ◌≡◌, ◌≢◌, arith, append_assoc, Option, None, Some, Result}
-use Rattle.wf_player.proofs.Words.{Ok, Err, OnOk, OnErr, ⊤, IsErr, append-nil, Ending, Memory, Event, OutOfMemory}
-use Rattle.wf_player.proofs.Words.{Play, Next, Progress, after_events, embed, showing, Outcome, Answering, CutShort}
-use Rattle.wf_player.proofs.Words.{HasPlayed, PlayedTo, Plays, PlaysOn, PlaysUnended, Rule, WasCut, Standing, Terms}
-use Rattle.wf_player.proofs.Words.{Answers, Refuses, Settles, outside_of, ℕ, sym, asked, fault_event, fetch_started}
-use Rattle.wf_player.proofs.Words.{fetched, outcome_event, start_event, started, Request, IsHungUp, World}
+use Rattle.wf_player.proofs.Words.{[], ℕ, ◌++◌, ◌∙◌, ◌∷◌, ◌≡◌, Answering, Answers, CutShort, Ending, Err, Event}
+use Rattle.wf_player.proofs.Words.{FetchCut, FetchedTo, HasLost, IsErr, IsHungUp, LeadsTo, List, MatchResult-from_err}
+use Rattle.wf_player.proofs.Words.{Next, Ok, Option, Outcome, OutOfMemory, Play, PlayedTo, Plays, PlaysOn, Process}
+use Rattle.wf_player.proofs.Words.{Progress, Refuses, Request, Result, Rule, Settles, Standing, Terms, TypeFault, World}
+use Rattle.wf_player.proofs.Words.{after_events, ap, append-nil, append_assoc, arith, asked, embed, fault_event}
+use Rattle.wf_player.proofs.Words.{fetch_started, fetched, outcome_event, outside_of, play-append, refl, showing}
+use Rattle.wf_player.proofs.Words.{start_event, started, subst, sym}
 use Rattle.wf_player.proofs.AskLemmas.{refuses-none}
-
--- no ending is no want of memory
-pub no-memory : let e : Option Ending = None in e ≢ Some Memory
-no-memory = λ bad. absurd (cc)
 
 -- ---- what was lost
 
@@ -45,6 +41,10 @@ lost-then {a = a} first same added x = record {
   added = rw (x.added, added, append_assoc) refl;
   refused = x.refused;
 }
+
+-- what follows a fetch: its outcome is shown
+abbrev onward : Destination → Next → Outcome → Next
+onward kind next came = showing (outcome_event kind came) next
 
 module _ {State : Type 0} {by : Answering State} where
   -- ---- parts that were played
@@ -104,15 +104,16 @@ module _ {State : Type 0} {by : Answering State} where
   }
 
   -- a fetch
-  pub played-fetch : {whole place : Process} {a b : Standing State} → FetchedTo by whole a place b
-      → PlayedTo by (λ (next : Outcome → Next). embed whole next a.progress) a
-      (λ next. embed place next b.progress) b
-  played-fetch {a = a} x = record {
+  pub played-fetch : (kind : Destination) {whole place : Process} {a b : Standing State} → FetchedTo by whole a place b
+      → PlayedTo by (λ (next : Next). embed whole (onward kind next) a.progress) a
+      (λ next. embed place (onward kind next) b.progress) b
+  played-fetch kind {a = a} x = record {
     same = x.same;
     tape = x.tape;
     made = x.made;
     added = ap (λ (p : Progress). p.shown) x.added;
-    trace = λ n. rw x.added (embedded (Answers by a.terms.limit a.terms.document) Settles x.trace n a.progress);
+    trace = λ n. rw x.added (embedded (Answers by a.terms.limit a.terms.document) Settles x.trace (onward kind n)
+        a.progress);
   }
 
   -- ---- parts that were cut short
@@ -143,13 +144,13 @@ module _ {State : Type 0} {by : Answering State} where
       record { place = λ m. x.place (f m); last = x.last; played = played-inside f x.played; lost = x.lost }
 
   -- a fetch
-  pub cut-fetch : {whole : Process} {a b : Standing State} → FetchCut by whole a b
-      → CutShort by (λ (next : Outcome → Next). embed whole next a.progress) a b
+  pub cut-fetch : (kind : Destination) {whole : Process} {a b : Standing State} → FetchCut by whole a b
+      → CutShort by (λ (next : Next). embed whole (onward kind next) a.progress) a b
   unfolding played-fetch
-  cut-fetch x = record {
-    place = λ next. embed x.place next x.last.progress;
+  cut-fetch kind x = record {
+    place = λ next. embed x.place (onward kind next) x.last.progress;
     last = x.last;
-    played = played-fetch x.came;
+    played = played-fetch kind x.came;
     lost = x.lost;
   }
 
@@ -157,46 +158,15 @@ module _ {State : Type 0} {by : Answering State} where
 
   -- one after a part of another
   pub plays-after : (first rule : Rule) {a b : Standing State} (c : Standing State)
-      (result : Result (Option Ending) OutOfMemory)
-      → PlayedTo by (λ (next : Next). rule a.terms.lent next a.progress) a
-      (λ next. first b.terms.lent next b.progress) b → Plays by first b result c → Plays by rule a result c
-  plays-after first rule c (Ok ending) at x =
-      record { played = played-then at x.played; rests = x.rests; told = x.told }
+      (result : Result (Option Ending) OutOfMemory) → LeadsTo by rule a first b → Plays by first b result c
+      → Plays by rule a result c
+  plays-after first rule c (Ok ending) at x = record { played = played-then at x.played; rests = x.rests }
   plays-after first rule c (Err refused) at x = played-cut at x
 
-  pub unended-after : (first rule : Rule) {a b : Standing State} (c : Standing State) (result : Result ⊤ OutOfMemory)
-      → PlayedTo by (λ (next : Next). rule a.terms.lent next a.progress) a
-      (λ next. first b.terms.lent next b.progress) b → PlaysUnended by first b result c
-      → PlaysUnended by rule a result c
-  unended-after first rule c (Ok done) at x =
-      record { played = played-then at x.played; rests = x.rests; told = x.told }
-  unended-after first rule c (Err refused) at x = played-cut at x
-
-  -- a call that passes on want of memory
-  pub plays-refused : (rule : Rule) {a b : Standing State} (result : Result (Option Ending) OutOfMemory) → IsErr result
-      → WasCut by rule a b → Plays by rule a result b
-  plays-refused rule (Ok value) is x = absurd cc
-  plays-refused rule (Err one) is x = x
-
-  pub unended-refused : (rule : Rule) {a b : Standing State} (result : Result ⊤ OutOfMemory) → IsErr result
-      → WasCut by rule a b → PlaysUnended by rule a result b
-  unended-refused rule (Ok value) is x = absurd cc
-  unended-refused rule (Err one) is x = x
-
-  -- what a rule came to, by what a call answered
-  pub unended-by : {rule : Rule} {a b : Standing State} {P Q : Type 0} (result : Result ⊤ OutOfMemory) → OnOk result P
-      → OnErr result Q → (P → HasPlayed by rule a None b) → (Q → WasCut by rule a b) → PlaysUnended by rule a result b
-  unended-by (Ok done) p q played cut = played p
-  unended-by (Err one) p q played cut = cut q
-
-  -- memory was refused before the rule began
-  pub rule-unbegun : (rule : Rule) {a b : Standing State} → b ≡ a → WasCut by rule a b
-  rule-unbegun rule kept = rw kept cut-here
-
--- and a call passes that on
-pub unended-unbegun : {State : Type 0} (by : Answering State) (rule : Rule) {a b : Standing State}
-    (result : Result ⊤ OutOfMemory) → IsErr result → b ≡ a → PlaysUnended by rule a result b
-unended-unbegun by rule result is kept = unended-refused rule result is (rule-unbegun rule kept)
+-- memory was refused before the rule began, and a call passes that on
+pub plays-unbegun : {State : Type 0} (by : Answering State) (rule : Rule) {a b : Standing State}
+    (result : Result (Option Ending) OutOfMemory) → IsErr result → b ≡ a → Plays by rule a result b
+plays-unbegun by rule result is kept = MatchResult-from_err result _ _ is (λ one. rw kept cut-here)
 
 -- ---- what the world comes to with the events of a fetch and of a load
 
@@ -225,8 +195,7 @@ stands-as same still kept = rw (same, still, kept) refl
 pub asked-begun : {State : Type 0} {by : Answering State} (kind : Destination) (made : Result Request TypeFault)
     {a b : Standing State} → b.terms ≡ a.terms → b.world ≡ a.world
     → b.progress ≡ after_events (start_event kind a.progress.fetches ∷ []) (fetch_started (started a.progress))
-    → PlayedTo by (λ (next : Next). asked a.terms.lent kind made next (started a.progress)) a
-    (λ next. fetched b.terms.lent kind made next b.progress) b
+    → LeadsTo by (λ lent next begun. asked lent kind made next (started begun)) a (λ lent. fetched lent kind made) b
 asked-begun {by = by} kind made {a = a} {b = b} same still noted =
     subst (λ (t : Terms). PlayedTo by (λ (next : Next). asked a.terms.lent kind made next (started a.progress)) a
     (λ next. fetched t.lent kind made next b.progress) b) (sym same)

@@ -4,13 +4,14 @@ use Rattle.wf_script_run.specs.Traces.{stop}
 use Rattle.wf_types.specs.declared.client.Cookie.{Cookie}
 use Rattle.wf_types.specs.declared.client.Client.{Client}
 use Rattle.wf_player.specs.Playing.{Began, Came, Ran, ended_by}
-use Rattle.wf_player.proofs.Words.{Steps, play-run, Document, ◌≡◌, ◌≢◌, ℕ, List, [], ◌++◌, Option, Some, None, refl}
-use Rattle.wf_player.proofs.Words.{ap, sym, ◌∙◌, arith, append_assoc, Result, Ok, Err, append-nil, OutOfMemory}
-use Rattle.wf_player.proofs.Words.{IsAtEnd, Ending, Memory, Event, Play, PlayRun, over, beginning, document_client}
-use Rattle.wf_player.proofs.Words.{document_run, finished, script_run, setting, Answering, IsIdle, CutShort, PlayedTo}
-use Rattle.wf_player.proofs.Words.{Plays, Rule, Standing, Answers, Outside, Settles, outside_of}
+use Rattle.wf_player.proofs.Words.{[], ℕ, ◌++◌, ◌∙◌, ◌≡◌, ◌≢◌, Answering, Answers, CutShort, Document, Ending, Err}
+use Rattle.wf_player.proofs.Words.{Event, IsAtEnd, IsIdle, List, Memory, None, Ok, Option, OutOfMemory, Outside, Play}
+use Rattle.wf_player.proofs.Words.{PlayedTo, PlayRun, Plays, Result, Rule, Settles, Some, Standing, Steps, ap}
+use Rattle.wf_player.proofs.Words.{append-nil, append_assoc, arith, beginning, document_client, document_run, finished}
+use Rattle.wf_player.proofs.Words.{outside_of, over, play-run, refl, script_run, setting, sym}
 use Rattle.wf_player.proofs.AskLemmas.{refuses-none}
 use Rattle.wf_player.proofs.FetchLemmas.{still}
+use Rattle.wf_player.proofs.PartLemmas.{cut-here, played-cut}
 
 -- ---- a script as the whole run
 
@@ -66,7 +67,7 @@ module _ {State : Type 0} (by : Answering State) {whole : Play} (old now : Stand
       to
   unfolding ran cut
   run-came script (Ok None) is x = ran finished is refl x.played
-  run-came script (Ok (Some Memory)) is x = absurd (x.told refl)
+  run-came script (Ok (Some Memory)) is x = cut finished is (played-cut x.played cut-here)
   run-came script (Ok (Some ending)) is x = ran finished is refl x.played
   run-came script (Err refused) is x = cut finished is x
 

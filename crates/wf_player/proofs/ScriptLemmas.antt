@@ -1,41 +1,17 @@
 -- The commands of a script.
-use Rattle.wf_script_commands.specs.Scripts as script
 use Rattle.wf_script_commands.specs.declared.command.Command.{Command}
-use Rattle.wf_script_commands.specs.Scripts.{Step}
 use Rattle.wf_script_commands.specs.Valid.{AreValid, IsValidStep}
-use Rattle.wf_script_events.specs.declared.events.Ending.TheVariants.{Fetches}
-use Rattle.wf_player.proofs.Words.{Steps, step_of, steps_of, rules, ◌≡◌, ◌≢◌, ℕ, zero, suc, ◌+◌, ◌-◌, ◌≤◌, ◌<◌, List}
-use Rattle.wf_player.proofs.Words.{[], ◌∷◌, Option, Some, None, true, false, refl, ap, sym, subst, arith, add-one}
-use Rattle.wf_player.proofs.Words.{drop, drop-cons, cond, get_or, length, Bool, drop_all, is_some, nat_le, nat_lt}
-use Rattle.wf_player.proofs.Words.{step_size, steps_size, IsAtEnd, Ending, Memory, Text, Next, Progress}
-use Rattle.wf_player.proofs.Words.{command_started, limit_before, most_commands, most_fetches, most_printed}
-use Rattle.wf_player.proofs.Words.{own_limit, repeated, script_run, text_length, unless_limit, Answering, HasPlayed}
-use Rattle.wf_player.proofs.Words.{PlayedTo, Rule, WasCut, HasSpent, MayGoOn, Standing, Terms}
-use Rattle.wf_player.proofs.PartLemmas.{cut-inside, no-memory, played-cut, played-inside, played-none, played-then}
+use Rattle.wf_player.proofs.Words.{[], ℕ, ◌+◌, ◌-◌, ◌<◌, ◌∷◌, ◌≡◌, ◌≤◌, Answering, Ending, HasPlayed, HasSpent, IsAtEnd}
+use Rattle.wf_player.proofs.Words.{LeadsTo, List, MayGoOn, Next, None, Option, PlayedTo, Rule, Some, Standing, Steps}
+use Rattle.wf_player.proofs.Words.{Terms, WasCut, add-one, ap, arith, command_started, drop, drop-cons, drop_all, false}
+use Rattle.wf_player.proofs.Words.{get_or, is_some, length, limit_before, refl, repeated, rules, script_run, step_of}
+use Rattle.wf_player.proofs.Words.{step_size, steps_of, steps_size, subst, suc, sym, true, unless_limit, zero}
+use Rattle.wf_player.proofs.PartLemmas.{cut-inside, played-cut, played-inside, played-none, played-then}
 
 -- no ending
 pub no-ending : {ending : Option Ending} → is_some ending ≡ false → ending ≡ None
 no-ending {ending = None} is = refl
 no-ending {ending = Some ending} is = absurd (cc)
-
--- no limit is want of memory
-no-limit : (one : Step) (progress : Progress) → limit_before one progress ≢ Some Memory
-no-limit one progress = by-test (nat_le most_commands progress.commands) (λ bad. absurd (cc)) (own one)
-  where
-    by-test : (test : Bool) {ending : Ending} {rest : Option Ending} → ending ≢ Memory → rest ≢ Some Memory
-        → cond test (Some ending) rest ≢ Some Memory
-    by-test true ending rest = λ bad. ending (cc)
-    by-test false ending rest = rest
-
-    fetches : let limit = cond (nat_le most_fetches progress.fetches) (Some Fetches)
-        (cond (nat_lt most_printed (text_length progress.shown)) (Some Text) None) in limit ≢ Some Memory
-    fetches = by-test (nat_le most_fetches progress.fetches) (λ bad. absurd (cc))
-        (by-test (nat_lt most_printed (text_length progress.shown)) (λ bad. absurd (cc)) (λ bad. absurd (cc)))
-
-    own : (one : Step) → own_limit one progress ≢ Some Memory
-    own (script.fetch init) = fetches
-    own (script.load init) = fetches
-    own one = λ bad. absurd (cc)
 
 -- ---- commands in memory
 
@@ -65,31 +41,29 @@ module _ {State : Type 0} (by : Answering State) where
 
   -- the commands so far were played, and the others follow
   pub record IsAt (items : List Command) (index : ℕ) (old now : Standing State) : Type 0 where
-    pub played : PlayedTo by (λ (next : Next). script_run old.terms.lent (steps_of items) next old.progress) old
-        (λ next. script_run now.terms.lent (steps_of (drop index items)) next now.progress) now
+    pub played : LeadsTo by (λ lent. script_run lent (steps_of items)) old
+        (λ lent. script_run lent (steps_of (drop index items))) now
 
   -- the rounds so far were played, and the others follow
   pub record IsRound (times : ℕ) (part : Steps) (round : ℕ) (old now : Standing State) : Type 0 where
-    pub played : PlayedTo by (λ (next : Next). repeated times (script_run old.terms.lent part) next old.progress) old
-        (λ next. repeated (times - round) (script_run now.terms.lent part) next now.progress) now
+    pub played : LeadsTo by (λ lent. repeated times (script_run lent part)) old
+        (λ lent. repeated (times - round) (script_run lent part)) now
 
 module _ {State : Type 0} {by : Answering State} where
   -- a part of a rule was played, and the first of what is left came to an ending of the run
   ended-in : {first rule : Rule} {ending : Option Ending} {a b c : Standing State} (onward : Next → Next)
-      → PlayedTo by (λ (next : Next). rule a.terms.lent next a.progress) a
-      (λ next. first b.terms.lent (onward next) b.progress) b
-      → is_some ending ≡ true → HasPlayed by first b ending c → HasPlayed by rule a ending c
+      → LeadsTo by rule a (λ lent next. first lent (onward next)) b → is_some ending ≡ true
+      → HasPlayed by first b ending c → HasPlayed by rule a ending c
   ended-in {ending = None} onward at some x = absurd (cc)
   ended-in {ending = Some ending} onward at some x =
-      record { played = played-then at (played-inside onward x.played); rests = x.rests; told = x.told }
+      record { played = played-then at (played-inside onward x.played); rests = x.rests }
 
   -- or it came to a limit
   limited-in : {rule : Rule} {ending : Option Ending} {a b : Standing State} (onward : Next → Next)
-      → PlayedTo by (λ (next : Next). rule a.terms.lent next a.progress) a
-      (λ next. unless_limit ending (onward next) b.progress) b
-      → is_some ending ≡ true → IsAtEnd b.world.exchange.left → ending ≢ Some Memory → HasPlayed by rule a ending b
-  limited-in {ending = None} onward at some rests told = absurd (cc)
-  limited-in {ending = Some ending} onward at some rests told = record { played = at; rests = rests; told = told }
+      → LeadsTo by rule a (λ lent next. unless_limit ending (onward next)) b → is_some ending ≡ true
+      → IsAtEnd b.world.exchange.left → HasPlayed by rule a ending b
+  limited-in {ending = None} onward at some rests = absurd (cc)
+  limited-in {ending = Some ending} onward at some rests = record { played = at; rests = rests }
 
   -- ---- scripts
 
@@ -104,20 +78,20 @@ module _ {State : Type 0} {by : Answering State} where
     others next = script_run now.terms.lent (steps_of (drop (index + 1) items)) next
 
     -- a limit, or the command at the index, and then the others
-    at-command : PlayedTo by (λ (next : Next). script_run old.terms.lent (steps_of items) next old.progress) old
-        (λ next. unless_limit reached (command_started now.terms.lent (step_of one) (others next)) now.progress) now
+    at-command : LeadsTo by (λ lent. script_run lent (steps_of items)) old
+        (λ lent next. unless_limit reached (command_started lent (step_of one) (others next))) now
     at-command = rw limited (rw (drop-at items index one within is) at at.played)
 
     -- a limit ends the run before the command
     pub script-limited : is_some reached ≡ true → IsAtEnd now.world.exchange.left
         → HasPlayed by (λ lent. script_run lent (steps_of items)) old reached now
     script-limited some rests = limited-in (λ next. command_started now.terms.lent (step_of one) (others next))
-        at-command some rests (rw limited (no-limit (step_of one) now.progress))
+        at-command some rests
 
     module _ (free : is_some reached ≡ false) where
       -- the command before which there is none
-      at-free : PlayedTo by (λ (next : Next). script_run old.terms.lent (steps_of items) next old.progress) old
-          (λ next. command_started now.terms.lent (step_of one) (others next) now.progress) now
+      at-free : LeadsTo by (λ lent. script_run lent (steps_of items)) old
+          (λ lent next. command_started lent (step_of one) (others next)) now
       at-free = rw (no-ending free) at at-command
 
       -- the command was played
@@ -146,7 +120,7 @@ module _ {State : Type 0} {by : Answering State} where
       → length items ≤ index → IsAtEnd now.world.exchange.left
       → HasPlayed by (λ lent. script_run lent (steps_of items)) old None now
   script-over items index at past rests =
-      record { played = rw (drop_all index items past) at at.played; rests = rests; told = no-memory }
+      record { played = rw (drop_all index items past) at at.played; rests = rests }
 
   -- ---- a script so many times
 
@@ -160,8 +134,8 @@ module _ {State : Type 0} {by : Answering State} where
     abbrev rounds : Next → Next
     rounds next = repeated (times - (round + 1)) (script_run now.terms.lent part) next
 
-    at-round : PlayedTo by (λ (next : Next). repeated times (script_run old.terms.lent part) next old.progress) old
-        (λ next. script_run now.terms.lent part (rounds next) now.progress) now
+    at-round : LeadsTo by (λ lent. repeated times (script_run lent part)) old
+        (λ lent next. script_run lent part (rounds next)) now
     at-round = rw (let e : times - round ≡ suc (times - (round + 1)) = omega (arith, within) in e) at at.played
 
     pub round-next : {ending : Option Ending} {later : Standing State} → is_some ending ≡ false
@@ -184,8 +158,5 @@ module _ {State : Type 0} {by : Answering State} where
   pub round-over : {times : ℕ} {part : Steps} {round : ℕ} {old now : Standing State}
       → IsRound by times part round old now → times ≤ round → IsAtEnd now.world.exchange.left
       → HasPlayed by (λ lent. repeated times (script_run lent part)) old None now
-  round-over {times = times} {round = round} at past rests = record {
-    played = rw (let e : times - round ≡ 0 = omega (arith, past) in e) at at.played;
-    rests = rests;
-    told = no-memory;
-  }
+  round-over {times = times} {round = round} at past rests =
+      record { played = rw (let e : times - round ≡ 0 = omega (arith, past) in e) at at.played; rests = rests }

@@ -6,23 +6,17 @@ use Rattle.wf_script_run.proofs.DocumentLemmas.{each-numbered}
 use Rattle.wf_script_values.specs.declared.scenario.Scenario.{Scenario}
 use Rattle.wf_player.specs.declared.seating.Row.{Row}
 use Rattle.wf_player.specs.declared.seating.Seating.{Seating}
-use Rattle.wf_player.proofs.Words.{Transcript, EachDocument, Document, AreSeated, IsPlayed, Seat, ◌≡◌, ℕ, zero, suc}
-use Rattle.wf_player.proofs.Words.{◌+◌, ◌<◌, ◌≤◌, List, [], ◌∷◌, ◌++◌, length, get_or, take, drop, map, ap, refl, sym}
-use Rattle.wf_player.proofs.Words.{subst, ◌∙◌, arith, Some, Result, Ok, Err, slice_get, IfOk, All, range_with_len}
-use Rattle.wf_player.proofs.Words.{append-nil, get_or-map, length-map, take_all, Answering, most_calls, CanPlay}
-use Rattle.wf_player.proofs.Words.{RowPlayed, seatings_of, transcripts_of}
+use Rattle.wf_player.proofs.Words.{[], ℕ, ◌++◌, ◌+◌, ◌<◌, ◌∙◌, ◌∷◌, ◌≡◌, ◌≤◌, All, Answering, AreSeated, CanPlay}
+use Rattle.wf_player.proofs.Words.{Document, EachDocument, IsPlayed, List, RowPlayed, Seat, Some, Transcript, ap}
+use Rattle.wf_player.proofs.Words.{append-nil, arith, drop, get_or, get_or-map, length, length-map, map, most_calls}
+use Rattle.wf_player.proofs.Words.{range_with_len, refl, seatings_of, slice_get, subst, suc, sym, take, take_all}
+use Rattle.wf_player.proofs.Words.{transcripts_of, zero}
 
 -- what a vector has after a write through a slice of it
 pub written : {X : Type 0} (n : ℕ) (xs ys : List X) → length xs ≡ length ys → length ys ≡ n
     → take n (xs ++ drop (length xs) ys) ≡ xs
 written n xs ys e d = ap (λ l. take n (xs ++ l)) (drop_of_length-le ys {i = length xs} (omega arith))
     ∙ (ap (take n) (append-nil xs) ∙ take_all n xs (omega arith))
-
--- what is known of a list that was made holds of what it is equal to
-pub made-list : {X E : Type 0} (P : List X → Type 0) (made : Result (List X) E) (items : List X)
-    → IfOk made (λ list. list ≡ items) → P items → IfOk made P
-made-list P (Ok list) items is p = subst P (sym is) p
-made-list P (Err error) items is p = tt
 
 module _ {L P State : Type 0} (seen : Seating L P → Seat State) where
   -- there is a row for each document

@@ -1,16 +1,9 @@
 -- What a fetch comes to in a document's world.
-use Rattle.std.specs.Prelude.{◌≡◌, ℕ, ◌≤◌, List, ◌++◌, length, Result, Ok, Err}
-use Rattle.wf_text.specs.declared.memory.OutOfMemory.{OutOfMemory}
-use Rattle.wf_fetch_acts.specs.declared.act.Input.{Input}
-use Rattle.wf_fetch_acts.specs.Process.{Process, ended}
-use Rattle.wf_fetch_acts.specs.Traces.{Driven, Trace, with_events}
-use Rattle.wf_script_events.specs.declared.events.Event.{Event}
-use Rattle.wf_script_run.specs.Play.{events_of}
-use Rattle.wf_script_run.specs.Runs.{after_events}
-use Rattle.wf_types.specs.declared.response.Outcome.{Outcome}
-use Rattle.wf_link_wire.specs.Exchanges.{Answering, IsIdle}
 use Rattle.wf_player.specs.declared.fetch.FetchRun.{FetchRun}
 use Rattle.wf_player.specs.Standings.{Standing}
+use Rattle.wf_player.specs.Words.{ℕ, ◌++◌, ◌≡◌, ◌≤◌, Answering, Driven, Event, Input, IsIdle, List, MatchResult}
+use Rattle.wf_player.specs.Words.{Outcome, OutOfMemory, Process, Result, Trace, after_events, ended, events_of, length}
+use Rattle.wf_player.specs.Words.{with_events}
 use Rattle.wf_player.specs.Worlds.{Answers, Outside, Refuses, World, outside_of}
 
 -- with these items of a tape a process shows these events in the world of a document, and goes on
@@ -49,8 +42,8 @@ pub record FetchCut {State : Type 0} (by : Answering State) (whole : Process) (o
 -- what a fetch came to, with an outcome or for want of memory
 abbrev pub Fetches : {State : Type 0} → Answering State → Process → Standing State → Result Outcome OutOfMemory
     → Standing State → Type 0
-Fetches by whole old (Ok outcome) new = FetchedTo by whole old (ended outcome) new
-Fetches by whole old (Err refused) new = FetchCut by whole old new
+Fetches by whole old result new =
+    MatchResult result (λ outcome. FetchedTo by whole old (ended outcome) new) (λ refused. FetchCut by whole old new)
 
 -- ---- a fetch by itself
 
@@ -81,5 +74,6 @@ pub record IsBegun {State : Type 0} (by : Answering State) (limit document : ℕ
 -- what a fetch by itself came to
 abbrev pub Drives : {State : Type 0} → Answering State → ℕ → ℕ → Process → Outside State
     → Result FetchRun OutOfMemory → Outside State → Type 0
-Drives by limit document whole old (Ok run) new = Drove by limit document whole old run.events run.outcome new
-Drives by limit document whole old (Err refused) new = IsBegun by limit document whole old new
+Drives by limit document whole old result new =
+    MatchResult result (λ run. Drove by limit document whole old run.events run.outcome new)
+    (λ refused. IsBegun by limit document whole old new)

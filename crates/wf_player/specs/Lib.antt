@@ -4,4 +4,5 @@ pub mod Playing
 pub mod Private
 pub mod Seats
 pub mod Standings
+pub mod Words
 pub mod Worlds

@@ -1,14 +1,8 @@
 -- What a document's run comes to in the document's world.
-use Rattle.std.specs.Prelude.{◌≡◌, ℕ, ◌≤◌, List, [], ◌++◌, length, Option, Some, None, Result, Ok, Err}
-use Rattle.wf_text.specs.declared.memory.OutOfMemory.{OutOfMemory}
-use Rattle.wf_fetch_acts.specs.declared.act.Input.{Input}
-use Rattle.wf_script_events.specs.declared.events.Ending.{Ending}
-use Rattle.wf_script_events.specs.declared.events.Ending.TheVariants.{Finished, Memory}
-use Rattle.wf_script_events.specs.declared.events.Event.{Event}
-use Rattle.wf_script_run.specs.Play.{Play, over, run_play}
-use Rattle.wf_link_wire.specs.Exchanges.{Answering, IsIdle}
-use Rattle.wf_player.specs.Worlds.{Outside, Refuses, World, outside_of}
 use Rattle.wf_player.specs.Parts.{PlaysOn}
+use Rattle.wf_player.specs.Words.{[], ℕ, ◌++◌, ◌≡◌, ◌≤◌, Answering, Ending, Err, Event, Finished, Input, IsIdle, List}
+use Rattle.wf_player.specs.Words.{Memory, None, Ok, Option, OutOfMemory, Play, Result, Some, length, over, run_play}
+use Rattle.wf_player.specs.Worlds.{Outside, Refuses, World, outside_of}
 
 -- how a run has ended, whose script has played to its end or to a limit, or was refused memory
 abbrev pub ended_by : Result (Option Ending) OutOfMemory → Ending

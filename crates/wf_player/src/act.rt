@@ -1,11 +1,7 @@
 // One act of a fetch.
-ghost use Rattle.std.specs.Prelude.{◌≡◌, ◌<◌, ◌≤◌, ◌+◌, IfOk, OnErr, IsTrue};
-ghost use Rattle.wf_fetch_acts.specs.Process.{fits};
-ghost use Rattle.wf_fetch_acts.specs.Within.{asks, price_of};
-ghost use Rattle.wf_fetch_acts.specs.declared.act.Act.TheVariants.{Ask};
-ghost use Rattle.wf_book.specs.Ops.{InRange};
-ghost use Rattle.wf_link_wire.specs.Wires.{over_link};
 ghost use Rattle.wf_player.specs.Standings.{IsReady, Keeps, KeepsPass, world};
+ghost use Rattle.wf_player.specs.Words.{◌+◌, ◌<◌, ◌≡◌, ◌≤◌, Ask, IfOk, InRange, IsTrue, OnErr, asks, fits, over_link};
+ghost use Rattle.wf_player.specs.Words.{price_of};
 ghost use Rattle.wf_player.specs.Worlds.{Answers, CanAnswer, IsAsked, IsRefusedCall, Refuses, outside_of};
 
 use crate::lent::Lent;

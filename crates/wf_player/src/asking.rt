@@ -1,21 +1,12 @@
 // What a script asks for: a fetch, or a load by an element.
-ghost use Rattle.std.specs.Prelude.{◌≡◌, ◌≤◌, ◌<◌, ◌+◌, [], ◌∷◌, None, IfOk, OnOk, OnErr};
-ghost use Rattle.wf_script_commands.specs.Scripts.{fetch as fetch_step, load as load_step};
-ghost use Rattle.wf_script_commands.specs.Valid.{IsValidInit, IsValidLoad};
-ghost use Rattle.wf_fetch_laws.specs.Laws.{most_asks};
-ghost use Rattle.wf_link.specs.Sources.{IsAtEnd};
-ghost use Rattle.wf_script_run.specs.Results.{lent_result};
-ghost use Rattle.wf_script_run.specs.Runs.{after_events, asked as asks_for, command_started, fetched, limit_before};
-ghost use Rattle.wf_script_run.specs.Runs.{filled_init as filled_fetch, filled_load as load_filled, most_commands};
-ghost use Rattle.wf_script_run.specs.Runs.{most_fetches};
-ghost use Rattle.wf_script_run.specs.Runs.{started};
-ghost use Rattle.wf_send.specs.Loading.{new_load as load_of};
-ghost use Rattle.wf_send.specs.Making.{new_request as request_of};
-ghost use Rattle.wf_types.specs.Requests.{IsClient, IsRequest};
-ghost use Rattle.wf_link_wire.specs.Exchanges.{IsIdle};
-ghost use Rattle.wf_link_wire.specs.Wires.{over_link};
-ghost use Rattle.wf_player.specs.Parts.{PlaysUnended};
+ghost use Rattle.wf_player.specs.Parts.{Plays};
 ghost use Rattle.wf_player.specs.Standings.{HasSpent, IsReady, Keeps, MayGoOn, standing, world};
+ghost use Rattle.wf_player.specs.Words.{[], ◌+◌, ◌<◌, ◌∷◌, ◌≡◌, ◌≤◌, IfOk, IsAtEnd, IsClient, IsIdle, IsRequest};
+ghost use Rattle.wf_player.specs.Words.{IsValidInit, IsValidLoad, None, OnErr, OnOk, after_events, asked as asks_for};
+ghost use Rattle.wf_player.specs.Words.{command_started, fetch_step, fetched, filled_init as filled_fetch};
+ghost use Rattle.wf_player.specs.Words.{filled_load as load_filled, lent_result, limit_before, load_step, most_asks};
+ghost use Rattle.wf_player.specs.Words.{most_commands, most_fetches, new_load as load_of, new_request as request_of};
+ghost use Rattle.wf_player.specs.Words.{over_link, started};
 ghost use Rattle.wf_player.specs.Worlds.{outside_of};
 
 use crate::lent::Lent;
@@ -24,14 +15,14 @@ use std::sync::Wait;
 use std::thread::Threads;
 use wf_book::Share;
 use wf_link::Link;
-use wf_script_events::Event;
+use wf_script_events::{Ending, Event};
 use wf_script_run::{fault_event, filled_init, filled_load, is_plain, outcome_event};
 use wf_send::{new_load, new_request};
 use wf_text::OutOfMemory;
 use wf_types::{Destination, Init, LoadInit, Request, TypeFault};
 
-// The request of what a script asks of `fetch`, with the parts of the last result in the place of its
-// placeholders, or why there is none (Fetch, sections 5.4 and 5.6).
+// The request of what a script asks of `fetch`, with the parts of the last result in the place of its placeholders, or
+// why there is none (Fetch, sections 5.4 and 5.6).
 fn requested<R, S>(
     lent: &Lent<'_, R, S>,
     last: Option<&Event>,
@@ -51,8 +42,7 @@ fn requested<R, S>(
     new_request(*lent.alloc, &filled, lent.client)
 }
 
-// The request of what an element loads, with the parts of the last result in the place of the
-// placeholders of its URL, or why there is none (HTML, section 2.5.1).
+// The request of what an element loads, the same in its URL (HTML, section 2.5.1).
 fn requested_load<R, S>(
     lent: &Lent<'_, R, S>,
     last: Option<&Event>,
@@ -83,46 +73,48 @@ impl<R: Threads + Wait + Sync, S: Share, L: Link> Player<'_, '_, '_, '_, '_, R, 
         Ok(())
     }
 
-    // The request's outcome, or that there is no request.
+    // Shows the request's outcome, or that there is no request. Neither ends the run.
     fn request(
         &mut self,
         kind: Destination,
         made: Result<Request, TypeFault>,
-    ) -> Result<(), OutOfMemory>
+    ) -> Result<Option<Ending>, OutOfMemory>
         requires ready { IsReady S.belongs self.old }
         requires made { IfOk made IsRequest }
         requires left { most_asks ≤ (world S.account L.told self.old).left }
         requires rests { IsAtEnd (world S.account L.told self.old).exchange.left }
-        ensures came { PlaysUnended (over_link L.serves) (λ lent. fetched lent kind made)
+        ensures came { Plays (over_link L.serves) (λ lent. fetched lent kind made)
             (standing S.account L.told self.old) result (standing S.account L.told self.new) }
         ensures few { (world S.account L.told self.old).left ≤ (world S.account L.told self.new).left + most_asks }
         ensures fetches { self.new.running.now.fetches ≡ self.old.running.now.fetches }
         ensures kept { Keeps S.account S.belongs self.old self.new }
     {
         match made {
-            Err(fault) => self.running.show(fault_event(kind, fault)),
+            Err(fault) => {
+                self.running.show(fault_event(kind, fault))?;
+                Ok(None)
+            }
             Ok(request) => {
                 let now = self.running.now();
                 let outcome = self.fetch(request, now)?;
-                self.end_fetch(outcome_event(kind, outcome))
+                self.end_fetch(outcome_event(kind, outcome))?;
+                Ok(None)
             }
         }
     }
 
-    // Plays a fetch, or a load of a kind: shows its number, and then what comes of its request, or that there
-    // is none.
+    // Plays a fetch, or a load of a kind: shows its number, and then what comes of its request.
     fn asked(
         &mut self,
         kind: Destination,
         made: Result<Request, TypeFault>,
-    ) -> Result<(), OutOfMemory>
+    ) -> Result<Option<Ending>, OutOfMemory>
         requires ready { IsReady S.belongs self.old }
         requires made { IfOk made IsRequest }
         requires limits { (self.old.running.now.commands < most_commands)
             × (self.old.running.now.fetches < most_fetches) }
         requires goes { MayGoOn (standing S.account L.told self.old) }
-        ensures came { PlaysUnended (over_link L.serves)
-            (λ lent next progress. asks_for lent kind made next (started progress))
+        ensures came { Plays (over_link L.serves) (λ lent next begun. asks_for lent kind made next (started begun))
             (standing S.account L.told self.old) result (standing S.account L.told self.new) }
         ensures spent { HasSpent (standing S.account L.told self.old) (standing S.account L.told self.new) }
         ensures kept { Keeps S.account S.belongs self.old self.new }
@@ -131,15 +123,13 @@ impl<R: Threads + Wait + Sync, S: Share, L: Link> Player<'_, '_, '_, '_, '_, R, 
         self.request(kind, made)
     }
 
-    // Plays a call of `fetch`, with the parts of the last result in the place of its placeholders: shows its
-    // number, and then the outcome of its request, or that there is no request (Fetch, section 5.6). The run
-    // has reached no limit before it. It makes 126 calls of the book at most.
-    pub(crate) fn fetch_command(&mut self, init: &Init) -> Result<(), OutOfMemory>
+    // Plays a call of `fetch` (Fetch, section 5.6). The run has reached no limit before it.
+    pub(crate) fn fetch_command(&mut self, init: &Init) -> Result<Option<Ending>, OutOfMemory>
         requires ready { IsReady S.belongs self.old }
         requires valid { IsValidInit init.now }
         requires limit { limit_before (fetch_step init.now) self.old.running.now ≡ None }
         requires goes { MayGoOn (standing S.account L.told self.old) }
-        ensures came { PlaysUnended (over_link L.serves) (λ lent. command_started lent (fetch_step init.now))
+        ensures came { Plays (over_link L.serves) (λ lent. command_started lent (fetch_step init.now))
             (standing S.account L.told self.old) result (standing S.account L.told self.new) }
         ensures spent { HasSpent (standing S.account L.told self.old) (standing S.account L.told self.new) }
         ensures kept { Keeps S.account S.belongs self.old self.new }
@@ -148,14 +138,13 @@ impl<R: Threads + Wait + Sync, S: Share, L: Link> Player<'_, '_, '_, '_, '_, R, 
         self.asked(Destination::Fetch, made)
     }
 
-    // Plays a load by an element, the same: its number and its kind, and then that it succeeded, its network
-    // error, or that there is no request (HTML, section 2.5.1).
-    pub(crate) fn load_command(&mut self, init: &LoadInit) -> Result<(), OutOfMemory>
+    // Plays a load by an element, the same (HTML, section 2.5.1).
+    pub(crate) fn load_command(&mut self, init: &LoadInit) -> Result<Option<Ending>, OutOfMemory>
         requires ready { IsReady S.belongs self.old }
         requires valid { IsValidLoad init.now }
         requires limit { limit_before (load_step init.now) self.old.running.now ≡ None }
         requires goes { MayGoOn (standing S.account L.told self.old) }
-        ensures came { PlaysUnended (over_link L.serves) (λ lent. command_started lent (load_step init.now))
+        ensures came { Plays (over_link L.serves) (λ lent. command_started lent (load_step init.now))
             (standing S.account L.told self.old) result (standing S.account L.told self.new) }
         ensures spent { HasSpent (standing S.account L.told self.old) (standing S.account L.told self.new) }
         ensures kept { Keeps S.account S.belongs self.old self.new }

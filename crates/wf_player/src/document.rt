@@ -1,17 +1,11 @@
 // One document, played.
-ghost use Rattle.std.specs.Prelude.{◌≡◌, ◌≢◌, ◌≤◌, ◌<◌, ◌^◌, ◌+◌, [], length, slice_get, Some, IfOk, OnErr};
-ghost use Rattle.wf_script_commands.specs.Valid.{AreValid};
-ghost use Rattle.wf_link.specs.Sources.{IsAtEnd};
-ghost use Rattle.wf_script_events.specs.declared.events.Ending.TheVariants.{Memory};
-ghost use Rattle.wf_script_run.specs.Runs.{beginning, document_client, document_run, finished, script_run};
-ghost use Rattle.wf_script_values.specs.Valid.{IsValid, IsValidDocument};
-ghost use Rattle.wf_script_values.specs.declared.document.Document.{Document as OneDocument};
-ghost use Rattle.wf_types.specs.Requests.{IsClient};
-ghost use Rattle.wf_link_wire.specs.Exchanges.{IsIdle};
-ghost use Rattle.wf_link_wire.specs.Wires.{exchange_of, over_link};
 ghost use Rattle.wf_player.specs.Playing as spec;
 ghost use Rattle.wf_player.specs.Playing.{Came};
 ghost use Rattle.wf_player.specs.Standings.{KeepsPass, most_calls, setting_of};
+ghost use Rattle.wf_player.specs.Words.{◌<◌, ◌^◌, ◌≡◌, ◌≢◌, ◌≤◌, AreValid, Document as OneDocument, IfOk, IsAtEnd};
+ghost use Rattle.wf_player.specs.Words.{IsClient, IsIdle, IsValid, IsValidDocument, Memory, OnErr, Some, beginning};
+ghost use Rattle.wf_player.specs.Words.{document_client, document_run, exchange_of, finished, length, over_link};
+ghost use Rattle.wf_player.specs.Words.{script_run, slice_get};
 ghost use Rattle.wf_player.specs.Worlds.{outside};
 
 use crate::lent::Lent;
@@ -23,20 +17,11 @@ use wf_book::Share;
 use wf_csp::Compiled;
 use wf_link::Link;
 use wf_link_wire::Wire;
-use wf_script_commands::Script;
 use wf_script_events::{Ending, Events, Transcript};
 use wf_script_run::Running;
 use wf_script_values::{Document, Scenario};
 use wf_text::{Bytes, OutOfMemory};
 use wf_types::Client;
-
-// A script that has been played: what it showed, its ending and its clock then.
-#[derive(Drop)]
-struct Played {
-    events: Events,
-    ending: Ending,
-    clock: u64,
-}
 
 // How a run has ended, whose script has played to its end or to a limit, or was refused memory.
 fn ended_by(played: Result<Option<Ending>, OutOfMemory>) -> Ending
@@ -49,25 +34,28 @@ fn ended_by(played: Result<Option<Ending>, OutOfMemory>) -> Ending
     }
 }
 
-// A script from the beginning to its ending, over a wire on which nothing is to come.
+// A document's script from the beginning to its ending, over a wire on which nothing is to come.
 fn play_script<R: Threads + Wait + Sync, S: Share, L: Link>(
     lent: &Lent<'_, R, S>,
-    script: &Script,
+    number: u32,
+    key: Bytes,
+    document: &Document,
     base: u64,
     wire: &mut Wire,
     pass: &mut S::Pass,
     link: &mut L,
-) -> Played
+) -> Transcript
     requires client { IsClient lent.now.client.now }
-    requires script { AreValid script.now }
+    requires script { AreValid document.now.script }
     requires base { base ≤ 2 ^ 40 }
     requires pass { S.belongs lent.now.share.now pass.old × (most_calls ≤ (S.account pass.old).left) }
     requires idle { IsIdle (exchange_of L.told link.old wire.old) }
     ensures came { Came (over_link L.serves) lent.now.limit (S.account pass.old).document
-        (script_run (setting_of lent.now) script.now finished (beginning base))
+        (script_run (setting_of lent.now) document.now.script finished (beginning base))
         (outside S.account L.told pass.old link.old) result.events result.ending result.clock
         (outside S.account L.told pass.new link.new) }
     ensures rests { result.ending ≢ Memory → IsAtEnd (L.told link.new).left }
+    ensures named { (result.document ≡ number) × (result.key ≡ key) }
     ensures pass { KeepsPass S.account (S.belongs lent.now.share.now) most_calls pass.old pass.new }
 {
     let mut running = Running::new(*lent.alloc, base);
@@ -78,9 +66,11 @@ fn play_script<R: Threads + Wait + Sync, S: Share, L: Link>(
         wire,
         running: &mut running,
     };
-    let ending = ended_by(player.script(script));
+    let ending = ended_by(player.script(&document.script));
     let clock = running.now();
-    Played {
+    Transcript {
+        document: number,
+        key,
         events: running.into_events(),
         ending,
         clock,
@@ -92,23 +82,24 @@ fn run_document<R: Threads + Wait + Sync, S: Share, L: Link>(
     rt: &R,
     alloc: Global,
     scenario: &Scenario,
+    number: u32,
     document: &Document,
     base: u64,
     share: &S,
     pass: &mut S::Pass,
     link: &mut L,
-) -> Result<(Bytes, Played), OutOfMemory>
+) -> Result<Transcript, OutOfMemory>
     requires valid { IsValidDocument document.now }
     requires base { base ≤ 2 ^ 40 }
     requires pass { S.belongs share.now pass.old × (most_calls ≤ (S.account pass.old).left) }
     ensures came { IfOk result (λ ran. Came (over_link L.serves) scenario.entry.now.body_limit
         (S.account pass.old).document (document_run scenario.entry.now.cookies base document.now)
-        (outside S.account L.told pass.old link.old) ran.1.events ran.1.ending ran.1.clock
+        (outside S.account L.told pass.old link.old) ran.events ran.ending ran.clock
         (outside S.account L.told pass.new link.new)) }
     ensures unbegun { OnErr result (outside S.account L.told pass.new link.new
         ≡ outside S.account L.told pass.old link.old) }
-    ensures rests { IfOk result (λ ran. ran.1.ending ≢ Memory → IsAtEnd (L.told link.new).left) }
-    ensures key { IfOk result (λ ran. ran.0 ≡ (document_client document.now).key) }
+    ensures rests { IfOk result (λ ran. ran.ending ≢ Memory → IsAtEnd (L.told link.new).left) }
+    ensures named { IfOk result (λ ran. (ran.document ≡ number) × (ran.key ≡ (document_client document.now).key)) }
     ensures pass { KeepsPass S.account (S.belongs share.now) most_calls pass.old pass.new }
 {
     let client = Client::of(alloc, &document.url, &document.top, document.policy)?;
@@ -124,20 +115,17 @@ fn run_document<R: Threads + Wait + Sync, S: Share, L: Link>(
         cookies: &scenario.cookies,
         limit: scenario.body_limit,
     };
-    let played = play_script(&lent, &document.script, base, &mut wire, pass, link);
-    Ok((key, played))
+    Ok(play_script(&lent, number, key, document, base, &mut wire, pass, link))
 }
 
-/// Plays a document's script over a link and a share of the book, from a time in seconds on, which is at
-/// most 2^40. The document is that of the scenario with this number. It makes 129,024 calls of the book at
-/// most, which the pass has left.
+/// Plays a document's script over a link and a share of the book, from a time in seconds on, which is at most 2^40. The
+/// document is that of the scenario with this number. It makes 129,024 calls of the book at most, which the pass has
+/// left.
 ///
-/// What the transcript shows is the document's run over a tape of what the world answers: the reply to a call
-/// of the book is that of the entry which the call added to the pass's own; heads and bodies are those of the
-/// link's answers, where it tells its state, and its count of faults rises by one with each fault of the tape.
-/// At another ending than `Memory` nothing is to come over the link, where it tells that. `Memory` is for want of
-/// memory: what was shown then begins such a run, the calls that were made are those on the way, an answer may be
-/// read in part, the key may be empty and the clock is any number.
+/// What the transcript shows is the document's run over a tape of what the world answers, as with `drive_fetch`. At
+/// another ending than `Memory` nothing is to come over the link, where it tells that. `Memory` is for want of memory:
+/// what was shown then begins such a run, the calls that were made are those on the way, an answer may be read in part,
+/// the key may be empty and the clock is any number.
 pub fn drive<R: Threads + Wait + Sync, S: Share, L: Link>(
     rt: &R,
     alloc: Global,
@@ -162,14 +150,8 @@ pub fn drive<R: Threads + Wait + Sync, S: Share, L: Link>(
     ensures pass { KeepsPass S.account (S.belongs share.now) most_calls pass.old pass.new }
 {
     let one = scenario.documents.at(document as usize);
-    match run_document(rt, alloc, scenario, one, base, share, pass, link) {
-        Ok((key, played)) => Transcript {
-            document,
-            key,
-            events: played.events,
-            ending: played.ending,
-            clock: played.clock,
-        },
+    match run_document(rt, alloc, scenario, document, one, base, share, pass, link) {
+        Ok(transcript) => transcript,
         Err(OutOfMemory) => Transcript {
             document,
             key: Bytes::new(alloc),

@@ -1,19 +1,10 @@
 // One fetch, played over a link and a share of the book.
-ghost use Rattle.std.specs.Prelude.{◌≡◌, ◌<◌, ◌≤◌, ◌+◌, ◌^◌, [], IfOk, IsTrue, OnErr, OnOk};
-ghost use Rattle.wf_fetch_acts.specs.Process.{fits};
-ghost use Rattle.wf_fetch_acts.specs.Within.{asks, price_of};
-ghost use Rattle.wf_fetch.specs.Fetch.{fetch};
-ghost use Rattle.wf_fetch.specs.Machine.{Leads, rest};
-ghost use Rattle.wf_fetch.specs.Then.{context_of};
-ghost use Rattle.wf_fetch_laws.specs.Laws.{most_asks};
-ghost use Rattle.wf_link.specs.Sources.{IsAtEnd};
-ghost use Rattle.wf_script_run.specs.Play.{events_of};
-ghost use Rattle.wf_script_run.specs.Runs.{after_events, at_time};
-ghost use Rattle.wf_types.specs.Requests.{IsClient, IsRequest};
-ghost use Rattle.wf_link_wire.specs.Wires.{over_link};
 ghost use Rattle.wf_player.specs.Driving.{Drives, Fetches};
 ghost use Rattle.wf_player.specs.Private.Going.{GoesOn, PartNoted};
 ghost use Rattle.wf_player.specs.Standings.{IsReady, Keeps, KeepsPass, setting_of, standing, world};
+ghost use Rattle.wf_player.specs.Words.{◌+◌, ◌<◌, ◌^◌, ◌≡◌, ◌≤◌, IfOk, IsAtEnd, IsClient, IsRequest, IsTrue, Leads};
+ghost use Rattle.wf_player.specs.Words.{OnErr, OnOk, after_events, asks, at_time, context_of, events_of, fetch, fits};
+ghost use Rattle.wf_player.specs.Words.{most_asks, over_link, price_of, rest};
 ghost use Rattle.wf_player.specs.Worlds.{CanAnswer, outside};
 
 use crate::held::Held;
@@ -118,15 +109,15 @@ impl<R: Threads + Wait + Sync, S: Share, L: Link> Player<'_, '_, '_, '_, '_, R, 
     }
 }
 
-/// Plays one fetch of a request over a link and a share of the book: for a client, with its policies and a
-/// table of cookies, at a time in seconds, which is below 2^48, with bodies of so many bytes at most
-/// (Fetch, section 4.1). It makes 126 calls of the book at most, which the pass has left.
+/// Plays one fetch of a request over a link and a share of the book: for a client, with its policies and a table of
+/// cookies, at a time in seconds, which is below 2^48, with bodies of so many bytes at most (Fetch, section 4.1). It
+/// makes 126 calls of the book at most, which the pass has left.
 ///
-/// Its events and its outcome are those of the fetch over a tape of what the world answers: the reply to a
-/// call of the book is that of the entry which the call added to the pass's own; heads and bodies are those of
-/// the link's answers, where it tells its state, and its count of faults rises by one with each fault of the
-/// tape. At an outcome nothing is to come over the link, where it tells that. Where memory was refused the calls
-/// that were made by then stay made, and an answer may be read in part.
+/// Its events and its outcome are those of the fetch over a tape of what the world answers: the reply to a call of the
+/// book is that of the entry which the call added to the pass's own; heads and bodies are those of the link's answers,
+/// where it tells its state, and its count of faults rises by one with each fault of the tape. At an outcome nothing is
+/// to come over the link, where it tells that. Where memory was refused the calls that were made by then stay made, and
+/// an answer may be read in part.
 pub fn drive_fetch<R: Threads + Wait + Sync, S: Share, L: Link>(
     rt: &R,
     alloc: Global,

@@ -1,11 +1,8 @@
 // Scripts, command by command.
-ghost use Rattle.std.specs.Prelude.{◌≡◌, None};
-ghost use Rattle.wf_script_commands.specs.Commands.{step_of};
-ghost use Rattle.wf_script_commands.specs.Valid.{AreValid, IsValidStep};
-ghost use Rattle.wf_script_run.specs.Runs.{chosen, command_started, limit_before, repeated, script_run};
-ghost use Rattle.wf_link_wire.specs.Wires.{over_link};
 ghost use Rattle.wf_player.specs.Parts.{Plays};
 ghost use Rattle.wf_player.specs.Standings.{HasSpent, IsReady, Keeps, MayGoOn, standing};
+ghost use Rattle.wf_player.specs.Words.{◌≡◌, AreValid, IsValidStep, None, chosen, command_started, limit_before};
+ghost use Rattle.wf_player.specs.Words.{over_link, repeated, script_run, step_of};
 
 use crate::player::Player;
 use std::sync::Wait;
@@ -75,14 +72,8 @@ impl<R: Threads + Wait + Sync, S: Share, L: Link> Player<'_, '_, '_, '_, '_, R, 
         ensures kept { Keeps S.account S.belongs self.old self.new }
     {
         match command {
-            Command::Fetch(init) => {
-                self.fetch_command(init)?;
-                Ok(None)
-            }
-            Command::Load(init) => {
-                self.load_command(init)?;
-                Ok(None)
-            }
+            Command::Fetch(init) => self.fetch_command(init),
+            Command::Load(init) => self.load_command(init),
             Command::Wait(seconds) => {
                 self.running.wait(*seconds);
                 Ok(None)

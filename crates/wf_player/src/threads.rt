@@ -1,12 +1,8 @@
 // Documents on threads, by fork and join.
-ghost use Rattle.std.specs.Prelude.{◌≡◌, ℕ, ◌≤◌, ◌<◌, ◌^◌, [], length, map, slice_index_or};
-ghost use Rattle.std.specs.Prelude.{vec_capacity, vec_len, IfOk, OnErr};
-ghost use Rattle.std.specs.List.{All, range_with_len};
-ghost use Rattle.wf_script_values.specs.Valid.{IsValid};
-ghost use Rattle.wf_link_wire.specs.Wires.{over_link};
-ghost use Rattle.wf_script_run.specs.Documents.{EachDocument};
-ghost use Rattle.wf_player.specs.Seats.{AreRefused, AreSeated, IsPlayed, seat_of};
 ghost use Rattle.wf_player.specs.Private.Rows.{CanPlay, RowPlayed, seatings_of, transcripts_of};
+ghost use Rattle.wf_player.specs.Seats.{AreRefused, AreSeated, IsPlayed, seat_of};
+ghost use Rattle.wf_player.specs.Words.{[], ℕ, ◌<◌, ◌^◌, ◌≡◌, ◌≤◌, All, EachDocument, IfOk, IsValid, OnErr, length};
+ghost use Rattle.wf_player.specs.Words.{map, over_link, range_with_len, slice_index_or, vec_capacity, vec_len};
 
 use crate::document::drive;
 use crate::seating::{Row, Seating};
@@ -32,10 +28,9 @@ fn play_row<R: Threads + Wait + Sync, S: Share, L: Link>(
 )
     requires scenario { IsValid scenario.now }
     requires base { base ≤ 2 ^ 40 }
-    requires row { CanPlay (S.belongs share.now) (seat_of S.account L.told)
-        scenario.now number row.old }
-    ensures { RowPlayed (S.belongs share.now) (seat_of S.account L.told)
-        (over_link L.serves) scenario.entry.now base number row.old row.new }
+    requires row { CanPlay (S.belongs share.now) (seat_of S.account L.told) scenario.now number row.old }
+    ensures { RowPlayed (S.belongs share.now) (seat_of S.account L.told) (over_link L.serves) scenario.entry.now base
+        number row.old row.new }
 {
     let seat = &mut row.seating;
     row.transcript = drive(
@@ -64,12 +59,10 @@ where
     requires scenario { IsValid scenario.now }
     requires base { base ≤ 2 ^ 40 }
     requires rows { (i : ℕ) (d : _) → i < length rows.old
-        → CanPlay (S.belongs share.now) (seat_of S.account L.told)
-        scenario.now i (slice_index_or rows.old i d) }
+        → CanPlay (S.belongs share.now) (seat_of S.account L.told) scenario.now i (slice_index_or rows.old i d) }
     ensures { (i : ℕ) (d : _) → i < length rows.old
-        → RowPlayed (S.belongs share.now) (seat_of S.account L.told)
-        (over_link L.serves) scenario.entry.now base i (slice_index_or rows.old i d)
-        (slice_index_or rows.new i d) }
+        → RowPlayed (S.belongs share.now) (seat_of S.account L.told) (over_link L.serves) scenario.entry.now base i
+        (slice_index_or rows.old i d) (slice_index_or rows.new i d) }
 {
     let threads = rows.len();
     if threads == 0 {
@@ -82,9 +75,8 @@ where
         &|number: usize, row: &mut Row<L, S::Pass>|
             requires { IsValid scenario.now × (base ≤ 2 ^ 40) × CanPlay (S.belongs share.now)
                 (seat_of S.account L.told) scenario.now number row.now }
-            ensures { RowPlayed (S.belongs share.entry.now)
-                (seat_of S.account L.told)
-                (over_link L.serves) scenario.entry.now base number row.entry.now row.exit.now }
+            ensures { RowPlayed (S.belongs share.entry.now) (seat_of S.account L.told) (over_link L.serves)
+                scenario.entry.now base number row.entry.now row.exit.now }
         { play_row(rt, alloc, scenario, number as u32, base, share, row) },
     );
 }
@@ -144,14 +136,13 @@ fn listed(alloc: Global, transcripts: Vec<Transcript>) -> Result<Transcripts, Ou
     Ok(list)
 }
 
-/// Plays the documents of a scenario, each on its own seat, from a time in seconds on, which is at most 2^40.
-/// There is one seat for each document, in their order, whose pass is for the document of that number and has
-/// 129,024 calls left.
+/// Plays the documents of a scenario, each on its own seat, from a time in seconds on, which is at most 2^40. There is
+/// one seat for each document, in their order, whose pass is for the document of that number with 129,024 calls left.
 ///
-/// The transcripts come in the order of the documents. Each, with its document's seat before and after the
-/// play, is that of a run as `drive` makes one, but that bytes may be left over its link. A document that is
-/// refused memory ends with the ending `Memory`. `OutOfMemory` where memory was refused outside of the documents' runs:
-/// then none was played and the seats are as they were, or all were played, and the calls that they made stay made.
+/// The transcripts come in the order of the documents. Each, with its document's seat before and after the play, is
+/// that of a run as `drive` makes one, but that bytes may be left over its link. `OutOfMemory` where memory was refused
+/// outside of the documents' runs: then none was played and the seats are as they were, or all were played, and the
+/// calls that they made stay made.
 pub fn play_all<R: Threads + Wait + Sync, S: Share + Sync, L: Link + Send + Drop>(
     rt: &R,
     alloc: Global,
@@ -164,16 +155,13 @@ where
     S::Pass: Send + Drop,
     requires scenario { IsValid scenario.now }
     requires base { base ≤ 2 ^ 40 }
-    requires seats { AreSeated scenario.now.documents
-        (map (seat_of S.account L.told) seats.old.items) }
+    requires seats { AreSeated scenario.now.documents (map (seat_of S.account L.told) seats.old.items) }
     requires belong { All (λ s. S.belongs share.now s.pass) seats.old.items }
-    ensures played { IfOk result (λ transcripts.
-        EachDocument (IsPlayed (over_link L.serves) scenario.entry.now base) 0 scenario.entry.now.documents
-        (map (seat_of S.account L.told) seats.old.items)
-        (map (seat_of S.account L.told) seats.new.items) transcripts) }
-    ensures refused { OnErr result (AreRefused (over_link L.serves) scenario.entry.now base
-        (map (seat_of S.account L.told) seats.old.items)
+    ensures played { IfOk result (EachDocument (IsPlayed (over_link L.serves) scenario.entry.now base) 0
+        scenario.entry.now.documents (map (seat_of S.account L.told) seats.old.items)
         (map (seat_of S.account L.told) seats.new.items)) }
+    ensures refused { OnErr result (AreRefused (over_link L.serves) scenario.entry.now base
+        (map (seat_of S.account L.told) seats.old.items) (map (seat_of S.account L.told) seats.new.items)) }
     ensures belong { All (λ s. S.belongs share.now s.pass) seats.new.items }
     ensures documents { map (λ s. (S.account s.pass).document) seats.new.items
         ≡ range_with_len 0 (length scenario.entry.now.documents) }

@@ -1,6 +1,8 @@
 -- Reports, delivered one after another.
 use Rattle.std.proofs.Common.{◌≡◌, ℕ, List, [], ◌∷◌, ◌++◌, Option, Some, None, refl, ap, sym, subst, ◌∙◌, arith}
-use Rattle.std.proofs.Common.{append_assoc}
+use Rattle.std.proofs.Common.{append_assoc, Result, Ok, Err}
+use Rattle.std.specs.Result.{IsErr}
+use Rattle.wf_text.specs.declared.memory.OutOfMemory.{OutOfMemory}
 use Rattle.std.proofs.lemmas.List.{append-nil}
 use Rattle.wf_fetch_acts.specs.declared.act.Input.{Input}
 use Rattle.wf_fetch.specs.Fetch.{fetch}
@@ -32,6 +34,12 @@ use Rattle.wf_report.specs.Delivering.{IsCutShort}
 use Rattle.wf_report.specs.Private.Paths.{HasReached, Path}
 use Rattle.wf_report.specs.Reporting.{report_played, reporting, reports_played}
 use Rattle.wf_report.specs.Reports.{report_requests}
+
+-- a call that passes on want of memory
+pub refused : {T : Type 0} (P : Result T OutOfMemory → Type 0) (result : Result T OutOfMemory) → IsErr result
+    → ((one : OutOfMemory) → P (Err one)) → P result
+refused P (Ok value) is p = absurd cc
+refused P (Err one) is p = p one
 
 module _ {State : Type 0} (by : Answering State) (limit document : ℕ) (whole : Play) (old : Outside State) where
   -- at the beginning

@@ -1,19 +1,9 @@
 -- One act of a fetch.
-use Rattle.std.specs.Prelude.{◌≡◌, List, ◌++◌, IsTrue, Result, Ok, Err}
-use Rattle.wf_text.specs.declared.memory.OutOfMemory.{OutOfMemory}
-use Rattle.wf_fetch_acts.specs.declared.act.Act.{Act}
-use Rattle.wf_fetch_acts.specs.declared.act.Input.{Input}
-use Rattle.wf_fetch_acts.specs.Process.{Process, act, fits}
-use Rattle.wf_fetch.specs.declared.place.Fetching.{Fetching}
-use Rattle.wf_fetch.specs.declared.place.Step.{Step}
-use Rattle.wf_fetch.specs.Machine.{Does, rest}
-use Rattle.wf_fetch.specs.Then.{Context}
-use Rattle.wf_script_events.specs.declared.events.Event.{Event}
-use Rattle.wf_script_run.specs.Play.{events_of}
-use Rattle.wf_script_run.specs.Runs.{Progress, after_events}
-use Rattle.wf_link_wire.specs.Exchanges.{Answering}
 use Rattle.wf_player.specs.Driving.{FetchCut}
 use Rattle.wf_player.specs.Standings.{Standing}
+use Rattle.wf_player.specs.Words.{◌++◌, ◌≡◌, Act, Answering, Context, Does, Event, Fetching, Input, IsTrue, List}
+use Rattle.wf_player.specs.Words.{MatchResult, OutOfMemory, Process, Progress, Result, Step, act, after_events}
+use Rattle.wf_player.specs.Words.{events_of, fits, rest}
 use Rattle.wf_player.specs.Worlds.{Answers}
 
 -- a fetch, from the act on that it waits for
@@ -33,8 +23,9 @@ pub record WentOn {State : Type 0} (by : Answering State) (context : Context) (f
 -- what an act came to: the next step, or want of memory
 abbrev pub GoesOn : {State : Type 0} → Answering State → Context → Fetching → Act → Standing State
     → Result Step OutOfMemory → Standing State → Type 0
-GoesOn by context fetching first old (Ok at) new = WentOn by context fetching first old at new
-GoesOn by context fetching first old (Err refused) new = FetchCut by (from_act context fetching first) old new
+GoesOn by context fetching first old result new =
+    MatchResult result (λ at. WentOn by context fetching first old at new)
+    (λ refused. FetchCut by (from_act context fetching first) old new)
 
 -- A first part of what an act shows was added to the events.
 pub record PartNoted (first : Act) (input : Input) (old new : Progress) : Type 0 where

@@ -1,8 +1,7 @@
 use Rattle.wf_script_run.proofs.FillingLemmas.{cut-same, plain-filled}
 use Rattle.wf_send.specs.Making.{new_request}
 use Rattle.wf_types.specs.declared.init.Init.{Init}
-use Rattle.wf_player.proofs.Words.{lent_result, TypeFault, ◌≡◌, ◌∙◌, ap, sym, subst, IfOk, Request, Result}
-use Rattle.wf_player.proofs.Words.{filled_init}
+use Rattle.wf_player.proofs.Words.{◌∙◌, ◌≡◌, IfOk, Request, Result, TypeFault, ap, filled_init, lent_result, subst, sym}
 use Rattle.wf_player.proofs.asking.requested.Goals as goal
 
 pub returns-then-is_plain-clause-value : goal.returns-then-is_plain-clause-value

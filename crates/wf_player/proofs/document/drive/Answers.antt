@@ -1,4 +1,4 @@
-use Rattle.wf_player.proofs.Words.{document_run, over_link, outside}
+use Rattle.wf_player.proofs.Words.{document_run, outside, over_link}
 use Rattle.wf_player.proofs.RunLemmas.{run-unbegun}
 use Rattle.wf_player.proofs.document.drive.Goals as goal
 

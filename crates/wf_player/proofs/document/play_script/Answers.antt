@@ -1,6 +1,6 @@
-use Rattle.wf_player.proofs.Words.{◌≡◌, ap, arith, refl, rules, ◌∙◌, IsAtEnd, Progress, finished, script_run}
-use Rattle.wf_player.proofs.Words.{over_link, window_of, KeepsPass, most_calls, setting_of, standing}
-use Rattle.wf_player.proofs.AskLemmas.{outside-is, end-left, keeps-pass, moved}
+use Rattle.wf_player.proofs.Words.{◌∙◌, ◌≡◌, IsAtEnd, Progress, ap, arith, finished, over_link, refl, rules, script_run}
+use Rattle.wf_player.proofs.Words.{setting_of, standing, window_of}
+use Rattle.wf_player.proofs.AskLemmas.{end-left, keeps-pass, moved, outside-is}
 use Rattle.wf_player.proofs.RunLemmas.{run-came, run-rests}
 use Rattle.wf_player.proofs.document.play_script.Goals as goal
 
@@ -18,24 +18,22 @@ returns-clause-came g c =
     let ticks : c.now-clock.result ≡ last.running.now.clock = search rules in
     rw (shown, ticks, c.ended_by-ending.ensures) (run-came _ _ (standing g.S.Share.account g.L.Link.told last)
     c.requires.idle refl (search (rules, outside-is)) (ap (λ (p : Progress). p.shown) c.new-running.ensures)
-    c.args.script.now c.script.result
-    (ap (script_run (setting_of c.args.lent.now) c.args.script.now finished) c.new-running.ensures)
+    c.args.document.now.script c.script.result
+    (ap (script_run (setting_of c.args.lent.now) c.args.document.now.script finished) c.new-running.ensures)
     c.script.ensures.came)
 
 pub returns-clause-rests : goal.returns-clause-rests
 returns-clause-rests g c = λ told.
     moved (λ l. IsAtEnd (g.L.Link.told l).left) c.script.new.self.link.now _ (search rules)
-    (run-rests (over_link g.L.Link.serves) (λ lent. script_run lent c.args.script.now) _
+    (run-rests (over_link g.L.Link.serves) (λ lent. script_run lent c.args.document.now.script) _
     (standing g.S.Share.account g.L.Link.told c.script.new.self) c.script.result c.script.ensures.came
     (λ bad. told (c.ended_by-ending.ensures ∙ bad)))
 
 pub returns-clause-pass : goal.returns-clause-pass
 returns-clause-pass g c =
-    moved (λ p. KeepsPass g.S.Share.account (g.S.Share.belongs c.args.lent.now.share.now) most_calls c.args.pass.now p)
-    c.script.new.self.pass.now _ (search rules)
-    (keeps-pass c.script.ensures.kept (omega (
+    keeps-pass c.script.ensures.kept (search rules) (omega (
       arith,
       c.script.ensures.spent.calls,
       c.script.ensures.spent.fetches,
       ap (λ (p : Progress). p.fetches) c.new-running.ensures,
-    )))
+    ))

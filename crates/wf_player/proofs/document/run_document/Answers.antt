@@ -1,4 +1,4 @@
-use Rattle.wf_player.proofs.Words.{refl, outside}
+use Rattle.wf_player.proofs.Words.{outside, refl}
 use Rattle.wf_player.proofs.AskLemmas.{outside-is}
 use Rattle.wf_player.proofs.RunLemmas.{run-of}
 use Rattle.wf_player.proofs.document.run_document.Goals as goal
@@ -13,4 +13,4 @@ returns-clause-came g c =
           refl,
       ← run-of c.args.document.now c.in_ok-client.client c.in_ok-policies.policies c.args.scenario.now.cookies
           c.args.base c.in_ok-client.ensures c.in_ok-policies.ensures,
-    ) c.play_script-played.ensures.came
+    ) c.play_script.ensures.came

@@ -1,5 +1,5 @@
-use Rattle.wf_player.proofs.Words.{◌≡◌, ◌+◌, ◌≤◌, length, vec_capacity, vec_len, into_iter_len, seatings_of}
-use Rattle.wf_player.proofs.Words.{transcripts_of}
+use Rattle.wf_player.proofs.Words.{◌+◌, ◌≡◌, ◌≤◌, into_iter_len, length, seatings_of, transcripts_of, vec_capacity}
+use Rattle.wf_player.proofs.Words.{vec_len}
 use Rattle.wf_player.proofs.threads.from_rows.Given as goal
 
 -- of the rows so far the seats and the transcripts are back, and there is room for the others

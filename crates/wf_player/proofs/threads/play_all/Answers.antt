@@ -1,8 +1,7 @@
-use Rattle.wf_player.proofs.Words.{Transcript, EachDocument, IsPlayed, seat_of, inl, ◌≡◌, ◌∙◌, List, ap, inr, length}
-use Rattle.wf_player.proofs.Words.{map, refl, sym, seatings_of, transcripts_of}
+use Rattle.wf_player.proofs.Words.{◌∙◌, ◌≡◌, IfOk-weaker, ap, inl, inr, length, map, refl, seat_of, seatings_of, sym}
+use Rattle.wf_player.proofs.Words.{transcripts_of}
 use Rattle.wf_player.proofs.AskLemmas.{on-err}
-use Rattle.wf_player.proofs.SeatLemmas.{belong-back, documents-after, documents-before, made-list, played-back, ready}
-use Rattle.wf_player.proofs.SeatLemmas.{written}
+use Rattle.wf_player.proofs.SeatLemmas.{belong-back, documents-after, documents-before, played-back, ready, written}
 use Rattle.wf_player.proofs.threads.play_all.Goals as goal
 
 pub returns-in_err-transcripts-clause-documents : goal.returns-in_err-transcripts-clause-documents
@@ -34,9 +33,7 @@ returns g c =
     let played = rw (← seats, c.in_ok-rows.ensures.ok.0, ← c.from_rows.ensures.transcripts ∙ ap transcripts_of same) at
     (played-back _ seen olds news kept (rw c.in_ok-rows.ensures.ok.0 c.requires.seats) each) in
     record {
-      played = made-list (λ (l : List Transcript). EachDocument (IsPlayed _ c.args.scenario.now c.args.base) 0
-          c.args.scenario.now.documents _ _ l) c.listed.result c.from_rows.new.transcripts.items c.listed.ensures
-          played;
+      played = IfOk-weaker c.listed.result _ _ (λ list is. rw is played) c.listed.ensures;
       refused = on-err c.listed.result (inr (record { transcripts = _; played = played }));
       belong = rw seats (belong-back _ seen olds news kept each);
       documents = documents-after seen c.from_rows.new.seats.items played;

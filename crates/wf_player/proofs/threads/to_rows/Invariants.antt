@@ -1,4 +1,4 @@
-use Rattle.wf_player.proofs.Words.{◌≡◌, ◌+◌, ◌≤◌, length, vec_capacity, vec_len, into_iter_len, seatings_of}
+use Rattle.wf_player.proofs.Words.{◌+◌, ◌≡◌, ◌≤◌, into_iter_len, length, seatings_of, vec_capacity, vec_len}
 use Rattle.wf_player.proofs.threads.to_rows.Given as goal
 
 -- the seats so far are in the rows, and there is room for the others

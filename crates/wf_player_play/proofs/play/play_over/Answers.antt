@@ -1,11 +1,12 @@
 use Rattle.std.proofs.Common.{◌≤◌, ℕ, ◌∙◌, List, [], ◌∷◌, ◌++◌, ap, arith, length, subst, sym}
+use Rattle.std.proofs.lemmas.Result.{on_err_weaker}
 use Rattle.wf_book.specs.declared.book.Book.{Book}
 use Rattle.wf_book.specs.Book.{empty}
 use Rattle.wf_script_values.specs.declared.hosts.KnownHost.{KnownHost}
 use Rattle.wf_turn.specs.Passes.{opening_of}
 use Rattle.wf_turn.specs.declared.pass.TurnPass.{TurnPass}
 use Rattle.wf_link_wire.specs.Wires.{over_link}
-use Rattle.wf_player.proofs.AskLemmas.{on-err, on-err-map}
+use Rattle.wf_player.proofs.AskLemmas.{on-err}
 use Rattle.wf_iso.specs.Plays.{IsPlayOver, opening_book, with_hosts}
 use Rattle.wf_player_play.specs.Links.{IsPlayOverLinks, maker_of}
 use Rattle.wf_player_seats.specs.Passes.{ArePasses}
@@ -150,7 +151,7 @@ returns-in-Ok-clause-refused g c =
       c.len-count.ensures,
       c.in-Ok.ensures.few,
     ) in
-    on-err-map c.play_seated.result
+    on_err_weaker c.play_seated.result
     (λ x. played-refused (over_link g.N.Link.Link.serves) g.N.Link.Link.told scenario
     c.args.base (told c.args.links.now) (told c.seat_all.new.links) (told c.play_seated.new.links)
     c.seat_all.new.seats.items c.in-Ok.ensures.opened few c.in-Ok.ensures.out c.in-Ok.ensures.faults x)

@@ -1,11 +1,10 @@
 use Rattle.std.proofs.Common.{◌≡◌, ◌∙◌, [], refl, subst}
-use Rattle.wf_player.proofs.AskLemmas.{refused}
 use Rattle.wf_player.specs.Worlds.{outside}
 use Rattle.wf_script_run.specs.Play.{Play}
 use Rattle.wf_link_wire.specs.Wires.{over_link}
 use Rattle.wf_report.specs.Delivering.{Delivers}
 use Rattle.wf_report.specs.Reporting.{reporting}
-use Rattle.wf_report.proofs.DeliveryLemmas.{reached-none, reached-refused, reporting-of}
+use Rattle.wf_report.proofs.DeliveryLemmas.{reached-none, reached-refused, refused, reporting-of}
 use Rattle.wf_report.proofs.delivery.deliver.Goals as goal
 
 pub returns-in_err-client-clause-came : goal.returns-in_err-client-clause-came

@@ -1,5 +1,4 @@
 use Rattle.std.proofs.Common.{◌≡◌, None, ap, arith, refl, sym, ◌∙◌}
-use Rattle.wf_player.proofs.AskLemmas.{refused}
 use Rattle.wf_player.specs.Worlds.{outside}
 use Rattle.wf_script_run.specs.Runs.{Progress, beginning, fetch_limit, finished, setting}
 use Rattle.wf_types.specs.declared.request.Request.{Request}
@@ -10,7 +9,7 @@ use Rattle.wf_report.specs.Private.Queues.{reports_left}
 use Rattle.wf_report.specs.Reporting.{ending_of, reports_played}
 use Rattle.wf_report.specs.Reports.{report_requests}
 use Rattle.wf_report.proofs.DeliveryLemmas.{delivery-cut, delivery-end, delivery-limit, delivery-report, delivery-start}
-use Rattle.wf_report.proofs.DeliveryLemmas.{delivery-unshown, reached-refused}
+use Rattle.wf_report.proofs.DeliveryLemmas.{delivery-unshown, reached-refused, refused}
 use Rattle.wf_report.proofs.delivery.deliver_reports.Goals as goal
 
 pub loop-log-init : goal.loop-log-init

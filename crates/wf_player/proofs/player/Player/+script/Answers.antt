@@ -1,5 +1,5 @@
-use Rattle.wf_player.proofs.Words.{holds, steps_size, ap, arith, refl, rules, sym, ◌∙◌}
-use Rattle.wf_player.proofs.PartLemmas.{no-memory, played-moved, played-none, plays-after, plays-refused}
+use Rattle.wf_player.proofs.Words.{◌∙◌, MatchResult-from_err, ap, arith, holds, refl, rules, steps_size, sym}
+use Rattle.wf_player.proofs.PartLemmas.{played-moved, played-none, plays-after}
 use Rattle.wf_player.proofs.ScriptLemmas.{command-at, goes-on, no-ending, round-cut, round-ended, round-next}
 use Rattle.wf_player.proofs.ScriptLemmas.{round-over, round-start, script-cut, script-ended, script-limited}
 use Rattle.wf_player.proofs.ScriptLemmas.{script-next, script-over, script-start}
@@ -15,33 +15,16 @@ choice-returns-else-holds-clause-came g t c =
     let chose = sym (c.holds.ensures ∙ ap (holds c.args.test.now) c.last.ensures) ∙ c.if-holds.false in
     plays-after _ _ _ c.script-else-holds.result (rw chose played-none) c.script-else-holds.ensures.came
 
-pub command-returns-in_err-fetch_command-in-Fetch-clause-came :
-    goal.command-returns-in_err-fetch_command-in-Fetch-clause-came
-command-returns-in_err-fetch_command-in-Fetch-clause-came g t c =
-    rw c.in-Fetch.is (plays-refused _ c.from_residual.result c.from_residual.ensures.0
-    c.in_err-fetch_command-in-Fetch.ensures.came)
+pub command-returns-in-Fetch-clause-came : goal.command-returns-in-Fetch-clause-came
+command-returns-in-Fetch-clause-came g t c = rw c.in-Fetch.is c.fetch_command.ensures.came
 
-pub command-returns-in_err-load_command-in-Load-clause-came :
-    goal.command-returns-in_err-load_command-in-Load-clause-came
-command-returns-in_err-load_command-in-Load-clause-came g t c =
-    rw c.in-Load.is (plays-refused _ c.from_residual-in_err-load_command-in-Load.result
-    c.from_residual-in_err-load_command-in-Load.ensures.0 c.in_err-load_command-in-Load.ensures.came)
-
-pub command-returns-in_ok-fetch_command-in-Fetch-clause-came :
-    goal.command-returns-in_ok-fetch_command-in-Fetch-clause-came
-command-returns-in_ok-fetch_command-in-Fetch-clause-came g t c =
-    rw c.in-Fetch.is c.in_ok-fetch_command-in-Fetch.ensures.came
-
-pub command-returns-in_ok-load_command-in-Load-clause-came :
-    goal.command-returns-in_ok-load_command-in-Load-clause-came
-command-returns-in_ok-load_command-in-Load-clause-came g t c =
-    rw c.in-Load.is c.in_ok-load_command-in-Load.ensures.came
+pub command-returns-in-Load-clause-came : goal.command-returns-in-Load-clause-came
+command-returns-in-Load-clause-came g t c = rw c.in-Load.is c.load_command.ensures.came
 
 pub command-returns-in-Wait-clause-came : goal.command-returns-in-Wait-clause-came
 command-returns-in-Wait-clause-came g t c = rw c.in-Wait.is (record {
   played = played-moved refl refl (search rules) (λ n. rw c.wait.ensures refl);
   rests = c.requires.goes.rests;
-  told = no-memory;
 })
 
 pub command-returns-in-Repeat-clause-came : goal.command-returns-in-Repeat-clause-came
@@ -59,8 +42,8 @@ repeat-loop-i-init g t c = search (rules, round-start)
 
 pub repeat-returns-in_err-ending-clause-came : goal.repeat-returns-in_err-ending-clause-came
 repeat-returns-in_err-ending-clause-came g t c =
-    plays-refused _ c.from_residual.result c.from_residual.ensures.0
-    (round-cut c.loop-i.invariant.played c.loop-i-test.true c.in_err-ending.ensures.came)
+    MatchResult-from_err c.from_residual.result _ _ c.from_residual.ensures.0
+    (λ one. round-cut c.loop-i.invariant.played c.loop-i-test.true c.in_err-ending.ensures.came)
 
 pub repeat-returns-then-is_some-clause-came : goal.repeat-returns-then-is_some-clause-came
 repeat-returns-then-is_some-clause-came g t c =
@@ -103,9 +86,10 @@ script-command-requires g t c = λ κs live.
 
 pub script-returns-in_err-ending-clause-came : goal.script-returns-in_err-ending-clause-came
 script-returns-in_err-ending-clause-came g t c =
-    plays-refused _ c.from_residual.result c.from_residual.ensures.0 (rw (← c.as_slice-command-items.ensures)
-    (script-cut c.command-item.result c.loop-command.invariant.played c.loop-command-test.true c.command-item.is
-    c.limit_before-limit.ensures (sym c.is_some.ensures ∙ c.if-is_some.false) c.in_err-ending.ensures.came))
+    MatchResult-from_err c.from_residual.result _ _ c.from_residual.ensures.0
+    (λ one. rw (← c.as_slice-command-items.ensures) (script-cut c.command-item.result
+    c.loop-command.invariant.played c.loop-command-test.true c.command-item.is c.limit_before-limit.ensures
+    (sym c.is_some.ensures ∙ c.if-is_some.false) c.in_err-ending.ensures.came))
 
 pub script-returns-then-is_some-2-clause-came : goal.script-returns-then-is_some-2-clause-came
 script-returns-then-is_some-2-clause-came g t c =

@@ -1,5 +1,5 @@
-use Rattle.wf_player.proofs.Words.{step_of, ◌+◌, ◌*◌, max, step_size, steps_size, IsAtEnd, over_link, HasSpent, Keeps}
-use Rattle.wf_player.proofs.Words.{standing}
+use Rattle.wf_player.proofs.Words.{◌*◌, ◌+◌, HasSpent, IsAtEnd, Keeps, max, over_link, standing, step_of, step_size}
+use Rattle.wf_player.proofs.Words.{steps_size}
 use Rattle.wf_player.proofs.ScriptLemmas.{IsAt, IsRound}
 use Rattle.wf_player.proofs.player.Player.+script.Given as goal
 

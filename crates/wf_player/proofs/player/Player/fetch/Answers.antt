@@ -1,12 +1,12 @@
-use Rattle.wf_player.proofs.Words.{arith, refl, rules, at_time, setting_of}
+use Rattle.wf_player.proofs.Words.{MatchResult-from_err, arith, at_time, refl, rules, setting_of}
 use Rattle.wf_player.proofs.AskLemmas.{refuses-none}
-use Rattle.wf_player.proofs.FetchLemmas.{cut-unbegun, fetches-refused, few-acts, fetching-cut, fetching-room}
-use Rattle.wf_player.proofs.FetchLemmas.{fetching-start, fetching-went}
+use Rattle.wf_player.proofs.FetchLemmas.{cut-unbegun, fetching-cut, fetching-room, fetching-start, fetching-went}
+use Rattle.wf_player.proofs.FetchLemmas.{few-acts}
 use Rattle.wf_player.proofs.player.Player.fetch.Goals as goal
 
 pub returns-in_err-step-clause-came : goal.returns-in_err-step-clause-came
-returns-in_err-step-clause-came g c = fetches-refused c.from_residual.result c.from_residual.ensures.0
-    (cut-unbegun refl refl (refuses-none _))
+returns-in_err-step-clause-came g c = MatchResult-from_err c.from_residual.result _ _ c.from_residual.ensures.0
+    (λ one. cut-unbegun refl refl (refuses-none _))
 
 pub loop-step-init : goal.loop-step-init
 loop-step-init g c = record {
@@ -24,8 +24,9 @@ overflow_add-acts g c = omega (
 
 pub returns-in_err-step-in-Going-clause-came : goal.returns-in_err-step-in-Going-clause-came
 returns-in_err-step-in-Going-clause-came g c =
-    fetches-refused c.from_residual-in_err-step-in-Going.result c.from_residual-in_err-step-in-Going.ensures.0
-    (fetching-cut (rw c.in-Going.is at c.loop-step.invariant.fetching) c.in_err-step-in-Going.ensures.went)
+    MatchResult-from_err c.from_residual-in_err-step-in-Going.result _ _
+    c.from_residual-in_err-step-in-Going.ensures.0
+    (λ one. fetching-cut (rw c.in-Going.is at c.loop-step.invariant.fetching) c.in_err-step-in-Going.ensures.went)
 
 pub loop-step-preserved : goal.loop-step-preserved
 loop-step-preserved g c = record {

@@ -1,4 +1,4 @@
-use Rattle.wf_player.proofs.Words.{acts, fetch_price, ◌-◌, at_time, over_link, Keeps, setting_of, standing}
+use Rattle.wf_player.proofs.Words.{◌-◌, Keeps, acts, at_time, fetch_price, over_link, setting_of, standing}
 use Rattle.wf_player.proofs.FetchLemmas.{IsFetching}
 use Rattle.wf_player.proofs.player.Player.fetch.Given as goal
 
