@@ -63,7 +63,7 @@ impl Model for Script {
 }
 
 impl Script {
-    ghost use Rattle.std.specs.Prelude.{◌≡◌, ◌<◌, Some, OnOk, OnErr};
+    ghost use Rattle.std.specs.Prelude.{◌≡◌, ◌<◌, Some, IfOk, OnOk, OnErr};
     ghost use Rattle.wf_script_commands.specs.Scripts.{no_steps, count, and_step, step_at};
     ghost use Rattle.wf_script_commands.specs.Commands.{step_of, steps_of};
 
@@ -74,6 +74,15 @@ impl Script {
         Script {
             commands: Vec::new(alloc),
         }
+    }
+
+    /// A script without commands, with room for so many.
+    pub fn with_room(alloc: Global, count: usize) -> Result<Script, OutOfMemory>
+        ensures { IfOk result (λ script. script ≡ no_steps) }
+    {
+        Ok(Script {
+            commands: Vec::with_capacity(alloc, count)?,
+        })
     }
 
     /// Adds a command at the end. A refused one leaves the script as it was.

@@ -27,6 +27,18 @@ const TIMES: Number = Number {
     most: 1000,
 };
 
+// How many commands a list has, so that room is made for them at once.
+fn room_for(tree: &Tree<'_, '_>) -> usize {
+    let mut count = 0;
+    if let Some(items) = tree.items() {
+        let mut items = items;
+        while let Some(_) = items.next() {
+            count = usize::saturating_add(count, 1);
+        }
+    }
+    count
+}
+
 // A script, in which at most `repeats` `repeat` and `ifs` `if` are inside each other.
 #[cycle(scripts)]
 #[tactic(auto, using(crate::proofs::StepLemmas::script_of_is))]
@@ -34,18 +46,24 @@ fn script(alloc: Global, tree: &Tree<'_, '_>, repeats: u32, ifs: u32) -> Result<
     ensures { Gives result (spec.script_of repeats ifs (data_of tree.now)) }
 {
     match tree.items() {
-        Some(items) => commands(alloc, items, repeats, ifs),
+        Some(items) => commands(alloc, room_for(tree), items, repeats, ifs),
         None => refused_here(alloc),
     }
 }
 
 // The commands of a list, in order.
 #[cycle(scripts)]
-fn commands(alloc: Global, items: Trees<'_, '_>, repeats: u32, ifs: u32) -> Result<Script, Refused>
+fn commands(
+    alloc: Global,
+    room: usize,
+    items: Trees<'_, '_>,
+    repeats: u32,
+    ifs: u32,
+) -> Result<Script, Refused>
     ensures { Gives result (spec.steps_in (spec.command_in repeats ifs) (trees_of items.entry)) }
 {
     let mut items = items;
-    let mut script = Script::new(alloc);
+    let mut script = Script::with_room(alloc, room)?;
     while let Some(item) = items.next() {
         let next = command_at(alloc, script.len(), &item, repeats, ifs)?;
         script.push(next)?;
