@@ -32,7 +32,9 @@ pub fn yes_or_no(holds: bool) -> u32
 
 // The code that tells whether something holds, or why there is no answer.
 pub fn told(answer: Result<bool, Refusal>) -> u32
-    ensures { (expected : Result Bool Refusal) → Answers answer expected → result ≢ OUT_OF_MEMORY → result ≡ told expected }
+    ensures code { result ≡ told answer }
+    ensures told { (expected : Result Bool Refusal) → Answers answer expected → result ≢ OUT_OF_MEMORY
+        → result ≡ told expected }
 {
     match answer {
         Ok(holds) => yes_or_no(holds),
@@ -55,6 +57,7 @@ pub fn write(text: &[u8], room: &mut [u8], len: &mut usize) -> u32
 
 // Writes the text that answers, if one does.
 pub fn write_answer(answer: Result<Option<Bytes>, Refusal>, room: &mut [u8], len: &mut usize) -> u32
+    ensures code { IsTold answer room.old room.new len.old len.new result }
     ensures told { (expected : Result (Option (List ℕ)) Refusal) → Answers answer expected → result ≢ OUT_OF_MEMORY →
         IsTold expected room.old room.new len.old len.new result }
     ensures out_of_memory { result ≡ OUT_OF_MEMORY → (room.new ≡ room.old) × (len.new ≡ len.old) }
@@ -68,6 +71,7 @@ pub fn write_answer(answer: Result<Option<Bytes>, Refusal>, room: &mut [u8], len
 
 // Writes the text that answers.
 pub fn write_text(answer: Result<Bytes, Refusal>, room: &mut [u8], len: &mut usize) -> u32
+    ensures code { IsTold (some_text answer) room.old room.new len.old len.new result }
     ensures told { (expected : Result (List ℕ) Refusal) → Answers answer expected → result ≢ OUT_OF_MEMORY →
         IsTold (some_text expected) room.old room.new len.old len.new result }
     ensures out_of_memory { result ≡ OUT_OF_MEMORY → (room.new ≡ room.old) × (len.new ≡ len.old) }
