@@ -12,7 +12,8 @@ use wf_text::{Bytes, OutOfMemory};
 
 // Whether each host comes before this one in the order of bytes: the last does.
 pub(crate) fn are_before(terms: &BTreeMap<Vec<u8>, Term>, host: &[u8]) -> bool
-    ensures { result ≡ list_all (λ known. is_lt (text_cmp known.host host.now)) (listed (λ name. name.items) terms.now.entries) }
+    ensures { result
+        ≡ list_all (λ known. is_lt (text_cmp known.host host.now)) (listed (λ name. name.items) terms.now.entries) }
 {
     match terms.last_key_value() {
         Some((last, _)) => last.as_slice().cmp(host).is_lt(),

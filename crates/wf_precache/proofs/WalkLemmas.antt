@@ -1,6 +1,7 @@
 -- Entries in order: which may stand last.
 use Rattle.std.proofs.Common.{◌≡◌, ◌<◌, ◌≤◌, ◌&&◌, not, ℕ, zero, suc, Bool, true, false, cond, List, [], ◌∷◌, ◌++◌}
-use Rattle.std.proofs.Common.{length, filter, map, arith, refl, ap, sym, subst, ◌∙◌, Some, length-append, Result, Ok, Err, OnErr, Option, None, IfSome, IfNone}
+use Rattle.std.proofs.Common.{length, filter, map, arith, refl, ap, sym, subst, ◌∙◌, Some, length-append, Result, Ok}
+use Rattle.std.proofs.Common.{Err, OnErr, Option, None, IfSome, IfNone}
 use Rattle.std.proofs.Common.{◌-◌, ◌==◌}
 use Rattle.std.proofs.Common.{if◌then◌else◌}
 use Rattle.std.proofs.lemmas.Bool.Decides.{nat_tests}

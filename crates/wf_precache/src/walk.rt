@@ -10,7 +10,8 @@ use std::alloc::Global;
 use std::collections::BTreeMap;
 use wf_text::{Bytes, OutOfMemory};
 
-// Whether no key comes after this one: the last that has entries does not. Keys without entries that stand behind it go.
+// Whether no key comes after this one: the last that has entries does not. Keys without entries that stand behind
+// that one go.
 pub(crate) fn none_after(partitions: &mut BTreeMap<Vec<u8>, Partition>, key: &[u8]) -> bool
     requires { IsOrdered (key_cmp (λ key. key.items)) partitions.old }
     ensures none { result ≡ list_all (λ k. not (stands_before key.now k.key))
