@@ -1,5 +1,7 @@
 """What bin/ask does: makes the fetch that a page would make, over real connections, and tells what came and why."""
 import json
+import os
+import time
 from urllib.parse import urlsplit
 
 import fiorrudda
@@ -15,6 +17,32 @@ class Wrong(Exception):
     """Words that no page could ask by, in a sentence."""
 
 
+def book_of(path):
+    """The book of a file; an empty one where there is no such file."""
+    try:
+        with open(path, "rb") as file:
+            return fiorrudda.Book.read(file.read())
+    except FileNotFoundError:
+        return fiorrudda.Book()
+    except OSError as error:
+        raise Wrong("%s: %s" % (path, error.strerror)) from None
+    except fiorrudda.NotABook as fault:
+        raise Wrong("%s is no book that --book wrote: %s at line %d" % (path, fault.name, fault.line)) from None
+
+
+def keep(book, path):
+    """Writes a book into a file, in the place of what is there, or leaves that as it is."""
+    beside = "%s.%d" % (path, os.getpid())
+    try:
+        with open(beside, "xb") as file:
+            file.write(book.export())
+        os.replace(beside, path)
+    except OSError as error:
+        if os.path.exists(beside):
+            os.remove(beside)
+        raise Wrong("%s: %s" % (path, error.strerror)) from None
+
+
 class Question:
     """The words of bin/ask, as a scenario of one document, and as what the library takes."""
 
@@ -25,6 +53,9 @@ class Question:
             raise Wrong("%s is no http or https URL: write it whole, as https://api.example/x" % given.url)
         if origin_of(self.page) is None:
             raise Wrong("%s is no http or https URL of a page" % self.page)
+        # What is known of earlier calls holds until a time of the clock.
+        self.now = int(time.time()) if given.book else 0
+        self.book = book_of(given.book) if given.book else fiorrudda.Book()
 
     def cookies(self):
         return [[origin_of(self.given.url), "; ".join(self.given.cookie)]] if self.given.cookie else []
@@ -68,9 +99,11 @@ class Answered:
     def __init__(self, question):
         self.question = question
         self.wire = live.Wire(question.given.timeout, question.given.connect_to)
-        page = live.Page(question.page, question.client(), self.wire, LIMIT)
+        page = live.Page(question.page, question.client(), self.wire, LIMIT, question.book, question.now)
         for _ in range(2 if question.given.twice else 1):
             page.ask(question.request, question.given.load)
+        if question.given.book:
+            keep(question.book, question.given.book)
         self.text = page.text()
         scenario = Scenario(json_text.read(json.dumps(question.scenario(routes=self.routes()))))
         self.left = list(self.wire.exchanges)
@@ -118,6 +151,8 @@ class Answered:
     def exported(self):
         """The scenario, and what it does not have, in sentences."""
         rules, lacks, kept = {}, [], {}
+        if self.question.given.book:
+            lacks.append("the scenario begins with no known host and an empty preflight cache, at time 0")
         requests = [request for case in self.told.cases for request, _ in case.exchanges]
         for request, exchange in zip(requests, self.wire.exchanges):
             key = (request.origin, request.method, request.target)

@@ -101,13 +101,14 @@ def is_tls_port(answer):
 
 
 class Page:
-    """A document that fetches over a wire, with the lines of its play."""
+    """A document that fetches over a wire at a time in seconds, by a book, with the lines of its play."""
 
-    def __init__(self, url, client, wire, limit):
+    def __init__(self, url, client, wire, limit, book, now):
         self.client = client
         self.wire = wire
         self.limit = limit
-        self.book = fiorrudda.Book()
+        self.book = book
+        self.now = now
         self.count = 0
         self.calls = []
         self.lines = ["fetchplay 1", "document 0 " + fiorrudda.origin(url)]
@@ -117,7 +118,7 @@ class Page:
         self.lines.append("fetch %d" % self.count if kind is None else "load %d %s" % (self.count, kind))
         self.count += 1
         try:
-            fetch = fiorrudda.Fetch(self.client, make(), 0, self.limit)
+            fetch = fiorrudda.Fetch(self.client, make(), self.now, self.limit)
         except fiorrudda.NoRequest as fault:
             self.lines.append(printed.fault_line(fault, kind is not None))
             return

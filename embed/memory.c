@@ -46,6 +46,16 @@ static uint32_t sts(void) { uint64_t age; uint32_t subdomains; return fiorrudda_
 static uint32_t note_host(void) { return fiorrudda_note_host(&book, T("a-host-of-a-long-name.example"), T("max-age=9"), 1); }
 static uint32_t known_host(void) { return fiorrudda_known_host(&book, T("a-host-of-a-long-name.example"), 1); }
 
+static uint32_t book_text(void) { uint32_t code = fiorrudda_book_text(&book, room, sizeof room, &len); return code == FIORRUDDA_TOO_SHORT ? FIORRUDDA_OK : code; }
+
+static uint32_t book_of_text(void) {
+    uint64_t line;
+    uint32_t reason;
+    return fiorrudda_book_of_text(&fresh, T("fiorrudda book 1\nhosts 2\n9 1 33:a-host-of-thirty-bytes-or-so.test\n9 1 8:api.test\n"
+        "entries 2\n0 600 1 0 34:a-key-of-thirty-bytes-or-more.test 1:o 1:u 3:PUT\n"
+        "0 600 1 1 34:a-key-of-thirty-bytes-or-more.test 1:o 1:u 3:x-a\n"), &line, &reason);
+}
+
 static uint32_t essence(void) { return fiorrudda_essence(&headers, room, sizeof room, &len); }
 static uint32_t source_matches(void) { return fiorrudda_source_matches(T("https://a-host-of-a-long-name.example/p"), T("https://a-host-of-a-long-name.example/p"), T("https://a.example/"), 0); }
 
@@ -129,7 +139,7 @@ static const struct { const char *name; uint32_t (*call)(void); } calls[] = {
     {"referrer", referrer}, {"integrity", integrity}, {"sts", sts}, {"note_host", note_host},
     {"known_host", known_host}, {"essence", essence}, {"source_matches", source_matches}, {"whole", whole},
     {"on_request", on_request}, {"unsafe_name", unsafe_name}, {"exposed_name", exposed_name},
-    {"forbidden_header", forbidden_header},
+    {"forbidden_header", forbidden_header}, {"book_text", book_text}, {"book_of_text", book_of_text},
 };
 
 // What the header list and the book hold is as it was: told by calls that the refused ones are not.

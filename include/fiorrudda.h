@@ -304,6 +304,24 @@ extern "C" {
 // By all policies, of its response.
 #define FIORRUDDA_CHECK_RESPONSE 2u
 
+// Why a text is none of a book: its first line is not that of a book.
+#define FIORRUDDA_REASON_NO_BOOK 0u
+
+// Its first line is that of a book in another format.
+#define FIORRUDDA_REASON_OTHER_FORMAT 1u
+
+// The line is not what stands at its place.
+#define FIORRUDDA_REASON_BAD_LINE 2u
+
+// The line's host, or its entry's key, does not come after the one before it.
+#define FIORRUDDA_REASON_ORDER 3u
+
+// The key of the line's entry has 64 entries before it.
+#define FIORRUDDA_REASON_FULL 4u
+
+// The text goes on behind its last line.
+#define FIORRUDDA_REASON_TOO_LONG 5u
+
 // One word that holds a header list, a book, a client, a request, a fetch, policies or violations, or nothing: all
 // zero it is empty. It is not to be copied, written or read but by the calls below, and it is given to one call at a
 // time, and not twice to one call. What it holds is freed by `fiorrudda_free`.
@@ -749,6 +767,25 @@ uint32_t fiorrudda_verdict(fiorrudda_handle *client, fiorrudda_handle *request, 
 // FIORRUDDA_OUT_OF_MEMORY. But for FIORRUDDA_OK nothing is written to `room`, and but for FIORRUDDA_OK and
 // FIORRUDDA_TOO_SHORT nothing to `len`.
 uint32_t fiorrudda_refused_name(fiorrudda_handle *client, fiorrudda_handle *request, fiorrudda_handle *headers, uint16_t status, uint8_t *room, size_t room_len, size_t *len);
+
+// Writes the text of a book, which `fiorrudda_book_of_text` reads back as the same book, so that what it knows lasts
+// over restarts: a line with its name and the number of its format, the known hosts, and the entries of the preflight
+// cache. Its times are in seconds since the moment that the calls counted from. It has bytes of any kind, tells which
+// servers were asked, and is not signed: who can change it can change what the book knows. Threads that share a book
+// call it under a lock of their own.
+//
+// FIORRUDDA_OK; FIORRUDDA_TOO_SHORT, and then `len` says how many bytes the text has; FIORRUDDA_WRONG_HANDLE;
+// FIORRUDDA_OUT_OF_MEMORY. But for FIORRUDDA_OK and FIORRUDDA_TOO_SHORT nothing is written. The book is as it was.
+uint32_t fiorrudda_book_text(fiorrudda_handle *book, uint8_t *room, size_t room_len, size_t *len);
+
+// Makes in a handle the book whose text this is, as `fiorrudda_book_text` writes it. What the handle held is freed
+// first, also where the text is refused. Nothing is read of a text that is none of a book: `line` tells its first
+// line that is not as such a text has it, counted from 1, and `reason` why, by FIORRUDDA_REASON_NO_BOOK to
+// FIORRUDDA_REASON_TOO_LONG. A line ends behind its last field, so that an LF within a text is part of its line.
+//
+// FIORRUDDA_OK; FIORRUDDA_NO, where the text is refused; FIORRUDDA_OUT_OF_MEMORY. The handle is empty but for
+// FIORRUDDA_OK. `line` and `reason` are told with FIORRUDDA_NO alone.
+uint32_t fiorrudda_book_of_text(fiorrudda_handle *book, const uint8_t *text, size_t text_len, uint64_t *line, uint32_t *reason);
 
 #ifdef __cplusplus
 }

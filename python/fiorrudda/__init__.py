@@ -21,6 +21,7 @@ __all__ = [
     "Loaded",
     "NetworkError",
     "NoRequest",
+    "NotABook",
     "NotAHeader",
     "NotAUrl",
     "NotAwaited",
@@ -109,6 +110,17 @@ class NoRequest(FiorruddaError):
         self.number, self.name = number, self.NAMES[number]
         self.header = header if self.name == "BadHeader" else None
         super().__init__(self.name)
+
+
+class NotABook(FiorruddaError):
+    """A text is none of a book: its first line that is not as such a text has it, counted from 1, and why, by number and
+    name."""
+
+    NAMES = ("NoBook", "OtherFormat", "BadLine", "Order", "Full", "TooLong")
+
+    def __init__(self, line: int, number: int) -> None:
+        self.line, self.number, self.name = line, number, self.NAMES[number]
+        super().__init__(f"line {line}: {self.name}")
 
 
 _ERRORS = {3: OutOfMemory, 6: NotAUrl, 7: NotHttp, 8: NotAHeader, 9: TooLate, 10: NotAwaited}
@@ -209,6 +221,8 @@ _CALLS = {
     "filtered": _HELD * 4 + [ctypes.c_uint16, ctypes.c_uint32, ctypes.POINTER(ctypes.c_uint32)],
     "type_blocked": _HELD * 2,
     "nosniff_blocked": _HELD * 2,
+    "book_text": _HELD + _ROOM,
+    "book_of_text": _HELD + _TEXT + [ctypes.POINTER(ctypes.c_uint64), ctypes.POINTER(ctypes.c_uint32)],
 }
 
 _lib = _library()
@@ -308,6 +322,18 @@ class Book(_Thing):
 
     def __init__(self) -> None:
         super().__init__(_lib.fiorrudda_book)
+
+    @classmethod
+    def read(cls, text: Text) -> "Book":
+        """The book that `export` wrote. `NotABook` where the text is none of a book: nothing is read of it then."""
+        book, line, reason = cls(), ctypes.c_uint64(0), ctypes.c_uint32(0)
+        if not _told(_lib.fiorrudda_book_of_text(book._handle, *_lent(text), line, reason)):
+            raise NotABook(line.value, reason.value)
+        return book
+
+    def export(self) -> bytes:
+        """The book as a text, so that what it knows lasts over restarts: `read` reads it back as the same book."""
+        return _written(_lib.fiorrudda_book_text, self._handle) or b""
 
     def note(self, host: Text, field: Text, now: int) -> bool:
         """Notes a Strict-Transport-Security field of a host, and says whether it counts (RFC 6797, section 8.1)."""

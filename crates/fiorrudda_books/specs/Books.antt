@@ -1,0 +1,34 @@
+-- What the calls tell of a book as a text.
+use Rattle.std.specs.Prelude.{◌≡◌, ℕ, List, Option, Some, None, Result, Ok, Err}
+use Rattle.wf_book.specs.declared.book.Book.{Book}
+use Rattle.wf_book_text.specs.Texts.{book_text}
+use Rattle.wf_book_text.specs.declared.refusal.Reason.{Reason}
+use Rattle.wf_book_text.specs.declared.refusal.Reason.TheVariants.{NoBook, OtherFormat, BadLine, Order, Full, TooLong}
+use Rattle.wf_book_text.specs.declared.refusal.Refusal.{Refusal}
+use Rattle.fiorrudda_handle.specs.Codes.{IsKept, IsWritten}
+use Rattle.fiorrudda_handle.specs.declared.codes.TheConstants.{NO, OK, WRONG_HANDLE}
+use Rattle.fiorrudda_handle.specs.declared.thing.Thing.{Thing}
+use Rattle.fiorrudda_handle.specs.declared.thing.Thing.TheVariants as thing
+use Rattle.fiorrudda_books.specs.declared.books.TheConstants.{REASON_NO_BOOK, REASON_OTHER_FORMAT, REASON_BAD_LINE}
+use Rattle.fiorrudda_books.specs.declared.books.TheConstants.{REASON_ORDER, REASON_FULL, REASON_TOO_LONG}
+
+-- the text of a book is written
+abbrev pub IsTextOf : Option Thing → List ℕ → List ℕ → ℕ → ℕ → ℕ → Type 0
+IsTextOf (Some (thing.Book book)) room after len_before len code = IsWritten (book_text book) room after len code
+IsTextOf _ room after len_before len code = (code ≡ WRONG_HANDLE) × IsKept room after len_before len
+
+-- the number of a reason
+abbrev pub reason_number : Reason → ℕ
+reason_number NoBook = REASON_NO_BOOK
+reason_number OtherFormat = REASON_OTHER_FORMAT
+reason_number BadLine = REASON_BAD_LINE
+reason_number Order = REASON_ORDER
+reason_number Full = REASON_FULL
+reason_number TooLong = REASON_TOO_LONG
+
+-- the handle holds the book that was read, or is empty, and the refusal is told
+abbrev pub IsRead : Result Book Refusal → ℕ → ℕ → ℕ → ℕ → ℕ → Option Thing → Type 0
+IsRead (Ok book) line_before line reason_before reason code held =
+    (code ≡ OK) × (held ≡ Some (thing.Book book)) × (line ≡ line_before) × (reason ≡ reason_before)
+IsRead (Err refusal) line_before line reason_before reason code held =
+    (code ≡ NO) × (held ≡ None) × (line ≡ refusal.line) × (reason ≡ reason_number refusal.reason)

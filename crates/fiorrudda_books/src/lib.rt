@@ -1,0 +1,5 @@
+// The book of the engine for C, as a text: written, and read back.
+// `include/fiorrudda.h` has its declarations, which `embed/header` writes from what stands here.
+#![tactic(auto)]
+
+mod books;
