@@ -4,7 +4,8 @@ ghost use Rattle.wf_text.specs.Tokens.{is_token};
 ghost use Rattle.wf_audit_text.specs.Private.Reading as spec;
 
 use std::alloc::Global;
-use wf_text::{Bytes, BytesList, OutOfMemory, is_token, parts_between};
+use wf_precache::Names;
+use wf_text::{Bytes, OutOfMemory, is_token, parts_between};
 
 // The method that is asked for, or none.
 pub(crate) fn method_in(alloc: Global, word: &[u8]) -> Result<Option<Option<Bytes>>, OutOfMemory>
@@ -28,22 +29,22 @@ fn are_tokens(parts: &[&[u8]]) -> bool
 }
 
 // Copies of the parts.
-fn copies(alloc: Global, parts: &[&[u8]]) -> Result<BytesList, OutOfMemory>
+fn copies(alloc: Global, parts: &[&[u8]]) -> Result<Names, OutOfMemory>
     ensures { IfOk result (λ list. list ≡ map (λ part. part.now) parts.now) }
 {
     let mut list = Vec::with_capacity(alloc, parts.len())?;
     for part in parts {
         list.push(Bytes::of(alloc, part)?)?;
     }
-    Ok(BytesList::from_vec(list))
+    Names::of(alloc, list.as_slice())
 }
 
 // Tokens, joined by commas.
-pub(crate) fn list_in(alloc: Global, word: &[u8]) -> Result<Option<BytesList>, OutOfMemory>
+pub(crate) fn list_in(alloc: Global, word: &[u8]) -> Result<Option<Names>, OutOfMemory>
     ensures { IfOk result (λ list. list ≡ spec.list_in word.now) }
 {
     if word == b"()".as_slice() {
-        return Ok(Some(BytesList::new(alloc)));
+        return Ok(Some(Names::new()));
     }
     let parts = parts_between(alloc, word, b',')?;
     if !are_tokens(parts.as_slice()) {
