@@ -1,7 +1,7 @@
 ghost use Rattle.std.specs.Prelude.{◌≡◌, IfOk};
 
 use std::alloc::Global;
-use wf_precache::{Lesson, Question};
+use wf_precache::{Lesson, Names, Question};
 use wf_text::{Bytes, BytesList};
 use worked_rows::Failed;
 
@@ -23,8 +23,8 @@ pub(crate) fn lesson(
         url,
         include: false,
         age,
-        methods,
-        names,
+        methods: Names::of(alloc, methods.as_slice())?,
+        names: Names::of(alloc, names.as_slice())?,
     })
 }
 

@@ -9,7 +9,7 @@ use wf_fetch_acts::Act;
 use wf_fetch_session::Session;
 use wf_headers::HeaderList;
 use wf_http1::write_request;
-use wf_precache::{Lesson, Question};
+use wf_precache::{Lesson, Names, Question};
 use wf_text::{Bytes, OutOfMemory};
 use wf_types::{BodyEnd, Hop, NetError, Outcome, Response, Violation};
 
@@ -46,12 +46,14 @@ pub enum Part {
 }
 
 // The text at an index.
-fn text_at(texts: &[Bytes], at: usize) -> Option<&[u8]>
+#[tactic(auto, using(std::proofs::lemmas::Option::slice_get_past))]
+fn text_at(texts: &Names, at: usize) -> Option<&[u8]>
     ensures { option_map (λ text. text.now) result ≡ slice_get texts.now at }
 {
-    match texts.get(at) {
-        None => None,
-        Some(text) => Some(text.as_slice()),
+    if at < texts.len() {
+        Some(texts.at(at))
+    } else {
+        None
     }
 }
 
@@ -88,7 +90,7 @@ fn question_text(question: &Question, part: Part, at: usize) -> Option<&[u8]>
         Part::Origin => Some(question.origin.as_slice()),
         Part::Url => Some(question.url.as_slice()),
         Part::Method => text_in(&question.method),
-        Part::Name => text_at(question.names.as_slice(), at),
+        Part::Name => text_at(&question.names, at),
         _ => None,
     }
 }
@@ -101,8 +103,8 @@ fn lesson_text(lesson: &Lesson, part: Part, at: usize) -> Option<&[u8]>
         Part::Key => Some(lesson.key.as_slice()),
         Part::Origin => Some(lesson.origin.as_slice()),
         Part::Url => Some(lesson.url.as_slice()),
-        Part::Name => text_at(lesson.names.as_slice(), at),
-        Part::Learnt => text_at(lesson.methods.as_slice(), at),
+        Part::Name => text_at(&lesson.names, at),
+        Part::Learnt => text_at(&lesson.methods, at),
         _ => None,
     }
 }

@@ -3,8 +3,8 @@
 //     KEY URL CREDENTIALS METHOD NAMES          a question
 //     KEY URL CREDENTIALS AGE METHODS NAMES     a lesson
 use std::alloc::Global;
-use wf_precache::{Lesson, Question};
-use wf_text::{Bytes, BytesList};
+use wf_precache::{Lesson, Names, Question};
+use wf_text::Bytes;
 use worked_rows::{Failed, Row, named, number, texts_between};
 
 /// The origin of all requests.
@@ -14,11 +14,12 @@ pub(crate) const ORIGIN: &[u8] = b"http://a.test";
 const CREDENTIALS: [(&[u8], bool); 2] = [(b"include", true), (b"other", false)];
 
 // The texts between the commas of a word, or none where it is `-`.
-fn texts(alloc: Global, word: &[u8]) -> Result<BytesList, Failed> {
+fn texts(alloc: Global, word: &[u8]) -> Result<Names, Failed> {
     if word == b"-".as_slice() {
-        return Ok(BytesList::new(alloc));
+        return Ok(Names::new());
     }
-    texts_between(alloc, word, b',')
+    let texts = texts_between(alloc, word, b',')?;
+    Ok(Names::of(alloc, texts.as_slice())?)
 }
 
 // The method of a question, or none.
@@ -37,7 +38,7 @@ fn no_question(alloc: Global) -> Question {
         url: Bytes::new(alloc),
         include: false,
         method: None,
-        names: BytesList::new(alloc),
+        names: Names::new(),
     }
 }
 
@@ -67,8 +68,8 @@ fn no_lesson(alloc: Global) -> Lesson {
         url: Bytes::new(alloc),
         include: false,
         age: 0,
-        methods: BytesList::new(alloc),
-        names: BytesList::new(alloc),
+        methods: Names::new(),
+        names: Names::new(),
     }
 }
 
