@@ -45,8 +45,7 @@ fn play_script<R: Threads + Wait + Sync, S: Share, L: Link>(
     pass: &mut S::Pass,
     link: &mut L,
 ) -> Transcript
-    requires client { IsClient lent.now.client.now }
-    requires script { AreValid document.now.script }
+    requires valid { IsClient lent.now.client.now × AreValid document.now.script }
     requires base { base ≤ 2 ^ 40 }
     requires pass { S.belongs lent.now.share.now pass.old × (most_calls ≤ (S.account pass.old).left) }
     requires idle { IsIdle (exchange_of L.told link.old wire.old) }
