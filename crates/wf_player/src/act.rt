@@ -1,7 +1,7 @@
 // One act of a fetch.
+ghost use Rattle.std.specs.Prelude.{◌+◌, ◌<◌, ◌≡◌, ◌≤◌, IfOk, IsTrue, OnErr};
 ghost use Rattle.wf_player.specs.Standings.{IsReady, Keeps, KeepsPass, world};
-ghost use Rattle.wf_player.specs.Words.{◌+◌, ◌<◌, ◌≡◌, ◌≤◌, Ask, IfOk, InRange, IsTrue, OnErr, asks, fits, over_link};
-ghost use Rattle.wf_player.specs.Words.{price_of};
+ghost use Rattle.wf_player.specs.Words.{Ask, InRange, asks, fits, over_link, price_of};
 ghost use Rattle.wf_player.specs.Worlds.{Answers, CanAnswer, IsAsked, IsRefusedCall, Refuses, outside_of};
 
 use crate::lent::Lent;

@@ -1,12 +1,12 @@
 // What a script asks for: a fetch, or a load by an element.
+ghost use Rattle.std.specs.Prelude.{[], ◌+◌, ◌<◌, ◌∷◌, ◌≡◌, ◌≤◌, IfOk, None, OnErr, OnOk};
 ghost use Rattle.wf_player.specs.Parts.{Plays};
 ghost use Rattle.wf_player.specs.Standings.{HasSpent, IsReady, Keeps, MayGoOn, standing, world};
-ghost use Rattle.wf_player.specs.Words.{[], ◌+◌, ◌<◌, ◌∷◌, ◌≡◌, ◌≤◌, IfOk, IsAtEnd, IsClient, IsIdle, IsRequest};
-ghost use Rattle.wf_player.specs.Words.{IsValidInit, IsValidLoad, None, OnErr, OnOk, after_events, asked as asks_for};
-ghost use Rattle.wf_player.specs.Words.{command_started, fetch_step, fetched, filled_init as filled_fetch};
-ghost use Rattle.wf_player.specs.Words.{filled_load as load_filled, lent_result, limit_before, load_step, most_asks};
-ghost use Rattle.wf_player.specs.Words.{most_commands, most_fetches, new_load as load_of, new_request as request_of};
-ghost use Rattle.wf_player.specs.Words.{over_link, started};
+ghost use Rattle.wf_player.specs.Words.{IsAtEnd, IsClient, IsIdle, IsRequest, IsValidInit, IsValidLoad, after_events};
+ghost use Rattle.wf_player.specs.Words.{asked as asks_for, command_started, fetch_step, fetched};
+ghost use Rattle.wf_player.specs.Words.{filled_init as filled_fetch, filled_load as load_filled, lent_result};
+ghost use Rattle.wf_player.specs.Words.{limit_before, load_step, most_asks, most_commands, most_fetches};
+ghost use Rattle.wf_player.specs.Words.{new_load as load_of, new_request as request_of, over_link, started};
 ghost use Rattle.wf_player.specs.Worlds.{outside_of};
 
 use crate::lent::Lent;

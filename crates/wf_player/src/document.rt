@@ -1,11 +1,11 @@
 // One document, played.
+ghost use Rattle.std.specs.Prelude.{◌<◌, ◌^◌, ◌≡◌, ◌≢◌, ◌≤◌, IfOk, OnErr, Some, length, slice_get};
 ghost use Rattle.wf_player.specs.Playing as spec;
 ghost use Rattle.wf_player.specs.Playing.{Came};
 ghost use Rattle.wf_player.specs.Standings.{KeepsPass, most_calls, setting_of};
-ghost use Rattle.wf_player.specs.Words.{◌<◌, ◌^◌, ◌≡◌, ◌≢◌, ◌≤◌, AreValid, Document as OneDocument, IfOk, IsAtEnd};
-ghost use Rattle.wf_player.specs.Words.{IsClient, IsIdle, IsValid, IsValidDocument, Memory, OnErr, Some, beginning};
-ghost use Rattle.wf_player.specs.Words.{document_client, document_run, exchange_of, finished, length, over_link};
-ghost use Rattle.wf_player.specs.Words.{script_run, slice_get};
+ghost use Rattle.wf_player.specs.Words.{AreValid, Document as OneDocument, IsAtEnd, IsClient, IsIdle, IsValid};
+ghost use Rattle.wf_player.specs.Words.{IsValidDocument, Memory, beginning, document_client, document_run};
+ghost use Rattle.wf_player.specs.Words.{exchange_of, finished, over_link, script_run};
 ghost use Rattle.wf_player.specs.Worlds.{outside};
 
 use crate::lent::Lent;

@@ -1,10 +1,10 @@
 // One fetch, played over a link and a share of the book.
+ghost use Rattle.std.specs.Prelude.{◌+◌, ◌<◌, ◌^◌, ◌≡◌, ◌≤◌, IfOk, IsTrue, OnErr, OnOk};
 ghost use Rattle.wf_player.specs.Driving.{Drives, Fetches};
 ghost use Rattle.wf_player.specs.Private.Going.{GoesOn, PartNoted};
 ghost use Rattle.wf_player.specs.Standings.{IsReady, Keeps, KeepsPass, setting_of, standing, world};
-ghost use Rattle.wf_player.specs.Words.{◌+◌, ◌<◌, ◌^◌, ◌≡◌, ◌≤◌, IfOk, IsAtEnd, IsClient, IsRequest, IsTrue, Leads};
-ghost use Rattle.wf_player.specs.Words.{OnErr, OnOk, after_events, asks, at_time, context_of, events_of, fetch, fits};
-ghost use Rattle.wf_player.specs.Words.{most_asks, over_link, price_of, rest};
+ghost use Rattle.wf_player.specs.Words.{IsAtEnd, IsClient, IsRequest, Leads, after_events, asks, at_time, context_of};
+ghost use Rattle.wf_player.specs.Words.{events_of, fetch, fits, most_asks, over_link, price_of, rest};
 ghost use Rattle.wf_player.specs.Worlds.{CanAnswer, outside};
 
 use crate::held::Held;

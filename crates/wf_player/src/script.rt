@@ -1,8 +1,9 @@
 // Scripts, command by command.
+ghost use Rattle.std.specs.Prelude.{◌≡◌, None};
 ghost use Rattle.wf_player.specs.Parts.{Plays};
 ghost use Rattle.wf_player.specs.Standings.{HasSpent, IsReady, Keeps, MayGoOn, standing};
-ghost use Rattle.wf_player.specs.Words.{◌≡◌, AreValid, IsValidStep, None, chosen, command_started, limit_before};
-ghost use Rattle.wf_player.specs.Words.{over_link, repeated, script_run, step_of};
+ghost use Rattle.wf_player.specs.Words.{AreValid, IsValidStep, chosen, command_started, limit_before, over_link};
+ghost use Rattle.wf_player.specs.Words.{repeated, script_run, step_of};
 
 use crate::player::Player;
 use std::sync::Wait;

@@ -1,8 +1,9 @@
 // Documents on threads, by fork and join.
+ghost use Rattle.std.specs.Prelude.{[], ℕ, ◌<◌, ◌^◌, ◌≡◌, ◌≤◌, IfOk, OnErr, length, map, slice_index_or, vec_capacity};
+ghost use Rattle.std.specs.Prelude.{vec_len};
 ghost use Rattle.wf_player.specs.Private.Rows.{CanPlay, RowPlayed, seatings_of, transcripts_of};
 ghost use Rattle.wf_player.specs.Seats.{AreRefused, AreSeated, IsPlayed, seat_of};
-ghost use Rattle.wf_player.specs.Words.{[], ℕ, ◌<◌, ◌^◌, ◌≡◌, ◌≤◌, All, EachDocument, IfOk, IsValid, OnErr, length};
-ghost use Rattle.wf_player.specs.Words.{map, over_link, range_with_len, slice_index_or, vec_capacity, vec_len};
+ghost use Rattle.wf_player.specs.Words.{All, EachDocument, IsValid, over_link, range_with_len};
 
 use crate::document::drive;
 use crate::seating::{Row, Seating};
