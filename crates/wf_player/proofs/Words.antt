@@ -4,7 +4,9 @@ pub use Rattle.std.proofs.Common.{refl, rules, subst, suc, sym, take, true, zero
 pub use Rattle.std.proofs.lemmas.List.{append-nil, drop_all, get_or-map, length-map, take_all}
 pub use Rattle.std.proofs.lemmas.Result.{IfOk-weaker, MatchResult-from_err, on_err_weaker}
 pub use Rattle.std.specs.List.{AllByRecursion}
-pub use Rattle.std.specs.Prelude.{is_some}
+pub use Rattle.std.specs.Prelude.{is_some, [], ℕ, ◌*◌, ◌++◌, ◌+◌, ◌<◌, ◌^◌, ◌∷◌, ◌≡◌, ◌≢◌, ◌≤◌, Err, IfOk, IsTrue}
+pub use Rattle.std.specs.Prelude.{List, None, Ok, OnErr, Option, Result, Some, length, map, slice_get, vec_capacity}
+pub use Rattle.std.specs.Prelude.{vec_len}
 pub use Rattle.std.specs.Result.{IsErr}
 pub use Rattle.std.specs.Vec.Iter.{into_iter_len}
 pub use Rattle.wf_fetch_acts.specs.Within.{Anything, Within, acts}
@@ -17,15 +19,13 @@ pub use Rattle.wf_player.specs.Private.Rows.{CanPlay, RowPlayed, seatings_of, tr
 pub use Rattle.wf_player.specs.Seats.{AreSeated, IsPlayed, Seat, seat_of}
 pub use Rattle.wf_player.specs.Standings.{HasSpent, Keeps, KeepsPass, MayGoOn, Standing, Terms, most_calls}
 pub use Rattle.wf_player.specs.Standings.{setting_of, standing, terms_of}
-pub use Rattle.wf_player.specs.Words.{[], ℕ, ◌*◌, ◌++◌, ◌+◌, ◌<◌, ◌^◌, ◌∷◌, ◌≡◌, ◌≢◌, ◌≤◌, Act, All, Answering, Ask}
-pub use Rattle.wf_player.specs.Words.{Context, Document, EachDocument, Ending, Err, Event, IfOk, Input, IsAtEnd, IsIdle}
-pub use Rattle.wf_player.specs.Words.{IsTrue, List, Memory, Next, None, Ok, OnErr, Option, Outcome, OutOfMemory, Play}
-pub use Rattle.wf_player.specs.Words.{PlayTrace, Process, Progress, Result, Send, Some, Tell, Transcript, act}
-pub use Rattle.wf_player.specs.Words.{after_events, asked, asks, at_time, beginning, command_started, context_of}
-pub use Rattle.wf_player.specs.Words.{document_client, document_run, ended, events_of, fetch, fetched, filled_init}
-pub use Rattle.wf_player.specs.Words.{finished, fits, length, lent_result, limit_before, map, most_asks, over}
-pub use Rattle.wf_player.specs.Words.{over_link, price_of, range_with_len, repeated, script_run, setting, slice_get}
-pub use Rattle.wf_player.specs.Words.{started, step_of, unless_limit, vec_capacity, vec_len}
+pub use Rattle.wf_player.specs.Words.{Act, All, Answering, Ask, Context, Document, EachDocument, Ending, Event, Input}
+pub use Rattle.wf_player.specs.Words.{IsAtEnd, IsIdle, Memory, Next, Outcome, OutOfMemory, Play, PlayTrace, Process}
+pub use Rattle.wf_player.specs.Words.{Progress, Send, Tell, Transcript, act, after_events, asked, asks, at_time}
+pub use Rattle.wf_player.specs.Words.{beginning, command_started, context_of, document_client, document_run, ended}
+pub use Rattle.wf_player.specs.Words.{events_of, fetch, fetched, filled_init, finished, fits, lent_result}
+pub use Rattle.wf_player.specs.Words.{limit_before, most_asks, over, over_link, price_of, range_with_len, repeated}
+pub use Rattle.wf_player.specs.Words.{script_run, setting, started, step_of, unless_limit}
 pub use Rattle.wf_player.specs.Worlds.{Answers, IsHungUp, Outside, Refuses, Settles, World, outside, outside_of}
 pub use Rattle.wf_script_commands.specs.Commands.{steps_of}
 pub use Rattle.wf_script_commands.specs.Depth.{step_size, steps_size}

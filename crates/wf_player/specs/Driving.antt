@@ -1,9 +1,9 @@
 -- What a fetch comes to in a document's world.
+use Rattle.std.specs.Prelude.{ℕ, ◌++◌, ◌≡◌, ◌≤◌, List, MatchResult, Result, length}
 use Rattle.wf_player.specs.declared.fetch.FetchRun.{FetchRun}
 use Rattle.wf_player.specs.Standings.{Standing}
-use Rattle.wf_player.specs.Words.{ℕ, ◌++◌, ◌≡◌, ◌≤◌, Answering, Driven, Event, Input, IsIdle, List, MatchResult}
-use Rattle.wf_player.specs.Words.{Outcome, OutOfMemory, Process, Result, Trace, after_events, ended, events_of, length}
-use Rattle.wf_player.specs.Words.{with_events}
+use Rattle.wf_player.specs.Words.{Answering, Driven, Event, Input, IsIdle, Outcome, OutOfMemory, Process, Trace}
+use Rattle.wf_player.specs.Words.{after_events, ended, events_of, with_events}
 use Rattle.wf_player.specs.Worlds.{Answers, Outside, Refuses, World, outside_of}
 
 -- with these items of a tape a process shows these events in the world of a document, and goes on

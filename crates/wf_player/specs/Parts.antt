@@ -1,8 +1,9 @@
 -- What each part of a document's run comes to in the document's world.
+use Rattle.std.specs.Prelude.{ℕ, ◌++◌, ◌≡◌, List, MatchResult, Option, Result}
 use Rattle.wf_player.specs.Driving.{HasLost}
 use Rattle.wf_player.specs.Standings.{Standing}
-use Rattle.wf_player.specs.Words.{ℕ, ◌++◌, ◌≡◌, Answering, Ending, Event, Input, IsAtEnd, List, MatchResult, Next}
-use Rattle.wf_player.specs.Words.{Option, OutOfMemory, Play, PlayTrace, Result, Setting, unless_limit}
+use Rattle.wf_player.specs.Words.{Answering, Ending, Event, Input, IsAtEnd, Next, OutOfMemory, Play, PlayTrace}
+use Rattle.wf_player.specs.Words.{Setting, unless_limit}
 use Rattle.wf_player.specs.Worlds.{Answers, Settles, World}
 
 -- with these items of a tape a run shows these events in the world of a document, and goes on

@@ -1,7 +1,8 @@
 -- What a document's run comes to in the document's world.
+use Rattle.std.specs.Prelude.{[], ℕ, ◌++◌, ◌≡◌, ◌≤◌, Err, List, None, Ok, Option, Result, Some, length}
 use Rattle.wf_player.specs.Parts.{PlaysOn}
-use Rattle.wf_player.specs.Words.{[], ℕ, ◌++◌, ◌≡◌, ◌≤◌, Answering, Ending, Err, Event, Finished, Input, IsIdle, List}
-use Rattle.wf_player.specs.Words.{Memory, None, Ok, Option, OutOfMemory, Play, Result, Some, length, over, run_play}
+use Rattle.wf_player.specs.Words.{Answering, Ending, Event, Finished, Input, IsIdle, Memory, OutOfMemory, Play, over}
+use Rattle.wf_player.specs.Words.{run_play}
 use Rattle.wf_player.specs.Worlds.{Outside, Refuses, World, outside_of}
 
 -- how a run has ended, whose script has played to its end or to a limit, or was refused memory

@@ -1,11 +1,11 @@
 -- What a play does to the seat of each document: its pass of the shared book, and its link (this project's own; each
 -- document fetches by itself, Fetch, section 4, and the book alone is shared).
+use Rattle.std.specs.Prelude.{ℕ, ◌+◌, ◌≡◌, ◌≢◌, ◌≤◌, ◌⊎◌, List, length, map}
 use Rattle.wf_player.specs.declared.seating.Seating.{Seating}
 use Rattle.wf_player.specs.Playing.{Came}
 use Rattle.wf_player.specs.Standings.{most_calls}
-use Rattle.wf_player.specs.Words.{ℕ, ◌+◌, ◌≡◌, ◌≢◌, ◌≤◌, ◌⊎◌, Account, All, Answering, Book, Document, EachDocument}
-use Rattle.wf_player.specs.Words.{List, Memory, Scenario, Told, Transcript, document_client, document_run, length, map}
-use Rattle.wf_player.specs.Words.{range_with_len}
+use Rattle.wf_player.specs.Words.{Account, All, Answering, Book, Document, EachDocument, Memory, Scenario, Told}
+use Rattle.wf_player.specs.Words.{Transcript, document_client, document_run, range_with_len}
 use Rattle.wf_player.specs.Worlds.{Outside, outside}
 
 -- What is seen of a seat: the document that its pass is for, the book that its share was opened with, and what is

@@ -1,8 +1,9 @@
 -- Where a run stands: what it goes by, the world outside of it, and how far it has come inside (this project's own).
+use Rattle.std.specs.Prelude.{ℕ, ◌*◌, ◌+◌, ◌≡◌, ◌≤◌}
 use Rattle.wf_player.specs.declared.lent.Lent.{Lent}
 use Rattle.wf_player.specs.declared.player.Player.{Player}
-use Rattle.wf_player.specs.Words.{ℕ, ◌*◌, ◌+◌, ◌≡◌, ◌≤◌, Account, IsAtEnd, IsClient, Progress, Setting, Told, most_asks}
-use Rattle.wf_player.specs.Words.{most_fetches, setting}
+use Rattle.wf_player.specs.Words.{Account, IsAtEnd, IsClient, Progress, Setting, Told, most_asks, most_fetches}
+use Rattle.wf_player.specs.Words.{setting}
 use Rattle.wf_player.specs.Worlds.{World, world_of}
 
 -- What a run goes by: what its fetches have in common, how many bytes a body may have, and the document's number.

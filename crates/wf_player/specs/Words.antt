@@ -1,8 +1,5 @@
 -- The words of other crates of which the specs and the contracts speak, each brought in once.
 pub use Rattle.std.specs.List.{All, range_with_len}
-pub use Rattle.std.specs.Prelude.{◌≡◌, ◌≢◌, ◌⊎◌, ℕ, ◌+◌, ◌*◌, ◌^◌, ◌<◌, ◌≤◌, List, [], ◌∷◌, ◌++◌, length, map}
-pub use Rattle.std.specs.Prelude.{IsTrue, Option, Some, None, Result, Ok, Err, IfOk, OnOk, OnErr, MatchResult}
-pub use Rattle.std.specs.Prelude.{slice_get, slice_index_or, vec_capacity, vec_len}
 pub use Rattle.wf_book.specs.Accounts.{Account}
 pub use Rattle.wf_book.specs.Ops.{InRange}
 pub use Rattle.wf_book.specs.declared.book.Book.{Book}

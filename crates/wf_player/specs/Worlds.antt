@@ -1,11 +1,11 @@
 -- The world of a document's run: its link and its pass of the shared book, and what comes of each act there (this
 -- project's own; Fetch, section 4, where the algorithm waits for the network or the preflight cache).
+use Rattle.std.specs.Prelude.{[], ℕ, ◌++◌, ◌+◌, ◌<◌, ◌∷◌, ◌≡◌, ◌≤◌, List, Option}
 use Rattle.wf_fetch_acts.specs.declared.act.Input.TheVariants.{Replied, Told}
 use Rattle.wf_link.specs.Links as links
 use Rattle.wf_script_events.specs.declared.events.Event.TheVariants.{Result, LoadFailed}
-use Rattle.wf_player.specs.Words.{[], ℕ, ◌++◌, ◌+◌, ◌<◌, ◌∷◌, ◌≡◌, ◌≤◌, Account, Act, Answering, Ask, Entry, Event}
-use Rattle.wf_player.specs.Words.{Exchange, Exchanges, Input, InRange, IsIdle, IsSendable, List, Op, Option, Received}
-use Rattle.wf_player.specs.Words.{Send, Tell, Wire, exchange_of}
+use Rattle.wf_player.specs.Words.{Account, Act, Answering, Ask, Entry, Event, Exchange, Exchanges, Input, InRange}
+use Rattle.wf_player.specs.Words.{IsIdle, IsSendable, Op, Received, Send, Tell, Wire, exchange_of}
 
 -- What a document's run meets and changes: the exchange over its link; the entries of the calls of the book that the
 -- document has made; and how many more calls it may make.

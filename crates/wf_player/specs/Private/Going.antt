@@ -1,9 +1,9 @@
 -- One act of a fetch.
+use Rattle.std.specs.Prelude.{◌++◌, ◌≡◌, IsTrue, List, MatchResult, Result}
 use Rattle.wf_player.specs.Driving.{FetchCut}
 use Rattle.wf_player.specs.Standings.{Standing}
-use Rattle.wf_player.specs.Words.{◌++◌, ◌≡◌, Act, Answering, Context, Does, Event, Fetching, Input, IsTrue, List}
-use Rattle.wf_player.specs.Words.{MatchResult, OutOfMemory, Process, Progress, Result, Step, act, after_events}
-use Rattle.wf_player.specs.Words.{events_of, fits, rest}
+use Rattle.wf_player.specs.Words.{Act, Answering, Context, Does, Event, Fetching, Input, OutOfMemory, Process}
+use Rattle.wf_player.specs.Words.{Progress, Step, act, after_events, events_of, fits, rest}
 use Rattle.wf_player.specs.Worlds.{Answers}
 
 -- a fetch, from the act on that it waits for
