@@ -128,6 +128,7 @@ impl Session {
     }
 
     // Feeds the reader of a fetch that reads.
+    #[tactic(auto, using(crate::proofs::FeedingLemmas::body_suits))]
     fn feed_reader(&mut self, alloc: Global, waiting: Waiting, piece: &[u8]) -> Fed
         requires { reads_bytes (Some waiting.act) ≡ true }
         ensures { Came (Some waiting.act)

@@ -13,7 +13,7 @@ pub record Serves (State : Type 0) : Type 0 where
 -- each where told; how many bytes of each answer were received, where told: a number for each ask that succeeded, in
 -- order, which begins at 0 and stops at its greatest value (an ask that failed may have added a number too, or not);
 -- and how often it failed.
-pub record Told (State : Type 0) : Type 0 where
+pub record LinkTold (State : Type 0) : Type 0 where
   pub state : Option State
   pub left : Option (List ℕ)
   pub asks : Option (List Ask)
@@ -21,7 +21,7 @@ pub record Told (State : Type 0) : Type 0 where
   pub faults : ℕ
 
 -- how often a link failed, as it tells
-abbrev pub faults_told : {L State : Type 0} → (L → Told State) → L → ℕ
+abbrev pub faults_told : {L State : Type 0} → (L → LinkTold State) → L → ℕ
 faults_told told link = (told link).faults
 
 -- the asks grew by this one
@@ -57,19 +57,19 @@ IsTold None link = Unit {0}
 IsTold (Some told) link = link ≡ told
 
 -- the links taken back, and how many more are out
-pub record Lent (Link : Type 0) : Type 0 where
+pub record Lendings (Link : Type 0) : Type 0 where
   pub back : List Link
   pub out : ℕ
 
 -- a link more is out
-abbrev pub one_out : {Link : Type 0} → Lent Link → Lent Link
+abbrev pub one_out : {Link : Type 0} → Lendings Link → Lendings Link
 one_out lent = record lent { out = lent.out + 1 }
 
 -- of those out, this one is back
-abbrev pub one_back : {Link : Type 0} → Lent Link → Link → Lent Link
+abbrev pub one_back : {Link : Type 0} → Lendings Link → Link → Lendings Link
 one_back lent link = record { back = lent.back ++ link ∷ []; out = lent.out - 1 }
 
 -- a link came back: where one was out, it is this one
-abbrev pub TookBack : {Link : Type 0} → Option (Lent Link) → Option (Lent Link) → Link → Type 0
+abbrev pub TookBack : {Link : Type 0} → Option (Lendings Link) → Option (Lendings Link) → Link → Type 0
 TookBack None new link = Unit {0}
 TookBack (Some old) new link = 0 < old.out → new ≡ Some (one_back old link)

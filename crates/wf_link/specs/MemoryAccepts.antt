@@ -2,7 +2,7 @@
 use Rattle.std.specs.Prelude.{ℕ, nat_le, length, List, drop, slice_get, Option, Some, Result, Ok, Err, ok_or, ⊤}
 use Rattle.std.specs.Prelude.{if◌then◌else◌}
 use Rattle.wf_link.specs.Counts.{is_next_in, one_more}
-use Rattle.wf_link.specs.Links.{Lent, one_out}
+use Rattle.wf_link.specs.Links.{Lendings, one_out}
 use Rattle.wf_link.specs.MemoryLinks.{kept_back}
 use Rattle.wf_link.specs.MemorySink.{SinkState}
 use Rattle.wf_link.specs.MemorySource.{SourceState}
@@ -30,7 +30,7 @@ pub record AcceptsState : Type 0 where
   pub opened : Option (List ℕ)
   pub room : ℕ
   pub coming : List EndState
-  pub lent : Lent EndState
+  pub lent : Lendings EndState
   pub calls : ℕ
   pub failing_calls : List ℕ
   pub faults : ℕ

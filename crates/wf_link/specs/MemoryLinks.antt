@@ -1,14 +1,14 @@
 -- Links in memory: what their calls answer, and what they leave.
 use Rattle.std.specs.Prelude.{ℕ, ◌==◌, List, drop, if◌then◌else◌}
 use Rattle.wf_link.specs.Counts.{grown_by}
-use Rattle.wf_link.specs.Links.{Lent, one_back, one_out}
+use Rattle.wf_link.specs.Links.{Lendings, one_back, one_out}
 use Rattle.wf_link.specs.MemoryLink.{MemoryLinkState}
 
 -- the links that are not handed out yet, those taken back with how many are out, and how often those
 -- taken back had failed
 pub record LinksState : Type 0 where
   pub waiting : List MemoryLinkState
-  pub lent : Lent MemoryLinkState
+  pub lent : Lendings MemoryLinkState
   pub faults : ℕ
 
 -- what a make leaves: the next link is out
@@ -16,7 +16,7 @@ abbrev pub after_make : LinksState → LinksState
 after_make links = record links { waiting = drop 1 links.waiting; lent = one_out links.lent }
 
 -- a link is kept where one is out
-abbrev pub kept_back : {Link : Type 0} → Lent Link → Link → Lent Link
+abbrev pub kept_back : {Link : Type 0} → Lendings Link → Link → Lendings Link
 kept_back lent link = if lent.out == 0 then lent else one_back lent link
 
 -- what a take_back leaves: its faults are counted in any case

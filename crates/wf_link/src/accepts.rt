@@ -1,7 +1,7 @@
 ghost use Rattle.std.specs.Prelude.{◌≡◌, ℕ, List, Option, IfOk, OnOk, OnErr, option_map};
 ghost use Rattle.wf_link.specs.Accepts.{GaveFirst, Opened};
 ghost use Rattle.wf_link.specs.Counts.{HasCause};
-ghost use Rattle.wf_link.specs.Links.{Lent, TookBack, one_out};
+ghost use Rattle.wf_link.specs.Links.{Lendings, TookBack, one_out};
 
 use crate::peer::Peer;
 use crate::source::Failed;
@@ -19,7 +19,7 @@ pub trait Accepts {
     ghost coming: { Self → Option (List Self.End) };
 
     /// The ends taken back, each as it came back, in order, and how many more are out, where told.
-    ghost lent: { Self → Option (Lent Self.End) };
+    ghost lent: { Self → Option (Lendings Self.End) };
 
     /// How often it failed.
     ghost faults: { Self → ℕ };

@@ -1,7 +1,7 @@
 ghost use Rattle.std.specs.Prelude.{◌≡◌, ◌⊎◌, ◌<◌, take, length, Ok, IfOk, OnOk, OnErr, option_map};
 ghost use Rattle.std.specs.Io.{ReadsAtMost};
 ghost use Rattle.wf_link.specs.Counts.{HasCause};
-ghost use Rattle.wf_link.specs.Links.{Asked, Awaits, MayHaveAsked, Received, Serves, Told};
+ghost use Rattle.wf_link.specs.Links.{Asked, Awaits, MayHaveAsked, Received, Serves, LinkTold};
 ghost use Rattle.wf_link.specs.Sources.{Gave, IsAtEnd};
 
 use crate::source::Failed;
@@ -17,7 +17,7 @@ pub trait Link {
     ghost serves: { Serves State };
 
     /// What it tells of itself.
-    ghost told: { Self → Told State };
+    ghost told: { Self → LinkTold State };
 
     /// Sends a request to its target. The bytes to come are then its answer. The state goes on also
     /// where it failed. The count of faults rises by one where it fails, and only there.

@@ -1,6 +1,6 @@
 ghost use Rattle.std.specs.Prelude.{◌≡◌, ◌+◌, ℕ, List, Option, IfOk, OnErr, option_map};
 ghost use Rattle.wf_link.specs.Counts.{grown_by};
-ghost use Rattle.wf_link.specs.Links.{IsTold, Lent, TookBack, one_out};
+ghost use Rattle.wf_link.specs.Links.{IsTold, Lendings, TookBack, one_out};
 ghost use Rattle.wf_link.specs.declared.target.Route.{Route};
 
 use crate::link::Link;
@@ -19,7 +19,7 @@ pub trait Links {
     ghost opening: { Self → ℕ → ℕ → List Route → Option Self.Link };
 
     /// The links taken back, each as it came back, in order, and how many more are out, where told.
-    ghost lent: { Self → Option (Lent Self.Link) };
+    ghost lent: { Self → Option (Lendings Self.Link) };
 
     /// How often the links that it took back had failed.
     ghost faults: { Self → ℕ };

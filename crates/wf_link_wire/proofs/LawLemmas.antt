@@ -7,7 +7,7 @@ use Rattle.wf_fetch_acts.specs.declared.act.Input.{Input}
 use Rattle.wf_fetch_acts.specs.declared.act.Input.TheVariants.{Replied, Sent, HeadIs, HeadBad, HeadLong, BodyIs, Fault}
 use Rattle.wf_fetch_acts.specs.declared.act.Input.TheVariants.{Told}
 use Rattle.wf_link_wire.specs.ExchangeLaws.{AnswerAlike}
-use Rattle.wf_link_wire.specs.Exchanges.{Answering, Exchange, Exchanges, IsAnswered, IsAsked}
+use Rattle.wf_link_wire.specs.Exchanges.{Answering, Exchange, Exchanges, IsAnswered, IsRequested}
 
 -- two functions that agree at each value, at a value that may be told
 map-alike : {A B : Type 0} (f g : A → B) (told : Option A) → ((a : A) → f a ≡ g a)
@@ -28,7 +28,7 @@ module _ {State : Type 0} (answer answer' : State → List ℕ) (next next' : St
   answered-alike (BodyIs end) is = is
   answered-alike Told is = is
 
-  asked-alike : (input : Input) → IsAsked answer next old input new → IsAsked answer' next' old input new
+  asked-alike : (input : Input) → IsRequested answer next old input new → IsRequested answer' next' old input new
   asked-alike input is = record {
     answered = answered-alike input is.answered;
     framing_is = is.framing_is;

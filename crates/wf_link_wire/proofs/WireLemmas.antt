@@ -11,7 +11,8 @@ use Rattle.wf_link.specs.Sources.{Gave, GaveJust, IsAtEnd}
 use Rattle.wf_link.proofs.ReceivedLemmas.{received-none, received-on}
 use Rattle.wf_link.proofs.SourceLemmas.{gave-again}
 use Rattle.wf_fetch_acts.specs.declared.act.Input.{Input}
-use Rattle.wf_link_wire.specs.Exchanges.{AreToCome, Exchange, Gives, IsCaused, Refuses, Waited, WaitedFor, ends_answer}
+use Rattle.wf_link_wire.specs.Exchanges.{AreToCome, Exchange, Gives, IsCaused, ExchangeRefused, Waited, WaitedFor}
+use Rattle.wf_link_wire.specs.Exchanges.{ends_answer}
 use Rattle.wf_link_wire.specs.Exchanges.{is_fault, most_received}
 use Rattle.wf_link_wire.specs.Private.Reads.{Gathers, GivesAtMost, GivesSome}
 use Rattle.wf_link_wire.specs.Wires.{onto_left}
@@ -266,7 +267,7 @@ pub few-on : (Open : List ℕ → Type 0) (coming left left' left'' received rec
 few-on Open coming left left' left'' received received' received'' most same alike few = rw (same, alike) few
 
 -- memory was refused, and nothing was received
-pub refuses_none : {State : Type 0} (exchange : Exchange State) → Refuses exchange exchange
+pub refuses_none : {State : Type 0} (exchange : Exchange State) → ExchangeRefused exchange exchange
 refuses_none exchange =
     record { state_is = refl; count = 0; counted = received-none exchange.received; faults_are = refl }
 

@@ -83,7 +83,7 @@ IsAwaited Sent old new = Awaits old new
 IsAwaited _ old new = Awaits old new ⊎ (new ≡ old)
 
 -- A request was sent, or the link failed. In both the state goes on.
-pub record IsAsked {State : Type 0} (answer : State → List ℕ) (next : State → State) (old : Exchange State)
+pub record IsRequested {State : Type 0} (answer : State → List ℕ) (next : State → State) (old : Exchange State)
     (input : Input) (new : Exchange State) : Type 0 where
   pub answered : IsAnswered answer old input new
   pub framing_is : new.framing ≡ framing.Nothing
@@ -93,7 +93,7 @@ pub record IsAsked {State : Type 0} (answer : State → List ℕ) (next : State 
 
 -- the request of a hop was sent, or the link failed
 abbrev pub IsSent : {State : Type 0} → Answering State → Exchange State → Hop → Input → Exchange State → Type 0
-IsSent by old hop input new = IsAsked (λ state. by.answer state hop) (λ state. by.next state hop) old input new
+IsSent by old hop input new = IsRequested (λ state. by.answer state hop) (λ state. by.next state hop) old input new
 
 -- ---- what is received
 
@@ -231,7 +231,7 @@ Exchanges by limit old (Ask op) input new = ⊥
 Exchanges by limit old (Tell violation) input new = ⊥
 
 -- Where memory was refused the state and the count of faults are as they were, and some bytes may have been received.
-pub record Refuses {State : Type 0} (old new : Exchange State) : Type 0 where
+pub record ExchangeRefused {State : Type 0} (old new : Exchange State) : Type 0 where
   pub state_is : new.state ≡ old.state
   pub count : ℕ
   pub counted : Received count old.received new.received

@@ -1,7 +1,7 @@
 -- A wire over a link as an exchange.
 use Rattle.std.specs.Prelude.{ℕ, List, ◌++◌, slice_range, Option, option_map}
 use Rattle.wf_http1.specs.Requests.{request_bytes}
-use Rattle.wf_link.specs.Links.{Serves, Told}
+use Rattle.wf_link.specs.Links.{Serves, LinkTold}
 use Rattle.wf_link_wire.specs.declared.wire.Wire.{Wire}
 use Rattle.wf_link_wire.specs.Exchanges.{Answering, Exchange}
 
@@ -26,7 +26,7 @@ coming_of left wire = onto_left (window_of wire) left
 
 -- what the link tells of its state, the bytes to come, those that the link has left, how many bytes of each answer were
 -- received, the framing, and the link's count of faults
-abbrev pub exchange_of : {L State : Type 0} → (L → Told State) → L → Wire → Exchange State
+abbrev pub exchange_of : {L State : Type 0} → (L → LinkTold State) → L → Wire → Exchange State
 exchange_of told link wire = record {
   state = (told link).state;
   coming = coming_of (told link).left wire;

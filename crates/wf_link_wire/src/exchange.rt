@@ -4,7 +4,7 @@ ghost use Rattle.wf_http1.specs.Answers.{IsUnfinished, most_bytes};
 ghost use Rattle.wf_http1.specs.Bodies.{IsOpen, body_end};
 ghost use Rattle.wf_fetch_acts.specs.Process.{fits};
 ghost use Rattle.wf_link_wire.specs.Exchanges as spec;
-ghost use Rattle.wf_link_wire.specs.Exchanges.{IsAsked, IsBodyRead, IsHeadRead, IsSent, Refuses};
+ghost use Rattle.wf_link_wire.specs.Exchanges.{IsRequested, IsBodyRead, IsHeadRead, IsSent, ExchangeRefused};
 ghost use Rattle.wf_link_wire.specs.Private.Reads.{Finds, GivesAtMost, GivesSome, HasAtMost, Reads, faults_ended};
 ghost use Rattle.wf_link_wire.specs.Private.Reads.{faults_found};
 ghost use Rattle.wf_link_wire.specs.Wires.{coming_of, exchange_of, over_link, window_of};
@@ -79,7 +79,7 @@ impl Wire {
             (exchange_of L.told link.old self.old) hop.now input
             (exchange_of L.told link.new self.new)) }
         ensures fits { IfOk result (λ input. IsTrue (fits (Act.Send hop.now) input)) }
-        ensures refused { OnErr result (Refuses (exchange_of L.told link.old self.old)
+        ensures refused { OnErr result (ExchangeRefused (exchange_of L.told link.old self.old)
             (exchange_of L.told link.new self.new)) }
         ensures kept { OnErr result (exchange_of L.told link.new self.new
             ≡ exchange_of L.told link.old self.old) }
@@ -94,7 +94,7 @@ impl Wire {
     // Asks for the answer to the bytes of a request, and for nothing that was to come before.
     #[tactic(auto, using(crate::proofs::WireLemmas::onto_nothing))]
     fn ask<L: Link>(&mut self, link: &mut L, target: &Target, request: &[u8]) -> Input
-        ensures { IsAsked (λ state. L.serves.answer state target.now.origin request.now)
+        ensures { IsRequested (λ state. L.serves.answer state target.now.origin request.now)
             (λ state. L.serves.next state target.now.origin request.now)
             (exchange_of L.told link.old self.old)
             result (exchange_of L.told link.new self.new) }
@@ -120,7 +120,7 @@ impl Wire {
             (exchange_of L.told link.old self.old) input
             (exchange_of L.told link.new self.new)) }
         ensures fits { IfOk result (λ input. IsTrue (fits Act.ReadHead input)) }
-        ensures refused { OnErr result (Refuses (exchange_of L.told link.old self.old)
+        ensures refused { OnErr result (ExchangeRefused (exchange_of L.told link.old self.old)
             (exchange_of L.told link.new self.new)) }
     {
         match self.find_head(link, alloc)? {
@@ -190,7 +190,7 @@ impl Wire {
             (exchange_of L.told link.old self.old)
             input (exchange_of L.told link.new self.new)) }
         ensures fits { IfOk result (λ input. IsTrue (fits Act.ReadBody input)) }
-        ensures refused { OnErr result (Refuses (exchange_of L.told link.old self.old)
+        ensures refused { OnErr result (ExchangeRefused (exchange_of L.told link.old self.old)
             (exchange_of L.told link.new self.new)) }
     {
         match self.find_end(link, alloc, limit)? {

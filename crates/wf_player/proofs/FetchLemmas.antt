@@ -13,8 +13,9 @@ use Rattle.wf_fetch_laws.specs.Own.{IsOwnAct}
 use Rattle.wf_fetch_laws.proofs.OwnLemmas.{asks-at-most, fetch-within}
 use Rattle.wf_player.specs.Private.Going.{PartNoted, WentOn, from_act}
 use Rattle.wf_player.proofs.Words.{[], ℕ, ◌++◌, ◌+◌, ◌-◌, ◌<◌, ◌^◌, ◌∙◌, ◌∷◌, ◌≡◌, ◌≤◌, Act, Answering, Answers}
-use Rattle.wf_player.proofs.Words.{Anything, Ask, Context, Drove, Event, FetchCut, FetchedTo, Input, IsBegun, IsIdle}
-use Rattle.wf_player.proofs.Words.{IsTrue, LeadsOn, List, Outcome, Outside, Process, Progress, Refuses, Request, Send}
+use Rattle.wf_player.proofs.Words.{Anything, Ask, Context, Drove, Event, FetchCut, FetchedTo, Input, FetchBegun, IsIdle}
+use Rattle.wf_player.proofs.Words.{IsTrue, LeadsOn, List, Outcome, Outside, Process, Progress, WorldRefused, Request}
+use Rattle.wf_player.proofs.Words.{Send}
 use Rattle.wf_player.proofs.Words.{Some, Standing, Tell, Terms, Within, World, act, acts, after_events, ap, append-nil}
 use Rattle.wf_player.proofs.Words.{append_assoc, arith, asks, at_time, ended, events_of, fetch, fetch_price, fits}
 use Rattle.wf_player.proofs.Words.{length, level_price, levels, most_asks, outside_of, price_of, refl, subst, sym}
@@ -89,7 +90,7 @@ module _ {State : Type 0} {by : Answering State} where
 
   -- memory was refused before anything else
   pub cut-unbegun : {whole : Process} {a b : Standing State} → b.terms ≡ a.terms → b.progress ≡ a.progress
-      → Refuses (outside_of a.world) (outside_of b.world) → FetchCut by whole a b
+      → WorldRefused (outside_of a.world) (outside_of b.world) → FetchCut by whole a b
   unfolding came-none
   cut-unbegun {whole = whole} {a = a} same kept left =
       record { place = whole; last = a; came = came-none; lost = lost-none same kept left; kept = rw kept refl }
@@ -253,7 +254,7 @@ module _ {State : Type 0} {by : Answering State} where
 
     -- it was cut short
     pub fetch-begun : FetchCut by whole old last → outside_of last.world ≡ to
-        → IsBegun by old.terms.limit old.terms.document whole from to
+        → FetchBegun by old.terms.limit old.terms.document whole from to
     fetch-begun x ends = record {
       first = old.world;
       idle = idle;
@@ -268,7 +269,7 @@ module _ {State : Type 0} {by : Answering State} where
 
   -- memory was refused before it began
   pub fetch-unbegun : (limit document : ℕ) (whole : Process) (old new : Outside State) → new ≡ old
-      → IsBegun by limit document whole old new
+      → FetchBegun by limit document whole old new
   fetch-unbegun limit document whole old new kept = rw kept (record {
     first = still old;
     idle = record { end = refl; framing_is = refl };

@@ -4,10 +4,12 @@ use Rattle.wf_types.specs.declared.policy.Destination.TheVariants as destination
 use Rattle.wf_types.specs.declared.response.Outcome.TheVariants as outcome
 use Rattle.wf_script_run.proofs.EmbedLemmas.{embedded}
 use Rattle.wf_types.specs.declared.policy.Destination.{Destination}
-use Rattle.wf_player.proofs.Words.{[], ℕ, ◌++◌, ◌∙◌, ◌∷◌, ◌≡◌, Answering, Answers, CutShort, Ending, Err, Event}
+use Rattle.wf_player.proofs.Words.{[], ℕ, ◌++◌, ◌∙◌, ◌∷◌, ◌≡◌, Answering, Answers, PartCut, Ending, Err, Event}
 use Rattle.wf_player.proofs.Words.{FetchCut, FetchedTo, HasLost, IsErr, IsHungUp, LeadsTo, List, MatchResult-from_err}
-use Rattle.wf_player.proofs.Words.{Next, Ok, Option, Outcome, OutOfMemory, Play, PlayedTo, Plays, PlaysOn, Process}
-use Rattle.wf_player.proofs.Words.{Progress, Refuses, Request, Result, Rule, Settles, Standing, Terms, TypeFault, World}
+use Rattle.wf_player.proofs.Words.{Next, Ok, Option, Outcome, OutOfMemory, Play, PartCameTo, RuleCameTo, PlaysOn}
+use Rattle.wf_player.proofs.Words.{Process}
+use Rattle.wf_player.proofs.Words.{Progress, WorldRefused, Request, Result, Rule, Settles, Standing, Terms, TypeFault}
+use Rattle.wf_player.proofs.Words.{World}
 use Rattle.wf_player.proofs.Words.{after_events, ap, append-nil, append_assoc, arith, asked, embed, fault_event}
 use Rattle.wf_player.proofs.Words.{fetch_started, fetched, outcome_event, outside_of, play-append, refl, showing}
 use Rattle.wf_player.proofs.Words.{start_event, started, subst, sym}
@@ -17,7 +19,7 @@ use Rattle.wf_player.proofs.AskLemmas.{refuses-none}
 
 -- nothing but what the world lost
 pub lost-none : {State : Type 0} {a b : Standing State} → b.terms ≡ a.terms → b.progress ≡ a.progress
-    → Refuses (outside_of a.world) (outside_of b.world) → HasLost [] a a b
+    → WorldRefused (outside_of a.world) (outside_of b.world) → HasLost [] a a b
 lost-none {a = a} same kept left = record {
   same = same;
   noted = [];
@@ -50,7 +52,7 @@ module _ {State : Type 0} {by : Answering State} where
   -- ---- parts that were played
 
   -- nothing
-  pub played-none : {N : Type 0} {part : N → Play} {a : Standing State} → PlayedTo by part a part a
+  pub played-none : {N : Type 0} {part : N → Play} {a : Standing State} → PartCameTo by part a part a
   played-none {a = a} = record {
     same = refl;
     tape = [];
@@ -61,7 +63,7 @@ module _ {State : Type 0} {by : Answering State} where
 
   -- one part, and then the next
   pub played-then : {N : Type 0} {part middle last : N → Play} {a b c : Standing State}
-      → PlayedTo by part a middle b → PlayedTo by middle b last c → PlayedTo by part a last c
+      → PartCameTo by part a middle b → PartCameTo by middle b last c → PartCameTo by part a last c
   played-then {middle = middle} {last = last} {a = a} {b = b} {c = c} x y = record {
     same = y.same ∙ x.same;
     tape = x.tape ++ y.tape;
@@ -74,14 +76,14 @@ module _ {State : Type 0} {by : Answering State} where
 
   -- inside a larger one
   pub played-inside : {N M : Type 0} {part last : N → Play} {a b : Standing State} (f : M → N)
-      → PlayedTo by part a last b → PlayedTo by (λ m. part (f m)) a (λ m. last (f m)) b
+      → PartCameTo by part a last b → PartCameTo by (λ m. part (f m)) a (λ m. last (f m)) b
   played-inside f x =
       record { same = x.same; tape = x.tape; made = x.made; added = x.added; trace = λ m. x.trace (f m) }
 
   -- where the run inside is another, and has shown the same
   pub played-moved : {N : Type 0} {part rest : N → Play} {a b : Standing State} → b.terms ≡ a.terms
       → b.world ≡ a.world → b.progress.shown ≡ a.progress.shown → ((n : N) → part n ≡ rest n)
-      → PlayedTo by part a rest b
+      → PartCameTo by part a rest b
   played-moved {a = a} same still kept alike = record {
     same = same;
     tape = [];
@@ -94,7 +96,7 @@ module _ {State : Type 0} {by : Answering State} where
   pub played-event : {event : Event} {a b : Standing State} {progress : Progress} → b.terms ≡ a.terms
       → progress.shown ≡ a.progress.shown → b.progress ≡ after_events (event ∷ []) progress
       → Settles event a.world b.world
-      → PlayedTo by (λ (next : Next). showing event next progress) a (λ next. next b.progress) b
+      → PartCameTo by (λ (next : Next). showing event next progress) a (λ next. next b.progress) b
   played-event {event = event} same kept noted settled = record {
     same = same;
     tape = [];
@@ -105,7 +107,7 @@ module _ {State : Type 0} {by : Answering State} where
 
   -- a fetch
   pub played-fetch : (kind : Destination) {whole place : Process} {a b : Standing State} → FetchedTo by whole a place b
-      → PlayedTo by (λ (next : Next). embed whole (onward kind next) a.progress) a
+      → PartCameTo by (λ (next : Next). embed whole (onward kind next) a.progress) a
       (λ next. embed place (onward kind next) b.progress) b
   played-fetch kind {a = a} x = record {
     same = x.same;
@@ -118,7 +120,7 @@ module _ {State : Type 0} {by : Answering State} where
 
   -- ---- parts that were cut short
 
-  pub cut-here : {N : Type 0} {part : N → Play} {a : Standing State} → CutShort by part a a
+  pub cut-here : {N : Type 0} {part : N → Play} {a : Standing State} → PartCut by part a a
   unfolding played-none
   cut-here {part = part} {a = a} = record {
     place = part;
@@ -127,8 +129,8 @@ module _ {State : Type 0} {by : Answering State} where
     lost = lost-none refl refl (refuses-none (outside_of a.world));
   }
 
-  pub played-cut : {N : Type 0} {part middle : N → Play} {a b c : Standing State} → PlayedTo by part a middle b
-      → CutShort by middle b c → CutShort by part a c
+  pub played-cut : {N : Type 0} {part middle : N → Play} {a b c : Standing State} → PartCameTo by part a middle b
+      → PartCut by middle b c → PartCut by part a c
   unfolding played-then
   played-cut x y = record {
     place = y.place;
@@ -137,15 +139,15 @@ module _ {State : Type 0} {by : Answering State} where
     lost = lost-then x.made x.same x.added y.lost;
   }
 
-  pub cut-inside : {N M : Type 0} {part : N → Play} {a b : Standing State} (f : M → N) → CutShort by part a b
-      → CutShort by (λ m. part (f m)) a b
+  pub cut-inside : {N M : Type 0} {part : N → Play} {a b : Standing State} (f : M → N) → PartCut by part a b
+      → PartCut by (λ m. part (f m)) a b
   unfolding played-inside
   cut-inside f x =
       record { place = λ m. x.place (f m); last = x.last; played = played-inside f x.played; lost = x.lost }
 
   -- a fetch
   pub cut-fetch : (kind : Destination) {whole : Process} {a b : Standing State} → FetchCut by whole a b
-      → CutShort by (λ (next : Next). embed whole (onward kind next) a.progress) a b
+      → PartCut by (λ (next : Next). embed whole (onward kind next) a.progress) a b
   unfolding played-fetch
   cut-fetch kind x = record {
     place = λ next. embed x.place (onward kind next) x.last.progress;
@@ -158,14 +160,14 @@ module _ {State : Type 0} {by : Answering State} where
 
   -- one after a part of another
   pub plays-after : (first rule : Rule) {a b : Standing State} (c : Standing State)
-      (result : Result (Option Ending) OutOfMemory) → LeadsTo by rule a first b → Plays by first b result c
-      → Plays by rule a result c
+      (result : Result (Option Ending) OutOfMemory) → LeadsTo by rule a first b → RuleCameTo by first b result c
+      → RuleCameTo by rule a result c
   plays-after first rule c (Ok ending) at x = record { played = played-then at x.played; rests = x.rests }
   plays-after first rule c (Err refused) at x = played-cut at x
 
 -- memory was refused before the rule began, and a call passes that on
 pub plays-unbegun : {State : Type 0} (by : Answering State) (rule : Rule) {a b : Standing State}
-    (result : Result (Option Ending) OutOfMemory) → IsErr result → b ≡ a → Plays by rule a result b
+    (result : Result (Option Ending) OutOfMemory) → IsErr result → b ≡ a → RuleCameTo by rule a result b
 plays-unbegun by rule result is kept = MatchResult-from_err result _ _ is (λ one. rw kept cut-here)
 
 -- ---- what the world comes to with the events of a fetch and of a load
@@ -197,7 +199,7 @@ pub asked-begun : {State : Type 0} {by : Answering State} (kind : Destination) (
     → b.progress ≡ after_events (start_event kind a.progress.fetches ∷ []) (fetch_started (started a.progress))
     → LeadsTo by (λ lent next begun. asked lent kind made next (started begun)) a (λ lent. fetched lent kind made) b
 asked-begun {by = by} kind made {a = a} {b = b} same still noted =
-    subst (λ (t : Terms). PlayedTo by (λ (next : Next). asked a.terms.lent kind made next (started a.progress)) a
+    subst (λ (t : Terms). PartCameTo by (λ (next : Next). asked a.terms.lent kind made next (started a.progress)) a
     (λ next. fetched t.lent kind made next b.progress) b) (sym same)
     (played-inside (fetched a.terms.lent kind made) (played-event same refl noted
     (subst (λ (w : World _). Settles (start_event kind a.progress.fetches) a.world w) (sym still)

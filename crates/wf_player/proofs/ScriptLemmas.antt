@@ -1,9 +1,11 @@
 -- The commands of a script.
 use Rattle.wf_script_commands.specs.declared.command.Command.{Command}
 use Rattle.wf_script_commands.specs.Valid.{AreValid, IsValidStep}
-use Rattle.wf_player.proofs.Words.{[], ℕ, ◌+◌, ◌-◌, ◌<◌, ◌∷◌, ◌≡◌, ◌≤◌, Answering, Ending, HasPlayed, HasSpent, IsAtEnd}
-use Rattle.wf_player.proofs.Words.{LeadsTo, List, MayGoOn, Next, None, Option, PlayedTo, Rule, Some, Standing, Steps}
-use Rattle.wf_player.proofs.Words.{Terms, WasCut, add-one, ap, arith, command_started, drop, drop-cons, drop_all, false}
+use Rattle.wf_player.proofs.Words.{[], ℕ, ◌+◌, ◌-◌, ◌<◌, ◌∷◌, ◌≡◌, ◌≤◌, Answering, Ending, RulePlayed, HasSpent}
+use Rattle.wf_player.proofs.Words.{IsAtEnd}
+use Rattle.wf_player.proofs.Words.{LeadsTo, List, MayGoOn, Next, None, Option, PartCameTo, Rule, Some, Standing, Steps}
+use Rattle.wf_player.proofs.Words.{Terms, RuleCut, add-one, ap, arith, command_started, drop, drop-cons, drop_all}
+use Rattle.wf_player.proofs.Words.{false}
 use Rattle.wf_player.proofs.Words.{get_or, is_some, length, limit_before, refl, repeated, rules, script_run, step_of}
 use Rattle.wf_player.proofs.Words.{step_size, steps_of, steps_size, subst, suc, sym, true, unless_limit, zero}
 use Rattle.wf_player.proofs.PartLemmas.{cut-inside, played-cut, played-inside, played-none, played-then}
@@ -53,7 +55,7 @@ module _ {State : Type 0} {by : Answering State} where
   -- a part of a rule was played, and the first of what is left came to an ending of the run
   ended-in : {first rule : Rule} {ending : Option Ending} {a b c : Standing State} (onward : Next → Next)
       → LeadsTo by rule a (λ lent next. first lent (onward next)) b → is_some ending ≡ true
-      → HasPlayed by first b ending c → HasPlayed by rule a ending c
+      → RulePlayed by first b ending c → RulePlayed by rule a ending c
   ended-in {ending = None} onward at some x = absurd (cc)
   ended-in {ending = Some ending} onward at some x =
       record { played = played-then at (played-inside onward x.played); rests = x.rests }
@@ -61,7 +63,7 @@ module _ {State : Type 0} {by : Answering State} where
   -- or it came to a limit
   limited-in : {rule : Rule} {ending : Option Ending} {a b : Standing State} (onward : Next → Next)
       → LeadsTo by rule a (λ lent next. unless_limit ending (onward next)) b → is_some ending ≡ true
-      → IsAtEnd b.world.exchange.left → HasPlayed by rule a ending b
+      → IsAtEnd b.world.exchange.left → RulePlayed by rule a ending b
   limited-in {ending = None} onward at some rests = absurd (cc)
   limited-in {ending = Some ending} onward at some rests = record { played = at; rests = rests }
 
@@ -84,7 +86,7 @@ module _ {State : Type 0} {by : Answering State} where
 
     -- a limit ends the run before the command
     pub script-limited : is_some reached ≡ true → IsAtEnd now.world.exchange.left
-        → HasPlayed by (λ lent. script_run lent (steps_of items)) old reached now
+        → RulePlayed by (λ lent. script_run lent (steps_of items)) old reached now
     script-limited some rests = limited-in (λ next. command_started now.terms.lent (step_of one) (others next))
         at-command some rests
 
@@ -96,29 +98,29 @@ module _ {State : Type 0} {by : Answering State} where
 
       -- the command was played
       pub script-next : {ending : Option Ending} {later : Standing State} → is_some ending ≡ false
-          → HasPlayed by (λ lent. command_started lent (step_of one)) now ending later
+          → RulePlayed by (λ lent. command_started lent (step_of one)) now ending later
           → IsAt by items (index + 1) old later
       script-next {later = later} goes x = record {
-        played = subst (λ (t : Terms). PlayedTo by (λ (next : Next). script_run old.terms.lent (steps_of items) next
+        played = subst (λ (t : Terms). PartCameTo by (λ (next : Next). script_run old.terms.lent (steps_of items) next
             old.progress) old (λ next. script_run t.lent (steps_of (drop (index + 1) items)) next later.progress) later)
             (sym x.played.same) (played-then at-free (played-inside others (rw (no-ending goes) at x.played)));
       }
 
       -- it ended the run
       pub script-ended : {ending : Option Ending} {later : Standing State} → is_some ending ≡ true
-          → HasPlayed by (λ lent. command_started lent (step_of one)) now ending later
-          → HasPlayed by (λ lent. script_run lent (steps_of items)) old ending later
+          → RulePlayed by (λ lent. command_started lent (step_of one)) now ending later
+          → RulePlayed by (λ lent. script_run lent (steps_of items)) old ending later
       script-ended = ended-in others at-free
 
       -- memory was refused in it
-      pub script-cut : {later : Standing State} → WasCut by (λ lent. command_started lent (step_of one)) now later
-          → WasCut by (λ lent. script_run lent (steps_of items)) old later
+      pub script-cut : {later : Standing State} → RuleCut by (λ lent. command_started lent (step_of one)) now later
+          → RuleCut by (λ lent. script_run lent (steps_of items)) old later
       script-cut x = played-cut at-free (cut-inside others x)
 
   -- all commands were played
   pub script-over : (items : List Command) (index : ℕ) {old now : Standing State} → IsAt by items index old now
       → length items ≤ index → IsAtEnd now.world.exchange.left
-      → HasPlayed by (λ lent. script_run lent (steps_of items)) old None now
+      → RulePlayed by (λ lent. script_run lent (steps_of items)) old None now
   script-over items index at past rests =
       record { played = rw (drop_all index items past) at at.played; rests = rests }
 
@@ -139,24 +141,25 @@ module _ {State : Type 0} {by : Answering State} where
     at-round = rw (let e : times - round ≡ suc (times - (round + 1)) = omega (arith, within) in e) at at.played
 
     pub round-next : {ending : Option Ending} {later : Standing State} → is_some ending ≡ false
-        → HasPlayed by (λ lent. script_run lent part) now ending later → IsRound by times part (round + 1) old later
+        → RulePlayed by (λ lent. script_run lent part) now ending later → IsRound by times part (round + 1) old later
     round-next {later = later} goes x = record {
-      played = subst (λ (t : Terms). PlayedTo by (λ (next : Next). repeated times (script_run old.terms.lent part) next
+      played = subst (λ (t : Terms). PartCameTo by
+          (λ (next : Next). repeated times (script_run old.terms.lent part) next
           old.progress) old (λ next. repeated (times - (round + 1)) (script_run t.lent part) next later.progress) later)
           (sym x.played.same) (played-then at-round (played-inside rounds (rw (no-ending goes) at x.played)));
     }
 
     pub round-ended : {ending : Option Ending} {later : Standing State} → is_some ending ≡ true
-        → HasPlayed by (λ lent. script_run lent part) now ending later
-        → HasPlayed by (λ lent. repeated times (script_run lent part)) old ending later
+        → RulePlayed by (λ lent. script_run lent part) now ending later
+        → RulePlayed by (λ lent. repeated times (script_run lent part)) old ending later
     round-ended = ended-in rounds at-round
 
-    pub round-cut : {later : Standing State} → WasCut by (λ lent. script_run lent part) now later
-        → WasCut by (λ lent. repeated times (script_run lent part)) old later
+    pub round-cut : {later : Standing State} → RuleCut by (λ lent. script_run lent part) now later
+        → RuleCut by (λ lent. repeated times (script_run lent part)) old later
     round-cut x = played-cut at-round (cut-inside rounds x)
 
   pub round-over : {times : ℕ} {part : Steps} {round : ℕ} {old now : Standing State}
       → IsRound by times part round old now → times ≤ round → IsAtEnd now.world.exchange.left
-      → HasPlayed by (λ lent. repeated times (script_run lent part)) old None now
+      → RulePlayed by (λ lent. repeated times (script_run lent part)) old None now
   round-over {times = times} {round = round} at past rests =
       record { played = rw (let e : times - round ≡ 0 = omega (arith, past) in e) at at.played; rests = rests }

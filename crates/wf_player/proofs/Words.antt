@@ -13,10 +13,10 @@ pub use Rattle.wf_fetch_acts.specs.Within.{Anything, Within, acts}
 pub use Rattle.wf_fetch_laws.specs.Prices.{fetch_price, level_price, levels}
 pub use Rattle.wf_link.proofs.ReceivedLemmas.{received-none}
 pub use Rattle.wf_link_wire.specs.Wires.{onto_left, window_of}
-pub use Rattle.wf_player.specs.Driving.{Drives, Drove, FetchCut, FetchedTo, HasLost, IsBegun, LeadsOn}
-pub use Rattle.wf_player.specs.Parts.{CutShort, HasPlayed, LeadsTo, PlayedTo, Plays, PlaysOn, Rule, WasCut}
+pub use Rattle.wf_player.specs.Driving.{Drives, Drove, FetchCut, FetchedTo, HasLost, FetchBegun, LeadsOn}
+pub use Rattle.wf_player.specs.Parts.{PartCut, RulePlayed, LeadsTo, PartCameTo, RuleCameTo, PlaysOn, Rule, RuleCut}
 pub use Rattle.wf_player.specs.Private.Rows.{CanPlay, RowPlayed, seatings_of, transcripts_of}
-pub use Rattle.wf_player.specs.Seats.{AreSeated, IsPlayed, Seat, seat_of}
+pub use Rattle.wf_player.specs.Seats.{AreSeated, DocumentPlayed, Seat, seat_of}
 pub use Rattle.wf_player.specs.Standings.{HasSpent, Keeps, KeepsPass, MayGoOn, Standing, Terms, most_calls}
 pub use Rattle.wf_player.specs.Standings.{setting_of, standing, terms_of}
 pub use Rattle.wf_player.specs.Words.{Act, All, Answering, Ask, Context, Document, EachDocument, Ending, Event, Input}
@@ -26,7 +26,7 @@ pub use Rattle.wf_player.specs.Words.{beginning, command_started, context_of, do
 pub use Rattle.wf_player.specs.Words.{events_of, fetch, fetched, filled_init, finished, fits, lent_result}
 pub use Rattle.wf_player.specs.Words.{limit_before, most_asks, over, over_link, price_of, range_with_len, repeated}
 pub use Rattle.wf_player.specs.Words.{script_run, setting, started, step_of, unless_limit}
-pub use Rattle.wf_player.specs.Worlds.{Answers, IsHungUp, Outside, Refuses, Settles, World, outside, outside_of}
+pub use Rattle.wf_player.specs.Worlds.{Answers, IsHungUp, Outside, WorldRefused, Settles, World, outside, outside_of}
 pub use Rattle.wf_script_commands.specs.Commands.{steps_of}
 pub use Rattle.wf_script_commands.specs.Depth.{step_size, steps_size}
 pub use Rattle.wf_script_commands.specs.Scripts.{Steps}

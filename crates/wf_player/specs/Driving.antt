@@ -4,7 +4,7 @@ use Rattle.wf_player.specs.declared.fetch.FetchRun.{FetchRun}
 use Rattle.wf_player.specs.Standings.{Standing}
 use Rattle.wf_player.specs.Words.{Answering, Driven, Event, Input, IsIdle, Outcome, OutOfMemory, Process, Trace}
 use Rattle.wf_player.specs.Words.{after_events, ended, events_of, with_events}
-use Rattle.wf_player.specs.Worlds.{Answers, Outside, Refuses, World, outside_of}
+use Rattle.wf_player.specs.Worlds.{Answers, Outside, WorldRefused, World, outside_of}
 
 -- with these items of a tape a process shows these events in the world of a document, and goes on
 abbrev pub LeadsOn : {State : Type 0} → Answering State → ℕ → ℕ → Process → World State → List Input → List Event
@@ -29,7 +29,7 @@ pub record HasLost {State : Type 0} (made : List Event) (old last new : Standing
   pub few : length missed ≤ 1
   pub parts : made ≡ noted ++ missed
   pub added : new.progress.shown ≡ old.progress.shown ++ noted
-  pub refused : Refuses (outside_of last.world) (outside_of new.world)
+  pub refused : WorldRefused (outside_of last.world) (outside_of new.world)
 
 -- Memory was refused: the fetch came to some place, and of the run inside nothing changed but what was shown.
 pub record FetchCut {State : Type 0} (by : Answering State) (whole : Process) (old new : Standing State) : Type 0 where
@@ -59,7 +59,7 @@ pub record Drove {State : Type 0} (by : Answering State) (limit document : ℕ) 
   pub to : outside_of last ≡ new
 
 -- Memory was refused: the fetch came to some place, and the calls that were made are those on the way.
-pub record IsBegun {State : Type 0} (by : Answering State) (limit document : ℕ) (whole : Process)
+pub record FetchBegun {State : Type 0} (by : Answering State) (limit document : ℕ) (whole : Process)
     (old new : Outside State) : Type 0 where
   pub first : World State
   pub idle : IsIdle first.exchange
@@ -69,11 +69,11 @@ pub record IsBegun {State : Type 0} (by : Answering State) (limit document : ℕ
   pub place : Process
   pub last : World State
   pub trace : LeadsOn by limit document whole first tape events place last
-  pub left : Refuses (outside_of last) new
+  pub left : WorldRefused (outside_of last) new
 
 -- what a fetch by itself came to
 abbrev pub Drives : {State : Type 0} → Answering State → ℕ → ℕ → Process → Outside State
     → Result FetchRun OutOfMemory → Outside State → Type 0
 Drives by limit document whole old result new =
     MatchResult result (λ run. Drove by limit document whole old run.events run.outcome new)
-    (λ refused. IsBegun by limit document whole old new)
+    (λ refused. FetchBegun by limit document whole old new)

@@ -13,7 +13,7 @@ PlaysOn by limit document = PlayTrace (Answers by limit document) Settles
 
 -- For some tape of the world's answers, and whatever follows, the part has shown what was added to the events, and
 -- goes on as the rest.
-pub record PlayedTo {State N : Type 0} (by : Answering State) (part : N → Play) (old : Standing State)
+pub record PartCameTo {State N : Type 0} (by : Answering State) (part : N → Play) (old : Standing State)
     (rest : N → Play) (new : Standing State) : Type 0 where
   pub same : new.terms ≡ old.terms
   pub tape : List Input
@@ -23,11 +23,11 @@ pub record PlayedTo {State N : Type 0} (by : Answering State) (part : N → Play
       → PlaysOn by old.terms.limit old.terms.document (part next) old.world tape made (rest next) new.world
 
 -- Memory was refused somewhere: the part came to some place.
-pub record CutShort {State N : Type 0} (by : Answering State) (part : N → Play) (old new : Standing State)
+pub record PartCut {State N : Type 0} (by : Answering State) (part : N → Play) (old new : Standing State)
     : Type 0 where
   pub place : N → Play
   pub last : Standing State
-  pub played : PlayedTo by part old place last
+  pub played : PartCameTo by part old place last
   pub lost : HasLost played.made old last new
 
 -- A rule of the script, by what its fetches have in common: what it does before what follows it.
@@ -37,21 +37,21 @@ Rule = Setting → Next → Next
 -- the rule was played as far as another, which follows
 abbrev pub LeadsTo : {State : Type 0} → Answering State → Rule → Standing State → Rule → Standing State → Type 0
 LeadsTo by rule old rest new =
-    PlayedTo by (λ (next : Next). rule old.terms.lent next old.progress) old
+    PartCameTo by (λ (next : Next). rule old.terms.lent next old.progress) old
     (λ next. rest new.terms.lent next new.progress) new
 
 -- The rule was played: it leads on to what follows, or to an ending of the run. Nothing is to come over the link then.
-pub record HasPlayed {State : Type 0} (by : Answering State) (rule : Rule) (old : Standing State)
+pub record RulePlayed {State : Type 0} (by : Answering State) (rule : Rule) (old : Standing State)
     (ending : Option Ending) (new : Standing State) : Type 0 where
   pub played : LeadsTo by rule old (λ lent. unless_limit ending) new
   pub rests : IsAtEnd new.world.exchange.left
 
 -- memory was refused in it
-abbrev pub WasCut : {State : Type 0} → Answering State → Rule → Standing State → Standing State → Type 0
-WasCut by rule old new = CutShort by (λ next. rule old.terms.lent next old.progress) old new
+abbrev pub RuleCut : {State : Type 0} → Answering State → Rule → Standing State → Standing State → Type 0
+RuleCut by rule old new = PartCut by (λ next. rule old.terms.lent next old.progress) old new
 
 -- what the rule came to, with an ending, with none, or for want of memory
-abbrev pub Plays : {State : Type 0} → Answering State → Rule → Standing State → Result (Option Ending) OutOfMemory
+abbrev pub RuleCameTo : {State : Type 0} → Answering State → Rule → Standing State → Result (Option Ending) OutOfMemory
     → Standing State → Type 0
-Plays by rule old result new =
-    MatchResult result (λ ending. HasPlayed by rule old ending new) (λ refused. WasCut by rule old new)
+RuleCameTo by rule old result new =
+    MatchResult result (λ ending. RulePlayed by rule old ending new) (λ refused. RuleCut by rule old new)

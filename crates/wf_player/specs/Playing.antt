@@ -3,7 +3,7 @@ use Rattle.std.specs.Prelude.{[], ℕ, ◌++◌, ◌≡◌, ◌≤◌, Err, List
 use Rattle.wf_player.specs.Parts.{PlaysOn}
 use Rattle.wf_player.specs.Words.{Answering, Ending, Event, Finished, Input, IsIdle, Memory, OutOfMemory, Play, over}
 use Rattle.wf_player.specs.Words.{run_play}
-use Rattle.wf_player.specs.Worlds.{Outside, Refuses, World, outside_of}
+use Rattle.wf_player.specs.Worlds.{Outside, WorldRefused, World, outside_of}
 
 -- how a run has ended, whose script has played to its end or to a limit, or was refused memory
 abbrev pub ended_by : Result (Option Ending) OutOfMemory → Ending
@@ -28,7 +28,7 @@ pub record Ran {State : Type 0} (by : Answering State) (limit document : ℕ) (w
 
 -- The same of a run that ended for memory: what was shown begins the run over that tape, up to some place of it but for
 -- one event at most, and the calls that were made are those on the way.
-pub record Began {State : Type 0} (by : Answering State) (limit document : ℕ) (whole : Play) (old : Outside State)
+pub record RunBegun {State : Type 0} (by : Answering State) (limit document : ℕ) (whole : Play) (old : Outside State)
     (events : List Event) (new : Outside State) : Type 0 where
   pub first : World State
   pub idle : IsIdle first.exchange
@@ -39,11 +39,11 @@ pub record Began {State : Type 0} (by : Answering State) (limit document : ℕ) 
   pub place : Play
   pub last : World State
   pub trace : PlaysOn by limit document whole first tape (events ++ missed) place last
-  pub left : Refuses (outside_of last) new
+  pub left : WorldRefused (outside_of last) new
   pub runs : (run_play whole tape).events ≡ events ++ (missed ++ (run_play place []).events)
 
 -- what a document's run comes to, by its ending
-abbrev pub Came : {State : Type 0} → Answering State → ℕ → ℕ → Play → Outside State → List Event → Ending → ℕ
+abbrev pub RunCame : {State : Type 0} → Answering State → ℕ → ℕ → Play → Outside State → List Event → Ending → ℕ
     → Outside State → Type 0
-Came by limit document whole old events Memory clock new = Began by limit document whole old events new
-Came by limit document whole old events ending clock new = Ran by limit document whole old events ending clock new
+RunCame by limit document whole old events Memory clock new = RunBegun by limit document whole old events new
+RunCame by limit document whole old events ending clock new = Ran by limit document whole old events ending clock new

@@ -2,7 +2,7 @@
 use Rattle.std.specs.Prelude.{ℕ, ◌*◌, ◌+◌, ◌≡◌, ◌≤◌}
 use Rattle.wf_player.specs.declared.lent.Lent.{Lent}
 use Rattle.wf_player.specs.declared.player.Player.{Player}
-use Rattle.wf_player.specs.Words.{Account, IsAtEnd, IsClient, Progress, Setting, Told, most_asks, most_fetches}
+use Rattle.wf_player.specs.Words.{Account, IsAtEnd, IsClient, Progress, Setting, LinkTold, most_asks, most_fetches}
 use Rattle.wf_player.specs.Words.{setting}
 use Rattle.wf_player.specs.Worlds.{World, world_of}
 
@@ -48,7 +48,7 @@ terms_of account player = record {
   document = (account player.pass.now).document;
 }
 
-module _ {R S L P State : Type 0} (account : P → Account) (told : L → Told State) (player : Player R S L P) where
+module _ {R S L P State : Type 0} (account : P → Account) (told : L → LinkTold State) (player : Player R S L P) where
   -- the world outside
   abbrev pub world : World State
   world = world_of account told player.pass.now player.link.now player.wire.now

@@ -15,7 +15,7 @@ pub record World (State : Type 0) : Type 0 where
   pub left : ℕ
 
 -- a wire over a link, and a pass, as a world
-abbrev pub world_of : {P L State : Type 0} → (P → Account) → (L → links.Told State) → P → L → Wire → World State
+abbrev pub world_of : {P L State : Type 0} → (P → Account) → (L → links.LinkTold State) → P → L → Wire → World State
 world_of account told pass link wire =
     record { exchange = exchange_of told link wire; own = (account pass).own; left = (account pass).left }
 
@@ -39,7 +39,7 @@ outside_of world = record {
 }
 
 -- the same, of a link and a pass
-abbrev pub outside : {P L State : Type 0} → (P → Account) → (L → links.Told State) → P → L → Outside State
+abbrev pub outside : {P L State : Type 0} → (P → Account) → (L → links.LinkTold State) → P → L → Outside State
 outside account told pass link = record {
   state = (told link).state;
   received = (told link).received;
@@ -57,7 +57,7 @@ CanAnswer (Send hop) left = IsSendable hop
 CanAnswer _ left = Unit {0}
 
 -- The document has made one call more: its entry is the last of the document's own, and the input is its reply.
-pub record IsAsked (document : ℕ) (op : Op) (input : Input) (own own' : List Entry) (left left' : ℕ) : Type 0 where
+pub record IsBookCall (document : ℕ) (op : Op) (input : Input) (own own' : List Entry) (left left' : ℕ) : Type 0 where
   pub entry : Entry
   pub document_is : entry.document ≡ document
   pub op_is : entry.op ≡ op
@@ -73,7 +73,7 @@ pub record IsRefusedCall (own own' : List Entry) (left left' : ℕ) : Type 0 whe
 -- The document has made a call of the book. The exchange is as it was.
 pub record IsCalled {State : Type 0} (document : ℕ) (old : World State) (op : Op) (input : Input) (new : World State)
     : Type 0 where
-  pub asked : IsAsked document op input old.own new.own old.left new.left
+  pub asked : IsBookCall document op input old.own new.own old.left new.left
   pub exchange_is : new.exchange ≡ old.exchange
 
 -- What the link answers to an act. The pass is as it was.
@@ -104,7 +104,7 @@ Settles _ old new = new ≡ old
 
 -- Memory was refused: the document has made no call more, the link's state and its count of faults are as they were,
 -- and some bytes more may have been received.
-pub record Refuses {State : Type 0} (old new : Outside State) : Type 0 where
+pub record WorldRefused {State : Type 0} (old new : Outside State) : Type 0 where
   pub state_is : new.state ≡ old.state
   pub count : ℕ
   pub counted : Received count old.received new.received

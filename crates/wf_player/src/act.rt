@@ -2,7 +2,7 @@
 ghost use Rattle.std.specs.Prelude.{◌+◌, ◌<◌, ◌≡◌, ◌≤◌, IfOk, IsTrue, OnErr};
 ghost use Rattle.wf_player.specs.Standings.{IsReady, Keeps, KeepsPass, world};
 ghost use Rattle.wf_player.specs.Words.{Ask, InRange, asks, fits, over_link, price_of};
-ghost use Rattle.wf_player.specs.Worlds.{Answers, CanAnswer, IsAsked, IsRefusedCall, Refuses, outside_of};
+ghost use Rattle.wf_player.specs.Worlds.{Answers, CanAnswer, IsBookCall, IsRefusedCall, WorldRefused, outside_of};
 
 use crate::lent::Lent;
 use crate::player::Player;
@@ -22,7 +22,7 @@ fn ask<R: Threads + Wait + Sync, S: Share>(
     requires belongs { S.belongs lent.now.share.now pass.old }
     requires range { InRange op.now }
     requires left { 0 < (S.account pass.old).left }
-    ensures asked { IfOk result (λ input. IsAsked (S.account pass.old).document op.now input (S.account pass.old).own
+    ensures asked { IfOk result (λ input. IsBookCall (S.account pass.old).document op.now input (S.account pass.old).own
         (S.account pass.new).own (S.account pass.old).left (S.account pass.new).left) }
     ensures fits { IfOk result (λ input. IsTrue (fits (Ask op.now) input)) }
     ensures refused { OnErr result (IsRefusedCall (S.account pass.old).own (S.account pass.new).own
@@ -43,7 +43,7 @@ impl<R: Threads + Wait + Sync, S: Share, L: Link> Player<'_, '_, '_, '_, '_, R, 
             (S.account self.old.pass.now).document (world S.account L.told self.old) act.now input
             (world S.account L.told self.new)) }
         ensures fits { IfOk result (λ input. IsTrue (fits act.now input)) }
-        ensures refused { OnErr result (Refuses (outside_of (world S.account L.told self.old))
+        ensures refused { OnErr result (WorldRefused (outside_of (world S.account L.told self.old))
             (outside_of (world S.account L.told self.new))) }
         ensures few { (world S.account L.told self.old).left
             ≤ (world S.account L.told self.new).left + price_of asks act.now }

@@ -1,6 +1,6 @@
 // What a script asks for: a fetch, or a load by an element.
 ghost use Rattle.std.specs.Prelude.{[], ◌+◌, ◌<◌, ◌∷◌, ◌≡◌, ◌≤◌, IfOk, None, OnErr, OnOk};
-ghost use Rattle.wf_player.specs.Parts.{Plays};
+ghost use Rattle.wf_player.specs.Parts.{RuleCameTo};
 ghost use Rattle.wf_player.specs.Standings.{HasSpent, IsReady, Keeps, MayGoOn, standing, world};
 ghost use Rattle.wf_player.specs.Words.{IsAtEnd, IsClient, IsIdle, IsRequest, IsValidInit, IsValidLoad, after_events};
 ghost use Rattle.wf_player.specs.Words.{asked as asks_for, command_started, fetch_step, fetched};
@@ -83,7 +83,7 @@ impl<R: Threads + Wait + Sync, S: Share, L: Link> Player<'_, '_, '_, '_, '_, R, 
         requires made { IfOk made IsRequest }
         requires left { most_asks ≤ (world S.account L.told self.old).left }
         requires rests { IsAtEnd (world S.account L.told self.old).exchange.left }
-        ensures came { Plays (over_link L.serves) (λ lent. fetched lent kind made)
+        ensures came { RuleCameTo (over_link L.serves) (λ lent. fetched lent kind made)
             (standing S.account L.told self.old) result (standing S.account L.told self.new) }
         ensures few { (world S.account L.told self.old).left ≤ (world S.account L.told self.new).left + most_asks }
         ensures fetches { self.new.running.now.fetches ≡ self.old.running.now.fetches }
@@ -114,7 +114,7 @@ impl<R: Threads + Wait + Sync, S: Share, L: Link> Player<'_, '_, '_, '_, '_, R, 
         requires limits { (self.old.running.now.commands < most_commands)
             × (self.old.running.now.fetches < most_fetches) }
         requires goes { MayGoOn (standing S.account L.told self.old) }
-        ensures came { Plays (over_link L.serves) (λ lent next begun. asks_for lent kind made next (started begun))
+        ensures came { RuleCameTo (over_link L.serves) (λ lent next begun. asks_for lent kind made next (started begun))
             (standing S.account L.told self.old) result (standing S.account L.told self.new) }
         ensures spent { HasSpent (standing S.account L.told self.old) (standing S.account L.told self.new) }
         ensures kept { Keeps S.account S.belongs self.old self.new }
@@ -129,7 +129,7 @@ impl<R: Threads + Wait + Sync, S: Share, L: Link> Player<'_, '_, '_, '_, '_, R, 
         requires valid { IsValidInit init.now }
         requires limit { limit_before (fetch_step init.now) self.old.running.now ≡ None }
         requires goes { MayGoOn (standing S.account L.told self.old) }
-        ensures came { Plays (over_link L.serves) (λ lent. command_started lent (fetch_step init.now))
+        ensures came { RuleCameTo (over_link L.serves) (λ lent. command_started lent (fetch_step init.now))
             (standing S.account L.told self.old) result (standing S.account L.told self.new) }
         ensures spent { HasSpent (standing S.account L.told self.old) (standing S.account L.told self.new) }
         ensures kept { Keeps S.account S.belongs self.old self.new }
@@ -144,7 +144,7 @@ impl<R: Threads + Wait + Sync, S: Share, L: Link> Player<'_, '_, '_, '_, '_, R, 
         requires valid { IsValidLoad init.now }
         requires limit { limit_before (load_step init.now) self.old.running.now ≡ None }
         requires goes { MayGoOn (standing S.account L.told self.old) }
-        ensures came { Plays (over_link L.serves) (λ lent. command_started lent (load_step init.now))
+        ensures came { RuleCameTo (over_link L.serves) (λ lent. command_started lent (load_step init.now))
             (standing S.account L.told self.old) result (standing S.account L.told self.new) }
         ensures spent { HasSpent (standing S.account L.told self.old) (standing S.account L.told self.new) }
         ensures kept { Keeps S.account S.belongs self.old self.new }

@@ -1,6 +1,6 @@
 // Scripts, command by command.
 ghost use Rattle.std.specs.Prelude.{◌≡◌, None};
-ghost use Rattle.wf_player.specs.Parts.{Plays};
+ghost use Rattle.wf_player.specs.Parts.{RuleCameTo};
 ghost use Rattle.wf_player.specs.Standings.{HasSpent, IsReady, Keeps, MayGoOn, standing};
 ghost use Rattle.wf_player.specs.Words.{AreValid, IsValidStep, chosen, command_started, limit_before, over_link};
 ghost use Rattle.wf_player.specs.Words.{repeated, script_run, step_of};
@@ -27,7 +27,7 @@ impl<R: Threads + Wait + Sync, S: Share, L: Link> Player<'_, '_, '_, '_, '_, R, 
         requires ready { IsReady S.belongs self.old }
         requires valid { AreValid part.now × AreValid other.now }
         requires goes { MayGoOn (standing S.account L.told self.old) }
-        ensures came { Plays (over_link L.serves)
+        ensures came { RuleCameTo (over_link L.serves)
             (λ lent. chosen test.now (script_run lent part.now) (script_run lent other.now))
             (standing S.account L.told self.old) result (standing S.account L.told self.new) }
         ensures spent { HasSpent (standing S.account L.told self.old) (standing S.account L.told self.new) }
@@ -46,7 +46,7 @@ impl<R: Threads + Wait + Sync, S: Share, L: Link> Player<'_, '_, '_, '_, '_, R, 
         requires ready { IsReady S.belongs self.old }
         requires valid { AreValid part.now }
         requires goes { MayGoOn (standing S.account L.told self.old) }
-        ensures came { Plays (over_link L.serves) (λ lent. repeated times (script_run lent part.now))
+        ensures came { RuleCameTo (over_link L.serves) (λ lent. repeated times (script_run lent part.now))
             (standing S.account L.told self.old) result (standing S.account L.told self.new) }
         ensures spent { HasSpent (standing S.account L.told self.old) (standing S.account L.told self.new) }
         ensures kept { Keeps S.account S.belongs self.old self.new }
@@ -67,7 +67,7 @@ impl<R: Threads + Wait + Sync, S: Share, L: Link> Player<'_, '_, '_, '_, '_, R, 
         requires valid { IsValidStep (step_of command.now) }
         requires limit { limit_before (step_of command.now) self.old.running.now ≡ None }
         requires goes { MayGoOn (standing S.account L.told self.old) }
-        ensures came { Plays (over_link L.serves) (λ lent. command_started lent (step_of command.now))
+        ensures came { RuleCameTo (over_link L.serves) (λ lent. command_started lent (step_of command.now))
             (standing S.account L.told self.old) result (standing S.account L.told self.new) }
         ensures spent { HasSpent (standing S.account L.told self.old) (standing S.account L.told self.new) }
         ensures kept { Keeps S.account S.belongs self.old self.new }
@@ -96,7 +96,7 @@ impl<R: Threads + Wait + Sync, S: Share, L: Link> Player<'_, '_, '_, '_, '_, R, 
         requires ready { IsReady S.belongs self.old }
         requires valid { AreValid script.now }
         requires goes { MayGoOn (standing S.account L.told self.old) }
-        ensures came { Plays (over_link L.serves) (λ lent. script_run lent script.now)
+        ensures came { RuleCameTo (over_link L.serves) (λ lent. script_run lent script.now)
             (standing S.account L.told self.old) result (standing S.account L.told self.new) }
         ensures spent { HasSpent (standing S.account L.told self.old) (standing S.account L.told self.new) }
         ensures kept { Keeps S.account S.belongs self.old self.new }

@@ -16,7 +16,7 @@ use Rattle.wf_player_play.specs.Faults.{AllAreTold, all_faults}
 use Rattle.wf_player_seats.specs.Links.{grown_by_all, way_of}
 use Rattle.wf_player_play.specs.Links.{Maker, TookBack}
 use Rattle.wf_player_seats.proofs.ListLemmas.{map-map}
-use Rattle.wf_link.specs.Links.{Told}
+use Rattle.wf_link.specs.Links.{LinkTold}
 
 -- so many more of so many more
 grown-sum : (start old new faults rest : ℕ) → new ≡ counted_on old faults
@@ -57,7 +57,7 @@ module _ {State : Type 0} (by : Answering State) (scenario : Scenario) (base : �
       omega (arith, rest, grown-sum start old.faults new.faults here (all_faults more) told.0.counted)
 
 -- what made the links has counted them
-pub counted-faults : {L State : Type 0} (by : Answering State) (told : L → Told State)
+pub counted-faults : {L State : Type 0} (by : Answering State) (told : L → LinkTold State)
     (scenario : Scenario) (base : ℕ) (history : List Entry) (placed : FaultsPlaced) (counted : FaultsCounted State)
     (shown : RanShown State) (old new : Maker L) (made back : List L) (transcripts : List Transcript) → TookBack told
     old new back

@@ -3,7 +3,7 @@ use Rattle.std.proofs.Common.{◌≡◌, ℕ, ◌+◌, ◌-◌, List, [], ◌++�
 use Rattle.std.proofs.Common.{refl, ap, sym, subst, ◌∙◌, arith}
 use Rattle.std.proofs.lemmas.List.{append-nil, length-map}
 use Rattle.std.specs.Prelude.{option_map}
-use Rattle.wf_link.specs.Links.{Lent, Told, faults_told}
+use Rattle.wf_link.specs.Links.{Lendings, LinkTold, faults_told}
 use Rattle.wf_player_seats.proofs.LendingLemmas.{lent-is}
 use Rattle.wf_player_seats.specs.Lendings.{AreTaken, out_more}
 use Rattle.wf_player_seats.specs.Links.{grown_by_all}
@@ -14,35 +14,35 @@ use Rattle.wf_player.specs.declared.seating.Seating.{Seating}
 use Rattle.wf_turn.specs.declared.pass.TurnPass.{TurnPass}
 
 -- so many that are out, and all of them back
-pub all-back : {L : Type 0} (first mid last : Option (Lent L)) (links : List L) (count : ℕ)
+pub all-back : {L : Type 0} (first mid last : Option (Lendings L)) (links : List L) (count : ℕ)
     → mid ≡ option_map (out_more count) first → AreTaken mid last links → length links ≡ count → AreBack first last
     links
 all-back None mid last links count out taken many = tt
 all-back {L} (Some lent) mid last links count out taken many =
     let x : AreTaken (Some (out_more count lent)) last links =
-    subst (λ (o : Option (Lent L)). AreTaken o last links) out taken in
+    subst (λ (o : Option (Lendings L)). AreTaken o last links) out taken in
     x (omega (arith, many))
-    ∙ ap (λ (l : Lent L). let o : Option (Lent L) = Some l in o)
+    ∙ ap (λ (l : Lendings L). let o : Option (Lendings L) = Some l in o)
     (lent-is (lent.back ++ links) (lent.back ++ links) (lent.out + count - length links) lent.out refl
     (omega (arith, many)))
 
 -- ---- what makes links
 
 -- nothing was made
-pub nothing-taken : {L State : Type 0} (told : L → Told State) (maker : Maker L) → TookAll told maker maker []
+pub nothing-taken : {L State : Type 0} (told : L → LinkTold State) (maker : Maker L) → TookAll told maker maker []
 nothing-taken {L} told maker = record { lent = same maker.lent; counted = refl }
   where
-    same : (lent : Option (Lent L)) → AreBack lent lent []
+    same : (lent : Option (Lendings L)) → AreBack lent lent []
     same None = tt
     same (Some lent) =
-        ap (λ (l : Lent L). let o : Option (Lent L) = Some l in o)
+        ap (λ (l : Lendings L). let o : Option (Lendings L) = Some l in o)
         (lent-is lent.back (lent.back ++ []) lent.out lent.out (sym (append-nil lent.back)) refl)
 
-pub none-taken : {L State : Type 0} (told : L → Told State) (maker : Maker L) → HasTakenBack told maker maker
+pub none-taken : {L State : Type 0} (told : L → LinkTold State) (maker : Maker L) → HasTakenBack told maker maker
 none-taken told maker = record { back = []; took = nothing-taken told maker }
 
 -- all that were made came back
-pub took-all : {L State : Type 0} (told : L → Told State) (old mid new : Maker L) (links : List L) (count : ℕ)
+pub took-all : {L State : Type 0} (told : L → LinkTold State) (old mid new : Maker L) (links : List L) (count : ℕ)
     → mid.lent ≡ option_map (out_more count) old.lent → mid.faults ≡ old.faults → length links ≡ count
     → AreTaken mid.lent new.lent links → new.faults ≡ grown_by_all mid.faults (map (faults_told told) links)
     → TookAll told old new links
@@ -52,7 +52,8 @@ took-all told old mid new links count out same many taken counted = record {
 }
 
 -- the links of seats, all of which were out
-pub took-seats : {L State : Type 0} (told : L → Told State) (old mid new : Maker L) (seats : List (Seating L TurnPass))
+pub took-seats : {L State : Type 0} (told : L → LinkTold State) (old mid new : Maker L)
+    (seats : List (Seating L TurnPass))
     → mid.lent ≡ option_map (out_more (length seats)) old.lent → mid.faults ≡ old.faults
     → AreTaken mid.lent new.lent (links_in seats) → new.faults ≡ grown_by_all mid.faults
     (map (faults_told told) (links_in seats))

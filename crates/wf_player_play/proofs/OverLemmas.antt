@@ -18,9 +18,9 @@ use Rattle.wf_player_play.specs.Refused.{NoneOrAllPlayed}
 use Rattle.wf_faults.specs.Laws.{FaultsCounted, FaultsPlaced, RanShown}
 use Rattle.wf_player_play.proofs.FaultLemmas.{counted-faults, told-faults}
 use Rattle.wf_player_play.proofs.LinkLemmas.{nothing-taken, took-all, took-seats}
-use Rattle.wf_link.specs.Links.{Told, faults_told}
+use Rattle.wf_link.specs.Links.{LinkTold, faults_told}
 
-module _ {L State : Type 0} (by : Answering State) (told : L → Told State) (scenario : Scenario)
+module _ {L State : Type 0} (by : Answering State) (told : L → LinkTold State) (scenario : Scenario)
     (base : ℕ) where
   -- no link was made
   pub none-refused : (maker : Maker L) → WasRefused by told maker maker scenario base

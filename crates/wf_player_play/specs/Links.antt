@@ -2,7 +2,7 @@
 use Rattle.std.specs.Prelude.{◌≡◌, ℕ, ◌≤◌, List, ◌++◌, length, map, Option, Some, None}
 use Rattle.wf_book.specs.declared.entry.Entry.{Entry}
 use Rattle.wf_link.specs.Counts.{grown_by}
-use Rattle.wf_link.specs.Links.{Lent, Told, faults_told}
+use Rattle.wf_link.specs.Links.{Lendings, LinkTold, faults_told}
 use Rattle.wf_link.specs.declared.target.Route.{Route}
 use Rattle.wf_script_events.specs.declared.events.Transcript.{Transcript}
 use Rattle.wf_script_values.specs.declared.scenario.Scenario.{Scenario}
@@ -16,11 +16,11 @@ use Rattle.wf_player_play.specs.Refused.{NoneOrAllPlayed}
 -- one after it, at 1, and so on; those that it took back, and how many more are out; and how often those had failed.
 pub record Maker (L : Type 0) : Type 0 where
   pub opening : ℕ → ℕ → List Route → Option L
-  pub lent : Option (Lent L)
+  pub lent : Option (Lendings L)
   pub faults : ℕ
 
 -- what makes links, as it tells
-abbrev pub maker_of : {N L : Type 0} → (N → ℕ → ℕ → List Route → Option L) → (N → Option (Lent L)) → (N → ℕ) → N
+abbrev pub maker_of : {N L : Type 0} → (N → ℕ → ℕ → List Route → Option L) → (N → Option (Lendings L)) → (N → ℕ) → N
     → Maker L
 maker_of opening lent faults links =
     record { opening = opening links; lent = lent links; faults = faults links }
@@ -28,17 +28,17 @@ maker_of opening lent faults links =
 -- ---- links that are taken back
 
 -- these were taken back, in this order, where told, and as many are out as before
-abbrev pub AreBack : {L : Type 0} → Option (Lent L) → Option (Lent L) → List L → Type 0
+abbrev pub AreBack : {L : Type 0} → Option (Lendings L) → Option (Lendings L) → List L → Type 0
 AreBack None new links = Unit {0}
 AreBack (Some old) new links = new ≡ Some (record { back = old.back ++ links; out = old.out })
 
 -- These links were made and taken back, in this order, and their faults were counted.
-pub record TookBack {L State : Type 0} (told : L → Told State) (old new : Maker L) (links : List L) : Type 0 where
+pub record TookBack {L State : Type 0} (told : L → LinkTold State) (old new : Maker L) (links : List L) : Type 0 where
   pub lent : AreBack old.lent new.lent links
   pub counted : new.faults ≡ grown_by_all old.faults (map (faults_told told) links)
 
 -- Each link that was made was taken back.
-pub record HasTakenBack {L State : Type 0} (told : L → Told State) (old new : Maker L) : Type 0 where
+pub record HasTakenBack {L State : Type 0} (told : L → LinkTold State) (old new : Maker L) : Type 0 where
   pub back : List L
   pub took : TookBack told old new back
 
@@ -47,7 +47,7 @@ pub record HasTakenBack {L State : Type 0} (told : L → Told State) (old new : 
 -- A play over links as they were made for the documents, one for each, and as they were taken back. Each document's
 -- outcomes show the faults of its tape, and its link's count rose by just as many. The count of what made the links
 -- rose by as many as all tapes have, at least.
-pub record IsPlayOverLinks {L State : Type 0} (by : Answering State) (told : L → Told State) (old new : Maker L)
+pub record IsPlayOverLinks {L State : Type 0} (by : Answering State) (told : L → LinkTold State) (old new : Maker L)
     (scenario : Scenario) (base : ℕ) (transcripts : List Transcript) (history : List Entry) : Type 0 where
   pub made : List L
   pub back : List L
@@ -59,7 +59,7 @@ pub record IsPlayOverLinks {L State : Type 0} (by : Answering State) (told : L �
 
 -- A play that was refused, over links as they were made for documents, at most one for each, and as they were taken
 -- back, in the same order: each link came back as it was made; or each document was played, over one legal history.
-pub record WasRefused {L State : Type 0} (by : Answering State) (told : L → Told State) (old new : Maker L)
+pub record WasRefused {L State : Type 0} (by : Answering State) (told : L → LinkTold State) (old new : Maker L)
     (scenario : Scenario) (base : ℕ) : Type 0 where
   pub made : List L
   pub back : List L

@@ -18,10 +18,10 @@ use Rattle.wf_script_events.specs.declared.events.Ending.TheVariants as ending
 use Rattle.wf_script_events.specs.declared.events.Event.{Event}
 use Rattle.wf_script_run.specs.Play.{Play}
 use Rattle.wf_script_values.specs.declared.scenario.Scenario.{Scenario}
-use Rattle.wf_link.specs.Links.{Told}
+use Rattle.wf_link.specs.Links.{LinkTold}
 use Rattle.wf_link_wire.specs.Exchanges.{Answering}
 use Rattle.wf_player.specs.Worlds.{Outside}
-use Rattle.wf_player.specs.Playing.{Came, Ran}
+use Rattle.wf_player.specs.Playing.{RunCame, Ran}
 use Rattle.wf_player.specs.Seats.{Seat}
 use Rattle.wf_player.proofs.CallLemmas.{trace-calls}
 use Rattle.wf_player.specs.declared.seating.Seating.{Seating}
@@ -42,7 +42,7 @@ use Rattle.wf_player_seats.proofs.PassLemmas.{times-range}
 -- a run that did not end for memory
 pub ran-of : {State : Type 0} (by : Answering State) (limit document : ℕ) (whole : Play) (old : Outside State)
     (events : List Event) (ended : Ending) (clock : ℕ) (new : Outside State) → ended ≢ ending.Memory
-    → Came by limit document whole old events ended clock new
+    → RunCame by limit document whole old events ended clock new
     → Ran by limit document whole old events ended clock new
 ran-of by limit document whole old events ending.Finished clock new told x = x
 ran-of by limit document whole old events ending.Fetches clock new told x = x
@@ -96,7 +96,7 @@ called-on old new fresh grew left = record {
     own = grew.own ∙ ap (λ (l : List Entry). l ++ grew.more) fresh.own_is
 
 -- no call was made on seats of new passes
-pub fresh-new : {L State : Type 0} (told : L → Told State) (id : TableId) (opening : Book)
+pub fresh-new : {L State : Type 0} (told : L → LinkTold State) (id : TableId) (opening : Book)
     (seats : List (Seating L TurnPass)) → All (IsNew id opening) (passes_in seats)
     → All IsFresh (map (seat_seen told) seats)
 fresh-new {L} told id opening seats new = All-map IsFresh (seat_seen told) seats
@@ -205,7 +205,7 @@ named-below count first back (e ∷ es) is documents named apart = (
 -- ---- the whole
 
 -- seats that were made with the book's passes, and their passes as they came back to a book that is closed
-module _ {L State : Type 0} (told : L → Told State) (scenario : Scenario) (id : TableId) (first : TurnPass)
+module _ {L State : Type 0} (told : L → LinkTold State) (scenario : Scenario) (id : TableId) (first : TurnPass)
     (made back : List (Seating L TurnPass)) (book : Book)
     (history : List Entry) (are : ArePasses id (opening_book scenario) (length scenario.documents) first
     (passes_in made))

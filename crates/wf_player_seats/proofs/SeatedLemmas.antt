@@ -14,7 +14,7 @@ use Rattle.wf_player_seats.specs.Passes.{IsNew}
 use Rattle.wf_iso.specs.Plays.{opening_book}
 use Rattle.wf_player_seats.specs.Seated.{links_in, passes_in, seat_seen}
 use Rattle.wf_player_seats.proofs.ListLemmas.{map-map, unmap}
-use Rattle.wf_link.specs.Links.{Told}
+use Rattle.wf_link.specs.Links.{LinkTold}
 
 -- as many items as numbers
 pub as-many : {X : Type 0} (number : X → ℕ) (items : List X) (count : ℕ)
@@ -47,7 +47,7 @@ many-links {L} made back count first last =
     ∙ as-many (λ (s : Seating L TurnPass). s.pass.document) back count last
     ∙ sym (as-seated (passes_in made) made count refl first)
 
-module _ {L State : Type 0} (told : L → Told State) (id : TableId) (scenario : Scenario)
+module _ {L State : Type 0} (told : L → LinkTold State) (id : TableId) (scenario : Scenario)
     (passes : List TurnPass) (seats : List (Seating L TurnPass)) where
   -- seats of new passes are ready
   pub ready-seats : All (IsNew id (opening_book scenario)) passes

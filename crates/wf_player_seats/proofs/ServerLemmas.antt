@@ -19,14 +19,14 @@ use Rattle.wf_link_wire.specs.Wires.{over_link}
 use Rattle.wf_link_wire.proofs.LawLemmas.{exchange-alike}
 use Rattle.wf_player.specs.Playing.{Ran}
 use Rattle.wf_player.specs.Worlds.{Answers, Outside, Settles, World}
-use Rattle.wf_link.specs.Links.{Serves, Told}
+use Rattle.wf_link.specs.Links.{Serves, LinkTold}
 use Rattle.wf_iso.specs.Plays.{by_rules}
 
 -- what a link to the servers answers, and what it tells
 abbrev pub sim_serves : Serves (List Server)
 sim_serves = record { answer = answer_to; next = λ servers _ _. servers }
 
-abbrev pub sim_told : SimState → Told (List Server)
+abbrev pub sim_told : SimState → LinkTold (List Server)
 sim_told link = record {
   state = Some link.servers;
   left = Some link.left;

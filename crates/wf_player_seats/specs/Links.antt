@@ -2,12 +2,12 @@
 -- faults that grows by theirs as they are taken back (this project's own).
 use Rattle.std.specs.Prelude.{◌≡◌, ℕ, List, [], ◌∷◌, slice_get, Option, Some}
 use Rattle.wf_link.specs.Counts.{grown_by}
-use Rattle.wf_link.specs.Links.{IsTold, Told}
+use Rattle.wf_link.specs.Links.{IsTold, LinkTold}
 use Rattle.wf_link.specs.declared.target.Route.{Route}
 use Rattle.wf_iso.specs.Plays.{Way}
 
 -- what is told of a link
-abbrev pub way_of : {L State : Type 0} → (L → Told State) → L → Way State
+abbrev pub way_of : {L State : Type 0} → (L → LinkTold State) → L → Way State
 way_of told link =
     record { state = (told link).state; received = (told link).received; faults = (told link).faults }
 

@@ -3,7 +3,7 @@ use Rattle.std.specs.Prelude.{◌≡◌, List, [], ◌∷◌, length, map}
 use Rattle.atomic_table.specs.Seated.{TableId}
 use Rattle.wf_book.specs.declared.entry.Entry.{Entry}
 use Rattle.wf_book.specs.Entries.{entries_of}
-use Rattle.wf_link.specs.Links.{Told}
+use Rattle.wf_link.specs.Links.{LinkTold}
 use Rattle.wf_player.specs.Seats.{Seat, seat_of}
 use Rattle.wf_player.specs.declared.seating.Seating.{Seating}
 use Rattle.wf_script_values.specs.declared.scenario.Scenario.{Scenario}
@@ -13,7 +13,7 @@ use Rattle.wf_iso.specs.Plays.{opening_book}
 use Rattle.wf_player_seats.specs.Passes.{ArePasses}
 
 -- what is seen of a seat with a pass of the shared book
-abbrev pub seat_seen : {L State : Type 0} → (L → Told State) → Seating L TurnPass → Seat State
+abbrev pub seat_seen : {L State : Type 0} → (L → LinkTold State) → Seating L TurnPass → Seat State
 seat_seen told seating = seat_of account_of told seating
 
 abbrev pub passes_in : {L : Type 0} → List (Seating L TurnPass) → List TurnPass

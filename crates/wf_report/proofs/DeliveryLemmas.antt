@@ -6,10 +6,10 @@ use Rattle.wf_text.specs.declared.memory.OutOfMemory.{OutOfMemory}
 use Rattle.std.proofs.lemmas.List.{append-nil}
 use Rattle.wf_fetch_acts.specs.declared.act.Input.{Input}
 use Rattle.wf_fetch.specs.Fetch.{fetch}
-use Rattle.wf_player.specs.Driving.{Drove, IsBegun}
+use Rattle.wf_player.specs.Driving.{Drove, FetchBegun}
 use Rattle.wf_player.specs.Parts.{PlaysOn}
 use Rattle.wf_player.specs.Playing.{Ran}
-use Rattle.wf_player.specs.Worlds.{Answers, Outside, Refuses, Settles, World, outside_of}
+use Rattle.wf_player.specs.Worlds.{Answers, Outside, WorldRefused, Settles, World, outside_of}
 use Rattle.wf_player.proofs.AskLemmas.{refuses-none}
 use Rattle.wf_player.proofs.FetchLemmas.{still}
 use Rattle.wf_script_events.specs.declared.events.Ending.{Ending}
@@ -79,7 +79,7 @@ module _ {State : Type 0} (by : Answering State) (limit document : ℕ) (whole :
 
   -- a path on which memory was refused
   path-cut : (events : List Event) (place : Play) (last : World State) (new : Outside State)
-      → Path by limit document whole old events place last → Refuses (outside_of last) new
+      → Path by limit document whole old events place last → WorldRefused (outside_of last) new
       → IsCutShort by limit document whole old new
   path-cut events place last new path left = record {
     events = events;
@@ -124,7 +124,7 @@ module _ {State : Type 0} (by : Answering State) (limit document : ℕ) (whole :
   pub reached-cut : (shown : List Event) (lent : Setting) (request : Request) (requests : List Request)
       (next : Next) (progress : Progress) (now new : Outside State) → fetch_limit progress ≡ None
       → HasReached by limit document whole old shown (reports_played lent (request ∷ requests) next progress) now
-      → IsBegun by limit document (fetch (at_time lent progress.clock) request) now new
+      → FetchBegun by limit document (fetch (at_time lent progress.clock) request) now new
       → IsCutShort by limit document whole old new
   unfolding onward
   reached-cut shown lent request requests next progress now new none path x =
@@ -143,7 +143,7 @@ module _ {State : Type 0} (by : Answering State) (limit document : ℕ) (whole :
       → IsCutShort by limit document whole old new
   reached-refused events rest now new path kept =
       path-cut events rest (still now) new (path (still now) (record { end = refl; framing_is = refl }) refl)
-      (subst (λ (o : Outside State). Refuses now o) (sym kept) (refuses-none now))
+      (subst (λ (o : Outside State). WorldRefused now o) (sym kept) (refuses-none now))
 
   -- a limit is reached before a report
   pub reached-limit : (shown : List Event) (lent : Setting) (request : Request) (requests : List Request)
@@ -212,13 +212,13 @@ module _ {State : Type 0} (by : Answering State) (limit document : ℕ) (whole :
         (now new : Outside State)
         → HasReached by limit document whole old log.shown (reports_played lent left next log) now
         → left ≡ request ∷ more → None ≡ fetch_limit log → number ≡ document → log.clock ≡ time
-        → IsBegun by limit number (fetch (at_time lent time) request) now new
+        → FetchBegun by limit number (fetch (at_time lent time) request) now new
         → IsCutShort by limit document whole old new
     delivery-cut log left more request number time now new path taken none same ticks x =
         reached-cut log.shown lent request more next log now new (sym none)
         (begins log left more request now taken path)
-        (subst (λ (n : ℕ). IsBegun by limit n (fetch (at_time lent log.clock) request) now new) same
-        (subst (λ (n : ℕ). IsBegun by limit number (fetch (at_time lent n) request) now new) (sym ticks) x))
+        (subst (λ (n : ℕ). FetchBegun by limit n (fetch (at_time lent log.clock) request) now new) same
+        (subst (λ (n : ℕ). FetchBegun by limit number (fetch (at_time lent n) request) now new) (sym ticks) x))
 
     -- a report was played
     pub delivery-report : (log log' : Progress) (left more : List Request) (request : Request) (number time : ℕ)

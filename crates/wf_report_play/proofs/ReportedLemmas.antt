@@ -11,11 +11,11 @@ use Rattle.wf_book.specs.declared.entry.Entry.{Entry}
 use Rattle.wf_book.specs.Entries.{Legal, book_after, entries_of}
 use Rattle.wf_iso.specs.Plays.{HasTurnsFrom, IsPlay, IsPlayOver, IsTranscript, RunsOver, Way, by_rules, opening_book}
 use Rattle.wf_iso.specs.Plays.{outside_on, way_to_servers}
-use Rattle.wf_link.specs.Links.{IsTold, Told}
+use Rattle.wf_link.specs.Links.{IsTold, LinkTold}
 use Rattle.wf_link.specs.declared.target.Route.{Route}
 use Rattle.wf_link_wire.specs.Exchanges.{Answering}
 use Rattle.wf_player.specs.Playing.{Ran}
-use Rattle.wf_player.specs.Seats.{IsPlayed, Seat}
+use Rattle.wf_player.specs.Seats.{DocumentPlayed, Seat}
 use Rattle.wf_player.specs.declared.seating.Seating.{Seating}
 use Rattle.wf_player_seats.specs.Links.{AreOpened, for_documents, way_of}
 use Rattle.wf_player_seats.specs.Passes.{ArePasses}
@@ -68,7 +68,7 @@ from-next scenario number document documents from i =
 -- the run of a script
 script-ran : {State : Type 0} (by : Answering State) (scenario : Scenario) (number : ℕ) (document : Document)
     (old new : Seat State) (transcript : Transcript)
-    → IsPlayed by scenario scenario.now number document old new transcript → HasEnded transcript
+    → DocumentPlayed by scenario scenario.now number document old new transcript → HasEnded transcript
     → Ran by scenario.body_limit number (document_run scenario.cookies scenario.now document) old.outside
     transcript.events transcript.ending transcript.clock new.outside
 script-ran by scenario number document old new transcript is told =
@@ -80,7 +80,8 @@ script-ran by scenario number document old new transcript is told =
 -- each transcript is of one of the scenario's documents, and ended early
 pub can-report : {State : Type 0} (by : Answering State) (scenario : Scenario) {number : ℕ} {documents : List Document}
     {olds mids : List (Seat State)} {transcripts : List Transcript}
-    → EachDocument (IsPlayed by scenario scenario.now) number documents olds mids transcripts → HasText transcripts
+    → EachDocument (DocumentPlayed by scenario scenario.now) number documents olds mids transcripts
+    → HasText transcripts
     → scenario.now ≤ 1099511627776 → All IsValidDocument documents
     → number + length documents ≡ length scenario.documents → All (CanReport scenario) transcripts
 can-report by scenario EachDocument.none text soon valid many = All-nil (CanReport scenario)
@@ -119,7 +120,7 @@ closed-book id opening count first made back book history are closed =
     (All-head Legals first (passes_in back) closed.legal are.first_is.document_is).1
 
 -- it stays legal, and its turns have no gap
-history-legal : {L State : Type 0} (by : Answering State) (told : L → Told State) (scenario : Scenario)
+history-legal : {L State : Type 0} (by : Answering State) (told : L → LinkTold State) (scenario : Scenario)
     (opening : Book) {book last : Book} {history whole : List Entry} {transcripts : List Transcript} {links : List L}
     {delivereds : List Delivered}
     → EachDelivered (IsDelivered by told scenario) book history transcripts links delivereds last whole

@@ -7,7 +7,7 @@ use Rattle.std.specs.List.{AllByRecursion, flat_map}
 use Rattle.wf_link.proofs.SinkLemmas.{part-after, took-again}
 use Rattle.wf_link.specs.Counts.{Rose}
 use Rattle.wf_link.specs.Accepts.{GaveFirst}
-use Rattle.wf_link.specs.Links.{Lent, one_out, TookBack}
+use Rattle.wf_link.specs.Links.{Lendings, one_out, TookBack}
 use Rattle.wf_link.specs.Sinks.{SinkTold, Took, TookPart}
 use Rattle.wf_server.specs.Serving.{Failed, PeerTold}
 use Rattle.wf_server.specs.declared.serving.Served.{Served}
@@ -58,22 +58,22 @@ module _ {End : Type 0} where
       let next = subst (λ (o : Option (List End)). GaveEnds o c ys) one.1 two in
       (next.0, next.1, one.2 ∙ ap (λ (l : List End). xs ++ l) next.2 ∙ sym (append-three xs ys next.0))
 
-  took-both : (a b c : Option (Lent End)) (xs ys : List End) → TookEnds a b xs → TookEnds b c ys
+  took-both : (a b c : Option (Lendings End)) (xs ys : List End) → TookEnds a b xs → TookEnds b c ys
       → TookEnds a c (xs ++ ys)
   took-both None b c xs ys one two = tt
   took-both (Some old) b c xs ys one two =
-      let next = subst (λ (o : Option (Lent End)). TookEnds o c ys) one two in
-      next ∙ ap (λ (l : List End). let told : Option (Lent End) = Some (record { back = l; out = old.out }) in told)
+      let next = subst (λ (o : Option (Lendings End)). TookEnds o c ys) one two in
+      next ∙ ap (λ (l : List End). let told : Option (Lendings End) = Some (record { back = l; out = old.out }) in told)
       (append-three old.back xs ys)
 
   gave-none : (a : Option (List End)) → GaveEnds a a []
   gave-none None = tt
   gave-none (Some old) = (old, refl, refl)
 
-  took-none : (a : Option (Lent End)) → TookEnds a a []
+  took-none : (a : Option (Lendings End)) → TookEnds a a []
   took-none None = tt
   took-none (Some old) =
-      ap (λ (l : List End). let told : Option (Lent End) = Some (record { back = l; out = old.out }) in told)
+      ap (λ (l : List End). let told : Option (Lendings End) = Some (record { back = l; out = old.out }) in told)
       (sym (append-none old.back))
 
 module _ {End : Type 0} where
@@ -82,12 +82,12 @@ module _ {End : Type 0} where
   gave-one None b c given gave same = tt
   gave-one (Some old) b c given gave same = (gave.0, same ∙ gave.1, gave.2)
 
-  took-one : (a b c : Option (Lent End)) (back : End) → b ≡ option_map one_out a → TookBack b c back
+  took-one : (a b c : Option (Lendings End)) (back : End) → b ≡ option_map one_out a → TookBack b c back
       → TookEnds a c (back ∷ [])
   took-one None b c back out took = tt
   took-one (Some old) b c back out took =
-      let is = subst (λ (o : Option (Lent End)). TookBack o c back) out took in
-      is (omega (arith)) ∙ ap (λ (n : ℕ). let told : Option (Lent End) =
+      let is = subst (λ (o : Option (Lendings End)). TookBack o c back) out took in
+      is (omega (arith)) ∙ ap (λ (n : ℕ). let told : Option (Lendings End) =
       Some (record { back = old.back ++ back ∷ []; out = n }) in told) (omega (arith))
 
 -- a count that rose after it had not fallen
@@ -117,7 +117,7 @@ module _ {End : Type 0} (told : End → PeerTold) (table : List Row) where
   served-nothing a b coming lent opened = record {
     each = tt;
     gave = subst (λ (o : Option (List End)). GaveEnds a.coming o []) (sym coming) (gave-none a.coming);
-    took = subst (λ (o : Option (Lent End)). TookEnds a.lent o []) (sym lent) (took-none a.lent);
+    took = subst (λ (o : Option (Lendings End)). TookEnds a.lent o []) (sym lent) (took-none a.lent);
     opened = opened;
   }
 

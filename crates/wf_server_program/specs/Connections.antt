@@ -2,7 +2,7 @@
 use Rattle.std.specs.Prelude.{◌≡◌, ℕ, ◌≤◌, ◌<◌, List, [], ◌++◌, length, map, codes, decimal, Option, Some, None}
 use Rattle.std.specs.List.{AllByRecursion, flat_map}
 use Rattle.wf_link.specs.Counts.{Rose}
-use Rattle.wf_link.specs.Links.{Lent}
+use Rattle.wf_link.specs.Links.{Lendings}
 use Rattle.wf_link.specs.Sinks.{SinkTold, Took, TookPart}
 use Rattle.wf_server.specs.Serving.{Failed, IsServing, PeerTold}
 use Rattle.wf_server.specs.declared.serving.Served.{Served}
@@ -15,11 +15,11 @@ use Rattle.wf_server_program.specs.declared.status.ServeStatus.TheVariants as st
 pub record AcceptsTold (End : Type 0) : Type 0 where
   pub opened : Option (Option (List ℕ))
   pub coming : Option (List End)
-  pub lent : Option (Lent End)
+  pub lent : Option (Lendings End)
   pub faults : ℕ
 
 abbrev pub accepts_told : {A End : Type 0} → (A → Option (Option (List ℕ))) → (A → Option (List End))
-    → (A → Option (Lent End)) → (A → ℕ) → A → AcceptsTold End
+    → (A → Option (Lendings End)) → (A → ℕ) → A → AcceptsTold End
 accepts_told opened coming lent faults accepts = record {
   opened = opened accepts;
   coming = coming accepts;
@@ -41,7 +41,7 @@ GaveEnds None new ends = Unit {0}
 GaveEnds {End} (Some old) new ends = (later : List End) × (new ≡ Some later) × (old ≡ ends ++ later)
 
 -- these ends were taken back, in order
-abbrev pub TookEnds : {End : Type 0} → Option (Lent End) → Option (Lent End) → List End → Type 0
+abbrev pub TookEnds : {End : Type 0} → Option (Lendings End) → Option (Lendings End) → List End → Type 0
 TookEnds None new ends = Unit {0}
 TookEnds (Some old) new ends = new ≡ Some (record { back = old.back ++ ends; out = old.out })
 

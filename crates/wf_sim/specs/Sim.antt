@@ -3,7 +3,7 @@
 use Rattle.std.specs.Prelude.{ℕ, Bool, ◌==◌, min, drop, length, List, Option, None}
 use Rattle.std.specs.List.{after_first, before_first}
 use Rattle.wf_text.specs.Ascii.{space}
-use Rattle.wf_link.specs.Links.{Lent}
+use Rattle.wf_link.specs.Links.{Lendings}
 use Rattle.wf_link.specs.declared.target.Ask.{Ask}
 use Rattle.wf_script_values.specs.Servers.{answer}
 use Rattle.wf_script_values.specs.declared.servers.Server.{Server}
@@ -43,7 +43,7 @@ abbrev pub told_counts : Option (List ℕ)
 told_counts = None
 
 -- nor do links to them tell which of them are out
-abbrev pub not_lent : Option (Lent SimState)
+abbrev pub not_lent : Option (Lendings SimState)
 not_lent = None
 
 -- it never failed

@@ -3,7 +3,7 @@ use Rattle.std.proofs.Common.{◌≡◌, ◌≢◌, ℕ, ◌⊎◌, inl, inr, Li
 use Rattle.std.proofs.Common.{subst, ◌∙◌}
 use Rattle.std.specs.Prelude.{OnErr, OnOk}
 use Rattle.wf_link.specs.Counts.{Rose}
-use Rattle.wf_link.specs.Links.{Told}
+use Rattle.wf_link.specs.Links.{LinkTold}
 use Rattle.wf_link.specs.Sinks.{SinkTold, Took, TookPart}
 use Rattle.wf_link.specs.Sources.{SourceTold}
 use Rattle.wf_script_values.specs.declared.scenario.Scenario.{Scenario}
@@ -121,7 +121,7 @@ summary-outcome count of output output' (Err failure.TookNothing) took part faul
 
 -- ---- links and clock
 
-module _ {L State : Type 0} (by : Answering State) (told : L → Told State) where
+module _ {L State : Type 0} (by : Answering State) (told : L → LinkTold State) where
   -- where no scenario was read they are as they were
   pub over-unread : (net : Net L) (input input' : SourceTold) (output : SinkTold) (verdict : Status)
       → IsUnread scenario_of input input' verdict
@@ -224,7 +224,7 @@ module _ {L State : Type 0} (by : Answering State) (told : L → Told State) whe
 
 -- ---- the verdict
 
-module _ {L State : Type 0} (by : Answering State) (told : L → Told State) (net net' : Net L) where
+module _ {L State : Type 0} (by : Answering State) (told : L → LinkTold State) (net net' : Net L) where
   -- the verdict by other words that are equal
   verdict-at : (asked other : Option Subcommand) (input input' : SourceTold) (output output' : SinkTold)
       (verdict : Status)
@@ -277,7 +277,7 @@ module _ {L State : Type 0} (by : Answering State) (told : L → Told State) (ne
 -- ---- the whole
 
 -- the account of an answer says what the program promises
-pub answers : {L State : Type 0} (by : Answering State) (told : L → Told State)
+pub answers : {L State : Type 0} (by : Answering State) (told : L → LinkTold State)
     (words : List (List ℕ)) (input input' : SourceTold) (output output' c c' : SinkTold) (net net' : Net L)
     (answer : Status)
     → IsAnswer by told words input input' output output' c c' net net' answer

@@ -26,7 +26,7 @@ use Rattle.wf_top.specs.Streams.{Net}
 use Rattle.wf_top.specs.Words.{subcommand_of}
 use Rattle.wf_top.specs.declared.words.Subcommand.{Subcommand}
 use Rattle.wf_top.specs.declared.words.Subcommand.TheVariants.{Gen, Net as Over, Play}
-use Rattle.wf_link.specs.Links.{Told}
+use Rattle.wf_link.specs.Links.{LinkTold}
 
 -- ---- plays
 
@@ -45,7 +45,7 @@ IsBase None base = base ≤ most_base
 IsBase (Some time) base = base ≡ min time most_base
 
 -- Over links:
-module _ {L State : Type 0} (by : Answering State) (told : L → Told State) (old new : Net L) where
+module _ {L State : Type 0} (by : Answering State) (told : L → LinkTold State) (old new : Net L) where
   -- A play of the scenario over the links that are made for its documents, from the clock's time on, in which what each
   -- document sends and sees is what it would alone.
   pub record IsLinked (scenario : Scenario) (transcripts : List Transcript) (history : List Entry) : Type 0 where
@@ -76,7 +76,7 @@ pub record IsPlayText (Plays : Scenario → List Transcript → List Entry → T
 
 -- ---- what is left of links and clock
 
-module _ {L State : Type 0} (by : Answering State) (told : L → Told State) (old new : Net L) where
+module _ {L State : Type 0} (by : Answering State) (told : L → LinkTold State) (old new : Net L) where
   -- the scenario that the bytes of a whole input are was played over the links
   abbrev pub HasPlayed : List ℕ → SourceTold → Type 0
   HasPlayed bytes input' = IsWhole bytes input' × TextOf scenario_of (IsPlayText (IsLinked by told old new)) bytes
@@ -126,7 +126,7 @@ IsSummed count output output' status.InputTooLong = ⊥
 -- ---- the whole
 
 -- By what answers over the links, what a link tells of itself, and the links and the clock at first and at last:
-module _ {L State : Type 0} (by : Answering State) (told : L → Told State) (net net' : Net L) where
+module _ {L State : Type 0} (by : Answering State) (told : L → LinkTold State) (net net' : Net L) where
   -- The verdict, by what the words ask for: Usage exactly where they are not accepted, and then nothing was read or
   -- written; with `gen` nothing was read. With `net` alone links and the clock are used.
   abbrev pub IsVerdict : Option Subcommand → SourceTold → SourceTold → SinkTold → SinkTold → Status → Type 0
@@ -140,7 +140,7 @@ module _ {L State : Type 0} (by : Answering State) (told : L → Told State) (ne
       IsSummed count output output' verdict × (input' ≡ input) × (net' ≡ net)
 
 -- How the program came to its answer: it came to a verdict first, and told it then.
-pub record IsAnswer {L State : Type 0} (by : Answering State) (told : L → Told State)
+pub record IsAnswer {L State : Type 0} (by : Answering State) (told : L → LinkTold State)
     (words : List (List ℕ)) (input input' : SourceTold) (output output' complaints complaints' : SinkTold)
     (net net' : Net L)
     (answer : Status) : Type 0 where
@@ -162,7 +162,7 @@ pub record AnswersCount (count : ℕ) (input input' : SourceTold) (output output
 
 -- What the program promises of its answer. The first field says all; the others are what it says of each
 -- status.
-pub record Answers {L State : Type 0} (by : Answering State) (told : L → Told State)
+pub record Answers {L State : Type 0} (by : Answering State) (told : L → LinkTold State)
     (words : List (List ℕ)) (input input' : SourceTold) (output output' complaints complaints' : SinkTold)
     (outer outer' : Net L) (answer : Status) : Type 0 where
   pub is_answer : IsAnswer by told words input input' output output' complaints complaints' outer

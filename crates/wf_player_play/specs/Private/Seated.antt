@@ -1,6 +1,6 @@
 -- Documents that were seated and played, and whose links are taken back.
 use Rattle.std.specs.Prelude.{◌≡◌, ℕ, List, length, map, Option}
-use Rattle.wf_link.specs.Links.{Lent, Told, faults_told}
+use Rattle.wf_link.specs.Links.{Lendings, LinkTold, faults_told}
 use Rattle.wf_player.specs.declared.seating.Seating.{Seating}
 use Rattle.wf_turn.specs.declared.pass.TurnPass.{TurnPass}
 use Rattle.wf_iso.specs.Plays.{Way}
@@ -10,7 +10,7 @@ use Rattle.wf_player_seats.specs.Seated.{links_in}
 
 -- The links of these seats were taken back, in order, and their faults were counted. Of what is told of the links, as
 -- they were and as they came back, this holds.
-pub record AreUnseated {L State : Type 0} (told : L → Told State) (lent lent' : Option (Lent L))
+pub record AreUnseated {L State : Type 0} (told : L → LinkTold State) (lent lent' : Option (Lendings L))
     (count count' : ℕ) (seats : List (Seating L TurnPass)) (AreSo : List (Way State) → List (Way State) → Type 0)
     : Type 0 where
   pub back : List L

@@ -4,7 +4,7 @@ use Rattle.wf_book.specs.declared.book.Book.{Book}
 use Rattle.wf_book.specs.declared.entry.Entry.{Entry}
 use Rattle.wf_book.specs.Entries.{Legal, book_after, entry}
 use Rattle.wf_iso.specs.Plays.{IsPlayOver, RunsOver, opening_book}
-use Rattle.wf_link.specs.Links.{Told}
+use Rattle.wf_link.specs.Links.{LinkTold}
 use Rattle.wf_link_wire.specs.Exchanges.{Answering}
 use Rattle.wf_player.specs.declared.seating.Seating.{Seating}
 use Rattle.wf_player_seats.specs.Links.{way_of}
@@ -27,7 +27,7 @@ numbered document turn (e ∷ es) = entry turn document e.op e.reply ∷ numbere
 
 -- The reports of a document, which its transcript tells, were delivered over its link and over a book that they had for
 -- themselves: these are their entries.
-pub record IsDelivered {L State : Type 0} (by : Answering State) (told : L → Told State) (scenario : Scenario)
+pub record IsDelivered {L State : Type 0} (by : Answering State) (told : L → LinkTold State) (scenario : Scenario)
     (transcript : Transcript) (opening : Book) (link : L) (delivered : Delivered) (entries : List Entry)
     : Type 0 where
   pub number_is : delivered.document ≡ transcript.document
@@ -52,7 +52,7 @@ pub data EachDelivered {L : Type 0} (Is : Transcript → Book → L → Delivere
       → EachDelivered Is book history (transcript ∷ transcripts) (link ∷ links) (delivered ∷ delivereds) last whole
 
 -- those of the documents of these transcripts
-abbrev pub AreDelivered : {L State : Type 0} → Answering State → (L → Told State) → Scenario → Book → List Entry
+abbrev pub AreDelivered : {L State : Type 0} → Answering State → (L → LinkTold State) → Scenario → Book → List Entry
     → List Transcript → List L → List Delivered → List Entry → Type 0
 AreDelivered by told scenario book history transcripts links delivereds whole =
     (last : Book)
@@ -60,7 +60,7 @@ AreDelivered by told scenario book history transcripts links delivereds whole =
 
 -- Each document was played on its seat; then the reports of each were delivered over its link, from the book and the
 -- history that the scripts have left.
-pub record WasReported {L State : Type 0} (by : Answering State) (told : L → Told State) (scenario : Scenario)
+pub record WasReported {L State : Type 0} (by : Answering State) (told : L → LinkTold State) (scenario : Scenario)
     (made : List (Seating L TurnPass)) (transcripts : List Transcript) (delivereds : List Delivered)
     (history : List Entry) : Type 0 where
   pub scripts : List Entry
