@@ -43,6 +43,14 @@ def keep(book, path):
         raise Wrong("%s: %s" % (path, error.strerror)) from None
 
 
+def refuse_others(given):
+    """Refuses words that say nothing of what is asked for: an element that loads has its own method and mode."""
+    others = ("method", "header", "data", "mode", "credentials", "redirect") if given.load else ("crossorigin",)
+    for name in others:
+        if getattr(given, name) not in (None, []):
+            raise Wrong("--%s is not used %s --load: leave it out" % (name, "with" if given.load else "without"))
+
+
 class Question:
     """The words of bin/ask, as a scenario of one document, and as what the library takes."""
 
@@ -53,6 +61,7 @@ class Question:
             raise Wrong("%s is no http or https URL: write it whole, as https://api.example/x" % given.url)
         if origin_of(self.page) is None:
             raise Wrong("%s is no http or https URL of a page" % self.page)
+        refuse_others(given)
         # What is known of earlier calls holds until a time of the clock.
         self.now = int(time.time()) if given.book else 0
         self.book = book_of(given.book) if given.book else fiorrudda.Book()

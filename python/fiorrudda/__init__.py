@@ -21,6 +21,7 @@ __all__ = [
     "Loaded",
     "NetworkError",
     "NoRequest",
+    "NoSuchNumber",
     "NotABook",
     "NotAHeader",
     "NotAUrl",
@@ -40,6 +41,7 @@ __all__ = [
     "TooLate",
     "Verdict",
     "Violation",
+    "WrongHandle",
     "exposed_names",
     "is_bad_port",
     "is_forbidden_header",
@@ -76,6 +78,14 @@ class FiorruddaError(Exception):
 
 class OutOfMemory(FiorruddaError):
     """Memory was refused. Nothing has changed; but a fetch that was told something is gone."""
+
+
+class WrongHandle(FiorruddaError):
+    """What a call was lent holds nothing, or something else: a fetch, say, that memory was refused."""
+
+
+class NoSuchNumber(FiorruddaError):
+    """A number is none of those that the call takes: the status of an answer, say, that is no three digits."""
 
 
 class NotAUrl(FiorruddaError):
@@ -123,7 +133,8 @@ class NotABook(FiorruddaError):
         super().__init__(f"line {line}: {self.name}")
 
 
-_ERRORS = {3: OutOfMemory, 6: NotAUrl, 7: NotHttp, 8: NotAHeader, 9: TooLate, 10: NotAwaited}
+_ERRORS = {2: WrongHandle, 3: OutOfMemory, 5: NoSuchNumber, 6: NotAUrl, 7: NotHttp, 8: NotAHeader, 9: TooLate,
+           10: NotAwaited}
 
 
 class ReferrerPolicy(enum.IntEnum):
