@@ -1,6 +1,7 @@
 """What bin/ask does: makes the fetch that a page would make, over real connections, and tells what came and why."""
 import json
 import os
+import tempfile
 import time
 from urllib.parse import urlsplit
 
@@ -31,16 +32,22 @@ def book_of(path):
 
 
 def keep(book, path):
-    """Writes a book into a file, in the place of what is there, or leaves that as it is."""
-    beside = "%s.%d" % (path, os.getpid())
+    """Writes a book into a file that its owner alone can read, in the place of what is there, or leaves that as it is.
+    What is wrong, in a sentence, or None."""
     try:
-        with open(beside, "xb") as file:
+        number, beside = tempfile.mkstemp(prefix=os.path.basename(path) + ".", dir=os.path.dirname(path) or ".")
+    except OSError as error:
+        return "%s is as it was: %s" % (path, error.strerror)
+    try:
+        with os.fdopen(number, "wb") as file:
             file.write(book.export())
+            file.flush()
+            os.fsync(file.fileno())
         os.replace(beside, path)
     except OSError as error:
-        if os.path.exists(beside):
-            os.remove(beside)
-        raise Wrong("%s: %s" % (path, error.strerror)) from None
+        os.remove(beside)
+        return "%s is as it was: %s" % (path, error.strerror)
+    return None
 
 
 def refuse_others(given):
@@ -62,6 +69,9 @@ class Question:
         if origin_of(self.page) is None:
             raise Wrong("%s is no http or https URL of a page" % self.page)
         refuse_others(given)
+        for path in filter(None, (given.book, given.export)):
+            if not os.access(os.path.dirname(path) or ".", os.W_OK):
+                raise Wrong("%s cannot be written" % path)
         # What is known of earlier calls holds until a time of the clock.
         self.now = int(time.time()) if given.book else 0
         self.book = book_of(given.book) if given.book else fiorrudda.Book()
@@ -111,8 +121,7 @@ class Answered:
         page = live.Page(question.page, question.client(), self.wire, LIMIT, question.book, question.now)
         for _ in range(2 if question.given.twice else 1):
             page.ask(question.request, question.given.load)
-        if question.given.book:
-            keep(question.book, question.given.book)
+        self.unkept = keep(question.book, question.given.book) if question.given.book else None
         self.text = page.text()
         scenario = Scenario(json_text.read(json.dumps(question.scenario(routes=self.routes()))))
         self.left = list(self.wire.exchanges)
@@ -138,6 +147,7 @@ class Answered:
             found.append("%s is of another site than the page: a browser sends its cookies along only where they were set with "
                          "SameSite=None and Secure, and many users block them" % origin_of(given.url))
         found += ["%s: %s" % (one.origin, one.note) for one in self.wire.exchanges if one.note]
+        found += [self.unkept] if self.unkept else []
         return found
 
     def status(self):
@@ -203,7 +213,7 @@ def ask(self, given):
                 json.dump(scenario, file, indent=1, ensure_ascii=False)
                 file.write("\n")
         except OSError as error:
-            return streams.complain(2, "%s: %s: %s" % (self, given.export, error.strerror))
+            notes.append("%s is not written: %s" % (given.export, error.strerror))
     if given.json:
         streams.write(json.dumps({"notes": notes, "fetches": answered.told.data()}, indent=1, ensure_ascii=False) + "\n")
     else:

@@ -4,8 +4,8 @@
 
 #define HEAD "fiorrudda book 1\n"
 #define HOSTS "hosts 2\n1800000000 1 8:api.test\n18446744073709551615 0 5:b.c\n\"\n"
-#define ENTRY "0 600 1 0 10:app.test:0 16:https://app.test 17:https://api.test/ 3:PUT\n"
-#define NAME "5 0 0 1 10:app.test:0 16:https://app.test 17:https://api.test/ 3:x-a\n"
+#define ENTRY "0 600 1 0 16:https://app.test 16:https://app.test 17:https://api.test/ 3:PUT\n"
+#define NAME "5 0 0 1 16:https://app.test 16:https://app.test 17:https://api.test/ 3:x-a\n"
 #define WHOLE HEAD HOSTS "entries 2\n" ENTRY NAME
 
 static uint8_t room[8192];

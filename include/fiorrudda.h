@@ -304,16 +304,16 @@ extern "C" {
 // By all policies, of its response.
 #define FIORRUDDA_CHECK_RESPONSE 2u
 
-// Why a text is none of a book: its first line is not that of a book.
+// Why a text is not that of a book: its first line does not begin as that of a book.
 #define FIORRUDDA_REASON_NO_BOOK 0u
 
-// Its first line is that of a book in another format.
+// Its first line begins so, but is not that of this format: another version, other line ends, or cut short.
 #define FIORRUDDA_REASON_OTHER_FORMAT 1u
 
-// The line is not what stands at its place.
+// The line is not what stands at its place, or not whole.
 #define FIORRUDDA_REASON_BAD_LINE 2u
 
-// The line's host, or its entry's key, does not come after the one before it.
+// The line's host does not come after the one before it, or its key comes before that of the entry before it.
 #define FIORRUDDA_REASON_ORDER 3u
 
 // The key of the line's entry has 64 entries before it.
@@ -770,18 +770,19 @@ uint32_t fiorrudda_refused_name(fiorrudda_handle *client, fiorrudda_handle *requ
 
 // Writes the text of a book, which `fiorrudda_book_of_text` reads back as the same book, so that what it knows lasts
 // over restarts: a line with its name and the number of its format, the known hosts, and the entries of the preflight
-// cache. Its times are in seconds since the moment that the calls counted from. It has bytes of any kind, tells which
-// servers were asked, and is not signed: who can change it can change what the book knows. Threads that share a book
-// call it under a lock of their own.
+// cache. Its times are in seconds since the moment that the calls counted from, which is 1970 for a book that lasts.
+// It has bytes of any kind, tells which servers were asked, and is not signed: who can change it can change what the
+// book knows. Threads that share a book ask for its length and for its text under one lock of their own.
 //
-// FIORRUDDA_OK; FIORRUDDA_TOO_SHORT, and then `len` says how many bytes the text has; FIORRUDDA_WRONG_HANDLE;
-// FIORRUDDA_OUT_OF_MEMORY. But for FIORRUDDA_OK and FIORRUDDA_TOO_SHORT nothing is written. The book is as it was.
+// FIORRUDDA_OK; FIORRUDDA_TOO_SHORT where `room` has less than `len` bytes; FIORRUDDA_WRONG_HANDLE;
+// FIORRUDDA_OUT_OF_MEMORY. But for FIORRUDDA_OK nothing is written to `room`, and but for FIORRUDDA_OK and
+// FIORRUDDA_TOO_SHORT nothing to `len`. The book is as it was.
 uint32_t fiorrudda_book_text(fiorrudda_handle *book, uint8_t *room, size_t room_len, size_t *len);
 
 // Makes in a handle the book whose text this is, as `fiorrudda_book_text` writes it. What the handle held is freed
-// first, also where the text is refused. Nothing is read of a text that is none of a book: `line` tells its first
+// first, also where the text is refused. Nothing is read of a text that is not that of a book: `line` tells its first
 // line that is not as such a text has it, counted from 1, and `reason` why, by FIORRUDDA_REASON_NO_BOOK to
-// FIORRUDDA_REASON_TOO_LONG. A line ends behind its last field, so that an LF within a text is part of its line.
+// FIORRUDDA_REASON_TOO_LONG. A line ends behind its last field, so that an LF within a name or a URL ends no line.
 //
 // FIORRUDDA_OK; FIORRUDDA_NO, where the text is refused; FIORRUDDA_OUT_OF_MEMORY. The handle is empty but for
 // FIORRUDDA_OK. `line` and `reason` are told with FIORRUDDA_NO alone.

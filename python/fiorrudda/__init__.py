@@ -123,8 +123,8 @@ class NoRequest(FiorruddaError):
 
 
 class NotABook(FiorruddaError):
-    """A text is none of a book: its first line that is not as such a text has it, counted from 1, and why, by number and
-    name."""
+    """A text is not the text of a book: its first line that is not as such a text has it, counted from 1, and why, by number
+    and name."""
 
     NAMES = ("NoBook", "OtherFormat", "BadLine", "Order", "Full", "TooLong")
 
@@ -329,21 +329,23 @@ class Headers(_Thing):
 
 
 class Book(_Thing):
-    """Known HSTS hosts, and the CORS-preflight cache. Times are in seconds since any fixed moment."""
+    """Known HSTS hosts, and the CORS-preflight cache. Times are in seconds since any fixed moment, which is 1970 for a book
+    that lasts over restarts."""
 
     def __init__(self) -> None:
         super().__init__(_lib.fiorrudda_book)
 
     @classmethod
     def read(cls, text: Text) -> "Book":
-        """The book that `export` wrote. `NotABook` where the text is none of a book: nothing is read of it then."""
+        """The book that `export` wrote. `NotABook` where the text is not the text of a book: nothing is read of it then."""
         book, line, reason = cls(), ctypes.c_uint64(0), ctypes.c_uint32(0)
         if not _told(_lib.fiorrudda_book_of_text(book._handle, *_lent(text), line, reason)):
             raise NotABook(line.value, reason.value)
         return book
 
     def export(self) -> bytes:
-        """The book as a text, so that what it knows lasts over restarts: `read` reads it back as the same book."""
+        """The book as a text, so that what it knows lasts over restarts: `read` reads it back as the same book. Its times are
+        those that the calls were given."""
         return _written(_lib.fiorrudda_book_text, self._handle) or b""
 
     def note(self, host: Text, field: Text, now: int) -> bool:

@@ -1,7 +1,8 @@
 """A whole fetch that touches nothing: `Client`, `Request` or `Load`, and `Fetch`, an iterator of acts.
 
     book = Book()
-    fetch = Fetch(Client("https://app.example/"), Request("https://api.example/", credentials="include"))
+    client, request = Client("https://app.example/"), Request("https://api.example/", credentials="include")
+    fetch = Fetch(client, request, now=int(time.time()))
     for act in fetch:
         if isinstance(act, Ask):
             fetch.ask(book)
@@ -224,7 +225,8 @@ class Load(_Asked):
 
 class Fetch(_Thing):
     """A whole fetch, an iterator of the acts that are to be done. Each is answered before the next is asked for: one that
-    was not answered comes again. Times are in seconds, and `limit` is how many bytes a body may have.
+    was not answered comes again. `now` is in seconds, and `limit` is how many bytes a body may have. All fetches that
+    ask one book count from one moment.
 
     `NoRequest` where no request can be made of what is asked for."""
 

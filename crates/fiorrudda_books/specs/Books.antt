@@ -1,6 +1,7 @@
 -- What the calls tell of a book as a text.
 use Rattle.std.specs.Prelude.{◌≡◌, ℕ, List, Option, Some, None, Result, Ok, Err}
 use Rattle.wf_book.specs.declared.book.Book.{Book}
+use Rattle.wf_book_text.specs.Reading.{read_book}
 use Rattle.wf_book_text.specs.Texts.{book_text}
 use Rattle.wf_book_text.specs.declared.refusal.Reason.{Reason}
 use Rattle.wf_book_text.specs.declared.refusal.Reason.TheVariants.{NoBook, OtherFormat, BadLine, Order, Full, TooLong}
@@ -16,6 +17,15 @@ use Rattle.fiorrudda_books.specs.declared.books.TheConstants.{REASON_ORDER, REAS
 abbrev pub IsTextOf : Option Thing → List ℕ → List ℕ → ℕ → ℕ → ℕ → Type 0
 IsTextOf (Some (thing.Book book)) room after len_before len code = IsWritten (book_text book) room after len code
 IsTextOf _ room after len_before len code = (code ≡ WRONG_HANDLE) × IsKept room after len_before len
+
+-- the text of the book that is held is read back as that book
+abbrev pub IsReadBack : Option Thing → List ℕ → Type 0
+IsReadBack held text = (book : Book) → held ≡ Some (thing.Book book) → read_book text ≡ Ok book
+
+-- the numbers of the reasons
+abbrev pub AreReasons : Type 0
+AreReasons = (REASON_NO_BOOK ≡ 0) × (REASON_OTHER_FORMAT ≡ 1) × (REASON_BAD_LINE ≡ 2) × (REASON_ORDER ≡ 3)
+    × (REASON_FULL ≡ 4) × (REASON_TOO_LONG ≡ 5)
 
 -- the number of a reason
 abbrev pub reason_number : Reason → ℕ

@@ -1,23 +1,23 @@
 // A book as a text.
-ghost use Rattle.std.specs.Prelude.{◌≡◌, ◌≢◌, None, Some};
-ghost use Rattle.fiorrudda_books.specs.Books.{IsRead, IsTextOf, reason_number};
+ghost use Rattle.std.specs.Prelude.{◌≡◌, ◌≢◌, None, Some, take};
+ghost use Rattle.fiorrudda_books.specs.Books.{IsRead, IsReadBack, IsTextOf, reason_number};
 ghost use Rattle.fiorrudda_handle.specs.Codes.{IsKept};
 ghost use Rattle.wf_book_text.specs.Reading.{read_book};
 
-use fiorrudda_handle::{Handle, NO, OUT_OF_MEMORY, Thing, WRONG_HANDLE, write};
+use fiorrudda_handle::{Handle, NO, OK, OUT_OF_MEMORY, Thing, WRONG_HANDLE, write};
 use std::alloc::Global;
 use wf_book_text::{ReadError, Reason, book_of, text_of};
 
-/// Why a text is none of a book: its first line is not that of a book.
+/// Why a text is not that of a book: its first line does not begin as that of a book.
 pub const REASON_NO_BOOK: u32 = 0;
 
-/// Its first line is that of a book in another format.
+/// Its first line begins so, but is not that of this format: another version, other line ends, or cut short.
 pub const REASON_OTHER_FORMAT: u32 = 1;
 
-/// The line is not what stands at its place.
+/// The line is not what stands at its place, or not whole.
 pub const REASON_BAD_LINE: u32 = 2;
 
-/// The line's host, or its entry's key, does not come after the one before it.
+/// The line's host does not come after the one before it, or its key comes before that of the entry before it.
 pub const REASON_ORDER: u32 = 3;
 
 /// The key of the line's entry has 64 entries before it.
@@ -29,6 +29,7 @@ pub const REASON_TOO_LONG: u32 = 5;
 // Writes the text of a thing that is a book.
 fn text(alloc: Global, thing: &Thing, room: &mut [u8], len: &mut usize) -> u32
     ensures told { result ≢ OUT_OF_MEMORY → IsTextOf (Some thing.now) room.old room.new len.old len.new result }
+    ensures read { result ≡ OK → IsReadBack (Some thing.now) (take len.new room.new) }
     ensures out_of_memory { result ≡ OUT_OF_MEMORY → IsKept room.old room.new len.old len.new }
 {
     let Thing::Book(book) = thing else {
@@ -42,12 +43,12 @@ fn text(alloc: Global, thing: &Thing, room: &mut [u8], len: &mut usize) -> u32
 
 /// Writes the text of a book, which `fiorrudda_book_of_text` reads back as the same book, so that what it knows lasts
 /// over restarts: a line with its name and the number of its format, the known hosts, and the entries of the preflight
-/// cache. Its times are in seconds since the moment that the calls counted from. It has bytes of any kind, tells which
-/// servers were asked, and is not signed: who can change it can change what the book knows. Threads that share a book
-/// call it under a lock of their own.
+/// cache. Its times are in seconds since the moment that the calls counted from, which is 1970 for a book that lasts.
+/// It has bytes of any kind, tells which servers were asked, and is not signed: who can change it can change what the
+/// book knows. Threads that share a book ask for its length and for its text under one lock of their own.
 ///
-/// `OK`; `TOO_SHORT`, and then `len` says how many bytes the text has; `WRONG_HANDLE`; `OUT_OF_MEMORY`. But for `OK`
-/// and `TOO_SHORT` nothing is written. The book is as it was.
+/// `OK`; `TOO_SHORT` where `room` has less than `len` bytes; `WRONG_HANDLE`; `OUT_OF_MEMORY`. But for `OK` nothing is
+/// written to `room`, and but for `OK` and `TOO_SHORT` nothing to `len`. The book is as it was.
 #[unsafe(no_mangle)]
 pub extern "C" fn fiorrudda_book_text(
     alloc: Global,
@@ -56,6 +57,7 @@ pub extern "C" fn fiorrudda_book_text(
     len: &mut usize,
 ) -> u32
     ensures told { result ≢ OUT_OF_MEMORY → IsTextOf book.old.held room.old room.new len.old len.new result }
+    ensures read { result ≡ OK → IsReadBack book.old.held (take len.new room.new) }
     ensures out_of_memory { result ≡ OUT_OF_MEMORY → IsKept room.old room.new len.old len.new }
     ensures held { book.new.held ≡ book.old.held }
 {
@@ -82,9 +84,9 @@ fn reason_number(reason: Reason) -> u32
 }
 
 /// Makes in a handle the book whose text this is, as `fiorrudda_book_text` writes it. What the handle held is freed
-/// first, also where the text is refused. Nothing is read of a text that is none of a book: `line` tells its first line
-/// that is not as such a text has it, counted from 1, and `reason` why, by `REASON_NO_BOOK` to `REASON_TOO_LONG`. A
-/// line ends behind its last field, so that an LF within a text is part of its line.
+/// first, also where the text is refused. Nothing is read of a text that is not that of a book: `line` tells its first
+/// line that is not as such a text has it, counted from 1, and `reason` why, by `REASON_NO_BOOK` to `REASON_TOO_LONG`.
+/// A line ends behind its last field, so that an LF within a name or a URL ends no line.
 ///
 /// `OK`; `NO`, where the text is refused; `OUT_OF_MEMORY`. The handle is empty but for `OK`. `line` and `reason` are
 /// told with `NO` alone.

@@ -3,3 +3,6 @@
 #![tactic(auto)]
 
 mod books;
+mod laws;
+
+pub use laws::law_reasons;

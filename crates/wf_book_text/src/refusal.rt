@@ -6,13 +6,13 @@ use wf_text::OutOfMemory;
 /// Why a text is not that of a book.
 #[derive(Clone, Copy, Debug, PartialEq, Eq)]
 pub enum Reason {
-    /// The first line is not that of a book.
+    /// The first line does not begin as that of a book.
     NoBook,
-    /// It is that of a book in another format.
+    /// It begins so, but is not that of this format: another version, other line ends, or cut short.
     OtherFormat,
-    /// The line is not what stands at its place.
+    /// The line is not what stands at its place, or not whole.
     BadLine,
-    /// A host, or the key of an entry, does not come after the one before it.
+    /// A host does not come after the one before it, or a key comes before that of the entry before it.
     Order,
     /// A key has 64 entries before this one.
     Full,
@@ -21,7 +21,7 @@ pub enum Reason {
 }
 
 /// The first line of a text that is not that of a book's text, counted from 1, and why. A line ends behind its last
-/// field, so that an LF within a text is part of its line.
+/// field, so that an LF within a name or a URL ends no line.
 #[derive(Clone, Copy, Debug, PartialEq, Eq)]
 pub struct Refusal {
     pub line: u64,
