@@ -124,7 +124,7 @@ fn run_document<R: Threads + Wait + Sync, S: Share, L: Link>(
 /// What the transcript shows is the document's run over a tape of what the world answers, as with `drive_fetch`. At
 /// another ending than `Memory` nothing is to come over the link, where it tells that. `Memory` is for want of memory:
 /// what was shown then begins such a run, the calls that were made are those on the way, an answer may be read in part,
-/// the key may be empty and the clock is any number.
+/// and the key and the clock may be any.
 pub fn drive<R: Threads + Wait + Sync, S: Share, L: Link>(
     rt: &R,
     alloc: Global,

@@ -142,7 +142,7 @@ fn listed(alloc: Global, transcripts: Vec<Transcript>) -> Result<Transcripts, Ou
 ///
 /// The transcripts come in the order of the documents. Each, with its document's seat before and after the play, is
 /// that of a run as `drive` makes one, but that bytes may be left over its link. `OutOfMemory` where memory was refused
-/// outside of the documents' runs: then none was played and the seats are as they were, or all were played, and the
+/// outside of the documents' runs: then none was played and the seats tell what they told, or all were played, and the
 /// calls that they made stay made.
 pub fn play_all<R: Threads + Wait + Sync, S: Share + Sync, L: Link + Send + Drop>(
     rt: &R,

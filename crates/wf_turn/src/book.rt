@@ -17,7 +17,7 @@ use std::thread::Threads;
 use wf_book::{Book, History, Op, Reply, Share};
 use wf_text::OutOfMemory;
 
-/// A book that threads share. A call waits for its turn, and turns go by tickets.
+/// A book that threads share. A call waits for its turn; whose is next, no clause says.
 #[derive(Drop)]
 pub struct TurnBook {
     pub(crate) table: Table<Option<Desk>, View, Snapshot<Book>, Turns, Global>,
