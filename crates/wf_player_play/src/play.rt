@@ -75,7 +75,8 @@ fn play_seated<R: Threads + Wait + Sync, N: Links>(
 ///
 /// `OutOfMemory` where memory was refused, to a document or to what surrounds them, or where a link could not
 /// be made; then the links that were made were taken back in order of documents: they tell what they told when they
-/// were made, or, where the documents were played, what their runs have left. The calls of those runs are one legal history too.
+/// were made, or, where the documents were played, what their runs have left. The calls of those runs are one legal
+/// history too.
 pub fn play_over<R: Threads + Wait + Sync, N: Links>(
     rt: &R,
     alloc: Global,
