@@ -1,4 +1,5 @@
 -- What came to a reader of bodies is what came of the act that it reads for.
+use Rattle.std.proofs.lemmas.Bool.{false≢true}
 use Rattle.std.specs.Prelude.{ℕ, IsTrue, List, Option, Some}
 use Rattle.wf_fetch.specs.declared.place.Fetching.{Fetching}
 use Rattle.wf_fetch_acts.specs.declared.act.Act.{Act}
@@ -21,7 +22,7 @@ pub body_suits : (document : Document) (fetching : Fetching) (first : Act) (read
 body_suits document fetching acts.ReadBody reading bodies piece went.On used next suited came = came
 body_suits document fetching acts.ReadBody reading bodies piece went.NotAwaited used next suited came = came
 body_suits document fetching acts.ReadBody reading bodies piece went.OutOfMemory used next suited came = came
-body_suits document fetching (acts.Ask op) reading bodies piece how used next suited came = absurd suited
-body_suits document fetching (acts.Send hop) reading bodies piece how used next suited came = absurd suited
-body_suits document fetching acts.ReadHead reading bodies piece how used next suited came = absurd suited
-body_suits document fetching (acts.Tell violation) reading bodies piece how used next suited came = absurd suited
+body_suits document fetching (acts.Ask op) reading bodies piece how used next suited came = absurd (false≢true suited)
+body_suits document fetching (acts.Send hop) reading bodies piece how used next suited came = absurd (false≢true suited)
+body_suits document fetching acts.ReadHead reading bodies piece how used next suited came = absurd (false≢true suited)
+body_suits document fetching (acts.Tell violation) reading bodies piece how used next suited came = absurd (false≢true suited)

@@ -81,9 +81,10 @@ impl Session {
         let Waiting {
             fetching,
             act,
-            reader: _reader,
+            reader,
             bodies,
         } = waiting;
+        drop(reader);
         let Act::Ask(op) = act else {
             return unanswered(Went::NotAwaited);
         };

@@ -55,10 +55,11 @@ impl Session {
         };
         let Waiting {
             fetching,
-            act: _act,
+            act,
             reader,
             bodies,
         } = waiting;
+        drop(act);
         match input_at_end(alloc, reader) {
             Ok(input) => self.go_on(alloc, fetching, bodies, input),
             Err(_) => Went::OutOfMemory,
@@ -88,10 +89,11 @@ impl Session {
         };
         let Waiting {
             fetching,
-            act: _act,
+            act,
             reader,
             bodies,
         } = waiting;
+        drop(act);
         self.go_on(alloc, fetching, bodies, input_at_fault(reader))
     }
 }

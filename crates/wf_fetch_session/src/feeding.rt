@@ -137,10 +137,11 @@ impl Session {
     {
         let Waiting {
             fetching,
-            act: _act,
+            act,
             reader,
             bodies,
         } = waiting;
+        drop(act);
         match reader {
             Reader::Head(reader) => self.feed_head(alloc, fetching, bodies, reader, piece),
             Reader::Body(reader) => self.feed_body(alloc, fetching, bodies, reader, piece),

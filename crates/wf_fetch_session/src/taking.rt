@@ -9,7 +9,7 @@ ghost use Rattle.wf_types.specs.Requests.{IsRequest};
 use crate::document::Document;
 use crate::going::stand_of;
 use crate::reading::Bodies;
-use crate::session::{Session, Went};
+use crate::session::{Session, Waiting, Went};
 use std::alloc::Global;
 use wf_book::Reply;
 use wf_fetch::Fetching;
@@ -59,7 +59,15 @@ impl Session {
         let Some(waiting) = self.lift() else {
             return Went::NotAwaited;
         };
-        self.go_on(alloc, waiting.fetching, waiting.bodies, input)
+        let Waiting {
+            fetching,
+            act,
+            reader,
+            bodies,
+        } = waiting;
+        drop(act);
+        drop(reader);
+        self.go_on(alloc, fetching, bodies, input)
     }
 
     /// The request was handed to the server.
