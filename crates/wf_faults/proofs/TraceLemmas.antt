@@ -19,7 +19,7 @@ use Rattle.wf_script_run.specs.Play.{Play, PlayRun, emit, over, run_play, step}
 use Rattle.wf_script_run.specs.Runs.{document_run}
 use Rattle.wf_script_run.specs.Traces.{PlayTrace, shown, stepped, stop}
 use Rattle.wf_player.specs.Worlds.{Answers, Outside, Settles, World}
-use Rattle.wf_player.specs.Playing.{RunBegun, RunCame, Ran}
+use Rattle.wf_player.specs.Playing.{RunCut, RunCameTo, RunPlayed}
 use Rattle.wf_faults.specs.Failures.{tells_fault}
 use Rattle.wf_faults.specs.Laws.{AreShown, FaultsCounted, FaultsCountedShort, RanShown, ToldCounted}
 use Rattle.wf_faults.specs.Numbers.{faults_of, one_if, one_where, outcomes_that}
@@ -109,7 +109,7 @@ module _ {State : Type 0} (by : Answering State) (limit number : ℕ) (cookies :
   abbrev whole : Play
   whole = document_run cookies base document
 
-  told-ran : (ending : Ending) (clock : ℕ) → Ran by limit number whole old events ending clock new
+  told-ran : (ending : Ending) (clock : ℕ) → RunPlayed by limit number whole old events ending clock new
       → grown_by old.faults (outcomes_that tells_fault events) ≤ new.faults
   told-ran ending clock ran =
       let shown = (faults-shown cookies base document ran.tape).none_more in
@@ -118,7 +118,7 @@ module _ {State : Type 0} (by : Answering State) (limit number : ℕ) (cookies :
       (omega (arith, shown, ap (outcomes_that tells_fault) events_are))
       (faults-counted State by limit number whole old events ending clock new ran)
 
-  told-began : RunBegun by limit number whole old events new
+  told-began : RunCut by limit number whole old events new
       → grown_by old.faults (outcomes_that tells_fault events) ≤ new.faults
   told-began began =
       let shown = (faults-shown cookies base document began.tape).none_more in
@@ -132,7 +132,7 @@ module _ {State : Type 0} (by : Answering State) (limit number : ℕ) (cookies :
       ))
       (faults-counted_short State by limit number whole old events new began)
 
-  told-counted : (ending : Ending) (clock : ℕ) → RunCame by limit number whole old events ending clock new
+  told-counted : (ending : Ending) (clock : ℕ) → RunCameTo by limit number whole old events ending clock new
       → grown_by old.faults (outcomes_that tells_fault events) ≤ new.faults
   told-counted ending.Memory clock came = told-began came
   told-counted ending clock came = told-ran ending clock came

@@ -13,7 +13,7 @@ PlaysOn by limit document = PlayTrace (Answers by limit document) Settles
 
 -- For some tape of the world's answers, and whatever follows, the part has shown what was added to the events, and
 -- goes on as the rest.
-pub record PartCameTo {State N : Type 0} (by : Answering State) (part : N → Play) (old : Standing State)
+pub record PartReached {State N : Type 0} (by : Answering State) (part : N → Play) (old : Standing State)
     (rest : N → Play) (new : Standing State) : Type 0 where
   pub same : new.terms ≡ old.terms
   pub tape : List Input
@@ -27,7 +27,7 @@ pub record PartCut {State N : Type 0} (by : Answering State) (part : N → Play)
     : Type 0 where
   pub place : N → Play
   pub last : Standing State
-  pub played : PartCameTo by part old place last
+  pub played : PartReached by part old place last
   pub lost : HasLost played.made old last new
 
 -- A rule of the script, by what its fetches have in common: what it does before what follows it.
@@ -37,7 +37,7 @@ Rule = Setting → Next → Next
 -- the rule was played as far as another, which follows
 abbrev pub LeadsTo : {State : Type 0} → Answering State → Rule → Standing State → Rule → Standing State → Type 0
 LeadsTo by rule old rest new =
-    PartCameTo by (λ (next : Next). rule old.terms.lent next old.progress) old
+    PartReached by (λ (next : Next). rule old.terms.lent next old.progress) old
     (λ next. rest new.terms.lent next new.progress) new
 
 -- The rule was played: it leads on to what follows, or to an ending of the run. Nothing is to come over the link then.

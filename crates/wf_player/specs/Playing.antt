@@ -15,7 +15,7 @@ ended_by (Err refused) = Memory
 
 -- From a world in which nothing is to come, for some tape each item is the world's answer, and what was shown is the
 -- run over that tape.
-pub record Ran {State : Type 0} (by : Answering State) (limit document : ℕ) (whole : Play) (old : Outside State)
+pub record RunPlayed {State : Type 0} (by : Answering State) (limit document : ℕ) (whole : Play) (old : Outside State)
     (events : List Event) (ending : Ending) (clock : ℕ) (new : Outside State) : Type 0 where
   pub first : World State
   pub idle : IsIdle first.exchange
@@ -28,7 +28,7 @@ pub record Ran {State : Type 0} (by : Answering State) (limit document : ℕ) (w
 
 -- The same of a run that ended for memory: what was shown begins the run over that tape, up to some place of it but for
 -- one event at most, and the calls that were made are those on the way.
-pub record RunBegun {State : Type 0} (by : Answering State) (limit document : ℕ) (whole : Play) (old : Outside State)
+pub record RunCut {State : Type 0} (by : Answering State) (limit document : ℕ) (whole : Play) (old : Outside State)
     (events : List Event) (new : Outside State) : Type 0 where
   pub first : World State
   pub idle : IsIdle first.exchange
@@ -43,7 +43,7 @@ pub record RunBegun {State : Type 0} (by : Answering State) (limit document : �
   pub runs : (run_play whole tape).events ≡ events ++ (missed ++ (run_play place []).events)
 
 -- what a document's run comes to, by its ending
-abbrev pub RunCame : {State : Type 0} → Answering State → ℕ → ℕ → Play → Outside State → List Event → Ending → ℕ
+abbrev pub RunCameTo : {State : Type 0} → Answering State → ℕ → ℕ → Play → Outside State → List Event → Ending → ℕ
     → Outside State → Type 0
-RunCame by limit document whole old events Memory clock new = RunBegun by limit document whole old events new
-RunCame by limit document whole old events ending clock new = Ran by limit document whole old events ending clock new
+RunCameTo by limit document whole old events Memory clock new = RunCut by limit document whole old events new
+RunCameTo by limit document whole old events ending clock new = RunPlayed by limit document whole old events ending clock new

@@ -1,7 +1,7 @@
 // One document, played.
 ghost use Rattle.std.specs.Prelude.{◌<◌, ◌^◌, ◌≡◌, ◌≢◌, ◌≤◌, IfOk, OnErr, Some, length, slice_get};
 ghost use Rattle.wf_player.specs.Playing as spec;
-ghost use Rattle.wf_player.specs.Playing.{RunCame};
+ghost use Rattle.wf_player.specs.Playing.{RunCameTo};
 ghost use Rattle.wf_player.specs.Standings.{KeepsPass, most_calls, setting_of};
 ghost use Rattle.wf_player.specs.Words.{AreValid, Document as OneDocument, IsAtEnd, IsClient, IsIdle, IsValid};
 ghost use Rattle.wf_player.specs.Words.{IsValidDocument, Memory, beginning, document_client, document_run};
@@ -49,7 +49,7 @@ fn play_script<R: Threads + Wait + Sync, S: Share, L: Link>(
     requires base { base ≤ 2 ^ 40 }
     requires pass { S.belongs lent.now.share.now pass.old × (most_calls ≤ (S.account pass.old).left) }
     requires idle { IsIdle (exchange_of L.told link.old wire.old) }
-    ensures came { RunCame (over_link L.serves) lent.now.limit (S.account pass.old).document
+    ensures came { RunCameTo (over_link L.serves) lent.now.limit (S.account pass.old).document
         (script_run (setting_of lent.now) document.now.script finished (beginning base))
         (outside S.account L.told pass.old link.old) result.events result.ending result.clock
         (outside S.account L.told pass.new link.new) }
@@ -91,7 +91,7 @@ fn run_document<R: Threads + Wait + Sync, S: Share, L: Link>(
     requires valid { IsValidDocument document.now }
     requires base { base ≤ 2 ^ 40 }
     requires pass { S.belongs share.now pass.old × (most_calls ≤ (S.account pass.old).left) }
-    ensures came { IfOk result (λ ran. RunCame (over_link L.serves) scenario.entry.now.body_limit
+    ensures came { IfOk result (λ ran. RunCameTo (over_link L.serves) scenario.entry.now.body_limit
         (S.account pass.old).document (document_run scenario.entry.now.cookies base document.now)
         (outside S.account L.told pass.old link.old) ran.events ran.ending ran.clock
         (outside S.account L.told pass.new link.new)) }
@@ -139,7 +139,7 @@ pub fn drive<R: Threads + Wait + Sync, S: Share, L: Link>(
     requires base { base ≤ 2 ^ 40 }
     requires pass { S.belongs share.now pass.old × (most_calls ≤ (S.account pass.old).left) }
     ensures came { (one : OneDocument) → slice_get scenario.entry.now.documents document ≡ Some one
-        → RunCame (over_link L.serves) scenario.entry.now.body_limit (S.account pass.old).document
+        → RunCameTo (over_link L.serves) scenario.entry.now.body_limit (S.account pass.old).document
         (document_run scenario.entry.now.cookies base one) (outside S.account L.told pass.old link.old) result.events
         result.ending result.clock (outside S.account L.told pass.new link.new) }
     ensures hung_up { result.ending ≢ Memory → IsAtEnd (L.told link.new).left }
