@@ -253,7 +253,7 @@ module _ {State : Type 0} {by : Answering State} where
           to = sym ends;
         }
 
-    -- it was cut short
+    -- it was cut off
     pub fetch-begun : FetchCut by whole old last → outside_of last.world ≡ to
         → DriveCut by old.terms.limit old.terms.document whole from to
     fetch-begun x ends = record {

@@ -119,7 +119,7 @@ module _ {State : Type 0} {by : Answering State} where
         a.progress);
   }
 
-  -- ---- parts that were cut short
+  -- ---- parts that were cut off
 
   pub cut-here : {N : Type 0} {part : N → Play} {a : Standing State} → PartCut by part a a
   unfolding played-none

@@ -3,7 +3,8 @@ use Rattle.wf_csp_text.specs.declared.policy.Policy.{Policy}
 use Rattle.wf_script_run.specs.Traces.{stop}
 use Rattle.wf_types.specs.declared.client.Cookie.{Cookie}
 use Rattle.wf_types.specs.declared.client.Client.{Client}
-use Rattle.wf_player.specs.Playing.{RunCut, RunCameTo, RunPlayed, ended_by}
+use Rattle.wf_player.specs.Playing.{RunCut, RunCameTo, RunPlayed}
+use Rattle.wf_player.specs.Private.Parts.{ended_by}
 use Rattle.wf_player.proofs.Words.{[], ℕ, ◌++◌, ◌∙◌, ◌≡◌, ◌≢◌, Answering, Answers, PartCut, Document, Ending, Err}
 use Rattle.wf_player.proofs.Words.{Event, IsAtEnd, IsIdle, List, Memory, None, Ok, Option, OutOfMemory, Outside, Play}
 use Rattle.wf_player.proofs.Words.{PartReached, PlayRun, RuleCameTo, Result, Rule, Settles, Some, Standing, Steps, ap}
@@ -37,7 +38,7 @@ module _ {State : Type 0} (by : Answering State) {whole : Play} (old now : Stand
             (play-run (Answers by old.terms.limit old.terms.document) Settles trace []);
       }
 
-  -- it was cut short
+  -- it was cut off
   cut : {N : Type 0} {part : N → Play} (n : N) → part n ≡ whole → PartCut by part old now
       → RunCut by old.terms.limit old.terms.document whole from now.progress.shown to
   cut n is x =

@@ -13,12 +13,15 @@ pub use Rattle.wf_fetch_acts.specs.Within.{Anything, Within, acts}
 pub use Rattle.wf_fetch_laws.specs.Prices.{fetch_price, level_price, levels}
 pub use Rattle.wf_link.proofs.ReceivedLemmas.{received-none}
 pub use Rattle.wf_link_wire.specs.Wires.{onto_left, window_of}
-pub use Rattle.wf_player.specs.Driving.{DriveCameTo, FetchPlayed, FetchCut, FetchReached, HasLost, DriveCut, LeadsOn}
-pub use Rattle.wf_player.specs.Parts.{PartCut, RulePlayed, LeadsTo, PartReached, RuleCameTo, PlaysOn, Rule, RuleCut}
+pub use Rattle.wf_player.specs.Driving.{DriveCameTo, FetchPlayed, DriveCut, LeadsOn}
+pub use Rattle.wf_player.specs.Private.Fetching.{FetchCut, FetchReached, HasLost}
+pub use Rattle.wf_player.specs.Private.Parts.{PartCut, RulePlayed, LeadsTo, PartReached, RuleCameTo, Rule, RuleCut}
+pub use Rattle.wf_player.specs.Playing.{PlaysOn}
 pub use Rattle.wf_player.specs.Private.Rows.{CanPlay, RowPlayed, seatings_of, transcripts_of}
 pub use Rattle.wf_player.specs.Seats.{AreSeated, DocumentCameTo, Seat, seat_of}
-pub use Rattle.wf_player.specs.Standings.{HasSpent, Keeps, KeepsPass, MayGoOn, Standing, Terms, most_calls}
-pub use Rattle.wf_player.specs.Standings.{setting_of, standing, terms_of}
+pub use Rattle.wf_player.specs.Private.Standings.{HasSpent, Keeps, MayGoOn, Standing, Terms}
+pub use Rattle.wf_player.specs.Passes.{KeepsPass, most_calls}
+pub use Rattle.wf_player.specs.Private.Standings.{setting_of, standing, terms_of}
 pub use Rattle.wf_player.specs.Words.{Act, All, Answering, Ask, Context, Document, EachDocument, Ending, Event, Input}
 pub use Rattle.wf_player.specs.Words.{IsAtEnd, IsIdle, Memory, Next, Outcome, OutOfMemory, Play, PlayTrace, Process}
 pub use Rattle.wf_player.specs.Words.{Progress, Send, Tell, Transcript, act, after_events, asked, asks, at_time}

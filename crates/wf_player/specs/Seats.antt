@@ -3,7 +3,7 @@
 use Rattle.std.specs.Prelude.{ℕ, ◌+◌, ◌≡◌, ◌≢◌, ◌≤◌, ◌⊎◌, List, length, map}
 use Rattle.wf_player.specs.declared.seating.Seating.{Seating}
 use Rattle.wf_player.specs.Playing.{RunCameTo}
-use Rattle.wf_player.specs.Standings.{most_calls}
+use Rattle.wf_player.specs.Passes.{most_calls}
 use Rattle.wf_player.specs.Words.{Account, All, Answering, Book, Document, EachDocument, Memory, Scenario, LinkTold}
 use Rattle.wf_player.specs.Words.{Transcript, document_client, document_run, range_with_len}
 use Rattle.wf_player.specs.Worlds.{Outside, outside}

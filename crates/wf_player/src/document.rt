@@ -1,8 +1,9 @@
 // One document, played.
 ghost use Rattle.std.specs.Prelude.{◌<◌, ◌^◌, ◌≡◌, ◌≢◌, ◌≤◌, IfOk, OnErr, Some, length, slice_get};
-ghost use Rattle.wf_player.specs.Playing as spec;
+ghost use Rattle.wf_player.specs.Private.Parts as spec;
 ghost use Rattle.wf_player.specs.Playing.{RunCameTo};
-ghost use Rattle.wf_player.specs.Standings.{KeepsPass, most_calls, setting_of};
+ghost use Rattle.wf_player.specs.Passes.{KeepsPass, most_calls};
+ghost use Rattle.wf_player.specs.Private.Standings.{setting_of};
 ghost use Rattle.wf_player.specs.Words.{AreValid, Document as OneDocument, IsAtEnd, IsClient, IsIdle, IsValid};
 ghost use Rattle.wf_player.specs.Words.{IsValidDocument, Memory, beginning, document_client, document_run};
 ghost use Rattle.wf_player.specs.Words.{exchange_of, finished, over_link, script_run};

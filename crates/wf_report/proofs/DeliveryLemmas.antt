@@ -7,7 +7,7 @@ use Rattle.std.proofs.lemmas.List.{append-nil}
 use Rattle.wf_fetch_acts.specs.declared.act.Input.{Input}
 use Rattle.wf_fetch.specs.Fetch.{fetch}
 use Rattle.wf_player.specs.Driving.{FetchPlayed, DriveCut}
-use Rattle.wf_player.specs.Parts.{PlaysOn}
+use Rattle.wf_player.specs.Playing.{PlaysOn}
 use Rattle.wf_player.specs.Playing.{RunPlayed}
 use Rattle.wf_player.specs.Worlds.{Answers, Outside, WorldRefused, Settles, World, outside_of}
 use Rattle.wf_player.proofs.AskLemmas.{refuses-none}

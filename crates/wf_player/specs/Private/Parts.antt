@@ -1,15 +1,10 @@
 -- What each part of a document's run comes to in the document's world.
-use Rattle.std.specs.Prelude.{ℕ, ◌++◌, ◌≡◌, List, MatchResult, Option, Result}
-use Rattle.wf_player.specs.Driving.{HasLost}
-use Rattle.wf_player.specs.Standings.{Standing}
-use Rattle.wf_player.specs.Words.{Answering, Ending, Event, Input, IsAtEnd, Next, OutOfMemory, Play, PlayTrace}
+use Rattle.std.specs.Prelude.{◌++◌, ◌≡◌, Err, List, MatchResult, None, Ok, Option, Result, Some}
+use Rattle.wf_player.specs.Playing.{PlaysOn}
+use Rattle.wf_player.specs.Private.Fetching.{HasLost}
+use Rattle.wf_player.specs.Private.Standings.{Standing}
+use Rattle.wf_player.specs.Words.{Answering, Ending, Event, Finished, Input, IsAtEnd, Memory, Next, OutOfMemory, Play}
 use Rattle.wf_player.specs.Words.{Setting, unless_limit}
-use Rattle.wf_player.specs.Worlds.{Answers, Settles, World}
-
--- with these items of a tape a run shows these events in the world of a document, and goes on
-abbrev pub PlaysOn : {State : Type 0} → Answering State → ℕ → ℕ → Play → World State → List Input → List Event → Play
-    → World State → Type 0
-PlaysOn by limit document = PlayTrace (Answers by limit document) Settles
 
 -- For some tape of the world's answers, and whatever follows, the part has shown what was added to the events, and
 -- goes on as the rest.
@@ -55,3 +50,9 @@ abbrev pub RuleCameTo : {State : Type 0} → Answering State → Rule → Standi
     → Standing State → Type 0
 RuleCameTo by rule old result new =
     MatchResult result (λ ending. RulePlayed by rule old ending new) (λ refused. RuleCut by rule old new)
+
+-- how a run has ended, whose script has played to its end or to a limit, or was refused memory
+abbrev pub ended_by : Result (Option Ending) OutOfMemory → Ending
+ended_by (Ok None) = Finished
+ended_by (Ok (Some ending)) = ending
+ended_by (Err refused) = Memory
