@@ -79,11 +79,12 @@ seen-run scenario number opening history document new link transcript same numbe
         behind = left;
         ran = ran-by-rules scenario.body_limit number whole old transcript.events transcript.ending transcript.clock
             (outside_on (way_to_servers scenario) (entries_of number (seen_on new)) left)
-            (subst (λ (n : ℕ). RunPlayed by_bytes scenario.body_limit number whole old transcript.events transcript.ending
-            transcript.clock (outside_on (way_to_servers scenario) (entries_of n (seen_on new)) left)) same
-            (subst (λ (s : Option (List Server)). RunPlayed by_bytes scenario.body_limit number whole old transcript.events
-            transcript.ending transcript.clock (outside_on (record { state = s; received = None; faults = 0 })
-            (entries_of new.document (seen_on new)) left)) servers ran));
+            (subst (λ (n : ℕ). RunPlayed by_bytes scenario.body_limit number whole old transcript.events
+            transcript.ending transcript.clock (outside_on (way_to_servers scenario) (entries_of n (seen_on new))
+            left)) same
+            (subst (λ (s : Option (List Server)). RunPlayed by_bytes scenario.body_limit number whole old
+            transcript.events transcript.ending transcript.clock
+            (outside_on (record { state = s; received = None; faults = 0 }) (entries_of new.document (seen_on new)) left)) servers ran));
       };
     }
 
@@ -235,6 +236,6 @@ came-to scenario number opening history document old new first link transcript f
     (subst (λ (t : Tape). RunCameTo by_bytes scenario.body_limit t.document whole
     (outside account_of sim_told t (fresh_link scenario)) transcript.events transcript.ending transcript.clock
     (outside account_of sim_told new link)) fresh
-    (subst (λ (l : SimState). RunCameTo by_bytes scenario.body_limit old.document whole (outside account_of sim_told old l
-    )
-    transcript.events transcript.ending transcript.clock (outside account_of sim_told new link)) opened came))
+    (subst (λ (l : SimState). RunCameTo by_bytes scenario.body_limit old.document whole
+    (outside account_of sim_told old l) transcript.events transcript.ending transcript.clock
+    (outside account_of sim_told new link)) opened came))

@@ -19,9 +19,9 @@ use Rattle.wf_script_run.specs.Play.{Play, PlayRun, emit, over, run_play, step}
 use Rattle.wf_script_run.specs.Runs.{document_run}
 use Rattle.wf_script_run.specs.Traces.{PlayTrace, shown, stepped, stop}
 use Rattle.wf_player.specs.Worlds.{Answers, Outside, Settles, World}
-use Rattle.wf_player.specs.Playing.{RunCut, RunCameTo, RunPlayed}
+use Rattle.wf_player.specs.Playing.{RunCameTo, RunCut, RunPlayed}
 use Rattle.wf_faults.specs.Failures.{tells_fault}
-use Rattle.wf_faults.specs.Laws.{AreShown, FaultsCounted, FaultsCountedShort, RanShown, ToldCounted}
+use Rattle.wf_faults.specs.Laws.{AreShown, FaultsCounted, FaultsCountedCut, RanShown, ToldCounted}
 use Rattle.wf_faults.specs.Numbers.{faults_of, one_if, one_where, outcomes_that}
 use Rattle.wf_faults.specs.Places.{outcome_of}
 use Rattle.wf_faults.proofs.NumberLemmas.{faults-shown}
@@ -92,8 +92,8 @@ faults-counted State by limit document whole old events ending clock new ran =
     rw (sym (ap (λ (o : Outside State). o.faults) ran.from), sym (ap (λ (o : Outside State). o.faults) ran.to))
     (counts by limit document ran.trace)
 
-pub faults-counted_short : (State : Type 0) → FaultsCountedShort State
-faults-counted_short State by limit document whole old events new began =
+pub faults-counted_cut : (State : Type 0) → FaultsCountedCut State
+faults-counted_cut State by limit document whole old events new began =
     rw (sym (ap (λ (o : Outside State). o.faults) began.from))
     (began.left.faults_are ∙ counts by limit document began.trace)
 
@@ -130,7 +130,7 @@ module _ {State : Type 0} (by : Answering State) (limit number : ℕ) (cookies :
         ap (outcomes_that tells_fault) began.runs,
         sum_by-append (λ (s : Event). one_if tells_fault (outcome_of s)) events rest,
       ))
-      (faults-counted_short State by limit number whole old events new began)
+      (faults-counted_cut State by limit number whole old events new began)
 
   told-counted : (ending : Ending) (clock : ℕ) → RunCameTo by limit number whole old events ending clock new
       → grown_by old.faults (outcomes_that tells_fault events) ≤ new.faults

@@ -11,7 +11,7 @@ use Rattle.wf_script_run.specs.Play.{Play, PlayRun, run_play}
 use Rattle.wf_script_run.specs.Runs.{document_run}
 use Rattle.wf_link_wire.specs.Exchanges.{Answering}
 use Rattle.wf_player.specs.Worlds.{Outside}
-use Rattle.wf_player.specs.Playing.{RunCut, RunCameTo, RunPlayed}
+use Rattle.wf_player.specs.Playing.{RunCameTo, RunCut, RunPlayed}
 use Rattle.wf_faults.specs.Failures.{may_hide_fault, tells_fault}
 use Rattle.wf_faults.specs.Numbers.{faults_of, outcomes_that, unshown}
 use Rattle.wf_faults.specs.Places.{ShowsFailures}
@@ -53,8 +53,8 @@ FaultsCounted State =
     → new.faults ≡ counted_on old.faults (faults_of whole ran.tape)
 
 -- the same of a run that ended because memory was refused
-abbrev pub FaultsCountedShort : Type 0 → Type 0
-FaultsCountedShort State =
+abbrev pub FaultsCountedCut : Type 0 → Type 0
+FaultsCountedCut State =
     (by : Answering State) (limit document : ℕ) (whole : Play) (old : Outside State) (events : List Event)
     (new : Outside State) → (began : RunCut by limit document whole old events new)
     → new.faults ≡ counted_on old.faults (faults_of whole began.tape)

@@ -13,13 +13,12 @@ use Rattle.wf_fetch_laws.specs.Own.{IsOwnAct}
 use Rattle.wf_fetch_laws.proofs.OwnLemmas.{asks-at-most, fetch-within}
 use Rattle.wf_player.specs.Private.Going.{PartNoted, WentOn, from_act}
 use Rattle.wf_player.proofs.Words.{[], ℕ, ◌++◌, ◌+◌, ◌-◌, ◌<◌, ◌^◌, ◌∙◌, ◌∷◌, ◌≡◌, ◌≤◌, Act, Answering, Answers}
-use Rattle.wf_player.proofs.Words.{Anything, Ask, Context, FetchPlayed, Event, FetchCut, FetchReached, Input, DriveCut}
-use Rattle.wf_player.proofs.Words.{IsIdle}
-use Rattle.wf_player.proofs.Words.{IsTrue, LeadsOn, List, Outcome, Outside, Process, Progress, WorldRefused, Request}
-use Rattle.wf_player.proofs.Words.{Send}
-use Rattle.wf_player.proofs.Words.{Some, Standing, Tell, Terms, Within, World, act, acts, after_events, ap, append-nil}
-use Rattle.wf_player.proofs.Words.{append_assoc, arith, asks, at_time, ended, events_of, fetch, fetch_price, fits}
-use Rattle.wf_player.proofs.Words.{length, level_price, levels, most_asks, outside_of, price_of, refl, subst, sym}
+use Rattle.wf_player.proofs.Words.{Anything, Ask, Context, DriveCut, Event, FetchCut, FetchPlayed, FetchReached, Input}
+use Rattle.wf_player.proofs.Words.{IsIdle, IsTrue, LeadsOn, List, Outcome, Outside, Process, Progress, Request, Send}
+use Rattle.wf_player.proofs.Words.{Some, Standing, Tell, Terms, Within, World, WorldRefused, act, acts, after_events}
+use Rattle.wf_player.proofs.Words.{ap, append-nil, append_assoc, arith, asks, at_time, ended, events_of, fetch}
+use Rattle.wf_player.proofs.Words.{fetch_price, fits, length, level_price, levels, most_asks, outside_of, price_of}
+use Rattle.wf_player.proofs.Words.{refl, subst, sym}
 use Rattle.wf_player.proofs.AskLemmas.{refuses-none}
 use Rattle.wf_player.proofs.PartLemmas.{lost-none, lost-then}
 
@@ -78,8 +77,8 @@ module _ {State : Type 0} {by : Answering State} where
   }
 
   -- and then memory was refused
-  came-cut : {whole middle : Process} {a b c : Standing State} → FetchReached by whole a middle b → FetchCut by middle b c
-      → FetchCut by whole a c
+  came-cut : {whole middle : Process} {a b c : Standing State} → FetchReached by whole a middle b
+      → FetchCut by middle b c → FetchCut by whole a c
   unfolding came-then
   came-cut {c = c} x y = record {
     place = y.place;

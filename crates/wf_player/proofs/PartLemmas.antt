@@ -4,16 +4,13 @@ use Rattle.wf_types.specs.declared.policy.Destination.TheVariants as destination
 use Rattle.wf_types.specs.declared.response.Outcome.TheVariants as outcome
 use Rattle.wf_script_run.proofs.EmbedLemmas.{embedded}
 use Rattle.wf_types.specs.declared.policy.Destination.{Destination}
-use Rattle.wf_player.proofs.Words.{[], ℕ, ◌++◌, ◌∙◌, ◌∷◌, ◌≡◌, Answering, Answers, PartCut, Ending, Err, Event}
-use Rattle.wf_player.proofs.Words.{FetchCut, FetchReached, HasLost, IsErr, IsHungUp, LeadsTo, List}
-use Rattle.wf_player.proofs.Words.{MatchResult-from_err}
-use Rattle.wf_player.proofs.Words.{Next, Ok, Option, Outcome, OutOfMemory, Play, PartReached, RuleCameTo, PlaysOn}
-use Rattle.wf_player.proofs.Words.{Process}
-use Rattle.wf_player.proofs.Words.{Progress, WorldRefused, Request, Result, Rule, Settles, Standing, Terms, TypeFault}
-use Rattle.wf_player.proofs.Words.{World}
-use Rattle.wf_player.proofs.Words.{after_events, ap, append-nil, append_assoc, arith, asked, embed, fault_event}
-use Rattle.wf_player.proofs.Words.{fetch_started, fetched, outcome_event, outside_of, play-append, refl, showing}
-use Rattle.wf_player.proofs.Words.{start_event, started, subst, sym}
+use Rattle.wf_player.proofs.Words.{[], ℕ, ◌++◌, ◌∙◌, ◌∷◌, ◌≡◌, Answering, Answers, Ending, Err, Event, FetchCut}
+use Rattle.wf_player.proofs.Words.{FetchReached, HasLost, IsErr, IsHungUp, LeadsTo, List, MatchResult-from_err, Next}
+use Rattle.wf_player.proofs.Words.{Ok, Option, Outcome, OutOfMemory, PartCut, PartReached, Play, PlaysOn, Process}
+use Rattle.wf_player.proofs.Words.{Progress, Request, Result, Rule, RuleCameTo, Settles, Standing, Terms, TypeFault}
+use Rattle.wf_player.proofs.Words.{World, WorldRefused, after_events, ap, append-nil, append_assoc, arith, asked, embed}
+use Rattle.wf_player.proofs.Words.{fault_event, fetch_started, fetched, outcome_event, outside_of, play-append, refl}
+use Rattle.wf_player.proofs.Words.{showing, start_event, started, subst, sym}
 use Rattle.wf_player.proofs.AskLemmas.{refuses-none}
 
 -- ---- what was lost
@@ -107,8 +104,8 @@ module _ {State : Type 0} {by : Answering State} where
   }
 
   -- a fetch
-  pub played-fetch : (kind : Destination) {whole place : Process} {a b : Standing State} → FetchReached by whole a place b
-      → PartReached by (λ (next : Next). embed whole (onward kind next) a.progress) a
+  pub played-fetch : (kind : Destination) {whole place : Process} {a b : Standing State}
+      → FetchReached by whole a place b → PartReached by (λ (next : Next). embed whole (onward kind next) a.progress) a
       (λ next. embed place (onward kind next) b.progress) b
   played-fetch kind {a = a} x = record {
     same = x.same;

@@ -3,13 +3,13 @@ use Rattle.wf_csp_text.specs.declared.policy.Policy.{Policy}
 use Rattle.wf_script_run.specs.Traces.{stop}
 use Rattle.wf_types.specs.declared.client.Cookie.{Cookie}
 use Rattle.wf_types.specs.declared.client.Client.{Client}
-use Rattle.wf_player.specs.Playing.{RunCut, RunCameTo, RunPlayed}
+use Rattle.wf_player.specs.Playing.{RunCameTo, RunCut, RunPlayed}
 use Rattle.wf_player.specs.Private.Parts.{ended_by}
-use Rattle.wf_player.proofs.Words.{[], ℕ, ◌++◌, ◌∙◌, ◌≡◌, ◌≢◌, Answering, Answers, PartCut, Document, Ending, Err}
-use Rattle.wf_player.proofs.Words.{Event, IsAtEnd, IsIdle, List, Memory, None, Ok, Option, OutOfMemory, Outside, Play}
-use Rattle.wf_player.proofs.Words.{PartReached, PlayRun, RuleCameTo, Result, Rule, Settles, Some, Standing, Steps, ap}
-use Rattle.wf_player.proofs.Words.{append-nil, append_assoc, arith, beginning, document_client, document_run, finished}
-use Rattle.wf_player.proofs.Words.{outside_of, over, play-run, refl, script_run, setting, sym}
+use Rattle.wf_player.proofs.Words.{[], ℕ, ◌++◌, ◌∙◌, ◌≡◌, ◌≢◌, Answering, Answers, Document, Ending, Err, Event}
+use Rattle.wf_player.proofs.Words.{IsAtEnd, IsIdle, List, Memory, None, Ok, Option, OutOfMemory, Outside, PartCut}
+use Rattle.wf_player.proofs.Words.{PartReached, Play, PlayRun, Result, Rule, RuleCameTo, Settles, Some, Standing, Steps}
+use Rattle.wf_player.proofs.Words.{ap, append-nil, append_assoc, arith, beginning, document_client, document_run}
+use Rattle.wf_player.proofs.Words.{finished, outside_of, over, play-run, refl, script_run, setting, sym}
 use Rattle.wf_player.proofs.AskLemmas.{refuses-none}
 use Rattle.wf_player.proofs.FetchLemmas.{still}
 use Rattle.wf_player.proofs.PartLemmas.{cut-here, played-cut}
@@ -64,8 +64,8 @@ module _ {State : Type 0} (by : Answering State) {whole : Play} (old now : Stand
   pub run-came : (script : Steps) (result : Result (Option Ending) OutOfMemory)
       → script_run old.terms.lent script finished old.progress ≡ whole
       → RuleCameTo by (λ lent. script_run lent script) old result now
-      → RunCameTo by old.terms.limit old.terms.document whole from now.progress.shown (ended_by result) now.progress.clock
-      to
+      → RunCameTo by old.terms.limit old.terms.document whole from now.progress.shown (ended_by result)
+      now.progress.clock to
   unfolding ran cut
   run-came script (Ok None) is x = ran finished is refl x.played
   run-came script (Ok (Some Memory)) is x = cut finished is (played-cut x.played cut-here)

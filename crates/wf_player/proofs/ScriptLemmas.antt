@@ -1,13 +1,12 @@
 -- The commands of a script.
 use Rattle.wf_script_commands.specs.declared.command.Command.{Command}
 use Rattle.wf_script_commands.specs.Valid.{AreValid, IsValidStep}
-use Rattle.wf_player.proofs.Words.{[], ℕ, ◌+◌, ◌-◌, ◌<◌, ◌∷◌, ◌≡◌, ◌≤◌, Answering, Ending, RulePlayed, HasSpent}
-use Rattle.wf_player.proofs.Words.{IsAtEnd}
-use Rattle.wf_player.proofs.Words.{LeadsTo, List, MayGoOn, Next, None, Option, PartReached, Rule, Some, Standing, Steps}
-use Rattle.wf_player.proofs.Words.{Terms, RuleCut, add-one, ap, arith, command_started, drop, drop-cons, drop_all}
-use Rattle.wf_player.proofs.Words.{false}
-use Rattle.wf_player.proofs.Words.{get_or, is_some, length, limit_before, refl, repeated, rules, script_run, step_of}
-use Rattle.wf_player.proofs.Words.{step_size, steps_of, steps_size, subst, suc, sym, true, unless_limit, zero}
+use Rattle.wf_player.proofs.Words.{[], ℕ, ◌+◌, ◌-◌, ◌<◌, ◌∷◌, ◌≡◌, ◌≤◌, Answering, Ending, HasSpent, IsAtEnd, LeadsTo}
+use Rattle.wf_player.proofs.Words.{List, MayGoOn, Next, None, Option, PartReached, Rule, RuleCut, RulePlayed, Some}
+use Rattle.wf_player.proofs.Words.{Standing, Steps, Terms, add-one, ap, arith, command_started, drop, drop-cons}
+use Rattle.wf_player.proofs.Words.{drop_all, false, get_or, is_some, length, limit_before, refl, repeated, rules}
+use Rattle.wf_player.proofs.Words.{script_run, step_of, step_size, steps_of, steps_size, subst, suc, sym, true}
+use Rattle.wf_player.proofs.Words.{unless_limit, zero}
 use Rattle.wf_player.proofs.PartLemmas.{cut-inside, played-cut, played-inside, played-none, played-then}
 
 -- no ending

@@ -7,7 +7,7 @@ use Rattle.wf_script_values.specs.declared.scenario.Scenario.{Scenario}
 use Rattle.wf_player.specs.declared.seating.Row.{Row}
 use Rattle.wf_player.specs.declared.seating.Seating.{Seating}
 use Rattle.wf_player.proofs.Words.{[], ℕ, ◌++◌, ◌+◌, ◌<◌, ◌∙◌, ◌∷◌, ◌≡◌, ◌≤◌, All, Answering, AreSeated, CanPlay}
-use Rattle.wf_player.proofs.Words.{Document, EachDocument, DocumentCameTo, List, RowPlayed, Seat, Some, Transcript, ap}
+use Rattle.wf_player.proofs.Words.{Document, DocumentCameTo, EachDocument, List, RowPlayed, Seat, Some, Transcript, ap}
 use Rattle.wf_player.proofs.Words.{append-nil, arith, drop, get_or, get_or-map, length, length-map, map, most_calls}
 use Rattle.wf_player.proofs.Words.{range_with_len, refl, seatings_of, slice_get, subst, suc, sym, take, take_all}
 use Rattle.wf_player.proofs.Words.{transcripts_of, zero}
@@ -28,9 +28,8 @@ module _ {L P State : Type 0} (seen : Seating L P → Seat State) where
   played-from : {by : Answering State} {scenario : Scenario} {base : ℕ} (number : ℕ) (documents : List Document)
       (olds news : List (Row L P)) → length documents ≡ length olds → length news ≡ length olds
       → ((i : ℕ) (one : Document) (a b : Row L P) → i < length olds → slice_get documents i ≡ Some one
-      → DocumentCameTo by scenario base (number + i) one (seen (get_or olds i a).seating) (seen (get_or news i b).seating
-      )
-      (get_or news i b).transcript)
+      → DocumentCameTo by scenario base (number + i) one (seen (get_or olds i a).seating)
+      (seen (get_or news i b).seating) (get_or news i b).transcript)
       → EachDocument (DocumentCameTo by scenario base) number documents (map seen (seatings_of olds))
       (map seen (seatings_of news)) (transcripts_of news)
   played-from number [] [] [] many same each = EachDocument.none

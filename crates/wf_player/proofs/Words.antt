@@ -13,23 +13,23 @@ pub use Rattle.wf_fetch_acts.specs.Within.{Anything, Within, acts}
 pub use Rattle.wf_fetch_laws.specs.Prices.{fetch_price, level_price, levels}
 pub use Rattle.wf_link.proofs.ReceivedLemmas.{received-none}
 pub use Rattle.wf_link_wire.specs.Wires.{onto_left, window_of}
-pub use Rattle.wf_player.specs.Driving.{DriveCameTo, FetchPlayed, DriveCut, LeadsOn}
-pub use Rattle.wf_player.specs.Private.Fetching.{FetchCut, FetchReached, HasLost}
-pub use Rattle.wf_player.specs.Private.Parts.{PartCut, RulePlayed, LeadsTo, PartReached, RuleCameTo, Rule, RuleCut}
+pub use Rattle.wf_player.specs.Driving.{DriveCameTo, DriveCut, FetchPlayed, LeadsOn}
 pub use Rattle.wf_player.specs.Playing.{PlaysOn}
+pub use Rattle.wf_player.specs.Private.Fetching.{FetchCut, FetchReached, HasLost}
+pub use Rattle.wf_player.specs.Private.Parts.{LeadsTo, PartCut, PartReached, Rule, RuleCameTo, RuleCut, RulePlayed}
 pub use Rattle.wf_player.specs.Private.Rows.{CanPlay, RowPlayed, seatings_of, transcripts_of}
+pub use Rattle.wf_player.specs.Private.Standings.{HasSpent, Keeps, MayGoOn, Standing, Terms, setting_of, standing}
+pub use Rattle.wf_player.specs.Private.Standings.{terms_of}
 pub use Rattle.wf_player.specs.Seats.{AreSeated, DocumentCameTo, Seat, seat_of}
-pub use Rattle.wf_player.specs.Private.Standings.{HasSpent, Keeps, MayGoOn, Standing, Terms}
-pub use Rattle.wf_player.specs.Passes.{KeepsPass, most_calls}
-pub use Rattle.wf_player.specs.Private.Standings.{setting_of, standing, terms_of}
 pub use Rattle.wf_player.specs.Words.{Act, All, Answering, Ask, Context, Document, EachDocument, Ending, Event, Input}
 pub use Rattle.wf_player.specs.Words.{IsAtEnd, IsIdle, Memory, Next, Outcome, OutOfMemory, Play, PlayTrace, Process}
 pub use Rattle.wf_player.specs.Words.{Progress, Send, Tell, Transcript, act, after_events, asked, asks, at_time}
 pub use Rattle.wf_player.specs.Words.{beginning, command_started, context_of, document_client, document_run, ended}
-pub use Rattle.wf_player.specs.Words.{events_of, fetch, fetched, filled_init, finished, fits, lent_result}
-pub use Rattle.wf_player.specs.Words.{limit_before, most_asks, over, over_link, price_of, range_with_len, repeated}
-pub use Rattle.wf_player.specs.Words.{script_run, setting, started, step_of, unless_limit}
-pub use Rattle.wf_player.specs.Worlds.{Answers, IsHungUp, Outside, WorldRefused, Settles, World, outside, outside_of}
+pub use Rattle.wf_player.specs.Words.{events_of, fetch, fetched, filled_init, finished, fits, lent_result, limit_before}
+pub use Rattle.wf_player.specs.Words.{most_asks, over, over_link, price_of, range_with_len, repeated, script_run}
+pub use Rattle.wf_player.specs.Words.{setting, started, step_of, unless_limit}
+pub use Rattle.wf_player.specs.Worlds.{Answers, IsHungUp, KeepsPass, Outside, Settles, World, WorldRefused, most_calls}
+pub use Rattle.wf_player.specs.Worlds.{outside, outside_of}
 pub use Rattle.wf_script_commands.specs.Commands.{steps_of}
 pub use Rattle.wf_script_commands.specs.Depth.{step_size, steps_size}
 pub use Rattle.wf_script_commands.specs.Scripts.{Steps}

@@ -12,8 +12,8 @@ LeadsOn by limit document = Trace (with_events (Answers by limit document) event
 
 -- From a world in which nothing is to come, for some tape each item is the world's answer, what was shown is what the
 -- fetch shows over that tape, and its outcome is the fetch's.
-pub record FetchPlayed {State : Type 0} (by : Answering State) (limit document : ℕ) (whole : Process) (old : Outside State)
-    (events : List Event) (outcome : Outcome) (new : Outside State) : Type 0 where
+pub record FetchPlayed {State : Type 0} (by : Answering State) (limit document : ℕ) (whole : Process)
+    (old : Outside State) (events : List Event) (outcome : Outcome) (new : Outside State) : Type 0 where
   pub first : World State
   pub idle : IsIdle first.exchange
   pub from : outside_of first ≡ old

@@ -1,5 +1,4 @@
 pub mod Driving
-pub mod Passes
 pub mod Playing
 pub mod Private
 pub mod Seats

@@ -42,4 +42,5 @@ pub record RunCut {State : Type 0} (by : Answering State) (limit document : ℕ)
 abbrev pub RunCameTo : {State : Type 0} → Answering State → ℕ → ℕ → Play → Outside State → List Event → Ending → ℕ
     → Outside State → Type 0
 RunCameTo by limit document whole old events Memory clock new = RunCut by limit document whole old events new
-RunCameTo by limit document whole old events ending clock new = RunPlayed by limit document whole old events ending clock new
+RunCameTo by limit document whole old events ending clock new =
+    RunPlayed by limit document whole old events ending clock new

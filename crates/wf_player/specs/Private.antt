@@ -1,5 +1,4 @@
--- What the crate's private contracts alone cite: where a run stands, what one act, a fetch and each part of a script come
--- to there, and seats in rows.
+-- What the crate's private contracts alone cite: standings, acts, fetches and parts of a script, and seats in rows.
 pub mod Fetching
 pub mod Going
 pub mod Parts

@@ -3,10 +3,9 @@
 use Rattle.std.specs.Prelude.{ℕ, ◌+◌, ◌≡◌, ◌≢◌, ◌≤◌, ◌⊎◌, List, length, map}
 use Rattle.wf_player.specs.declared.seating.Seating.{Seating}
 use Rattle.wf_player.specs.Playing.{RunCameTo}
-use Rattle.wf_player.specs.Passes.{most_calls}
-use Rattle.wf_player.specs.Words.{Account, All, Answering, Book, Document, EachDocument, Memory, Scenario, LinkTold}
+use Rattle.wf_player.specs.Words.{Account, All, Answering, Book, Document, EachDocument, LinkTold, Memory, Scenario}
 use Rattle.wf_player.specs.Words.{Transcript, document_client, document_run, range_with_len}
-use Rattle.wf_player.specs.Worlds.{Outside, outside}
+use Rattle.wf_player.specs.Worlds.{Outside, most_calls, outside}
 
 -- What is seen of a seat: the document that its pass is for, the book that its share was opened with, and what is
 -- outside of the document.

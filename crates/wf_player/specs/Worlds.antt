@@ -1,10 +1,11 @@
 -- The world of a document's run: its link and its pass of the shared book, and what comes of each act there (this
 -- project's own; Fetch, section 4, where the algorithm waits for the network or the preflight cache).
-use Rattle.std.specs.Prelude.{[], ℕ, ◌++◌, ◌+◌, ◌∷◌, ◌≡◌, ◌≤◌, List, Option}
+use Rattle.std.specs.Prelude.{[], ℕ, ◌*◌, ◌++◌, ◌+◌, ◌∷◌, ◌≡◌, ◌≤◌, List, Option}
 use Rattle.wf_fetch_acts.specs.declared.act.Input.TheVariants.{Replied, Told}
 use Rattle.wf_script_events.specs.declared.events.Event.TheVariants.{Result, LoadFailed}
 use Rattle.wf_player.specs.Words.{Account, Act, Answering, Ask, Entry, Event, Exchange, Exchanges, Input, IsIdle}
-use Rattle.wf_player.specs.Words.{IsSendable, LinkTold, Op, Received, Send, Tell, Wire, exchange_of}
+use Rattle.wf_player.specs.Words.{IsSendable, LinkTold, Op, Received, Send, Tell, Wire, exchange_of, most_asks}
+use Rattle.wf_player.specs.Words.{most_fetches}
 
 -- What a document's run meets and changes: the exchange over its link; the entries of the calls of the book that the
 -- document has made; and how many more calls it may make.
@@ -99,3 +100,17 @@ pub record WorldRefused {State : Type 0} (old new : Outside State) : Type 0 wher
   pub faults_are : new.faults ≡ old.faults
   pub own_is : new.own ≡ old.own
   pub fewer : new.left ≤ old.left
+
+-- ---- what is left of a pass
+
+-- how many calls of the shared book the fetches and loads of a document make at most
+abbrev pub most_calls : ℕ
+most_calls = most_fetches * most_asks
+
+-- What a call that was lent a pass leaves of it: it is the share's still, its document and its opening book are as they
+-- were, and so many calls more were made on it at most.
+pub record KeepsPass {P : Type 0} (account : P → Account) (belongs : P → Type 0) (most : ℕ) (old new : P) : Type 0 where
+  pub belongs_to : belongs new
+  pub document : (account new).document ≡ (account old).document
+  pub opening : (account new).opening ≡ (account old).opening
+  pub few : (account old).left ≤ (account new).left + most

@@ -1,13 +1,12 @@
 // One document, played.
 ghost use Rattle.std.specs.Prelude.{◌<◌, ◌^◌, ◌≡◌, ◌≢◌, ◌≤◌, IfOk, OnErr, Some, length, slice_get};
-ghost use Rattle.wf_player.specs.Private.Parts as spec;
 ghost use Rattle.wf_player.specs.Playing.{RunCameTo};
-ghost use Rattle.wf_player.specs.Passes.{KeepsPass, most_calls};
+ghost use Rattle.wf_player.specs.Private.Parts as spec;
 ghost use Rattle.wf_player.specs.Private.Standings.{setting_of};
 ghost use Rattle.wf_player.specs.Words.{AreValid, Document as OneDocument, IsAtEnd, IsClient, IsIdle, IsValid};
-ghost use Rattle.wf_player.specs.Words.{IsValidDocument, Memory, beginning, document_client, document_run};
-ghost use Rattle.wf_player.specs.Words.{exchange_of, finished, over_link, script_run};
-ghost use Rattle.wf_player.specs.Worlds.{outside};
+ghost use Rattle.wf_player.specs.Words.{IsValidDocument, Memory, beginning, document_client, document_run, exchange_of};
+ghost use Rattle.wf_player.specs.Words.{finished, over_link, script_run};
+ghost use Rattle.wf_player.specs.Worlds.{KeepsPass, most_calls, outside};
 
 use crate::lent::Lent;
 use crate::player::Player;

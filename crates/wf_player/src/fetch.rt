@@ -2,13 +2,11 @@
 ghost use Rattle.std.specs.Prelude.{◌+◌, ◌<◌, ◌^◌, ◌≡◌, ◌≤◌, IfOk, IsTrue, OnErr, OnOk};
 ghost use Rattle.wf_player.specs.Driving.{DriveCameTo};
 ghost use Rattle.wf_player.specs.Private.Fetching.{FetchCameTo};
-ghost use Rattle.wf_player.specs.Private.Going.{GoesOn, PartNoted};
+ghost use Rattle.wf_player.specs.Private.Going.{CanAnswer, GoesOn, PartNoted};
 ghost use Rattle.wf_player.specs.Private.Standings.{IsReady, Keeps, setting_of, standing, world};
-ghost use Rattle.wf_player.specs.Passes.{KeepsPass};
 ghost use Rattle.wf_player.specs.Words.{IsAtEnd, IsClient, IsRequest, Leads, after_events, asks, at_time, context_of};
 ghost use Rattle.wf_player.specs.Words.{events_of, fetch, fits, most_asks, over_link, price_of, rest};
-ghost use Rattle.wf_player.specs.Private.Going.{CanAnswer};
-ghost use Rattle.wf_player.specs.Worlds.{outside};
+ghost use Rattle.wf_player.specs.Worlds.{KeepsPass, outside};
 
 use crate::held::Held;
 use crate::lent::Lent;

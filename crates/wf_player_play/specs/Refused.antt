@@ -10,7 +10,7 @@ use Rattle.wf_script_run.specs.Runs.{document_run}
 use Rattle.wf_script_values.specs.declared.document.Document.{Document}
 use Rattle.wf_script_values.specs.declared.scenario.Scenario.{Scenario}
 use Rattle.wf_link_wire.specs.Exchanges.{Answering}
-use Rattle.wf_player.specs.Passes.{most_calls}
+use Rattle.wf_player.specs.Worlds.{most_calls}
 use Rattle.wf_player.specs.Playing.{RunCameTo}
 use Rattle.wf_iso.specs.Plays.{Way, opening_book, outside_on}
 

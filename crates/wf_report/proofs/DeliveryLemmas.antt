@@ -6,10 +6,9 @@ use Rattle.wf_text.specs.declared.memory.OutOfMemory.{OutOfMemory}
 use Rattle.std.proofs.lemmas.List.{append-nil}
 use Rattle.wf_fetch_acts.specs.declared.act.Input.{Input}
 use Rattle.wf_fetch.specs.Fetch.{fetch}
-use Rattle.wf_player.specs.Driving.{FetchPlayed, DriveCut}
-use Rattle.wf_player.specs.Playing.{PlaysOn}
-use Rattle.wf_player.specs.Playing.{RunPlayed}
-use Rattle.wf_player.specs.Worlds.{Answers, Outside, WorldRefused, Settles, World, outside_of}
+use Rattle.wf_player.specs.Driving.{DriveCut, FetchPlayed}
+use Rattle.wf_player.specs.Playing.{PlaysOn, RunPlayed}
+use Rattle.wf_player.specs.Worlds.{Answers, Outside, Settles, World, WorldRefused, outside_of}
 use Rattle.wf_player.proofs.AskLemmas.{refuses-none}
 use Rattle.wf_player.proofs.FetchLemmas.{still}
 use Rattle.wf_script_events.specs.declared.events.Ending.{Ending}
@@ -30,7 +29,7 @@ use Rattle.wf_types.specs.declared.client.Cookie.{Cookie}
 use Rattle.wf_types.specs.declared.request.Request.{Request}
 use Rattle.wf_types.specs.declared.response.Outcome.{Outcome}
 use Rattle.wf_link_wire.specs.Exchanges.{Answering, IsIdle}
-use Rattle.wf_report.specs.Delivering.{IsCutShort}
+use Rattle.wf_report.specs.Delivering.{DeliveryCut}
 use Rattle.wf_report.specs.Private.Paths.{HasReached, Path}
 use Rattle.wf_report.specs.Reporting.{report_played, reporting, reports_played}
 use Rattle.wf_report.specs.Reports.{report_requests}
@@ -80,7 +79,7 @@ module _ {State : Type 0} (by : Answering State) (limit document : ℕ) (whole :
   -- a path on which memory was refused
   path-cut : (events : List Event) (place : Play) (last : World State) (new : Outside State)
       → Path by limit document whole old events place last → WorldRefused (outside_of last) new
-      → IsCutShort by limit document whole old new
+      → DeliveryCut by limit document whole old new
   path-cut events place last new path left = record {
     events = events;
     began = record {
@@ -125,7 +124,7 @@ module _ {State : Type 0} (by : Answering State) (limit document : ℕ) (whole :
       (next : Next) (progress : Progress) (now new : Outside State) → fetch_limit progress ≡ None
       → HasReached by limit document whole old shown (reports_played lent (request ∷ requests) next progress) now
       → DriveCut by limit document (fetch (at_time lent progress.clock) request) now new
-      → IsCutShort by limit document whole old new
+      → DeliveryCut by limit document whole old new
   unfolding onward
   reached-cut shown lent request requests next progress now new none path x =
       let place = embed x.place (onward lent requests next) (after_events x.events (fetch_started progress)) in
@@ -140,7 +139,7 @@ module _ {State : Type 0} (by : Answering State) (limit document : ℕ) (whole :
   -- memory was refused between reports
   pub reached-refused : (events : List Event) (rest : Play) (now new : Outside State)
       → HasReached by limit document whole old events rest now → new ≡ now
-      → IsCutShort by limit document whole old new
+      → DeliveryCut by limit document whole old new
   reached-refused events rest now new path kept =
       path-cut events rest (still now) new (path (still now) (record { end = refl; framing_is = refl }) refl)
       (subst (λ (o : Outside State). WorldRefused now o) (sym kept) (refuses-none now))
@@ -213,7 +212,7 @@ module _ {State : Type 0} (by : Answering State) (limit document : ℕ) (whole :
         → HasReached by limit document whole old log.shown (reports_played lent left next log) now
         → left ≡ request ∷ more → None ≡ fetch_limit log → number ≡ document → log.clock ≡ time
         → DriveCut by limit number (fetch (at_time lent time) request) now new
-        → IsCutShort by limit document whole old new
+        → DeliveryCut by limit document whole old new
     delivery-cut log left more request number time now new path taken none same ticks x =
         reached-cut log.shown lent request more next log now new (sym none)
         (begins log left more request now taken path)
@@ -237,8 +236,8 @@ module _ {State : Type 0} (by : Answering State) (limit document : ℕ) (whole :
         (reached-report log.shown events lent request more next log outcome now new (sym none)
         (begins log left more request now taken path)
         (subst (λ (n : ℕ). FetchPlayed by limit n (fetch (at_time lent log.clock) request) now events outcome new) same
-        (subst (λ (n : ℕ). FetchPlayed by limit number (fetch (at_time lent n) request) now events outcome new) (sym ticks)
-        x))))
+        (subst (λ (n : ℕ). FetchPlayed by limit number (fetch (at_time lent n) request) now events outcome new)
+        (sym ticks) x))))
 
     -- a report was played, and memory was refused to what it has shown
     pub delivery-unshown : (log : Progress) (left more : List Request) (request : Request) (number time : ℕ)
@@ -246,7 +245,7 @@ module _ {State : Type 0} (by : Answering State) (limit document : ℕ) (whole :
         → HasReached by limit document whole old log.shown (reports_played lent left next log) now
         → left ≡ request ∷ more → None ≡ fetch_limit log → number ≡ document → log.clock ≡ time
         → FetchPlayed by limit number (fetch (at_time lent time) request) now events outcome new
-        → IsCutShort by limit document whole old new
+        → DeliveryCut by limit document whole old new
     delivery-unshown log left more request number time events outcome now new path taken none same ticks x =
         reached-refused (reported events outcome log).shown
         (reports_played lent more next (reported events outcome log)) new new

@@ -10,7 +10,7 @@ use Rattle.wf_report.specs.declared.delivery.Delivered.{Delivered}
 use Rattle.wf_report.specs.Reporting.{ending_of}
 
 -- Memory was refused: some events begin what the run shows, and the calls that were made are those on the way.
-pub record IsCutShort {State : Type 0} (by : Answering State) (limit document : ℕ) (whole : Play)
+pub record DeliveryCut {State : Type 0} (by : Answering State) (limit document : ℕ) (whole : Play)
     (old new : Outside State) : Type 0 where
   pub events : List Event
   pub began : RunCut by limit document whole old events new
@@ -20,4 +20,4 @@ abbrev pub Delivers : {State : Type 0} → Answering State → ℕ → ℕ → P
     → Result Delivered OutOfMemory → Outside State → Type 0
 Delivers by limit document whole old clock (Ok delivered) new =
     RunPlayed by limit document whole old delivered.events (ending_of delivered.ending) clock new
-Delivers by limit document whole old clock (Err refused) new = IsCutShort by limit document whole old new
+Delivers by limit document whole old clock (Err refused) new = DeliveryCut by limit document whole old new

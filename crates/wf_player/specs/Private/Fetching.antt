@@ -6,8 +6,8 @@ use Rattle.wf_player.specs.Words.{Answering, Event, Input, Outcome, OutOfMemory,
 use Rattle.wf_player.specs.Worlds.{WorldRefused, outside_of}
 
 -- The process came to this place: for some tape of the world's answers it has shown what was added to the events.
-pub record FetchReached {State : Type 0} (by : Answering State) (whole : Process) (old : Standing State) (place : Process)
-    (new : Standing State) : Type 0 where
+pub record FetchReached {State : Type 0} (by : Answering State) (whole : Process) (old : Standing State)
+    (place : Process) (new : Standing State) : Type 0 where
   pub same : new.terms ≡ old.terms
   pub tape : List Input
   pub made : List Event

@@ -2,10 +2,9 @@
 use Rattle.std.specs.Prelude.{ℕ, ◌*◌, ◌+◌, ◌≡◌, ◌≤◌}
 use Rattle.wf_player.specs.declared.lent.Lent.{Lent}
 use Rattle.wf_player.specs.declared.player.Player.{Player}
-use Rattle.wf_player.specs.Passes.{most_calls}
 use Rattle.wf_player.specs.Words.{Account, IsAtEnd, IsClient, LinkTold, Progress, Setting, most_asks, most_fetches}
 use Rattle.wf_player.specs.Words.{setting}
-use Rattle.wf_player.specs.Worlds.{World, world_of}
+use Rattle.wf_player.specs.Worlds.{World, most_calls, world_of}
 
 -- What a run goes by: what its fetches have in common, how many bytes a body may have, and the document's number.
 pub record Terms : Type 0 where
