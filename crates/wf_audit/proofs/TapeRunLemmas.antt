@@ -84,7 +84,8 @@ seen-run scenario number opening history document new link transcript same numbe
             left)) same
             (subst (λ (s : Option (List Server)). RunPlayed by_bytes scenario.body_limit number whole old
             transcript.events transcript.ending transcript.clock
-            (outside_on (record { state = s; received = None; faults = 0 }) (entries_of new.document (seen_on new)) left)) servers ran));
+            (outside_on (record { state = s; received = None; faults = 0 }) (entries_of new.document (seen_on new))
+            left)) servers ran));
       };
     }
 
