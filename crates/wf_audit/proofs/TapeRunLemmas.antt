@@ -23,7 +23,7 @@ use Rattle.wf_script_values.specs.declared.scenario.Scenario.{Scenario}
 use Rattle.wf_script_values.specs.declared.servers.Server.{Server}
 use Rattle.wf_sim.specs.Sim.{SimState}
 use Rattle.wf_link_wire.specs.Exchanges.{Answering}
-use Rattle.wf_player.specs.Playing.{RunCame, Ran}
+use Rattle.wf_player.specs.Playing.{RunCameTo, RunPlayed}
 use Rattle.wf_player.specs.Worlds.{Outside, outside}
 use Rattle.wf_iso.specs.Calls.{PartAtReply}
 use Rattle.wf_iso.specs.Laws.{CallsFollow}
@@ -38,8 +38,8 @@ use Rattle.wf_audit.specs.Private.Runs.{CameTo}
 
 ran-of : {State : Type 0} (by : Answering State) (limit document : ℕ) (whole : Play) (old : Outside State)
     (events : List Event) (ended : Ending) (clock : ℕ) (new : Outside State) → ended ≢ ending.Memory
-    → RunCame by limit document whole old events ended clock new
-    → Ran by limit document whole old events ended clock new
+    → RunCameTo by limit document whole old events ended clock new
+    → RunPlayed by limit document whole old events ended clock new
 ran-of by limit document whole old events ending.Finished clock new told x = x
 ran-of by limit document whole old events ending.Fetches clock new told x = x
 ran-of by limit document whole old events ending.Commands clock new told x = x
@@ -58,7 +58,7 @@ fresh_link scenario = record { servers = scenario.servers; piece = scenario.piec
 pub seen-run : (scenario : Scenario) (number : ℕ) (opening : Book) (history : List Entry) (document : Document)
     (new : Tape) (link : SimState) (transcript : Transcript) → new.document ≡ number → transcript.document ≡ number
     → transcript.key ≡ (document_client document).key → transcript.ending ≢ ending.Memory
-    → RunCame by_bytes scenario.body_limit number (document_run scenario.cookies scenario.now document)
+    → RunCameTo by_bytes scenario.body_limit number (document_run scenario.cookies scenario.now document)
     (outside account_of sim_told (fresh_tape number opening history) (fresh_link scenario)) transcript.events
     transcript.ending transcript.clock (outside account_of sim_told new link)
     → ComesTo scenario (seen_on new) number document transcript
@@ -79,11 +79,13 @@ seen-run scenario number opening history document new link transcript same numbe
         behind = left;
         ran = ran-by-rules scenario.body_limit number whole old transcript.events transcript.ending transcript.clock
             (outside_on (way_to_servers scenario) (entries_of number (seen_on new)) left)
-            (subst (λ (n : ℕ). Ran by_bytes scenario.body_limit number whole old transcript.events transcript.ending
-            transcript.clock (outside_on (way_to_servers scenario) (entries_of n (seen_on new)) left)) same
-            (subst (λ (s : Option (List Server)). Ran by_bytes scenario.body_limit number whole old transcript.events
-            transcript.ending transcript.clock (outside_on (record { state = s; received = None; faults = 0 })
-            (entries_of new.document (seen_on new)) left)) servers ran));
+            (subst (λ (n : ℕ). RunPlayed by_bytes scenario.body_limit number whole old transcript.events
+            transcript.ending transcript.clock (outside_on (way_to_servers scenario) (entries_of n (seen_on new))
+            left)) same
+            (subst (λ (s : Option (List Server)). RunPlayed by_bytes scenario.body_limit number whole old
+            transcript.events transcript.ending transcript.clock
+            (outside_on (record { state = s; received = None; faults = 0 }) (entries_of new.document (seen_on new))
+            left)) servers ran));
       };
     }
 
@@ -224,7 +226,7 @@ pub came-to : (scenario : Scenario) (number : ℕ) (opening : Book) (history : L
     (old new : Tape) (first link : SimState) (transcript : Transcript) → old ≡ fresh_tape number opening history
     → first ≡ fresh_link scenario → new.document ≡ old.document → transcript.document ≡ number
     → transcript.key ≡ (document_client document).key → transcript.ending ≢ ending.Memory
-    → RunCame by_bytes scenario.body_limit old.document (document_run scenario.cookies scenario.now document)
+    → RunCameTo by_bytes scenario.body_limit old.document (document_run scenario.cookies scenario.now document)
     (outside account_of sim_told old first) transcript.events transcript.ending transcript.clock
     (outside account_of sim_told new link) → ComesTo scenario (seen_on new) number document transcript
 came-to scenario number opening history document old new first link transcript fresh opened same numbered keyed told
@@ -232,9 +234,9 @@ came-to scenario number opening history document old new first link transcript f
     let one : old.document ≡ number = ap (λ (t : Tape). t.document) fresh in
     let whole = document_run scenario.cookies scenario.now document in
     seen-run scenario number opening history document new link transcript (same ∙ one) numbered keyed told
-    (subst (λ (t : Tape). RunCame by_bytes scenario.body_limit t.document whole
+    (subst (λ (t : Tape). RunCameTo by_bytes scenario.body_limit t.document whole
     (outside account_of sim_told t (fresh_link scenario)) transcript.events transcript.ending transcript.clock
     (outside account_of sim_told new link)) fresh
-    (subst (λ (l : SimState). RunCame by_bytes scenario.body_limit old.document whole (outside account_of sim_told old l
-    )
-    transcript.events transcript.ending transcript.clock (outside account_of sim_told new link)) opened came))
+    (subst (λ (l : SimState). RunCameTo by_bytes scenario.body_limit old.document whole
+    (outside account_of sim_told old l) transcript.events transcript.ending transcript.clock
+    (outside account_of sim_told new link)) opened came))

@@ -19,9 +19,9 @@ use Rattle.wf_script_run.specs.Play.{Play, PlayRun, emit, over, run_play, step}
 use Rattle.wf_script_run.specs.Runs.{document_run}
 use Rattle.wf_script_run.specs.Traces.{PlayTrace, shown, stepped, stop}
 use Rattle.wf_player.specs.Worlds.{Answers, Outside, Settles, World}
-use Rattle.wf_player.specs.Playing.{RunBegun, RunCame, Ran}
+use Rattle.wf_player.specs.Playing.{RunCameTo, RunCut, RunPlayed}
 use Rattle.wf_faults.specs.Failures.{tells_fault}
-use Rattle.wf_faults.specs.Laws.{AreShown, FaultsCounted, FaultsCountedShort, RanShown, ToldCounted}
+use Rattle.wf_faults.specs.Laws.{AreShown, FaultsCounted, FaultsCountedCut, RanShown, ToldCounted}
 use Rattle.wf_faults.specs.Numbers.{faults_of, one_if, one_where, outcomes_that}
 use Rattle.wf_faults.specs.Places.{outcome_of}
 use Rattle.wf_faults.proofs.NumberLemmas.{faults-shown}
@@ -92,8 +92,8 @@ faults-counted State by limit document whole old events ending clock new ran =
     rw (sym (ap (λ (o : Outside State). o.faults) ran.from), sym (ap (λ (o : Outside State). o.faults) ran.to))
     (counts by limit document ran.trace)
 
-pub faults-counted_short : (State : Type 0) → FaultsCountedShort State
-faults-counted_short State by limit document whole old events new began =
+pub faults-counted_cut : (State : Type 0) → FaultsCountedCut State
+faults-counted_cut State by limit document whole old events new began =
     rw (sym (ap (λ (o : Outside State). o.faults) began.from))
     (began.left.faults_are ∙ counts by limit document began.trace)
 
@@ -109,7 +109,7 @@ module _ {State : Type 0} (by : Answering State) (limit number : ℕ) (cookies :
   abbrev whole : Play
   whole = document_run cookies base document
 
-  told-ran : (ending : Ending) (clock : ℕ) → Ran by limit number whole old events ending clock new
+  told-ran : (ending : Ending) (clock : ℕ) → RunPlayed by limit number whole old events ending clock new
       → grown_by old.faults (outcomes_that tells_fault events) ≤ new.faults
   told-ran ending clock ran =
       let shown = (faults-shown cookies base document ran.tape).none_more in
@@ -118,7 +118,7 @@ module _ {State : Type 0} (by : Answering State) (limit number : ℕ) (cookies :
       (omega (arith, shown, ap (outcomes_that tells_fault) events_are))
       (faults-counted State by limit number whole old events ending clock new ran)
 
-  told-began : RunBegun by limit number whole old events new
+  told-began : RunCut by limit number whole old events new
       → grown_by old.faults (outcomes_that tells_fault events) ≤ new.faults
   told-began began =
       let shown = (faults-shown cookies base document began.tape).none_more in
@@ -130,9 +130,9 @@ module _ {State : Type 0} (by : Answering State) (limit number : ℕ) (cookies :
         ap (outcomes_that tells_fault) began.runs,
         sum_by-append (λ (s : Event). one_if tells_fault (outcome_of s)) events rest,
       ))
-      (faults-counted_short State by limit number whole old events new began)
+      (faults-counted_cut State by limit number whole old events new began)
 
-  told-counted : (ending : Ending) (clock : ℕ) → RunCame by limit number whole old events ending clock new
+  told-counted : (ending : Ending) (clock : ℕ) → RunCameTo by limit number whole old events ending clock new
       → grown_by old.faults (outcomes_that tells_fault events) ≤ new.faults
   told-counted ending.Memory clock came = told-began came
   told-counted ending clock came = told-ran ending clock came

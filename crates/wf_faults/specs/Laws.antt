@@ -11,7 +11,7 @@ use Rattle.wf_script_run.specs.Play.{Play, PlayRun, run_play}
 use Rattle.wf_script_run.specs.Runs.{document_run}
 use Rattle.wf_link_wire.specs.Exchanges.{Answering}
 use Rattle.wf_player.specs.Worlds.{Outside}
-use Rattle.wf_player.specs.Playing.{RunBegun, RunCame, Ran}
+use Rattle.wf_player.specs.Playing.{RunCameTo, RunCut, RunPlayed}
 use Rattle.wf_faults.specs.Failures.{may_hide_fault, tells_fault}
 use Rattle.wf_faults.specs.Numbers.{faults_of, outcomes_that, unshown}
 use Rattle.wf_faults.specs.Places.{ShowsFailures}
@@ -40,7 +40,7 @@ abbrev pub RanShown : Type 0 → Type 0
 RanShown State =
     (by : Answering State) (limit number : ℕ) (cookies : List Cookie) (base : ℕ) (document : Document)
     (old : Outside State) (events : List Event) (ending : Ending) (clock : ℕ) (new : Outside State)
-    → (ran : Ran by limit number (document_run cookies base document) old events ending clock new)
+    → (ran : RunPlayed by limit number (document_run cookies base document) old events ending clock new)
     → AreShown (faults_of (document_run cookies base document) ran.tape)
     (record { events = events; ending = Some (ending, clock) })
 
@@ -49,14 +49,14 @@ abbrev pub FaultsCounted : Type 0 → Type 0
 FaultsCounted State =
     (by : Answering State) (limit document : ℕ) (whole : Play) (old : Outside State) (events : List Event)
     (ending : Ending) (clock : ℕ) (new : Outside State)
-    → (ran : Ran by limit document whole old events ending clock new)
+    → (ran : RunPlayed by limit document whole old events ending clock new)
     → new.faults ≡ counted_on old.faults (faults_of whole ran.tape)
 
 -- the same of a run that ended because memory was refused
-abbrev pub FaultsCountedShort : Type 0 → Type 0
-FaultsCountedShort State =
+abbrev pub FaultsCountedCut : Type 0 → Type 0
+FaultsCountedCut State =
     (by : Answering State) (limit document : ℕ) (whole : Play) (old : Outside State) (events : List Event)
-    (new : Outside State) → (began : RunBegun by limit document whole old events new)
+    (new : Outside State) → (began : RunCut by limit document whole old events new)
     → new.faults ≡ counted_on old.faults (faults_of whole began.tape)
 
 -- so the count rises by as many as a document is told of, at least
@@ -64,5 +64,5 @@ abbrev pub ToldCounted : Type 0 → Type 0
 ToldCounted State =
     (by : Answering State) (limit number : ℕ) (cookies : List Cookie) (base : ℕ) (document : Document)
     (old : Outside State) (events : List Event) (ending : Ending) (clock : ℕ) (new : Outside State)
-    → RunCame by limit number (document_run cookies base document) old events ending clock new
+    → RunCameTo by limit number (document_run cookies base document) old events ending clock new
     → grown_by old.faults (outcomes_that tells_fault events) ≤ new.faults

@@ -19,7 +19,7 @@ pub fn law_faults_shown()
 /// may hide. The call does nothing.
 pub fn law_faults_counted<L: Link>()
     ensures ran { laws.FaultsCounted L.State }
-    ensures began { laws.FaultsCountedShort L.State }
+    ensures began { laws.FaultsCountedCut L.State }
     ensures told { laws.ToldCounted L.State }
     ensures shown { laws.RanShown L.State }
 {}

@@ -20,7 +20,7 @@ use Rattle.wf_script_run.specs.Documents.{EachDocument}
 use Rattle.wf_script_run.specs.Play.{Play}
 use Rattle.wf_script_run.specs.Runs.{document_client, document_run}
 use Rattle.wf_link_wire.specs.Exchanges.{Answering}
-use Rattle.wf_player.specs.Playing.{Ran}
+use Rattle.wf_player.specs.Playing.{RunPlayed}
 use Rattle.wf_player.specs.Worlds.{Outside}
 
 -- ---- the book
@@ -66,7 +66,7 @@ pub record RunsOver {State : Type 0} (by : Answering State) (limit document : �
     (entries : List Entry) (whole : Play) (events : List Event) (ending : Ending) (clock : ℕ) : Type 0 where
   pub before : ℕ
   pub behind : ℕ
-  pub ran : Ran by limit document whole (outside_on old [] before) events ending clock
+  pub ran : RunPlayed by limit document whole (outside_on old [] before) events ending clock
       (outside_on new entries behind)
 
 -- The transcript is that of the scenario's document of this number: its key is its client's, and its run from this time

@@ -4,9 +4,8 @@ use Rattle.wf_book.specs.Accounts.{Account}
 use Rattle.wf_player.specs.declared.lent.Lent.{Lent}
 use Rattle.wf_player.specs.declared.player.Player.{Player}
 use Rattle.wf_player.proofs.Words.{[], ℕ, ◌+◌, ◌∙◌, ◌∷◌, ◌≡◌, ◌≤◌, Err, IsAtEnd, Keeps, KeepsPass, List, None, Ok}
-use Rattle.wf_player.proofs.Words.{OnErr, Option, OutOfMemory, Outside, WorldRefused, Result, Some, onto_left}
-use Rattle.wf_player.proofs.Words.{received-none}
-use Rattle.wf_player.proofs.Words.{refl, rules, subst, terms_of}
+use Rattle.wf_player.proofs.Words.{OnErr, Option, OutOfMemory, Outside, Result, Some, WorldRefused, onto_left}
+use Rattle.wf_player.proofs.Words.{received-none, refl, rules, subst, terms_of}
 
 -- nothing happened
 pub refuses-none : {State : Type 0} (a : Outside State) → WorldRefused a a

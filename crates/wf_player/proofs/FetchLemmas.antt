@@ -13,12 +13,12 @@ use Rattle.wf_fetch_laws.specs.Own.{IsOwnAct}
 use Rattle.wf_fetch_laws.proofs.OwnLemmas.{asks-at-most, fetch-within}
 use Rattle.wf_player.specs.Private.Going.{PartNoted, WentOn, from_act}
 use Rattle.wf_player.proofs.Words.{[], ℕ, ◌++◌, ◌+◌, ◌-◌, ◌<◌, ◌^◌, ◌∙◌, ◌∷◌, ◌≡◌, ◌≤◌, Act, Answering, Answers}
-use Rattle.wf_player.proofs.Words.{Anything, Ask, Context, Drove, Event, FetchCut, FetchedTo, Input, FetchBegun, IsIdle}
-use Rattle.wf_player.proofs.Words.{IsTrue, LeadsOn, List, Outcome, Outside, Process, Progress, WorldRefused, Request}
-use Rattle.wf_player.proofs.Words.{Send}
-use Rattle.wf_player.proofs.Words.{Some, Standing, Tell, Terms, Within, World, act, acts, after_events, ap, append-nil}
-use Rattle.wf_player.proofs.Words.{append_assoc, arith, asks, at_time, ended, events_of, fetch, fetch_price, fits}
-use Rattle.wf_player.proofs.Words.{length, level_price, levels, most_asks, outside_of, price_of, refl, subst, sym}
+use Rattle.wf_player.proofs.Words.{Anything, Ask, Context, DriveCut, Event, FetchCut, FetchPlayed, FetchReached, Input}
+use Rattle.wf_player.proofs.Words.{IsIdle, IsTrue, LeadsOn, List, Outcome, Outside, Process, Progress, Request, Send}
+use Rattle.wf_player.proofs.Words.{Some, Standing, Tell, Terms, Within, World, WorldRefused, act, acts, after_events}
+use Rattle.wf_player.proofs.Words.{ap, append-nil, append_assoc, arith, asks, at_time, ended, events_of, fetch}
+use Rattle.wf_player.proofs.Words.{fetch_price, fits, length, level_price, levels, most_asks, outside_of, price_of}
+use Rattle.wf_player.proofs.Words.{refl, subst, sym}
 use Rattle.wf_player.proofs.AskLemmas.{refuses-none}
 use Rattle.wf_player.proofs.PartLemmas.{lost-none, lost-then}
 
@@ -60,12 +60,12 @@ left-after by limit document old new first input is = omega (arith, is.left_is)
 module _ {State : Type 0} {by : Answering State} where
   -- ---- how far a fetch has come
 
-  came-none : {place : Process} {a : Standing State} → FetchedTo by place a place a
+  came-none : {place : Process} {a : Standing State} → FetchReached by place a place a
   came-none {a = a} =
       record { same = refl; tape = []; made = []; added = rw append-nil refl; trace = stop }
 
-  came-then : {whole middle place : Process} {a b c : Standing State} → FetchedTo by whole a middle b
-      → FetchedTo by middle b place c → FetchedTo by whole a place c
+  came-then : {whole middle place : Process} {a b c : Standing State} → FetchReached by whole a middle b
+      → FetchReached by middle b place c → FetchReached by whole a place c
   came-then {middle = middle} {place = place} {a = a} {b = b} {c = c} x y = record {
     same = y.same ∙ x.same;
     tape = x.tape ++ y.tape;
@@ -77,8 +77,8 @@ module _ {State : Type 0} {by : Answering State} where
   }
 
   -- and then memory was refused
-  came-cut : {whole middle : Process} {a b c : Standing State} → FetchedTo by whole a middle b → FetchCut by middle b c
-      → FetchCut by whole a c
+  came-cut : {whole middle : Process} {a b c : Standing State} → FetchReached by whole a middle b
+      → FetchCut by middle b c → FetchCut by whole a c
   unfolding came-then
   came-cut {c = c} x y = record {
     place = y.place;
@@ -101,7 +101,7 @@ module _ {State : Type 0} {by : Answering State} where
       → b.terms ≡ a.terms → IsTrue (fits first input)
       → Answers by a.terms.limit a.terms.document a.world first input b.world
       → b.progress ≡ after_events (events_of first input) a.progress
-      → FetchedTo by (from_act context fetching first) a (rest context fetching input) b
+      → FetchReached by (from_act context fetching first) a (rest context fetching input) b
   act-came context fetching first input {a = a} {b = b} same fit came noted = record {
     same = same;
     tape = input ∷ [];
@@ -147,7 +147,7 @@ pub record IsFetching {State : Type 0} (by : Answering State) (context : Context
   pub lent : at_time old.terms.lent context.now ≡ context
   pub process : Process
   pub does : Does context at process
-  pub came : FetchedTo by (fetch context request) old process now
+  pub came : FetchReached by (fetch context request) old process now
   pub acts_left : Within (price_of acts) Anything (IsOwnAct context) (fetch_price acts context request - count) process
   pub calls : ℕ
   pub asks_left : Within (price_of asks) Anything (IsOwnAct context) calls process
@@ -181,7 +181,7 @@ module _ {State : Type 0} {by : Answering State} {context : Context} {request : 
   asks-here : Within (price_of asks) Anything (IsOwnAct context) is.calls here
   asks-here = rw is.does.process at is.asks_left
 
-  came-here : FetchedTo by (fetch context request) old here now
+  came-here : FetchReached by (fetch context request) old here now
   came-here = rw is.does.process at is.came
 
   -- the fetch goes by the same as what it is lent now
@@ -232,8 +232,8 @@ module _ {State : Type 0} {by : Answering State} where
       (begins : outside_of old.world ≡ from) (idle : IsIdle old.world.exchange) where
     -- it came to its outcome
     pub fetch-drove : {events : List Event} {outcome : Outcome} → old.progress.shown ≡ []
-        → events ≡ last.progress.shown → FetchedTo by whole old (ended outcome) last → to ≡ outside_of last.world
-        → Drove by old.terms.limit old.terms.document whole from events outcome to
+        → events ≡ last.progress.shown → FetchReached by whole old (ended outcome) last → to ≡ outside_of last.world
+        → FetchPlayed by old.terms.limit old.terms.document whole from events outcome to
     fetch-drove {events = events} {outcome = outcome} none shown x ends =
         let made : x.made ≡ events = sym (shown ∙ ap (λ (p : Progress). p.shown) x.added
         ∙ ap (λ (l : List Event). l ++ x.made) none) in
@@ -252,9 +252,9 @@ module _ {State : Type 0} {by : Answering State} where
           to = sym ends;
         }
 
-    -- it was cut short
+    -- it was cut off
     pub fetch-begun : FetchCut by whole old last → outside_of last.world ≡ to
-        → FetchBegun by old.terms.limit old.terms.document whole from to
+        → DriveCut by old.terms.limit old.terms.document whole from to
     fetch-begun x ends = record {
       first = old.world;
       idle = idle;
@@ -269,7 +269,7 @@ module _ {State : Type 0} {by : Answering State} where
 
   -- memory was refused before it began
   pub fetch-unbegun : (limit document : ℕ) (whole : Process) (old new : Outside State) → new ≡ old
-      → FetchBegun by limit document whole old new
+      → DriveCut by limit document whole old new
   fetch-unbegun limit document whole old new kept = rw kept (record {
     first = still old;
     idle = record { end = refl; framing_is = refl };

@@ -4,15 +4,13 @@ use Rattle.wf_types.specs.declared.policy.Destination.TheVariants as destination
 use Rattle.wf_types.specs.declared.response.Outcome.TheVariants as outcome
 use Rattle.wf_script_run.proofs.EmbedLemmas.{embedded}
 use Rattle.wf_types.specs.declared.policy.Destination.{Destination}
-use Rattle.wf_player.proofs.Words.{[], ℕ, ◌++◌, ◌∙◌, ◌∷◌, ◌≡◌, Answering, Answers, PartCut, Ending, Err, Event}
-use Rattle.wf_player.proofs.Words.{FetchCut, FetchedTo, HasLost, IsErr, IsHungUp, LeadsTo, List, MatchResult-from_err}
-use Rattle.wf_player.proofs.Words.{Next, Ok, Option, Outcome, OutOfMemory, Play, PartCameTo, RuleCameTo, PlaysOn}
-use Rattle.wf_player.proofs.Words.{Process}
-use Rattle.wf_player.proofs.Words.{Progress, WorldRefused, Request, Result, Rule, Settles, Standing, Terms, TypeFault}
-use Rattle.wf_player.proofs.Words.{World}
-use Rattle.wf_player.proofs.Words.{after_events, ap, append-nil, append_assoc, arith, asked, embed, fault_event}
-use Rattle.wf_player.proofs.Words.{fetch_started, fetched, outcome_event, outside_of, play-append, refl, showing}
-use Rattle.wf_player.proofs.Words.{start_event, started, subst, sym}
+use Rattle.wf_player.proofs.Words.{[], ℕ, ◌++◌, ◌∙◌, ◌∷◌, ◌≡◌, Answering, Answers, Ending, Err, Event, FetchCut}
+use Rattle.wf_player.proofs.Words.{FetchReached, HasLost, IsErr, IsHungUp, LeadsTo, List, MatchResult-from_err, Next}
+use Rattle.wf_player.proofs.Words.{Ok, Option, Outcome, OutOfMemory, PartCut, PartReached, Play, PlaysOn, Process}
+use Rattle.wf_player.proofs.Words.{Progress, Request, Result, Rule, RuleCameTo, Settles, Standing, Terms, TypeFault}
+use Rattle.wf_player.proofs.Words.{World, WorldRefused, after_events, ap, append-nil, append_assoc, arith, asked, embed}
+use Rattle.wf_player.proofs.Words.{fault_event, fetch_started, fetched, outcome_event, outside_of, play-append, refl}
+use Rattle.wf_player.proofs.Words.{showing, start_event, started, subst, sym}
 use Rattle.wf_player.proofs.AskLemmas.{refuses-none}
 
 -- ---- what was lost
@@ -52,7 +50,7 @@ module _ {State : Type 0} {by : Answering State} where
   -- ---- parts that were played
 
   -- nothing
-  pub played-none : {N : Type 0} {part : N → Play} {a : Standing State} → PartCameTo by part a part a
+  pub played-none : {N : Type 0} {part : N → Play} {a : Standing State} → PartReached by part a part a
   played-none {a = a} = record {
     same = refl;
     tape = [];
@@ -63,7 +61,7 @@ module _ {State : Type 0} {by : Answering State} where
 
   -- one part, and then the next
   pub played-then : {N : Type 0} {part middle last : N → Play} {a b c : Standing State}
-      → PartCameTo by part a middle b → PartCameTo by middle b last c → PartCameTo by part a last c
+      → PartReached by part a middle b → PartReached by middle b last c → PartReached by part a last c
   played-then {middle = middle} {last = last} {a = a} {b = b} {c = c} x y = record {
     same = y.same ∙ x.same;
     tape = x.tape ++ y.tape;
@@ -76,14 +74,14 @@ module _ {State : Type 0} {by : Answering State} where
 
   -- inside a larger one
   pub played-inside : {N M : Type 0} {part last : N → Play} {a b : Standing State} (f : M → N)
-      → PartCameTo by part a last b → PartCameTo by (λ m. part (f m)) a (λ m. last (f m)) b
+      → PartReached by part a last b → PartReached by (λ m. part (f m)) a (λ m. last (f m)) b
   played-inside f x =
       record { same = x.same; tape = x.tape; made = x.made; added = x.added; trace = λ m. x.trace (f m) }
 
   -- where the run inside is another, and has shown the same
   pub played-moved : {N : Type 0} {part rest : N → Play} {a b : Standing State} → b.terms ≡ a.terms
       → b.world ≡ a.world → b.progress.shown ≡ a.progress.shown → ((n : N) → part n ≡ rest n)
-      → PartCameTo by part a rest b
+      → PartReached by part a rest b
   played-moved {a = a} same still kept alike = record {
     same = same;
     tape = [];
@@ -96,7 +94,7 @@ module _ {State : Type 0} {by : Answering State} where
   pub played-event : {event : Event} {a b : Standing State} {progress : Progress} → b.terms ≡ a.terms
       → progress.shown ≡ a.progress.shown → b.progress ≡ after_events (event ∷ []) progress
       → Settles event a.world b.world
-      → PartCameTo by (λ (next : Next). showing event next progress) a (λ next. next b.progress) b
+      → PartReached by (λ (next : Next). showing event next progress) a (λ next. next b.progress) b
   played-event {event = event} same kept noted settled = record {
     same = same;
     tape = [];
@@ -106,8 +104,8 @@ module _ {State : Type 0} {by : Answering State} where
   }
 
   -- a fetch
-  pub played-fetch : (kind : Destination) {whole place : Process} {a b : Standing State} → FetchedTo by whole a place b
-      → PartCameTo by (λ (next : Next). embed whole (onward kind next) a.progress) a
+  pub played-fetch : (kind : Destination) {whole place : Process} {a b : Standing State}
+      → FetchReached by whole a place b → PartReached by (λ (next : Next). embed whole (onward kind next) a.progress) a
       (λ next. embed place (onward kind next) b.progress) b
   played-fetch kind {a = a} x = record {
     same = x.same;
@@ -118,7 +116,7 @@ module _ {State : Type 0} {by : Answering State} where
         a.progress);
   }
 
-  -- ---- parts that were cut short
+  -- ---- parts that were cut off
 
   pub cut-here : {N : Type 0} {part : N → Play} {a : Standing State} → PartCut by part a a
   unfolding played-none
@@ -129,7 +127,7 @@ module _ {State : Type 0} {by : Answering State} where
     lost = lost-none refl refl (refuses-none (outside_of a.world));
   }
 
-  pub played-cut : {N : Type 0} {part middle : N → Play} {a b c : Standing State} → PartCameTo by part a middle b
+  pub played-cut : {N : Type 0} {part middle : N → Play} {a b c : Standing State} → PartReached by part a middle b
       → PartCut by middle b c → PartCut by part a c
   unfolding played-then
   played-cut x y = record {
@@ -199,7 +197,7 @@ pub asked-begun : {State : Type 0} {by : Answering State} (kind : Destination) (
     → b.progress ≡ after_events (start_event kind a.progress.fetches ∷ []) (fetch_started (started a.progress))
     → LeadsTo by (λ lent next begun. asked lent kind made next (started begun)) a (λ lent. fetched lent kind made) b
 asked-begun {by = by} kind made {a = a} {b = b} same still noted =
-    subst (λ (t : Terms). PartCameTo by (λ (next : Next). asked a.terms.lent kind made next (started a.progress)) a
+    subst (λ (t : Terms). PartReached by (λ (next : Next). asked a.terms.lent kind made next (started a.progress)) a
     (λ next. fetched t.lent kind made next b.progress) b) (sym same)
     (played-inside (fetched a.terms.lent kind made) (played-event same refl noted
     (subst (λ (w : World _). Settles (start_event kind a.progress.fetches) a.world w) (sym still)

@@ -3,12 +3,13 @@ use Rattle.wf_csp_text.specs.declared.policy.Policy.{Policy}
 use Rattle.wf_script_run.specs.Traces.{stop}
 use Rattle.wf_types.specs.declared.client.Cookie.{Cookie}
 use Rattle.wf_types.specs.declared.client.Client.{Client}
-use Rattle.wf_player.specs.Playing.{RunBegun, RunCame, Ran, ended_by}
-use Rattle.wf_player.proofs.Words.{[], ℕ, ◌++◌, ◌∙◌, ◌≡◌, ◌≢◌, Answering, Answers, PartCut, Document, Ending, Err}
-use Rattle.wf_player.proofs.Words.{Event, IsAtEnd, IsIdle, List, Memory, None, Ok, Option, OutOfMemory, Outside, Play}
-use Rattle.wf_player.proofs.Words.{PartCameTo, PlayRun, RuleCameTo, Result, Rule, Settles, Some, Standing, Steps, ap}
-use Rattle.wf_player.proofs.Words.{append-nil, append_assoc, arith, beginning, document_client, document_run, finished}
-use Rattle.wf_player.proofs.Words.{outside_of, over, play-run, refl, script_run, setting, sym}
+use Rattle.wf_player.specs.Playing.{RunCameTo, RunCut, RunPlayed}
+use Rattle.wf_player.specs.Private.Parts.{ended_by}
+use Rattle.wf_player.proofs.Words.{[], ℕ, ◌++◌, ◌∙◌, ◌≡◌, ◌≢◌, Answering, Answers, Document, Ending, Err, Event}
+use Rattle.wf_player.proofs.Words.{IsAtEnd, IsIdle, List, Memory, None, Ok, Option, OutOfMemory, Outside, PartCut}
+use Rattle.wf_player.proofs.Words.{PartReached, Play, PlayRun, Result, Rule, RuleCameTo, Settles, Some, Standing, Steps}
+use Rattle.wf_player.proofs.Words.{ap, append-nil, append_assoc, arith, beginning, document_client, document_run}
+use Rattle.wf_player.proofs.Words.{finished, outside_of, over, play-run, refl, script_run, setting, sym}
 use Rattle.wf_player.proofs.AskLemmas.{refuses-none}
 use Rattle.wf_player.proofs.FetchLemmas.{still}
 use Rattle.wf_player.proofs.PartLemmas.{cut-here, played-cut}
@@ -20,8 +21,8 @@ module _ {State : Type 0} (by : Answering State) {whole : Play} (old now : Stand
     (none : old.progress.shown ≡ []) where
   -- it came to an ending
   ran : {N : Type 0} {part rest : N → Play} (n : N) {ending : Ending} {clock : ℕ} → part n ≡ whole
-      → rest n ≡ over ending clock → PartCameTo by part old rest now
-      → Ran by old.terms.limit old.terms.document whole from now.progress.shown ending clock to
+      → rest n ≡ over ending clock → PartReached by part old rest now
+      → RunPlayed by old.terms.limit old.terms.document whole from now.progress.shown ending clock to
   ran n {ending = ending} {clock = clock} is stops x =
       let shows : x.made ≡ now.progress.shown = sym (x.added ∙ ap (λ (l : List Event). l ++ x.made) none) in
       let trace = rw (is, stops, shows) at (x.trace n) in
@@ -37,9 +38,9 @@ module _ {State : Type 0} (by : Answering State) {whole : Play} (old now : Stand
             (play-run (Answers by old.terms.limit old.terms.document) Settles trace []);
       }
 
-  -- it was cut short
+  -- it was cut off
   cut : {N : Type 0} {part : N → Play} (n : N) → part n ≡ whole → PartCut by part old now
-      → RunBegun by old.terms.limit old.terms.document whole from now.progress.shown to
+      → RunCut by old.terms.limit old.terms.document whole from now.progress.shown to
   cut n is x =
       let shows : x.lost.noted ≡ now.progress.shown =
       sym (x.lost.added ∙ ap (λ (l : List Event). l ++ x.lost.noted) none) in
@@ -63,8 +64,8 @@ module _ {State : Type 0} (by : Answering State) {whole : Play} (old now : Stand
   pub run-came : (script : Steps) (result : Result (Option Ending) OutOfMemory)
       → script_run old.terms.lent script finished old.progress ≡ whole
       → RuleCameTo by (λ lent. script_run lent script) old result now
-      → RunCame by old.terms.limit old.terms.document whole from now.progress.shown (ended_by result) now.progress.clock
-      to
+      → RunCameTo by old.terms.limit old.terms.document whole from now.progress.shown (ended_by result)
+      now.progress.clock to
   unfolding ran cut
   run-came script (Ok None) is x = ran finished is refl x.played
   run-came script (Ok (Some Memory)) is x = cut finished is (played-cut x.played cut-here)
@@ -87,7 +88,7 @@ run-of document client policies cookies base is all = rw (is, all) refl
 
 -- memory was refused before it began
 pub run-unbegun : {State : Type 0} (by : Answering State) (limit document : ℕ) (whole : Play) (old new : Outside State)
-    → new ≡ old → RunBegun by limit document whole old [] new
+    → new ≡ old → RunCut by limit document whole old [] new
 run-unbegun by limit document whole old new kept = rw kept (record {
   first = still old;
   idle = record { end = refl; framing_is = refl };

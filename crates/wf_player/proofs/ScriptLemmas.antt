@@ -1,13 +1,12 @@
 -- The commands of a script.
 use Rattle.wf_script_commands.specs.declared.command.Command.{Command}
 use Rattle.wf_script_commands.specs.Valid.{AreValid, IsValidStep}
-use Rattle.wf_player.proofs.Words.{[], ℕ, ◌+◌, ◌-◌, ◌<◌, ◌∷◌, ◌≡◌, ◌≤◌, Answering, Ending, RulePlayed, HasSpent}
-use Rattle.wf_player.proofs.Words.{IsAtEnd}
-use Rattle.wf_player.proofs.Words.{LeadsTo, List, MayGoOn, Next, None, Option, PartCameTo, Rule, Some, Standing, Steps}
-use Rattle.wf_player.proofs.Words.{Terms, RuleCut, add-one, ap, arith, command_started, drop, drop-cons, drop_all}
-use Rattle.wf_player.proofs.Words.{false}
-use Rattle.wf_player.proofs.Words.{get_or, is_some, length, limit_before, refl, repeated, rules, script_run, step_of}
-use Rattle.wf_player.proofs.Words.{step_size, steps_of, steps_size, subst, suc, sym, true, unless_limit, zero}
+use Rattle.wf_player.proofs.Words.{[], ℕ, ◌+◌, ◌-◌, ◌<◌, ◌∷◌, ◌≡◌, ◌≤◌, Answering, Ending, HasSpent, IsAtEnd, LeadsTo}
+use Rattle.wf_player.proofs.Words.{List, MayGoOn, Next, None, Option, PartReached, Rule, RuleCut, RulePlayed, Some}
+use Rattle.wf_player.proofs.Words.{Standing, Steps, Terms, add-one, ap, arith, command_started, drop, drop-cons}
+use Rattle.wf_player.proofs.Words.{drop_all, false, get_or, is_some, length, limit_before, refl, repeated, rules}
+use Rattle.wf_player.proofs.Words.{script_run, step_of, step_size, steps_of, steps_size, subst, suc, sym, true}
+use Rattle.wf_player.proofs.Words.{unless_limit, zero}
 use Rattle.wf_player.proofs.PartLemmas.{cut-inside, played-cut, played-inside, played-none, played-then}
 
 -- no ending
@@ -101,7 +100,7 @@ module _ {State : Type 0} {by : Answering State} where
           → RulePlayed by (λ lent. command_started lent (step_of one)) now ending later
           → IsAt by items (index + 1) old later
       script-next {later = later} goes x = record {
-        played = subst (λ (t : Terms). PartCameTo by (λ (next : Next). script_run old.terms.lent (steps_of items) next
+        played = subst (λ (t : Terms). PartReached by (λ (next : Next). script_run old.terms.lent (steps_of items) next
             old.progress) old (λ next. script_run t.lent (steps_of (drop (index + 1) items)) next later.progress) later)
             (sym x.played.same) (played-then at-free (played-inside others (rw (no-ending goes) at x.played)));
       }
@@ -143,7 +142,7 @@ module _ {State : Type 0} {by : Answering State} where
     pub round-next : {ending : Option Ending} {later : Standing State} → is_some ending ≡ false
         → RulePlayed by (λ lent. script_run lent part) now ending later → IsRound by times part (round + 1) old later
     round-next {later = later} goes x = record {
-      played = subst (λ (t : Terms). PartCameTo by
+      played = subst (λ (t : Terms). PartReached by
           (λ (next : Next). repeated times (script_run old.terms.lent part) next
           old.progress) old (λ next. repeated (times - (round + 1)) (script_run t.lent part) next later.progress) later)
           (sym x.played.same) (played-then at-round (played-inside rounds (rw (no-ending goes) at x.played)));

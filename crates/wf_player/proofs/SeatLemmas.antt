@@ -7,7 +7,7 @@ use Rattle.wf_script_values.specs.declared.scenario.Scenario.{Scenario}
 use Rattle.wf_player.specs.declared.seating.Row.{Row}
 use Rattle.wf_player.specs.declared.seating.Seating.{Seating}
 use Rattle.wf_player.proofs.Words.{[], ℕ, ◌++◌, ◌+◌, ◌<◌, ◌∙◌, ◌∷◌, ◌≡◌, ◌≤◌, All, Answering, AreSeated, CanPlay}
-use Rattle.wf_player.proofs.Words.{Document, EachDocument, DocumentPlayed, List, RowPlayed, Seat, Some, Transcript, ap}
+use Rattle.wf_player.proofs.Words.{Document, DocumentCameTo, EachDocument, List, RowPlayed, Seat, Some, Transcript, ap}
 use Rattle.wf_player.proofs.Words.{append-nil, arith, drop, get_or, get_or-map, length, length-map, map, most_calls}
 use Rattle.wf_player.proofs.Words.{range_with_len, refl, seatings_of, slice_get, subst, suc, sym, take, take_all}
 use Rattle.wf_player.proofs.Words.{transcripts_of, zero}
@@ -28,10 +28,9 @@ module _ {L P State : Type 0} (seen : Seating L P → Seat State) where
   played-from : {by : Answering State} {scenario : Scenario} {base : ℕ} (number : ℕ) (documents : List Document)
       (olds news : List (Row L P)) → length documents ≡ length olds → length news ≡ length olds
       → ((i : ℕ) (one : Document) (a b : Row L P) → i < length olds → slice_get documents i ≡ Some one
-      → DocumentPlayed by scenario base (number + i) one (seen (get_or olds i a).seating) (seen (get_or news i b).seating
-      )
-      (get_or news i b).transcript)
-      → EachDocument (DocumentPlayed by scenario base) number documents (map seen (seatings_of olds))
+      → DocumentCameTo by scenario base (number + i) one (seen (get_or olds i a).seating)
+      (seen (get_or news i b).seating) (get_or news i b).transcript)
+      → EachDocument (DocumentCameTo by scenario base) number documents (map seen (seatings_of olds))
       (map seen (seatings_of news)) (transcripts_of news)
   played-from number [] [] [] many same each = EachDocument.none
   played-from number [] [] (n ∷ ns) many same each = absurd (omega (arith, same))
@@ -83,7 +82,7 @@ module _ {L P State : Type 0} (belongs : P → Type 0) (seen : Seating L P → S
       → length news ≡ length olds → AreSeated scenario.documents (map seen (seatings_of olds))
       → ((i : ℕ) (d : Row L P) → i < length olds
       → RowPlayed belongs seen by scenario base i (get_or olds i d) (get_or news i d))
-      → EachDocument (DocumentPlayed by scenario base) 0 scenario.documents (map seen (seatings_of olds))
+      → EachDocument (DocumentCameTo by scenario base) 0 scenario.documents (map seen (seatings_of olds))
       (map seen (seatings_of news)) (transcripts_of news)
   played-back {scenario = scenario} olds news same seated each =
       played-from seen 0 scenario.documents olds news (sym (rows-many seen olds seated)) same
@@ -116,7 +115,7 @@ documents-before seen scenario seats seated = sym (map-map seen (λ (s : Seat _)
 pub documents-after : {L P State : Type 0} (seen : Seating L P → Seat State) {by : Answering State}
     {scenario : Scenario} {base : ℕ} {olds : List (Seat State)} (after : List (Seating L P))
     {transcripts : List Transcript}
-    → EachDocument (DocumentPlayed by scenario base) 0 scenario.documents olds (map seen after) transcripts
+    → EachDocument (DocumentCameTo by scenario base) 0 scenario.documents olds (map seen after) transcripts
     → map (λ (s : Seating L P). (seen s).document) after ≡ range_with_len 0 (length scenario.documents)
 documents-after seen after played = sym (map-map seen (λ (s : Seat _). s.document) after)
     ∙ each-numbered (λ (s : Seat _). s.document) (λ number document old new transcript is. is.document_is) played

@@ -1,21 +1,16 @@
 -- What a document's run comes to in the document's world.
-use Rattle.std.specs.Prelude.{[], ℕ, ◌++◌, ◌≡◌, ◌≤◌, Err, List, None, Ok, Option, Result, Some, length}
-use Rattle.wf_player.specs.Parts.{PlaysOn}
-use Rattle.wf_player.specs.Words.{Answering, Ending, Event, Finished, Input, IsIdle, Memory, OutOfMemory, Play, over}
-use Rattle.wf_player.specs.Words.{run_play}
-use Rattle.wf_player.specs.Worlds.{Outside, WorldRefused, World, outside_of}
+use Rattle.std.specs.Prelude.{[], ℕ, ◌++◌, ◌≡◌, ◌≤◌, List, Some, length}
+use Rattle.wf_player.specs.Words.{Answering, Ending, Event, Input, IsIdle, Memory, Play, PlayTrace, over, run_play}
+use Rattle.wf_player.specs.Worlds.{Answers, Outside, Settles, World, WorldRefused, outside_of}
 
--- how a run has ended, whose script has played to its end or to a limit, or was refused memory
-abbrev pub ended_by : Result (Option Ending) OutOfMemory → Ending
-ended_by (Ok None) = Finished
-ended_by (Ok (Some ending)) = ending
-ended_by (Err refused) = Memory
-
--- ---- whole runs
+-- with these items of a tape a run shows these events in the world of a document, and goes on
+abbrev pub PlaysOn : {State : Type 0} → Answering State → ℕ → ℕ → Play → World State → List Input → List Event → Play
+    → World State → Type 0
+PlaysOn by limit document = PlayTrace (Answers by limit document) Settles
 
 -- From a world in which nothing is to come, for some tape each item is the world's answer, and what was shown is the
--- run over that tape.
-pub record Ran {State : Type 0} (by : Answering State) (limit document : ℕ) (whole : Play) (old : Outside State)
+-- run over that tape: `runs` follows from the trace, and says the same by the run's own function.
+pub record RunPlayed {State : Type 0} (by : Answering State) (limit document : ℕ) (whole : Play) (old : Outside State)
     (events : List Event) (ending : Ending) (clock : ℕ) (new : Outside State) : Type 0 where
   pub first : World State
   pub idle : IsIdle first.exchange
@@ -27,8 +22,9 @@ pub record Ran {State : Type 0} (by : Answering State) (limit document : ℕ) (w
   pub runs : run_play whole tape ≡ record { events = events; ending = Some (ending, clock) }
 
 -- The same of a run that ended for memory: what was shown begins the run over that tape, up to some place of it but for
--- one event at most, and the calls that were made are those on the way.
-pub record RunBegun {State : Type 0} (by : Answering State) (limit document : ℕ) (whole : Play) (old : Outside State)
+-- one event at most, and the calls that were made are those on the way. (`(run_play place []).events`
+-- are the events that the place would show with no input.)
+pub record RunCut {State : Type 0} (by : Answering State) (limit document : ℕ) (whole : Play) (old : Outside State)
     (events : List Event) (new : Outside State) : Type 0 where
   pub first : World State
   pub idle : IsIdle first.exchange
@@ -43,7 +39,8 @@ pub record RunBegun {State : Type 0} (by : Answering State) (limit document : �
   pub runs : (run_play whole tape).events ≡ events ++ (missed ++ (run_play place []).events)
 
 -- what a document's run comes to, by its ending
-abbrev pub RunCame : {State : Type 0} → Answering State → ℕ → ℕ → Play → Outside State → List Event → Ending → ℕ
+abbrev pub RunCameTo : {State : Type 0} → Answering State → ℕ → ℕ → Play → Outside State → List Event → Ending → ℕ
     → Outside State → Type 0
-RunCame by limit document whole old events Memory clock new = RunBegun by limit document whole old events new
-RunCame by limit document whole old events ending clock new = Ran by limit document whole old events ending clock new
+RunCameTo by limit document whole old events Memory clock new = RunCut by limit document whole old events new
+RunCameTo by limit document whole old events ending clock new =
+    RunPlayed by limit document whole old events ending clock new

@@ -2,11 +2,10 @@
 -- document fetches by itself, Fetch, section 4, and the book alone is shared).
 use Rattle.std.specs.Prelude.{ℕ, ◌+◌, ◌≡◌, ◌≢◌, ◌≤◌, ◌⊎◌, List, length, map}
 use Rattle.wf_player.specs.declared.seating.Seating.{Seating}
-use Rattle.wf_player.specs.Playing.{RunCame}
-use Rattle.wf_player.specs.Standings.{most_calls}
-use Rattle.wf_player.specs.Words.{Account, All, Answering, Book, Document, EachDocument, Memory, Scenario, LinkTold}
+use Rattle.wf_player.specs.Playing.{RunCameTo}
+use Rattle.wf_player.specs.Words.{Account, All, Answering, Book, Document, EachDocument, LinkTold, Memory, Scenario}
 use Rattle.wf_player.specs.Words.{Transcript, document_client, document_run, range_with_len}
-use Rattle.wf_player.specs.Worlds.{Outside, outside}
+use Rattle.wf_player.specs.Worlds.{Outside, most_calls, outside}
 
 -- What is seen of a seat: the document that its pass is for, the book that its share was opened with, and what is
 -- outside of the document.
@@ -29,24 +28,24 @@ pub record AreSeated {State : Type 0} (documents : List Document) (seats : List 
 
 -- The document of this number was played on a seat, whose pass is for it: its transcript is what its run comes to in
 -- the seat's world.
-pub record DocumentPlayed {State : Type 0} (by : Answering State) (scenario : Scenario) (base number : ℕ)
+pub record DocumentCameTo {State : Type 0} (by : Answering State) (scenario : Scenario) (base number : ℕ)
     (document : Document) (old new : Seat State) (transcript : Transcript) : Type 0 where
   pub number_is : transcript.document ≡ number
   pub key_is : transcript.ending ≢ Memory → transcript.key ≡ (document_client document).key
-  pub came : RunCame by scenario.body_limit number (document_run scenario.cookies base document) old.outside
+  pub came : RunCameTo by scenario.body_limit number (document_run scenario.cookies base document) old.outside
       transcript.events transcript.ending transcript.clock new.outside
   pub few : old.outside.left ≤ new.outside.left + most_calls
   pub document_is : new.document ≡ number
   pub opening_is : new.opening ≡ old.opening
 
 -- Each document was played on its seat.
-pub record DocumentsPlayed {State : Type 0} (by : Answering State) (scenario : Scenario) (base : ℕ)
+pub record AllCameTo {State : Type 0} (by : Answering State) (scenario : Scenario) (base : ℕ)
     (olds news : List (Seat State)) : Type 0 where
   pub transcripts : List Transcript
-  pub played : EachDocument (DocumentPlayed by scenario base) 0 scenario.documents olds news transcripts
+  pub played : EachDocument (DocumentCameTo by scenario base) 0 scenario.documents olds news transcripts
 
 -- Memory was refused to what surrounds the documents: none was played, and the seats are as they were; or each was, and
 -- there was no room for the list of their transcripts.
 abbrev pub AreRefused : {State : Type 0} → Answering State → Scenario → ℕ → List (Seat State) → List (Seat State)
     → Type 0
-AreRefused by scenario base olds news = (news ≡ olds) ⊎ DocumentsPlayed by scenario base olds news
+AreRefused by scenario base olds news = (news ≡ olds) ⊎ AllCameTo by scenario base olds news

@@ -17,7 +17,7 @@ pub use Rattle.wf_fetch_acts.specs.declared.act.Act.{Act}
 pub use Rattle.wf_fetch_acts.specs.declared.act.Act.TheVariants.{Ask, Send, Tell}
 pub use Rattle.wf_fetch_acts.specs.declared.act.Input.{Input}
 pub use Rattle.wf_fetch_laws.specs.Laws.{most_asks}
-pub use Rattle.wf_link.specs.Links.{Received, LinkTold}
+pub use Rattle.wf_link.specs.Links.{LinkTold, Received}
 pub use Rattle.wf_link.specs.Sources.{IsAtEnd}
 pub use Rattle.wf_link_wire.specs.Exchanges.{Answering, Exchange, Exchanges, IsIdle}
 pub use Rattle.wf_link_wire.specs.Wires.{exchange_of, over_link}

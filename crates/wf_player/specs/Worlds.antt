@@ -1,11 +1,11 @@
 -- The world of a document's run: its link and its pass of the shared book, and what comes of each act there (this
 -- project's own; Fetch, section 4, where the algorithm waits for the network or the preflight cache).
-use Rattle.std.specs.Prelude.{[], ℕ, ◌++◌, ◌+◌, ◌<◌, ◌∷◌, ◌≡◌, ◌≤◌, List, Option}
+use Rattle.std.specs.Prelude.{[], ℕ, ◌*◌, ◌++◌, ◌+◌, ◌∷◌, ◌≡◌, ◌≤◌, List, Option}
 use Rattle.wf_fetch_acts.specs.declared.act.Input.TheVariants.{Replied, Told}
-use Rattle.wf_link.specs.Links as links
 use Rattle.wf_script_events.specs.declared.events.Event.TheVariants.{Result, LoadFailed}
-use Rattle.wf_player.specs.Words.{Account, Act, Answering, Ask, Entry, Event, Exchange, Exchanges, Input, InRange}
-use Rattle.wf_player.specs.Words.{IsIdle, IsSendable, Op, Received, Send, Tell, Wire, exchange_of}
+use Rattle.wf_player.specs.Words.{Account, Act, Answering, Ask, Entry, Event, Exchange, Exchanges, Input, IsIdle}
+use Rattle.wf_player.specs.Words.{IsSendable, LinkTold, Op, Received, Send, Tell, Wire, exchange_of, most_asks}
+use Rattle.wf_player.specs.Words.{most_fetches}
 
 -- What a document's run meets and changes: the exchange over its link; the entries of the calls of the book that the
 -- document has made; and how many more calls it may make.
@@ -15,12 +15,12 @@ pub record World (State : Type 0) : Type 0 where
   pub left : ℕ
 
 -- a wire over a link, and a pass, as a world
-abbrev pub world_of : {P L State : Type 0} → (P → Account) → (L → links.LinkTold State) → P → L → Wire → World State
+abbrev pub world_of : {P L State : Type 0} → (P → Account) → (L → LinkTold State) → P → L → Wire → World State
 world_of account told pass link wire =
     record { exchange = exchange_of told link wire; own = (account pass).own; left = (account pass).left }
 
--- What of it outlives the run: the link's state, how many bytes of each answer were received, where told, its count of
--- faults, and the pass.
+-- What of it outlives the run: of the link its state, how many bytes of each answer were received, where told, and its
+-- count of faults; of the pass its own entries and the calls that are left.
 pub record Outside (State : Type 0) : Type 0 where
   pub state : Option State
   pub received : Option (List ℕ)
@@ -39,7 +39,7 @@ outside_of world = record {
 }
 
 -- the same, of a link and a pass
-abbrev pub outside : {P L State : Type 0} → (P → Account) → (L → links.LinkTold State) → P → L → Outside State
+abbrev pub outside : {P L State : Type 0} → (P → Account) → (L → LinkTold State) → P → L → Outside State
 outside account told pass link = record {
   state = (told link).state;
   received = (told link).received;
@@ -50,12 +50,6 @@ outside account told pass link = record {
 
 -- ---- what comes of an act
 
--- a call of the book is in range, and one may be made; a request has no space in its method and its target
-abbrev pub CanAnswer : Act → ℕ → Type 0
-CanAnswer (Ask op) left = InRange op × (0 < left)
-CanAnswer (Send hop) left = IsSendable hop
-CanAnswer _ left = Unit {0}
-
 -- The document has made one call more: its entry is the last of the document's own, and the input is its reply.
 pub record IsBookCall (document : ℕ) (op : Op) (input : Input) (own own' : List Entry) (left left' : ℕ) : Type 0 where
   pub entry : Entry
@@ -64,11 +58,6 @@ pub record IsBookCall (document : ℕ) (op : Op) (input : Input) (own own' : Lis
   pub input_is : input ≡ Replied entry.reply
   pub own_is : own' ≡ own ++ entry ∷ []
   pub left_is : left ≡ left' + 1
-
--- Memory was refused: no entry more is the document's own. Of the calls that are left some may be used up.
-pub record IsRefusedCall (own own' : List Entry) (left left' : ℕ) : Type 0 where
-  pub own_is : own' ≡ own
-  pub fewer : left' ≤ left
 
 -- The document has made a call of the book. The exchange is as it was.
 pub record IsCalled {State : Type 0} (document : ℕ) (old : World State) (op : Op) (input : Input) (new : World State)
@@ -91,7 +80,7 @@ Answers by limit document old (Send hop) input new = IsSendable hop × IsExchang
 Answers by limit document old (Tell violation) input new = (input ≡ Told) × (new ≡ old)
 Answers by limit document old first input new = IsExchanged by limit old first input new
 
--- Nothing more of the answer is to come.
+-- Nothing more of the answer is to come, and what outlives the run is as it was.
 pub record IsHungUp {State : Type 0} (old new : World State) : Type 0 where
   pub idle : IsIdle new.exchange
   pub outside_is : outside_of new ≡ outside_of old
@@ -102,8 +91,8 @@ Settles (Result outcome) old new = IsHungUp old new
 Settles (LoadFailed error) old new = IsHungUp old new
 Settles _ old new = new ≡ old
 
--- Memory was refused: the document has made no call more, the link's state and its count of faults are as they were,
--- and some bytes more may have been received.
+-- Memory was refused: the document has made no call more, the link's state and its count of faults are as they were.
+-- Some bytes more may have been received, and some of the calls that are left may be used up.
 pub record WorldRefused {State : Type 0} (old new : Outside State) : Type 0 where
   pub state_is : new.state ≡ old.state
   pub count : ℕ
@@ -111,3 +100,17 @@ pub record WorldRefused {State : Type 0} (old new : Outside State) : Type 0 wher
   pub faults_are : new.faults ≡ old.faults
   pub own_is : new.own ≡ old.own
   pub fewer : new.left ≤ old.left
+
+-- ---- what is left of a pass
+
+-- how many calls of the shared book the fetches and loads of a document make at most
+abbrev pub most_calls : ℕ
+most_calls = most_fetches * most_asks
+
+-- What a call that was lent a pass leaves of it: it is the share's still, its document and its opening book are as they
+-- were, and so many calls more were made on it at most.
+pub record KeepsPass {P : Type 0} (account : P → Account) (belongs : P → Type 0) (most : ℕ) (old new : P) : Type 0 where
+  pub belongs_to : belongs new
+  pub document : (account new).document ≡ (account old).document
+  pub opening : (account new).opening ≡ (account old).opening
+  pub few : (account old).left ≤ (account new).left + most

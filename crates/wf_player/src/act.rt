@@ -1,8 +1,9 @@
 // One act of a fetch.
 ghost use Rattle.std.specs.Prelude.{◌+◌, ◌<◌, ◌≡◌, ◌≤◌, IfOk, IsTrue, OnErr};
-ghost use Rattle.wf_player.specs.Standings.{IsReady, Keeps, KeepsPass, world};
+ghost use Rattle.wf_player.specs.Private.Going.{CanAnswer, IsRefusedCall};
+ghost use Rattle.wf_player.specs.Private.Standings.{IsReady, Keeps, world};
 ghost use Rattle.wf_player.specs.Words.{Ask, InRange, asks, fits, over_link, price_of};
-ghost use Rattle.wf_player.specs.Worlds.{Answers, CanAnswer, IsBookCall, IsRefusedCall, WorldRefused, outside_of};
+ghost use Rattle.wf_player.specs.Worlds.{Answers, IsBookCall, KeepsPass, WorldRefused, outside_of};
 
 use crate::lent::Lent;
 use crate::player::Player;

@@ -1,7 +1,7 @@
 // What a script asks for: a fetch, or a load by an element.
 ghost use Rattle.std.specs.Prelude.{[], ◌+◌, ◌<◌, ◌∷◌, ◌≡◌, ◌≤◌, IfOk, None, OnErr, OnOk};
-ghost use Rattle.wf_player.specs.Parts.{RuleCameTo};
-ghost use Rattle.wf_player.specs.Standings.{HasSpent, IsReady, Keeps, MayGoOn, standing, world};
+ghost use Rattle.wf_player.specs.Private.Parts.{RuleCameTo};
+ghost use Rattle.wf_player.specs.Private.Standings.{HasSpent, IsReady, Keeps, MayGoOn, standing, world};
 ghost use Rattle.wf_player.specs.Words.{IsAtEnd, IsClient, IsIdle, IsRequest, IsValidInit, IsValidLoad, after_events};
 ghost use Rattle.wf_player.specs.Words.{asked as asks_for, command_started, fetch_step, fetched};
 ghost use Rattle.wf_player.specs.Words.{filled_init as filled_fetch, filled_load as load_filled, lent_result};

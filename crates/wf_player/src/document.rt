@@ -1,12 +1,12 @@
 // One document, played.
 ghost use Rattle.std.specs.Prelude.{◌<◌, ◌^◌, ◌≡◌, ◌≢◌, ◌≤◌, IfOk, OnErr, Some, length, slice_get};
-ghost use Rattle.wf_player.specs.Playing as spec;
-ghost use Rattle.wf_player.specs.Playing.{RunCame};
-ghost use Rattle.wf_player.specs.Standings.{KeepsPass, most_calls, setting_of};
+ghost use Rattle.wf_player.specs.Playing.{RunCameTo};
+ghost use Rattle.wf_player.specs.Private.Parts as spec;
+ghost use Rattle.wf_player.specs.Private.Standings.{setting_of};
 ghost use Rattle.wf_player.specs.Words.{AreValid, Document as OneDocument, IsAtEnd, IsClient, IsIdle, IsValid};
-ghost use Rattle.wf_player.specs.Words.{IsValidDocument, Memory, beginning, document_client, document_run};
-ghost use Rattle.wf_player.specs.Words.{exchange_of, finished, over_link, script_run};
-ghost use Rattle.wf_player.specs.Worlds.{outside};
+ghost use Rattle.wf_player.specs.Words.{IsValidDocument, Memory, beginning, document_client, document_run, exchange_of};
+ghost use Rattle.wf_player.specs.Words.{finished, over_link, script_run};
+ghost use Rattle.wf_player.specs.Worlds.{KeepsPass, most_calls, outside};
 
 use crate::lent::Lent;
 use crate::player::Player;
@@ -49,7 +49,7 @@ fn play_script<R: Threads + Wait + Sync, S: Share, L: Link>(
     requires base { base ≤ 2 ^ 40 }
     requires pass { S.belongs lent.now.share.now pass.old × (most_calls ≤ (S.account pass.old).left) }
     requires idle { IsIdle (exchange_of L.told link.old wire.old) }
-    ensures came { RunCame (over_link L.serves) lent.now.limit (S.account pass.old).document
+    ensures came { RunCameTo (over_link L.serves) lent.now.limit (S.account pass.old).document
         (script_run (setting_of lent.now) document.now.script finished (beginning base))
         (outside S.account L.told pass.old link.old) result.events result.ending result.clock
         (outside S.account L.told pass.new link.new) }
@@ -91,7 +91,7 @@ fn run_document<R: Threads + Wait + Sync, S: Share, L: Link>(
     requires valid { IsValidDocument document.now }
     requires base { base ≤ 2 ^ 40 }
     requires pass { S.belongs share.now pass.old × (most_calls ≤ (S.account pass.old).left) }
-    ensures came { IfOk result (λ ran. RunCame (over_link L.serves) scenario.entry.now.body_limit
+    ensures came { IfOk result (λ ran. RunCameTo (over_link L.serves) scenario.entry.now.body_limit
         (S.account pass.old).document (document_run scenario.entry.now.cookies base document.now)
         (outside S.account L.told pass.old link.old) ran.events ran.ending ran.clock
         (outside S.account L.told pass.new link.new)) }
@@ -122,9 +122,8 @@ fn run_document<R: Threads + Wait + Sync, S: Share, L: Link>(
 /// left.
 ///
 /// What the transcript shows is the document's run over a tape of what the world answers, as with `drive_fetch`. At
-/// another ending than `Memory` nothing is to come over the link, where it tells that. `Memory` is for want of memory:
-/// what was shown then begins such a run, the calls that were made are those on the way, an answer may be read in part,
-/// and the key and the clock may be any.
+/// another ending than `Memory` nothing is to come over the link, where it tells that. At `Memory` what was shown begins
+/// such a run, the calls made are those on the way, an answer may be read in part, and key and clock may be any.
 pub fn drive<R: Threads + Wait + Sync, S: Share, L: Link>(
     rt: &R,
     alloc: Global,
@@ -139,7 +138,7 @@ pub fn drive<R: Threads + Wait + Sync, S: Share, L: Link>(
     requires base { base ≤ 2 ^ 40 }
     requires pass { S.belongs share.now pass.old × (most_calls ≤ (S.account pass.old).left) }
     ensures came { (one : OneDocument) → slice_get scenario.entry.now.documents document ≡ Some one
-        → RunCame (over_link L.serves) scenario.entry.now.body_limit (S.account pass.old).document
+        → RunCameTo (over_link L.serves) scenario.entry.now.body_limit (S.account pass.old).document
         (document_run scenario.entry.now.cookies base one) (outside S.account L.told pass.old link.old) result.events
         result.ending result.clock (outside S.account L.told pass.new link.new) }
     ensures hung_up { result.ending ≢ Memory → IsAtEnd (L.told link.new).left }

@@ -1,11 +1,12 @@
 // One fetch, played over a link and a share of the book.
 ghost use Rattle.std.specs.Prelude.{◌+◌, ◌<◌, ◌^◌, ◌≡◌, ◌≤◌, IfOk, IsTrue, OnErr, OnOk};
-ghost use Rattle.wf_player.specs.Driving.{Drives, Fetches};
-ghost use Rattle.wf_player.specs.Private.Going.{GoesOn, PartNoted};
-ghost use Rattle.wf_player.specs.Standings.{IsReady, Keeps, KeepsPass, setting_of, standing, world};
+ghost use Rattle.wf_player.specs.Driving.{DriveCameTo};
+ghost use Rattle.wf_player.specs.Private.Parts.{FetchCameTo};
+ghost use Rattle.wf_player.specs.Private.Going.{CanAnswer, GoesOn, PartNoted};
+ghost use Rattle.wf_player.specs.Private.Standings.{IsReady, Keeps, setting_of, standing, world};
 ghost use Rattle.wf_player.specs.Words.{IsAtEnd, IsClient, IsRequest, Leads, after_events, asks, at_time, context_of};
 ghost use Rattle.wf_player.specs.Words.{events_of, fetch, fits, most_asks, over_link, price_of, rest};
-ghost use Rattle.wf_player.specs.Worlds.{CanAnswer, outside};
+ghost use Rattle.wf_player.specs.Worlds.{KeepsPass, outside};
 
 use crate::held::Held;
 use crate::lent::Lent;
@@ -80,7 +81,7 @@ impl<R: Threads + Wait + Sync, S: Share, L: Link> Player<'_, '_, '_, '_, '_, R, 
         requires request { IsRequest request }
         requires timely { now < 2 ^ 48 }
         requires left { most_asks ≤ (world S.account L.told self.old).left }
-        ensures came { Fetches (over_link L.serves) (fetch (at_time (setting_of self.old.lent.now) now) request)
+        ensures came { FetchCameTo (over_link L.serves) (fetch (at_time (setting_of self.old.lent.now) now) request)
             (standing S.account L.told self.old) result (standing S.account L.told self.new) }
         ensures few { (world S.account L.told self.old).left ≤ (world S.account L.told self.new).left + most_asks }
         ensures kept { Keeps S.account S.belongs self.old self.new }
@@ -133,7 +134,7 @@ pub fn drive_fetch<R: Threads + Wait + Sync, S: Share, L: Link>(
 ) -> Result<FetchRun, OutOfMemory>
     requires asked { IsRequest request × IsClient client.now × (now < 2 ^ 48) }
     requires pass { S.belongs share.now pass.old × (most_asks ≤ (S.account pass.old).left) }
-    ensures came { Drives (over_link L.serves) body_limit (S.account pass.old).document
+    ensures came { DriveCameTo (over_link L.serves) body_limit (S.account pass.old).document
         (fetch (context_of client.now policies.now cookies.now now) request)
         (outside S.account L.told pass.old link.old) result (outside S.account L.told pass.new link.new) }
     ensures hung_up { IfOk result (λ _. IsAtEnd (L.told link.new).left) }

@@ -1,7 +1,7 @@
 // Scripts, command by command.
 ghost use Rattle.std.specs.Prelude.{◌≡◌, None};
-ghost use Rattle.wf_player.specs.Parts.{RuleCameTo};
-ghost use Rattle.wf_player.specs.Standings.{HasSpent, IsReady, Keeps, MayGoOn, standing};
+ghost use Rattle.wf_player.specs.Private.Parts.{RuleCameTo};
+ghost use Rattle.wf_player.specs.Private.Standings.{HasSpent, IsReady, Keeps, MayGoOn, standing};
 ghost use Rattle.wf_player.specs.Words.{AreValid, IsValidStep, chosen, command_started, limit_before, over_link};
 ghost use Rattle.wf_player.specs.Words.{repeated, script_run, step_of};
 

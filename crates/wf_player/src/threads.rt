@@ -2,7 +2,7 @@
 ghost use Rattle.std.specs.Prelude.{[], ℕ, ◌<◌, ◌^◌, ◌≡◌, ◌≤◌, IfOk, OnErr, length, map, slice_index_or, vec_capacity};
 ghost use Rattle.std.specs.Prelude.{vec_len};
 ghost use Rattle.wf_player.specs.Private.Rows.{CanPlay, RowPlayed, seatings_of, transcripts_of};
-ghost use Rattle.wf_player.specs.Seats.{AreRefused, AreSeated, DocumentPlayed, seat_of};
+ghost use Rattle.wf_player.specs.Seats.{AreRefused, AreSeated, DocumentCameTo, seat_of};
 ghost use Rattle.wf_player.specs.Words.{All, EachDocument, IsValid, over_link, range_with_len};
 
 use crate::document::drive;
@@ -158,7 +158,7 @@ where
     requires base { base ≤ 2 ^ 40 }
     requires seats { AreSeated scenario.now.documents (map (seat_of S.account L.told) seats.old.items) }
     requires belong { All (λ s. S.belongs share.now s.pass) seats.old.items }
-    ensures played { IfOk result (EachDocument (DocumentPlayed (over_link L.serves) scenario.entry.now base) 0
+    ensures played { IfOk result (EachDocument (DocumentCameTo (over_link L.serves) scenario.entry.now base) 0
         scenario.entry.now.documents (map (seat_of S.account L.told) seats.old.items)
         (map (seat_of S.account L.told) seats.new.items)) }
     ensures refused { OnErr result (AreRefused (over_link L.serves) scenario.entry.now base

@@ -17,8 +17,8 @@ use Rattle.wf_link.specs.Links.{LinkTold}
 use Rattle.wf_link_wire.specs.Exchanges.{Answering}
 use Rattle.wf_player.specs.Worlds.{Outside}
 use Rattle.wf_player.proofs.AskLemmas.{outside-is}
-use Rattle.wf_player.specs.Playing.{RunCame, Ran}
-use Rattle.wf_player.specs.Seats.{AreRefused, DocumentPlayed, Seat}
+use Rattle.wf_player.specs.Playing.{RunCameTo, RunPlayed}
+use Rattle.wf_player.specs.Seats.{AreRefused, DocumentCameTo, Seat}
 use Rattle.wf_player.specs.declared.seating.Seating.{Seating}
 use Rattle.wf_turn.specs.Passes.{IsOneHistory}
 use Rattle.wf_turn.specs.declared.pass.TurnPass.{TurnPass}
@@ -36,7 +36,7 @@ use Rattle.wf_iso.specs.Plays.{IsPlayOver, IsTranscript, opening_book, outside_o
 -- its transcript is that of its document, over the entries of the pass's own
 transcript-of : {State : Type 0} (by : Answering State) (scenario : Scenario) (base : ℕ) (history : List Entry)
     (number : ℕ) (document : Document) (old new : Seat State) (transcript : Transcript)
-    → transcript.ending ≢ ending.Memory → DocumentPlayed by scenario base number document old new transcript
+    → transcript.ending ≢ ending.Memory → DocumentCameTo by scenario base number document old new transcript
     → old.outside.own ≡ [] → entries_of number history ≡ new.outside.own
     → IsTranscript by scenario base history number document (seat_way old) (seat_way new) transcript
 transcript-of {State} by scenario base history number document old new transcript told is none own =
@@ -48,12 +48,12 @@ transcript-of {State} by scenario base history number document old new transcrip
       run_is = record {
         before = old.outside.left;
         behind = new.outside.left;
-        ran = subst (λ (o : Outside State). Ran by scenario.body_limit number
+        ran = subst (λ (o : Outside State). RunPlayed by scenario.body_limit number
             (document_run scenario.cookies base document)
             o transcript.events transcript.ending transcript.clock
             (outside_on (seat_way new) (entries_of number history) new.outside.left))
             (outside-is old.outside (outside_on (seat_way old) [] old.outside.left) refl refl refl none refl)
-            (subst (λ (o : Outside State). Ran by scenario.body_limit number
+            (subst (λ (o : Outside State). RunPlayed by scenario.body_limit number
             (document_run scenario.cookies base document)
             old.outside transcript.events transcript.ending transcript.clock o)
             (outside-is new.outside (outside_on (seat_way new) (entries_of number history) new.outside.left) refl refl
@@ -70,7 +70,7 @@ HasEnded transcript = transcript.ending ≢ ending.Memory
 
 transcripts-of : {State : Type 0} (by : Answering State) (scenario : Scenario) (base : ℕ) (history : List Entry)
     {number : ℕ} {documents : List Document} {olds news : List (Seat State)} {transcripts : List Transcript}
-    → EachDocument (DocumentPlayed by scenario base) number documents olds news transcripts → HasText transcripts
+    → EachDocument (DocumentCameTo by scenario base) number documents olds news transcripts → HasText transcripts
     → All IsFresh olds → All (HasOwn history) news
     → EachDocument (IsTranscript by scenario base history) number documents (map seat_way olds) (map seat_way news)
     transcripts
@@ -83,7 +83,7 @@ transcripts-of by scenario base history played text fresh own =
 -- the run of one document came, over the entries of the pass's own
 has-run : {State : Type 0} (by : Answering State) (scenario : Scenario) (base : ℕ) (history : List Entry)
     (number : ℕ) (document : Document) (old new : Seat State) (transcript : Transcript)
-    → DocumentPlayed by scenario base number document old new transcript → old.outside.own ≡ []
+    → DocumentCameTo by scenario base number document old new transcript → old.outside.own ≡ []
     → entries_of number history ≡ new.outside.own
     → HasRun by scenario base history number document (seat_way old) (seat_way new) transcript
 has-run {State} by scenario base history number document old new transcript is none own =
@@ -91,11 +91,11 @@ has-run {State} by scenario base history number document old new transcript is n
     record {
       before = old.outside.left;
       behind = new.outside.left;
-      came = subst (λ (o : Outside State). RunCame by scenario.body_limit number whole
+      came = subst (λ (o : Outside State). RunCameTo by scenario.body_limit number whole
           o transcript.events transcript.ending transcript.clock
           (outside_on (seat_way new) (entries_of number history) new.outside.left))
           (outside-is old.outside (outside_on (seat_way old) [] old.outside.left) refl refl refl none refl)
-          (subst (λ (o : Outside State). RunCame by scenario.body_limit number whole
+          (subst (λ (o : Outside State). RunCameTo by scenario.body_limit number whole
           old.outside transcript.events transcript.ending transcript.clock o)
           (outside-is new.outside (outside_on (seat_way new) (entries_of number history) new.outside.left) refl refl
           refl
@@ -105,7 +105,7 @@ has-run {State} by scenario base history number document old new transcript is n
 
 have-run : {State : Type 0} (by : Answering State) (scenario : Scenario) (base : ℕ) (history : List Entry)
     {number : ℕ} {documents : List Document} {olds news : List (Seat State)} {transcripts : List Transcript}
-    → EachDocument (DocumentPlayed by scenario base) number documents olds news transcripts → All IsFresh olds
+    → EachDocument (DocumentCameTo by scenario base) number documents olds news transcripts → All IsFresh olds
     → All (HasOwn history) news
     → EachDocument (HasRun by scenario base history) number documents (map seat_way olds) (map seat_way news)
     transcripts
@@ -117,7 +117,7 @@ have-run by scenario base history {transcripts = transcripts} played fresh own =
 
 called-of : {State : Type 0} (by : Answering State) (scenario : Scenario) (base : ℕ)
     {number : ℕ} {documents : List Document} {olds news : List (Seat State)} {transcripts : List Transcript}
-    → EachDocument (DocumentPlayed by scenario base) number documents olds news transcripts → HasText transcripts
+    → EachDocument (DocumentCameTo by scenario base) number documents olds news transcripts → HasText transcripts
     → All IsFresh olds → All HasCalled news
 called-of by scenario base played text fresh =
     each-after HasCalled (λ number document old new transcript is.
@@ -140,7 +140,7 @@ module _ {L State : Type 0} (by : Answering State) (told : L → LinkTold State)
     (closed : IsOneHistory (first ∷ passes_in back) book history) where
   -- what was played on the seats, with the history of the closed book, is a play
   pub closed-play : (transcripts : List Transcript)
-      → EachDocument (DocumentPlayed by scenario base) 0 scenario.documents (map (seat_seen told) made)
+      → EachDocument (DocumentCameTo by scenario base) 0 scenario.documents (map (seat_seen told) made)
       (map (seat_seen told) back) transcripts → HasText transcripts
       → IsPlayOver by scenario base (map (way_of told) (links_in made)) (map (way_of told) (links_in back))
       transcripts history
@@ -161,7 +161,7 @@ module _ {L State : Type 0} (by : Answering State) (told : L → LinkTold State)
 
   -- and where memory was refused, no document was played or each was
   pub closed-played : (transcripts : List Transcript)
-      → EachDocument (DocumentPlayed by scenario base) 0 scenario.documents (map (seat_seen told) made)
+      → EachDocument (DocumentCameTo by scenario base) 0 scenario.documents (map (seat_seen told) made)
       (map (seat_seen told) back) transcripts
       → NoneOrAllPlayed by scenario base (map (way_of told) (links_in made))
       (map (way_of told) (links_in back))

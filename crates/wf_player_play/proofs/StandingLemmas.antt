@@ -16,7 +16,7 @@ use Rattle.wf_script_values.specs.declared.document.Document.{Document}
 use Rattle.wf_script_values.specs.declared.scenario.Scenario.{Scenario}
 use Rattle.wf_script_values.specs.declared.servers.Server.{Server}
 use Rattle.wf_sim.specs.Sim.{SimState}
-use Rattle.wf_player.specs.Playing.{Ran}
+use Rattle.wf_player.specs.Playing.{RunPlayed}
 use Rattle.wf_link.specs.Links.{IsTold}
 use Rattle.wf_link.specs.declared.target.Route.{Route}
 use Rattle.wf_player_seats.specs.Links.{way_of}
@@ -68,11 +68,11 @@ transcripts-by-rules scenario base history {number} (EachDocument.one_more {docu
         ran = ran-by-rules scenario.body_limit number whole (outside_on (way_to_servers scenario) [] is.run_is.before)
             transcript.events transcript.ending transcript.clock
             (outside_on (way_to_servers scenario) (entries_of number history) is.run_is.behind)
-            (subst (λ (w : Way (List Server)). Ran by_bytes scenario.body_limit number whole
+            (subst (λ (w : Way (List Server)). RunPlayed by_bytes scenario.body_limit number whole
             (outside_on (way_to_servers scenario) [] is.run_is.before) transcript.events transcript.ending
             transcript.clock
             (outside_on w (entries_of number history) is.run_is.behind)) last
-            (subst (λ (w : Way (List Server)). Ran by_bytes scenario.body_limit number whole
+            (subst (λ (w : Way (List Server)). RunPlayed by_bytes scenario.body_limit number whole
             (outside_on w [] is.run_is.before) transcript.events transcript.ending transcript.clock
             (outside_on new (entries_of number history) is.run_is.behind)) first is.run_is.ran));
       };

@@ -10,8 +10,8 @@ use Rattle.wf_script_run.specs.Runs.{document_run}
 use Rattle.wf_script_values.specs.declared.document.Document.{Document}
 use Rattle.wf_script_values.specs.declared.scenario.Scenario.{Scenario}
 use Rattle.wf_link_wire.specs.Exchanges.{Answering}
-use Rattle.wf_player.specs.Standings.{most_calls}
-use Rattle.wf_player.specs.Playing.{RunCame}
+use Rattle.wf_player.specs.Worlds.{most_calls}
+use Rattle.wf_player.specs.Playing.{RunCameTo}
 use Rattle.wf_iso.specs.Plays.{Way, opening_book, outside_on}
 
 -- From one moment of its link to another, the run of the document of this number came to its transcript's ending, or to
@@ -21,7 +21,7 @@ pub record HasRun {State : Type 0} (by : Answering State) (scenario : Scenario) 
     (number : ℕ) (document : Document) (old new : Way State) (transcript : Transcript) : Type 0 where
   pub before : ℕ
   pub behind : ℕ
-  pub came : RunCame by scenario.body_limit number (document_run scenario.cookies base document)
+  pub came : RunCameTo by scenario.body_limit number (document_run scenario.cookies base document)
       (outside_on old [] before) transcript.events transcript.ending transcript.clock
       (outside_on new (entries_of number history) behind)
   pub few : before ≤ behind + most_calls

@@ -21,7 +21,7 @@ use Rattle.wf_script_values.specs.declared.scenario.Scenario.{Scenario}
 use Rattle.wf_link.specs.Links.{LinkTold}
 use Rattle.wf_link_wire.specs.Exchanges.{Answering}
 use Rattle.wf_player.specs.Worlds.{Outside}
-use Rattle.wf_player.specs.Playing.{RunCame, Ran}
+use Rattle.wf_player.specs.Playing.{RunCameTo, RunPlayed}
 use Rattle.wf_player.specs.Seats.{Seat}
 use Rattle.wf_player.proofs.CallLemmas.{trace-calls}
 use Rattle.wf_player.specs.declared.seating.Seating.{Seating}
@@ -42,8 +42,8 @@ use Rattle.wf_player_seats.proofs.PassLemmas.{times-range}
 -- a run that did not end for memory
 pub ran-of : {State : Type 0} (by : Answering State) (limit document : ℕ) (whole : Play) (old : Outside State)
     (events : List Event) (ended : Ending) (clock : ℕ) (new : Outside State) → ended ≢ ending.Memory
-    → RunCame by limit document whole old events ended clock new
-    → Ran by limit document whole old events ended clock new
+    → RunCameTo by limit document whole old events ended clock new
+    → RunPlayed by limit document whole old events ended clock new
 ran-of by limit document whole old events ending.Finished clock new told x = x
 ran-of by limit document whole old events ending.Fetches clock new told x = x
 ran-of by limit document whole old events ending.Commands clock new told x = x
@@ -64,7 +64,7 @@ pub record Grew {State : Type 0} (old new : Outside State) : Type 0 where
 -- each call of a run has its entry
 pub ran-calls : {State : Type 0} (by : Answering State) (limit document : ℕ) (whole : Play) (old : Outside State)
     (events : List Event) (ended : Ending) (clock : ℕ) (new : Outside State)
-    → Ran by limit document whole old events ended clock new → Grew old new
+    → RunPlayed by limit document whole old events ended clock new → Grew old new
 ran-calls {State} by limit document whole old events ended clock new ran =
     let made = trace-calls by limit document ran.trace in
     record {

@@ -5,7 +5,7 @@ use Rattle.std.proofs.lemmas.List.{length-map}
 use Rattle.std.proofs.lemmas.List.Elements.{All-map}
 use Rattle.std.proofs.lemmas.List.FromFn.{length-range_with_len}
 use Rattle.atomic_table.specs.Seated.{TableId}
-use Rattle.wf_player.specs.Standings.{most_calls}
+use Rattle.wf_player.specs.Worlds.{most_calls}
 use Rattle.wf_player.specs.Seats.{AreSeated, Seat}
 use Rattle.wf_player.specs.declared.seating.Seating.{Seating}
 use Rattle.wf_script_values.specs.declared.scenario.Scenario.{Scenario}

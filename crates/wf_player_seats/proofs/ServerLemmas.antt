@@ -17,7 +17,7 @@ use Rattle.wf_sim.proofs.SimLemmas.{answers-by_parts}
 use Rattle.wf_link_wire.specs.Exchanges.{Answering, Exchange}
 use Rattle.wf_link_wire.specs.Wires.{over_link}
 use Rattle.wf_link_wire.proofs.LawLemmas.{exchange-alike}
-use Rattle.wf_player.specs.Playing.{Ran}
+use Rattle.wf_player.specs.Playing.{RunPlayed}
 use Rattle.wf_player.specs.Worlds.{Answers, Outside, Settles, World}
 use Rattle.wf_link.specs.Links.{Serves, LinkTold}
 use Rattle.wf_iso.specs.Plays.{by_rules}
@@ -67,8 +67,8 @@ answered limit document a (Tell violation) input b is = is
 -- a run over the link is one over the rules
 pub ran-by-rules : (limit document : ℕ) (whole : Play) (old : Outside (List Server)) (events : List Event)
     (ending : Ending) (clock : ℕ) (new : Outside (List Server))
-    → Ran by_bytes limit document whole old events ending clock new
-    → Ran by_rules limit document whole old events ending clock new
+    → RunPlayed by_bytes limit document whole old events ending clock new
+    → RunPlayed by_rules limit document whole old events ending clock new
 ran-by-rules limit document whole old events ending clock new x = record {
   first = x.first;
   idle = x.idle;
@@ -119,7 +119,7 @@ trace-state limit document {a = a} (stepped {mid = mid} request first after inpu
 
 pub ran-state : (limit document : ℕ) (whole : Play) (old : Outside (List Server)) (events : List Event)
     (ending : Ending) (clock : ℕ) (new : Outside (List Server))
-    → Ran by_bytes limit document whole old events ending clock new → new.state ≡ old.state
+    → RunPlayed by_bytes limit document whole old events ending clock new → new.state ≡ old.state
 ran-state limit document whole old events ending clock new ran =
     sym (ap (λ (o : Outside (List Server)). o.state) ran.to) ∙ trace-state limit document ran.trace
     ∙ ap (λ (o : Outside (List Server)). o.state) ran.from

@@ -6,10 +6,9 @@ use Rattle.wf_text.specs.declared.memory.OutOfMemory.{OutOfMemory}
 use Rattle.std.proofs.lemmas.List.{append-nil}
 use Rattle.wf_fetch_acts.specs.declared.act.Input.{Input}
 use Rattle.wf_fetch.specs.Fetch.{fetch}
-use Rattle.wf_player.specs.Driving.{Drove, FetchBegun}
-use Rattle.wf_player.specs.Parts.{PlaysOn}
-use Rattle.wf_player.specs.Playing.{Ran}
-use Rattle.wf_player.specs.Worlds.{Answers, Outside, WorldRefused, Settles, World, outside_of}
+use Rattle.wf_player.specs.Driving.{DriveCut, FetchPlayed}
+use Rattle.wf_player.specs.Playing.{PlaysOn, RunPlayed}
+use Rattle.wf_player.specs.Worlds.{Answers, Outside, Settles, World, WorldRefused, outside_of}
 use Rattle.wf_player.proofs.AskLemmas.{refuses-none}
 use Rattle.wf_player.proofs.FetchLemmas.{still}
 use Rattle.wf_script_events.specs.declared.events.Ending.{Ending}
@@ -30,7 +29,7 @@ use Rattle.wf_types.specs.declared.client.Cookie.{Cookie}
 use Rattle.wf_types.specs.declared.request.Request.{Request}
 use Rattle.wf_types.specs.declared.response.Outcome.{Outcome}
 use Rattle.wf_link_wire.specs.Exchanges.{Answering, IsIdle}
-use Rattle.wf_report.specs.Delivering.{IsCutShort}
+use Rattle.wf_report.specs.Delivering.{DeliveryCut}
 use Rattle.wf_report.specs.Private.Paths.{HasReached, Path}
 use Rattle.wf_report.specs.Reporting.{report_played, reporting, reports_played}
 use Rattle.wf_report.specs.Reports.{report_requests}
@@ -80,7 +79,7 @@ module _ {State : Type 0} (by : Answering State) (limit document : ℕ) (whole :
   -- a path on which memory was refused
   path-cut : (events : List Event) (place : Play) (last : World State) (new : Outside State)
       → Path by limit document whole old events place last → WorldRefused (outside_of last) new
-      → IsCutShort by limit document whole old new
+      → DeliveryCut by limit document whole old new
   path-cut events place last new path left = record {
     events = events;
     began = record {
@@ -104,7 +103,7 @@ module _ {State : Type 0} (by : Answering State) (limit document : ℕ) (whole :
   pub reached-report : (shown events : List Event) (lent : Setting) (request : Request) (requests : List Request)
       (next : Next) (progress : Progress) (outcome : Outcome) (now new : Outside State) → fetch_limit progress ≡ None
       → HasReached by limit document whole old shown (reports_played lent (request ∷ requests) next progress) now
-      → Drove by limit document (fetch (at_time lent progress.clock) request) now events outcome new
+      → FetchPlayed by limit document (fetch (at_time lent progress.clock) request) now events outcome new
       → HasReached by limit document whole old (shown ++ (events ++ event.Result outcome ∷ []))
       (reports_played lent requests next (reported events outcome progress)) new
   unfolding onward
@@ -124,8 +123,8 @@ module _ {State : Type 0} (by : Answering State) (limit document : ℕ) (whole :
   pub reached-cut : (shown : List Event) (lent : Setting) (request : Request) (requests : List Request)
       (next : Next) (progress : Progress) (now new : Outside State) → fetch_limit progress ≡ None
       → HasReached by limit document whole old shown (reports_played lent (request ∷ requests) next progress) now
-      → FetchBegun by limit document (fetch (at_time lent progress.clock) request) now new
-      → IsCutShort by limit document whole old new
+      → DriveCut by limit document (fetch (at_time lent progress.clock) request) now new
+      → DeliveryCut by limit document whole old new
   unfolding onward
   reached-cut shown lent request requests next progress now new none path x =
       let place = embed x.place (onward lent requests next) (after_events x.events (fetch_started progress)) in
@@ -140,7 +139,7 @@ module _ {State : Type 0} (by : Answering State) (limit document : ℕ) (whole :
   -- memory was refused between reports
   pub reached-refused : (events : List Event) (rest : Play) (now new : Outside State)
       → HasReached by limit document whole old events rest now → new ≡ now
-      → IsCutShort by limit document whole old new
+      → DeliveryCut by limit document whole old new
   reached-refused events rest now new path kept =
       path-cut events rest (still now) new (path (still now) (record { end = refl; framing_is = refl }) refl)
       (subst (λ (o : Outside State). WorldRefused now o) (sym kept) (refuses-none now))
@@ -158,7 +157,7 @@ module _ {State : Type 0} (by : Answering State) (limit document : ℕ) (whole :
   -- the end is reached
   pub reached-end : (events : List Event) (ending : Ending) (clock : ℕ) (now : Outside State)
       → HasReached by limit document whole old events (over ending clock) now
-      → Ran by limit document whole old events ending clock now
+      → RunPlayed by limit document whole old events ending clock now
   reached-end events ending clock now path =
       let idle : IsIdle (still now).exchange = record { end = refl; framing_is = refl } in
       let x : Path by limit document whole old events (over ending clock) (still now) = path (still now) idle refl in
@@ -201,7 +200,7 @@ module _ {State : Type 0} (by : Answering State) (limit document : ℕ) (whole :
         (events : List Event) (clock : ℕ) (now : Outside State)
         → HasReached by limit document whole old log.shown (reports_played lent left next log) now
         → left ≡ request ∷ more → Some ending ≡ fetch_limit log → events ≡ log.shown → log.clock ≡ clock
-        → Ran by limit document whole old events ending clock now
+        → RunPlayed by limit document whole old events ending clock now
     delivery-limit log left more request ending events clock now path taken at shown ticks =
         rw (shown, ← ticks) (reached-end log.shown ending log.clock now
         (reached-limit log.shown lent request more next log ending now (sym at)
@@ -212,20 +211,20 @@ module _ {State : Type 0} (by : Answering State) (limit document : ℕ) (whole :
         (now new : Outside State)
         → HasReached by limit document whole old log.shown (reports_played lent left next log) now
         → left ≡ request ∷ more → None ≡ fetch_limit log → number ≡ document → log.clock ≡ time
-        → FetchBegun by limit number (fetch (at_time lent time) request) now new
-        → IsCutShort by limit document whole old new
+        → DriveCut by limit number (fetch (at_time lent time) request) now new
+        → DeliveryCut by limit document whole old new
     delivery-cut log left more request number time now new path taken none same ticks x =
         reached-cut log.shown lent request more next log now new (sym none)
         (begins log left more request now taken path)
-        (subst (λ (n : ℕ). FetchBegun by limit n (fetch (at_time lent log.clock) request) now new) same
-        (subst (λ (n : ℕ). FetchBegun by limit number (fetch (at_time lent n) request) now new) (sym ticks) x))
+        (subst (λ (n : ℕ). DriveCut by limit n (fetch (at_time lent log.clock) request) now new) same
+        (subst (λ (n : ℕ). DriveCut by limit number (fetch (at_time lent n) request) now new) (sym ticks) x))
 
     -- a report was played
     pub delivery-report : (log log' : Progress) (left more : List Request) (request : Request) (number time : ℕ)
         (events : List Event) (outcome : Outcome) (now new : Outside State)
         → HasReached by limit document whole old log.shown (reports_played lent left next log) now
         → left ≡ request ∷ more → None ≡ fetch_limit log → number ≡ document → log.clock ≡ time
-        → Drove by limit number (fetch (at_time lent time) request) now events outcome new
+        → FetchPlayed by limit number (fetch (at_time lent time) request) now events outcome new
         → log' ≡ reported events outcome log
         → HasReached by limit document whole old log'.shown (reports_played lent more next log') new
     delivery-report log log' left more request number time events outcome now new path taken none same ticks x added =
@@ -236,17 +235,17 @@ module _ {State : Type 0} (by : Answering State) (limit document : ℕ) (whole :
         (sym (append_assoc log.shown events (event.Result outcome ∷ [])))
         (reached-report log.shown events lent request more next log outcome now new (sym none)
         (begins log left more request now taken path)
-        (subst (λ (n : ℕ). Drove by limit n (fetch (at_time lent log.clock) request) now events outcome new) same
-        (subst (λ (n : ℕ). Drove by limit number (fetch (at_time lent n) request) now events outcome new) (sym ticks)
-        x))))
+        (subst (λ (n : ℕ). FetchPlayed by limit n (fetch (at_time lent log.clock) request) now events outcome new) same
+        (subst (λ (n : ℕ). FetchPlayed by limit number (fetch (at_time lent n) request) now events outcome new)
+        (sym ticks) x))))
 
     -- a report was played, and memory was refused to what it has shown
     pub delivery-unshown : (log : Progress) (left more : List Request) (request : Request) (number time : ℕ)
         (events : List Event) (outcome : Outcome) (now new : Outside State)
         → HasReached by limit document whole old log.shown (reports_played lent left next log) now
         → left ≡ request ∷ more → None ≡ fetch_limit log → number ≡ document → log.clock ≡ time
-        → Drove by limit number (fetch (at_time lent time) request) now events outcome new
-        → IsCutShort by limit document whole old new
+        → FetchPlayed by limit number (fetch (at_time lent time) request) now events outcome new
+        → DeliveryCut by limit document whole old new
     delivery-unshown log left more request number time events outcome now new path taken none same ticks x =
         reached-refused (reported events outcome log).shown
         (reports_played lent more next (reported events outcome log)) new new
@@ -258,7 +257,7 @@ module _ {State : Type 0} (by : Answering State) (limit document : ℕ) (whole :
       (now : Outside State)
       → HasReached by limit document whole old log.shown (reports_played lent left finished log) now
       → left ≡ [] → events ≡ log.shown → log.clock ≡ clock
-      → Ran by limit document whole old events ending.Finished clock now
+      → RunPlayed by limit document whole old events ending.Finished clock now
   delivery-end lent log left events clock now path none shown ticks =
       rw (shown, ← ticks) (reached-end log.shown ending.Finished log.clock now
       (subst (λ (l : List Request). HasReached by limit document whole old log.shown

@@ -1,8 +1,7 @@
 // The delivery of a document's reports.
 ghost use Rattle.std.specs.Prelude.{◌≡◌, ◌<◌, ◌≤◌, ◌^◌, [], ◌∷◌, length, slice_get, option_map, Some, IfOk, OnOk};
 ghost use Rattle.wf_link.specs.Sources.{IsAtEnd};
-ghost use Rattle.wf_player.specs.Standings.{KeepsPass, most_calls};
-ghost use Rattle.wf_player.specs.Worlds.{outside};
+ghost use Rattle.wf_player.specs.Worlds.{KeepsPass, most_calls, outside};
 ghost use Rattle.wf_script_run.specs.Runs.{after_events, beginning, document_client, fetch_limit};
 ghost use Rattle.wf_script_run.specs.Runs.{fetch_started, finished};
 ghost use Rattle.wf_script_run.specs.Runs.{most_fetches, setting};

@@ -8,7 +8,7 @@ use Rattle.wf_fetch_acts.specs.declared.act.Input.{Input}
 use Rattle.wf_fetch_acts.specs.Process.{Process, act, ended}
 use Rattle.wf_fetch.specs.Fetch.{fetch}
 use Rattle.wf_link_wire.specs.Exchanges.{Answering}
-use Rattle.wf_player.specs.Playing.{Ran}
+use Rattle.wf_player.specs.Playing.{RunPlayed}
 use Rattle.wf_player.specs.Worlds.{Outside}
 use Rattle.wf_script_commands.specs.Scripts.{Step, Steps}
 use Rattle.wf_script_commands.specs.Scripts as script
@@ -159,5 +159,5 @@ module _ {World : Type 0} {answers : World → Act → Input → World → Type 
 -- the time at which it has ended
 pub ran-early : {State : Type 0} (by : Answering State) (limit number : ℕ) (whole : Play) (old : Outside State)
     (events : List Event) (ending : Ending) (clock : ℕ) (new : Outside State)
-    → Ran by limit number whole old events ending clock new → EndsEarly whole → clock < 281474976710656
+    → RunPlayed by limit number whole old events ending clock new → EndsEarly whole → clock < 281474976710656
 ran-early by limit number whole old events ending clock new ran early = trace-early ran.trace early

@@ -10,7 +10,7 @@ use Rattle.wf_book.specs.declared.entry.Entry.{Entry}
 use Rattle.wf_book.specs.Entries.{book_after}
 use Rattle.wf_iso.specs.Plays.{RunsOver, Way, outside_on}
 use Rattle.wf_link_wire.specs.Exchanges.{Answering}
-use Rattle.wf_player.specs.Playing.{Ran}
+use Rattle.wf_player.specs.Playing.{RunPlayed}
 use Rattle.wf_report.specs.declared.delivery.Delivered.{Delivered}
 use Rattle.wf_report_play.specs.Private.Delivered.{EachDelivered, numbered}
 use Rattle.wf_script_events.specs.declared.events.Ending.{Ending}
@@ -78,14 +78,14 @@ module _ {L : Type 0} {Is : Transcript → Book → L → Delivered → List Ent
 pub solo-runs : {State : Type 0} (by : Answering State) (limit : ℕ) (old new : Way State) (before behind : ℕ)
     (own last entries : List Entry) (whole : Play) (events : List Event) (ending : Ending) (clock : ℕ) → own ≡ []
     → entries ≡ last
-    → Ran by limit 0 whole (outside_on old own before) events ending clock (outside_on new last behind)
+    → RunPlayed by limit 0 whole (outside_on old own before) events ending clock (outside_on new last behind)
     → RunsOver by limit 0 old new entries whole events ending clock
 solo-runs by limit old new before behind own last entries whole events ending clock none same ran = record {
   before = before;
   behind = behind;
-  ran = subst (λ (l : List Entry). Ran by limit 0 whole (outside_on old l before) events ending clock
+  ran = subst (λ (l : List Entry). RunPlayed by limit 0 whole (outside_on old l before) events ending clock
       (outside_on new entries behind)) none
-      (subst (λ (l : List Entry). Ran by limit 0 whole (outside_on old own before) events ending clock
+      (subst (λ (l : List Entry). RunPlayed by limit 0 whole (outside_on old own before) events ending clock
       (outside_on new l behind)) (sym same) ran);
 }
 

@@ -8,7 +8,7 @@ use Rattle.wf_fetch_acts.specs.declared.act.Act.TheVariants.{Ask, Send, ReadHead
 use Rattle.wf_fetch_acts.specs.declared.act.Input.{Input}
 use Rattle.wf_iso.specs.Plays.{RunsOver, Way, outside_on}
 use Rattle.wf_link_wire.specs.Exchanges.{Answering}
-use Rattle.wf_player.specs.Playing.{Ran}
+use Rattle.wf_player.specs.Playing.{RunPlayed}
 use Rattle.wf_player.specs.Worlds.{Answers, IsExchanged, Outside, Settles, World}
 use Rattle.wf_report_play.proofs.HistoryLemmas.{numbered-push}
 use Rattle.wf_report_play.specs.Private.Delivered.{numbered}
@@ -73,8 +73,8 @@ module _ {State : Type 0} (by : Answering State) (limit document turn : ℕ) whe
   settles-as (event.LoadError fault) a b is = ap as_document is
 
   ran-as : (whole : Play) (old new : Outside State) (events : List Event) (ending : Ending) (clock : ℕ)
-      → Ran by limit 0 whole old events ending clock new
-      → Ran by limit document whole (outside_as old) events ending clock (outside_as new)
+      → RunPlayed by limit 0 whole old events ending clock new
+      → RunPlayed by limit document whole (outside_as old) events ending clock (outside_as new)
   ran-as whole old new events ending clock ran = record {
     first = as_document ran.first;
     idle = ran.idle;

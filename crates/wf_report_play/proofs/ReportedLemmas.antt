@@ -14,8 +14,8 @@ use Rattle.wf_iso.specs.Plays.{outside_on, way_to_servers}
 use Rattle.wf_link.specs.Links.{IsTold, LinkTold}
 use Rattle.wf_link.specs.declared.target.Route.{Route}
 use Rattle.wf_link_wire.specs.Exchanges.{Answering}
-use Rattle.wf_player.specs.Playing.{Ran}
-use Rattle.wf_player.specs.Seats.{DocumentPlayed, Seat}
+use Rattle.wf_player.specs.Playing.{RunPlayed}
+use Rattle.wf_player.specs.Seats.{DocumentCameTo, Seat}
 use Rattle.wf_player.specs.declared.seating.Seating.{Seating}
 use Rattle.wf_player_seats.specs.Links.{AreOpened, for_documents, way_of}
 use Rattle.wf_player_seats.specs.Passes.{ArePasses}
@@ -68,8 +68,8 @@ from-next scenario number document documents from i =
 -- the run of a script
 script-ran : {State : Type 0} (by : Answering State) (scenario : Scenario) (number : ℕ) (document : Document)
     (old new : Seat State) (transcript : Transcript)
-    → DocumentPlayed by scenario scenario.now number document old new transcript → HasEnded transcript
-    → Ran by scenario.body_limit number (document_run scenario.cookies scenario.now document) old.outside
+    → DocumentCameTo by scenario scenario.now number document old new transcript → HasEnded transcript
+    → RunPlayed by scenario.body_limit number (document_run scenario.cookies scenario.now document) old.outside
     transcript.events transcript.ending transcript.clock new.outside
 script-ran by scenario number document old new transcript is told =
     ran-of by scenario.body_limit number (document_run scenario.cookies scenario.now document) old.outside
@@ -80,7 +80,7 @@ script-ran by scenario number document old new transcript is told =
 -- each transcript is of one of the scenario's documents, and ended early
 pub can-report : {State : Type 0} (by : Answering State) (scenario : Scenario) {number : ℕ} {documents : List Document}
     {olds mids : List (Seat State)} {transcripts : List Transcript}
-    → EachDocument (DocumentPlayed by scenario scenario.now) number documents olds mids transcripts
+    → EachDocument (DocumentCameTo by scenario scenario.now) number documents olds mids transcripts
     → HasText transcripts
     → scenario.now ≤ 1099511627776 → All IsValidDocument documents
     → number + length documents ≡ length scenario.documents → All (CanReport scenario) transcripts

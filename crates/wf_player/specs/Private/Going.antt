@@ -1,10 +1,22 @@
 -- One act of a fetch.
-use Rattle.std.specs.Prelude.{◌++◌, ◌≡◌, IsTrue, List, MatchResult, Result}
-use Rattle.wf_player.specs.Driving.{FetchCut}
-use Rattle.wf_player.specs.Standings.{Standing}
-use Rattle.wf_player.specs.Words.{Act, Answering, Context, Does, Event, Fetching, Input, OutOfMemory, Process}
-use Rattle.wf_player.specs.Words.{Progress, Step, act, after_events, events_of, fits, rest}
+use Rattle.std.specs.Prelude.{ℕ, ◌++◌, ◌<◌, ◌≡◌, ◌≤◌, IsTrue, List, MatchResult, Result}
+use Rattle.wf_player.specs.Private.Parts.{FetchCut}
+use Rattle.wf_player.specs.Private.Standings.{Standing}
+use Rattle.wf_player.specs.Words.{Act, Answering, Ask, Context, Does, Entry, Event, Fetching, InRange, Input}
+use Rattle.wf_player.specs.Words.{IsSendable, OutOfMemory, Process, Progress, Send, Step, act, after_events, events_of}
+use Rattle.wf_player.specs.Words.{fits, rest}
 use Rattle.wf_player.specs.Worlds.{Answers}
+
+-- a call of the book is in range, and one may be made; a request has no space in its method and its target
+abbrev pub CanAnswer : Act → ℕ → Type 0
+CanAnswer (Ask op) left = InRange op × (0 < left)
+CanAnswer (Send hop) left = IsSendable hop
+CanAnswer _ left = Unit {0}
+
+-- Memory was refused: no entry more is the document's own. Of the calls that are left some may be used up.
+pub record IsRefusedCall (own own' : List Entry) (left left' : ℕ) : Type 0 where
+  pub own_is : own' ≡ own
+  pub fewer : left' ≤ left
 
 -- a fetch, from the act on that it waits for
 abbrev pub from_act : Context → Fetching → Act → Process

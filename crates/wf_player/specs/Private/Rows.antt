@@ -2,9 +2,9 @@
 use Rattle.std.specs.Prelude.{ℕ, ◌<◌, ◌≡◌, ◌≤◌, List, Some, length, map, slice_get}
 use Rattle.wf_player.specs.declared.seating.Row.{Row}
 use Rattle.wf_player.specs.declared.seating.Seating.{Seating}
-use Rattle.wf_player.specs.Seats.{DocumentPlayed, Seat}
-use Rattle.wf_player.specs.Standings.{most_calls}
+use Rattle.wf_player.specs.Seats.{DocumentCameTo, Seat}
 use Rattle.wf_player.specs.Words.{Answering, Document, Scenario, Transcript}
+use Rattle.wf_player.specs.Worlds.{most_calls}
 
 module _ {L P : Type 0} where
   abbrev pub seatings_of : List (Row L P) → List (Seating L P)
@@ -26,4 +26,4 @@ module _ {L P State : Type 0} (belongs : P → Type 0) (seen : Seating L P → S
   pub record RowPlayed (by : Answering State) (scenario : Scenario) (base number : ℕ) (old new : Row L P) : Type 0 where
     pub belongs_to : belongs new.seating.pass
     pub played : (one : Document) → slice_get scenario.documents number ≡ Some one
-        → DocumentPlayed by scenario base number one (seen old.seating) (seen new.seating) new.transcript
+        → DocumentCameTo by scenario base number one (seen old.seating) (seen new.seating) new.transcript

@@ -1,4 +1,3 @@
--- What the threads share.
 use denote.Param.Send.{sendable}
 use Rattle.std.proofs.Crossing.{crosses}
 use Rattle.wf_script_values.proofs.Crossing.{scenario_sync}

@@ -2,9 +2,9 @@
 use Rattle.std.specs.Prelude.{ℕ, ◌*◌, ◌+◌, ◌≡◌, ◌≤◌}
 use Rattle.wf_player.specs.declared.lent.Lent.{Lent}
 use Rattle.wf_player.specs.declared.player.Player.{Player}
-use Rattle.wf_player.specs.Words.{Account, IsAtEnd, IsClient, Progress, Setting, LinkTold, most_asks, most_fetches}
+use Rattle.wf_player.specs.Words.{Account, IsAtEnd, IsClient, LinkTold, Progress, Setting, most_asks, most_fetches}
 use Rattle.wf_player.specs.Words.{setting}
-use Rattle.wf_player.specs.Worlds.{World, world_of}
+use Rattle.wf_player.specs.Worlds.{World, most_calls, world_of}
 
 -- What a run goes by: what its fetches have in common, how many bytes a body may have, and the document's number.
 pub record Terms : Type 0 where
@@ -18,10 +18,6 @@ pub record Standing (State : Type 0) : Type 0 where
   pub world : World State
   pub progress : Progress
 
--- how many calls of the shared book the fetches and loads of a document make at most
-abbrev pub most_calls : ℕ
-most_calls = most_fetches * most_asks
-
 -- No more fetches and loads have started than may, the calls that are left suffice for those that may still start, and
 -- nothing is to come over the link.
 pub record MayGoOn {State : Type 0} (old : Standing State) : Type 0 where
@@ -29,7 +25,8 @@ pub record MayGoOn {State : Type 0} (old : Standing State) : Type 0 where
   pub fetches : old.progress.fetches ≤ most_fetches
   pub rests : IsAtEnd old.world.exchange.left
 
--- The fetches and loads that have started between two moments have made no more calls, all together, than so many may.
+-- The fetches and loads that have started between two moments have made no more calls, all together, than so many may,
+-- and no more have started than may.
 pub record HasSpent {State : Type 0} (old new : Standing State) : Type 0 where
   pub calls : old.world.left + old.progress.fetches * most_asks ≤ new.world.left + new.progress.fetches * most_asks
   pub fetches : new.progress.fetches ≤ most_fetches
@@ -74,11 +71,3 @@ pub record Keeps {R S L P : Type 0} (account : P → Account) (belongs : S → P
   pub document : (account new.pass.now).document ≡ (account old.pass.now).document
   pub opening : (account new.pass.now).opening ≡ (account old.pass.now).opening
   pub ready : IsReady belongs new
-
--- What a call that was lent a pass leaves of it: it is the share's still, its document and its opening book are as they
--- were, and so many calls more were made on it at most.
-pub record KeepsPass {P : Type 0} (account : P → Account) (belongs : P → Type 0) (most : ℕ) (old new : P) : Type 0 where
-  pub belongs_to : belongs new
-  pub document : (account new).document ≡ (account old).document
-  pub opening : (account new).opening ≡ (account old).opening
-  pub few : (account old).left ≤ (account new).left + most
