@@ -122,7 +122,7 @@ fn run_document<R: Threads + Wait + Sync, S: Share, L: Link>(
 /// left.
 ///
 /// What the transcript shows is the document's run over a tape of what the world answers, as with `drive_fetch`. At
-/// another ending than `Memory` nothing is to come over the link, where it tells that. At `Memory` what was shown begins
+/// another ending than `Memory` nothing is to come over the link, where it tells it. At `Memory` what was shown begins
 /// such a run, the calls made are those on the way, an answer may be read in part, and key and clock may be any.
 pub fn drive<R: Threads + Wait + Sync, S: Share, L: Link>(
     rt: &R,

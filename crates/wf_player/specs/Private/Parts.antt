@@ -3,8 +3,8 @@ use Rattle.std.specs.Prelude.{◌++◌, ◌≡◌, ◌≤◌, Err, List, MatchRe
 use Rattle.wf_player.specs.Driving.{LeadsOn}
 use Rattle.wf_player.specs.Playing.{PlaysOn}
 use Rattle.wf_player.specs.Private.Standings.{Standing}
-use Rattle.wf_player.specs.Words.{Answering, Ending, Event, Finished, Input, IsAtEnd, Memory, Next, OutOfMemory, Outcome}
-use Rattle.wf_player.specs.Words.{Play, Process, Setting, after_events, ended, unless_limit}
+use Rattle.wf_player.specs.Words.{Answering, Ending, Event, Finished, Input, IsAtEnd, Memory, Next, OutOfMemory}
+use Rattle.wf_player.specs.Words.{Outcome, Play, Process, Setting, after_events, ended, unless_limit}
 use Rattle.wf_player.specs.Worlds.{WorldRefused, outside_of}
 
 -- The process came to this place: for some tape of the world's answers it has shown what was added to the events.
