@@ -9,9 +9,8 @@ use Rattle.wf_player_seats.specs.Lendings.{AreTaken, out_more}
 use Rattle.wf_player_seats.specs.Links.{grown_by_all}
 
 pub lent-is : {L : Type 0} (back back' : List L) (out out' : ℕ) → back ≡ back' → out ≡ out'
-    → (let a : Lendings L = record { back = back; out = out } in let b : Lendings L = record { back = back'; out = out' } in
-    a
-    ≡ b)
+    → (let a : Lendings L = record { back = back; out = out } in
+    let b : Lendings L = record { back = back'; out = out' } in a ≡ b)
 lent-is back back' out out' b o = rw (b, o) refl
 
 -- ---- out
