@@ -14,11 +14,11 @@ pub(crate) struct Context<'a> {
 
 impl<'a> Model for Context<'a> {
     ghost use Rattle.std.specs.Prelude.{◌<◌, ◌^◌};
-    ghost use Rattle.wf_fetch.specs.Then.{Context as Lent, context_of};
+    ghost use Rattle.wf_fetch.specs.Then as spec;
 
-    ghost Value = { Lent };
+    ghost Value = { spec.Context };
 
-    ghost view = { λ lent. context_of lent.client.now lent.policies.now lent.cookies.now lent.time };
+    ghost view = { λ lent. spec.context_of lent.client.now lent.policies.now lent.cookies.now lent.time };
 
     ghost invariant = { λ lent. lent.time < 2 ^ 48 };
 }

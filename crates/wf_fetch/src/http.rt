@@ -7,7 +7,7 @@ ghost use Rattle.wf_fetch.specs.Fetch.{onward_of};
 ghost use Rattle.wf_fetch.specs.HttpFetch as spec;
 ghost use Rattle.wf_fetch.specs.Machine.{Leads, at_level, next_of};
 ghost use Rattle.wf_fetch.specs.Ready.{IsReady};
-ghost use Rattle.wf_fetch.specs.Then.{Context as Lent};
+ghost use Rattle.wf_fetch.specs.Then as shared;
 
 use crate::context::Context;
 use crate::main_fetch::begin;
@@ -117,7 +117,7 @@ pub(crate) fn redirect(
 // How many levels owe a clear, with this one.
 fn total_owed(owed: u32, owes: bool) -> u32
     requires { owed ≤ most_redirects }
-    ensures same { (context : Lent) → next_of context result false ≡ next_of context owed owes }
+    ensures same { (context : shared.Context) → next_of context result false ≡ next_of context owed owes }
     ensures few { result ≤ owed + 1 }
 {
     if owes { owed + 1 } else { owed }

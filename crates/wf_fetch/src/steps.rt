@@ -7,7 +7,8 @@ ghost use Rattle.wf_fetch_answers.specs.Endings.{after_body as outcome_of};
 ghost use Rattle.wf_fetch.specs.Fetch.{ends};
 ghost use Rattle.wf_fetch.specs.Machine.{Does, Leads, next_of, rest_at};
 ghost use Rattle.wf_fetch.specs.Ready.{is_ready_at, owes_early};
-ghost use Rattle.wf_fetch.specs.Then.{Context as Lent, tell_all, then_ask};
+ghost use Rattle.wf_fetch.specs.Then as shared;
+ghost use Rattle.wf_fetch.specs.Then.{tell_all, then_ask};
 
 use crate::context::Context;
 use crate::place::{Fetching, Level, Place, Step};
@@ -55,7 +56,7 @@ pub(crate) fn going(context: &Context<'_>, level: Level, place: Place, act: Act)
 #[tactic(auto, using(crate::proofs::MachineLemmas::clear_first))]
 fn one_less(owed: u32, owes: bool) -> u32
     requires { owes ≡ false → 0 < owed }
-    ensures clears { (context : Lent) (request : Request) (error : AnError)
+    ensures clears { (context : shared.Context) (request : Request) (error : AnError)
         → next_of context owed owes request (Err error)
         ≡ then_ask request (clear_at context.client request context.now)
         (next_of context result false request (Err error)) }
@@ -152,7 +153,7 @@ pub(crate) fn body_read(
     response: Response,
     end: BodyEnd,
 ) -> Result<Step, OutOfMemory>
-    ensures { (context : Lent) → Leads context result
+    ensures { (context : shared.Context) → Leads context result
         (ended_with (outcome_of level.request.value response end)) }
 {
     let outcome = after_body(alloc, &level.request, response, end)?;
