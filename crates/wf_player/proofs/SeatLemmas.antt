@@ -7,7 +7,7 @@ use Rattle.wf_script_values.specs.declared.scenario.Scenario.{Scenario}
 use Rattle.wf_player.specs.declared.seating.Row.{Row}
 use Rattle.wf_player.specs.declared.seating.Seating.{Seating}
 use Rattle.wf_player.proofs.Words.{[], ℕ, ◌++◌, ◌+◌, ◌<◌, ◌∙◌, ◌∷◌, ◌≡◌, ◌≤◌, All, Answering, AreSeated, CanPlay}
-use Rattle.wf_player.proofs.Words.{Document, DocumentCameTo, EachDocument, List, RowPlayed, Seat, Some, Transcript, ap}
+use Rattle.wf_player.proofs.Words.{Document, DocumentCameTo, EachDocument, List, RowCameTo, Seat, Some, Transcript, ap}
 use Rattle.wf_player.proofs.Words.{append-nil, arith, drop, get_or, get_or-map, length, length-map, map, most_calls}
 use Rattle.wf_player.proofs.Words.{range_with_len, refl, seatings_of, slice_get, subst, suc, sym, take, take_all}
 use Rattle.wf_player.proofs.Words.{transcripts_of, zero}
@@ -81,7 +81,7 @@ module _ {L P State : Type 0} (belongs : P → Type 0) (seen : Seating L P → S
   pub played-back : {by : Answering State} {scenario : Scenario} {base : ℕ} (olds news : List (Row L P))
       → length news ≡ length olds → AreSeated scenario.documents (map seen (seatings_of olds))
       → ((i : ℕ) (d : Row L P) → i < length olds
-      → RowPlayed belongs seen by scenario base i (get_or olds i d) (get_or news i d))
+      → RowCameTo belongs seen by scenario base i (get_or olds i d) (get_or news i d))
       → EachDocument (DocumentCameTo by scenario base) 0 scenario.documents (map seen (seatings_of olds))
       (map seen (seatings_of news)) (transcripts_of news)
   played-back {scenario = scenario} olds news same seated each =
@@ -97,7 +97,7 @@ module _ {L P State : Type 0} (belongs : P → Type 0) (seen : Seating L P → S
   -- the passes are this share's
   pub belong-back : {by : Answering State} {scenario : Scenario} {base : ℕ} (olds news : List (Row L P))
       → length news ≡ length olds → ((i : ℕ) (d : Row L P) → i < length olds
-      → RowPlayed belongs seen by scenario base i (get_or olds i d) (get_or news i d))
+      → RowCameTo belongs seen by scenario base i (get_or olds i d) (get_or news i d))
       → All (λ (s : Seating L P). belongs s.pass) (seatings_of news)
   belong-back olds news same each = All-map (λ (s : Seating L P). belongs s.pass) (λ (r : Row L P). r.seating) news
       (λ i d within. (each i d (omega (arith, same))).belongs_to)

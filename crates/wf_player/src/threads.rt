@@ -1,7 +1,7 @@
 // Documents on threads, by fork and join.
 ghost use Rattle.std.specs.Prelude.{[], ℕ, ◌<◌, ◌^◌, ◌≡◌, ◌≤◌, IfOk, OnErr, length, map, slice_index_or, vec_capacity};
 ghost use Rattle.std.specs.Prelude.{vec_len};
-ghost use Rattle.wf_player.specs.Private.Rows.{CanPlay, RowPlayed, seatings_of, transcripts_of};
+ghost use Rattle.wf_player.specs.Private.Rows.{CanPlay, RowCameTo, seatings_of, transcripts_of};
 ghost use Rattle.wf_player.specs.Seats.{AreRefused, AreSeated, DocumentCameTo, seat_of};
 ghost use Rattle.wf_player.specs.Words.{All, EachDocument, IsValid, over_link, range_with_len};
 
@@ -30,7 +30,7 @@ fn play_row<R: Threads + Wait + Sync, S: Share, L: Link>(
     requires scenario { IsValid scenario.now }
     requires base { base ≤ 2 ^ 40 }
     requires row { CanPlay (S.belongs share.now) (seat_of S.account L.told) scenario.now number row.old }
-    ensures { RowPlayed (S.belongs share.now) (seat_of S.account L.told) (over_link L.serves) scenario.entry.now base
+    ensures { RowCameTo (S.belongs share.now) (seat_of S.account L.told) (over_link L.serves) scenario.entry.now base
         number row.old row.new }
 {
     let seat = &mut row.seating;
@@ -62,7 +62,7 @@ where
     requires rows { (i : ℕ) (d : _) → i < length rows.old
         → CanPlay (S.belongs share.now) (seat_of S.account L.told) scenario.now i (slice_index_or rows.old i d) }
     ensures { (i : ℕ) (d : _) → i < length rows.old
-        → RowPlayed (S.belongs share.now) (seat_of S.account L.told) (over_link L.serves) scenario.entry.now base i
+        → RowCameTo (S.belongs share.now) (seat_of S.account L.told) (over_link L.serves) scenario.entry.now base i
         (slice_index_or rows.old i d) (slice_index_or rows.new i d) }
 {
     let threads = rows.len();
@@ -76,7 +76,7 @@ where
         &|number: usize, row: &mut Row<L, S::Pass>|
             requires { IsValid scenario.now × (base ≤ 2 ^ 40) × CanPlay (S.belongs share.now)
                 (seat_of S.account L.told) scenario.now number row.now }
-            ensures { RowPlayed (S.belongs share.entry.now) (seat_of S.account L.told) (over_link L.serves)
+            ensures { RowCameTo (S.belongs share.entry.now) (seat_of S.account L.told) (over_link L.serves)
                 scenario.entry.now base number row.entry.now row.exit.now }
         { play_row(rt, alloc, scenario, number as u32, base, share, row) },
     );

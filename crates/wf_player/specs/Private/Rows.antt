@@ -23,7 +23,7 @@ module _ {L P State : Type 0} (belongs : P → Type 0) (seen : Seating L P → S
     pub calls : most_calls ≤ (seen row.seating).outside.left
 
   -- it was played there
-  pub record RowPlayed (by : Answering State) (scenario : Scenario) (base number : ℕ) (old new : Row L P) : Type 0 where
+  pub record RowCameTo (by : Answering State) (scenario : Scenario) (base number : ℕ) (old new : Row L P) : Type 0 where
     pub belongs_to : belongs new.seating.pass
     pub played : (one : Document) → slice_get scenario.documents number ≡ Some one
         → DocumentCameTo by scenario base number one (seen old.seating) (seen new.seating) new.transcript
