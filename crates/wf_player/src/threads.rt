@@ -14,7 +14,7 @@ use std::{mem, thread};
 use wf_book::Share;
 use wf_link::Link;
 use wf_script_events::{Ending, Transcript, Transcripts};
-use wf_script_values::Scenario;
+use wf_script_values::{Scenario, law_scenario_is_shared};
 use wf_text::{Bytes, Items, OutOfMemory};
 
 // A document, in its row.
@@ -69,6 +69,7 @@ where
     if threads == 0 {
         return;
     }
+    law_scenario_is_shared(scenario);
     thread::for_each_mut(
         rt,
         rows,

@@ -4,10 +4,12 @@
 
 mod document;
 mod hosts;
+mod laws;
 mod scenario;
 mod servers;
 
 pub use document::{Document, Documents};
 pub use hosts::{Hosts, KnownHost};
+pub use laws::law_scenario_is_shared;
 pub use scenario::Scenario;
 pub use servers::{Rule, Rules, Server, Servers};
