@@ -44,7 +44,7 @@ pub(crate) fn list_in(alloc: Global, word: &[u8]) -> Result<Option<Names>, OutOf
     ensures { IfOk result (λ list. list ≡ spec.list_in word.now) }
 {
     if word == b"()".as_slice() {
-        return Ok(Some(Names::new()));
+        return Ok(Some(Names::new(alloc)));
     }
     let parts = parts_between(alloc, word, b',')?;
     if !are_tokens(parts.as_slice()) {

@@ -9,7 +9,8 @@ use wf_text::{Bytes, OutOfMemory};
 /// the empty list no memory. No list of over 2^32 - 1 bytes is made.
 #[derive(Drop)]
 pub struct Names {
-    packed: Option<Box<Packed>>,
+    // One piece, and none where the list is empty.
+    pieces: Vec<Packed>,
 }
 
 impl Model for Names {
@@ -18,18 +19,30 @@ impl Model for Names {
 
     ghost Value = { List (List ℕ) };
 
-    ghost view = { λ names. texts_in names.packed };
+    ghost view = { λ names. texts_in names.pieces.items };
 }
 
-// The list is part of each call of the shared book, so its size matters.
-const _: () = prove!(size_of::<Names>() == 16);
+// The list is part of each call of the shared book, so its size matters. (An `Option` of a box has 16 bytes, but each
+// function that lets go of a call would have two ways on.)
+const _: () = prove!(size_of::<Names>() == 24);
 
 impl Names {
     /// The empty list. It takes no memory.
-    pub fn new() -> Names
+    pub fn new(alloc: Global) -> Names
         ensures { result ≡ [] }
     {
-        Names { packed: None }
+        Names {
+            pieces: Vec::new(alloc),
+        }
+    }
+
+    // The list of the texts of a piece.
+    fn of_piece(alloc: Global, packed: Packed) -> Result<Names, OutOfMemory>
+        ensures { IfOk result (λ names. names ≡ packed) }
+    {
+        let mut pieces = Vec::with_capacity(alloc, 1)?;
+        pieces.push_reserved(packed);
+        Ok(Names { pieces })
     }
 
     /// Copies of the texts.
@@ -37,20 +50,17 @@ impl Names {
         ensures { IfOk result (λ names. names ≡ texts.now) }
     {
         if texts.is_empty() {
-            return Ok(Names::new());
+            return Ok(Names::new(alloc));
         }
         let packed = Packed::of(alloc, texts)?;
-        let packed = Box::new(alloc, packed)?;
-        Ok(Names {
-            packed: Some(packed),
-        })
+        Names::of_piece(alloc, packed)
     }
 
     /// How many texts there are.
     pub fn len(&self) -> usize
         ensures { result ≡ length self.now }
     {
-        match &self.packed {
+        match self.pieces.first() {
             None => 0,
             Some(packed) => packed.len(),
         }
@@ -68,7 +78,7 @@ impl Names {
         requires { index < length self.now }
         ensures { slice_get self.now index ≡ Some result.now }
     {
-        match &self.packed {
+        match self.pieces.first() {
             None => &[],
             Some(packed) => packed.at(index),
         }
@@ -78,13 +88,10 @@ impl Names {
     pub fn copy(&self, alloc: Global) -> Result<Names, OutOfMemory>
         ensures { IfOk result (λ names. names ≡ self.now) }
     {
-        let Some(packed) = &self.packed else {
-            return Ok(Names::new());
+        let Some(packed) = self.pieces.first() else {
+            return Ok(Names::new(alloc));
         };
         let packed = packed.copy(alloc)?;
-        let packed = Box::new(alloc, packed)?;
-        Ok(Names {
-            packed: Some(packed),
-        })
+        Names::of_piece(alloc, packed)
     }
 }

@@ -16,7 +16,7 @@ const CREDENTIALS: [(&[u8], bool); 2] = [(b"include", true), (b"other", false)];
 // The texts between the commas of a word, or none where it is `-`.
 fn texts(alloc: Global, word: &[u8]) -> Result<Names, Failed> {
     if word == b"-".as_slice() {
-        return Ok(Names::new());
+        return Ok(Names::new(alloc));
     }
     let texts = texts_between(alloc, word, b',')?;
     Ok(Names::of(alloc, texts.as_slice())?)
@@ -38,7 +38,7 @@ fn no_question(alloc: Global) -> Question {
         url: Bytes::new(alloc),
         include: false,
         method: None,
-        names: Names::new(),
+        names: Names::new(alloc),
     }
 }
 
@@ -68,8 +68,8 @@ fn no_lesson(alloc: Global) -> Lesson {
         url: Bytes::new(alloc),
         include: false,
         age: 0,
-        methods: Names::new(),
-        names: Names::new(),
+        methods: Names::new(alloc),
+        names: Names::new(alloc),
     }
 }
 

@@ -1,6 +1,5 @@
 -- How a list of texts is stored: their bytes, one text behind the other, and where each ends.
-use Rattle.std.specs.Prelude.{◌≡◌, ℕ, ◌≤◌, ◌-◌, List, [], ◌∷◌, take, drop, Option, Some, None}
-use Rattle.std.specs.declared.boxed.Box.{Box}
+use Rattle.std.specs.Prelude.{◌≡◌, ℕ, ◌≤◌, ◌-◌, List, [], ◌∷◌, take, drop}
 
 -- the texts from a place on
 abbrev pub texts_of : List ℕ → ℕ → List ℕ → List (List ℕ)
@@ -12,7 +11,7 @@ abbrev pub AreEnds : ℕ → ℕ → List ℕ → Type 0
 AreEnds start last [] = start ≡ last
 AreEnds start last (end ∷ ends) = (start ≤ end) × AreEnds end last ends
 
--- the texts that are stored, if any are
-abbrev pub texts_in : {A : Type 0} → Option (Box (List (List ℕ)) A) → List (List ℕ)
-texts_in None = []
-texts_in (Some packed) = packed.value
+-- the texts of the first piece, if there is one
+abbrev pub texts_in : List (List (List ℕ)) → List (List ℕ)
+texts_in [] = []
+texts_in (packed ∷ pieces) = packed
