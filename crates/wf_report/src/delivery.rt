@@ -165,7 +165,8 @@ fn deliver_reports<R: Threads + Wait + Sync, S: Share, L: Link>(
     requires pass { S.belongs share.now pass.old × (most_calls ≤ (S.account pass.old).left) }
     ensures came { Delivers (over_link L.serves) scenario.entry.now.body_limit (S.account pass.old).document
         (spec.reports_played (setting client.entry.now policies.entry.now scenario.entry.now.cookies)
-        (report_requests document.entry.now transcript.entry.now.events) finished (beginning transcript.entry.now.clock))
+        (report_requests document.entry.now transcript.entry.now.events) finished
+        (beginning transcript.entry.now.clock))
         (outside S.account L.told pass.old link.old) transcript.entry.now.clock result
         (outside S.account L.told pass.new link.new) }
     ensures hung_up { IfOk result (λ _. IsAtEnd (L.told link.old).left → IsAtEnd (L.told link.new).left) }

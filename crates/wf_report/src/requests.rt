@@ -42,7 +42,8 @@ pub fn report_requests(
     transcript: &Transcript,
 ) -> Result<Reports, OutOfMemory>
     requires { transcript.now.document < length scenario.now.documents }
-    ensures value { (one : OneDocument) → slice_get scenario.entry.now.documents transcript.entry.now.document ≡ Some one
+    ensures value { (one : OneDocument)
+        → slice_get scenario.entry.now.documents transcript.entry.now.document ≡ Some one
         → IfOk result (λ reports. reports ≡ spec.report_requests one transcript.entry.now.events) }
     ensures valid { IfOk result (All IsRequest) }
 {
