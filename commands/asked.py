@@ -215,7 +215,7 @@ def ask(self, given):
         except OSError as error:
             notes.append("%s is not written: %s" % (given.export, error.strerror))
     if given.json:
-        streams.write(json.dumps({"notes": notes, "fetches": answered.told.data()}, indent=1, ensure_ascii=False) + "\n")
+        streams.write_json({"notes": notes, "fetches": answered.told.data()})
     else:
         for line, own in answered.pieces():
             streams.write_play(line)

@@ -1,5 +1,6 @@
 """What the commands read and print. Where the reader of what is printed is gone nothing more is said."""
 import argparse
+import json
 import os
 import re
 import signal
@@ -39,6 +40,11 @@ def write_lines(lines):
     write("".join(printable(line) + "\n" for line in lines))
 
 
+def write_json(data):
+    """As JSON, with all that is not ASCII told by its number: a server's answer may have any."""
+    write(json.dumps(data, indent=1) + "\n")
+
+
 def complain(status, text):
     """Says it on standard error, and gives the status."""
     sys.stdout.flush()
@@ -50,7 +56,10 @@ def complain(status, text):
 def run(main):
     """Ends the program with the status of `main`, also where a pipe is closed or Ctrl-C is pressed."""
     try:
-        status = main()
+        try:
+            status = main()
+        except SystemExit as end:  # of argparse, which has written its help into a buffer
+            status = end.code or 0
         sys.stdout.flush()
         sys.stderr.flush()
     except BrokenPipeError:
