@@ -5,6 +5,7 @@ import os
 import re
 import signal
 import sys
+import traceback
 
 
 # What a terminal takes for an order, or turns lines around.
@@ -53,8 +54,9 @@ def complain(status, text):
     return status
 
 
-def run(main):
-    """Ends the program with the status of `main`, also where a pipe is closed or Ctrl-C is pressed."""
+def run(main, broken=2):
+    """Ends the program with the status of `main`, also where a pipe is closed or Ctrl-C is pressed; with the status `broken`, and
+    a line, where the command itself is wrong."""
     try:
         try:
             status = main()
@@ -66,6 +68,10 @@ def run(main):
         status = 128 + signal.SIGPIPE
     except KeyboardInterrupt:
         status = 128 + signal.SIGINT
+    except Exception as error:
+        place = traceback.extract_tb(error.__traceback__)[-1]
+        status = complain(broken, "%s: a fault of this command: %s: %s (%s, line %d)" % (
+            os.path.basename(sys.argv[0]), type(error).__name__, str(error).partition("\n")[0], place.filename, place.lineno))
     if status >= 128:
         os.dup2(os.open(os.devnull, os.O_WRONLY), 1)
         os.dup2(os.open(os.devnull, os.O_WRONLY), 2)
