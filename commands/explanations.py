@@ -359,6 +359,15 @@ ASKED = {
 TABLE = DIRECT + CORS_CHECK + PREFLIGHTS + BEFORE_SENDING + ANSWERS + LINKS + REQUESTS + SEEN
 
 
+def way_lines():
+    """Each way in a line: its name, its results, and its condition, in which words in capitals stand for what is told of the
+    fetch."""
+    for way in TABLE:
+        condition = re.sub(r"\{c\.(?:\w+[.\[])*(\w+)\]?\}", lambda found: found.group(1).replace("_", " ").upper(),
+                           way.condition.replace("{c.where}", ""))
+        yield "%s (%s): %s" % (way.name, way.results, condition)
+
+
 class Explanation:
     """A way that holds of a case, with its texts filled in."""
 

@@ -54,11 +54,25 @@ class Wire:
             return self.fail(exchange, error, "reset")
 
     def connect(self, origin):
-        self.socket = socket.create_connection(self.place(origin), self.left())
+        self.socket = self.reached(*self.place(origin))
         if origin.startswith("https:"):
             self.socket.settimeout(self.left())
             self.socket = self.trust.wrap_socket(self.socket, server_hostname=urlsplit(origin).hostname)
         self.socket.settimeout(self.left())
+
+    def reached(self, host, port):
+        """A connection to the first address of a host that takes one; the time that is left is for all of them."""
+        found = socket.getaddrinfo(host, port, type=socket.SOCK_STREAM)
+        for number, (family, kind, _, _, address) in enumerate(found, 1):
+            one = socket.socket(family, kind)
+            try:
+                one.settimeout(self.left() / (len(found) - number + 1))
+                one.connect(address)
+                return one
+            except OSError:
+                one.close()
+                if number == len(found):
+                    raise
 
     def place(self, origin):
         """The host and the port to which an origin's requests go."""
