@@ -129,7 +129,8 @@ class Question:
                 try:
                     add(*value)
                 except fiorrudda.NotAHeader:
-                    raise Wrong("--%s: no header may have the value %r: take line ends and zero bytes out" % (word, value[-1])) from None
+                    raise Wrong("--%s: no header may have the value %r: take line ends and zero bytes out"
+                                % (word, value[-1])) from None
         return client
 
     def request(self):

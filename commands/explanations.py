@@ -382,7 +382,7 @@ class Explanation:
         self.rule = "docs/rules/" + rule if not rule.startswith("../") else "docs/" + rule[3:]
         self.header = way.header.format(c=c)
         self.value = c.get(self.header) if self.header else None
-        self.needs = least_headers(c) if key_of(c.result) in ("7", "8", "9", "10", "11") else []
+        self.needs = least_headers(c) if key_of(c.result) in ("7", "8", "9", "10", "11") and way not in DIRECT else []
 
     def lines(self):
         """As it stands between the lines of a play."""
