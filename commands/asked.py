@@ -122,16 +122,10 @@ class Question:
 
     def client(self):
         policy = fiorrudda.ReferrerPolicy[(self.given.referrer_policy or "default").upper().replace("-", "_")]
-        client = fiorrudda.Client(self.page, policy=policy)
-        for word, add, values in [("policy", client.add_policy, [[value] for value in self.given.policy]),
-                                  ("cookie", client.add_cookie, self.cookies())]:
-            for value in values:
-                try:
-                    add(*value)
-                except fiorrudda.NotAHeader:
-                    raise Wrong("--%s: no header may have the value %r: take line ends and zero bytes out"
-                                % (word, value[-1])) from None
-        return client
+        try:
+            return fiorrudda.Client(self.page, policy=policy, policies=self.given.policy, cookies=self.cookies())
+        except fiorrudda.NotAHeader:
+            raise Wrong("--cookie: no header has the value %r: take line ends and zero bytes out" % self.cookies()[0][1]) from None
 
     def request(self):
         options = self.options()
