@@ -4,6 +4,7 @@ import re
 STATUS_LINE = re.compile(rb"HTTP/1\.[01] (\d\d\d)(?: [^\r\n]*)?")
 LINE_END = re.compile(rb"\r?\n")
 HEADER_LINE = re.compile(rb"([!#$%&'*+\-.^_`|~0-9A-Za-z]+):([^\x00-\x08\x0b-\x1f\x7f]*)")
+LENGTH = re.compile(r"[0-9]{1,18}")
 NO_RULE = b"HTTP/1.1 404 Scripted\r\n\r\n"
 MOST_LINES = 128
 MOST_HEAD = 65536
@@ -42,8 +43,12 @@ class Answer:
         rest = self.data[self.head.end:]
         if (self.head.get("Transfer-Encoding") or "").lower() == "chunked":
             return chunks(rest)
-        length = self.head.get("Content-Length")
-        return rest[:int(length)] if length and length.isdigit() else rest
+        return rest[:self.length()]
+
+    def length(self):
+        """The number of Content-Length; None where there is none, or no such number."""
+        found = LENGTH.fullmatch(self.head.get("Content-Length") or "")
+        return int(found.group()) if found else None
 
 
 def chunks(rest):

@@ -7,11 +7,11 @@ from urllib.parse import urlsplit
 
 import fiorrudda
 
-from commands import answers, json_text, live, play_text, streams, told
-from commands.scenario import Scenario, origin_of
+from commands import answers, json_text, live, play_text, results, streams, told
+from commands.scenario import Scenario, joined, origin_of
 
 LIMIT = 1048576
-NO_CONNECTION = ("unknown-name", "refused", "certificate", "no-tls", "hang", "reset")
+NO_CONNECTION = ("unknown-name", "refused", "unreached", "certificate", "no-tls", "hang", "reset")
 
 
 class Wrong(Exception):
@@ -52,10 +52,21 @@ def keep(book, path):
 
 def refuse_others(given):
     """Refuses words that say nothing of what is asked for: an element that loads has its own method and mode."""
-    others = ("method", "header", "data", "mode", "credentials", "redirect") if given.load else ("crossorigin",)
+    others = ("method", "header", "data", "data_raw", "mode", "credentials", "redirect") if given.load else ("crossorigin",)
     for name in others:
         if getattr(given, name) not in (None, []):
-            raise Wrong("--%s is not used %s --load: leave it out" % (name, "with" if given.load else "without"))
+            raise Wrong("--%s is not used %s --load: leave it out" % (name.replace("_", "-"), "with" if given.load else "without"))
+
+
+def body_of(given):
+    """The bytes of the request's body: of --data, or of the file that it names behind an @; None where there is none."""
+    if given.data is None or not given.data.startswith("@"):
+        text = given.data_raw if given.data is None else given.data
+        return None if text is None else text.encode("utf-8", "surrogateescape")
+    try:
+        return streams.read(given.data[1:])
+    except OSError as error:
+        raise Wrong("--data: %s: %s" % (given.data[1:], error.strerror)) from None
 
 
 class Question:
@@ -64,11 +75,17 @@ class Question:
     def __init__(self, given):
         self.given = given
         self.page = given.page or given.url
-        if origin_of(given.url) is None and given.page is None:
-            raise Wrong("%s is no http or https URL: write it whole, as https://api.example/x" % given.url)
-        if origin_of(self.page) is None:
-            raise Wrong("%s is no http or https URL of a page" % self.page)
+        try:
+            fiorrudda.origin(self.page)
+        except fiorrudda.FiorruddaError:
+            raise Wrong("%s is no http or https URL%s: write it whole, as https://api.example/x"
+                        % (self.page, " of a page" if given.page else "")) from None
         refuse_others(given)
+        self.body = body_of(given)
+        # That of the URL, where it is an http or https one: a cookie is kept for it.
+        self.origin = origin_of(joined(given.url, self.page))
+        if given.cookie and self.origin is None:
+            raise Wrong("%s is no http or https URL, and no cookie goes to it: leave --cookie out" % given.url)
         for path in filter(None, (given.book, given.export)):
             if not os.access(os.path.dirname(path) or ".", os.W_OK):
                 raise Wrong("%s cannot be written" % path)
@@ -77,7 +94,7 @@ class Question:
         self.book = book_of(given.book) if given.book else fiorrudda.Book()
 
     def cookies(self):
-        return [[origin_of(self.given.url), "; ".join(self.given.cookie)]] if self.given.cookie else []
+        return [[self.origin, "; ".join(self.given.cookie)]] if self.given.cookie else []
 
     def options(self):
         """The keys of the fetch or load, as a scenario has them."""
@@ -85,13 +102,16 @@ class Question:
         if given.load:
             options = {"kind": given.load, "crossorigin": given.crossorigin, "integrity": given.integrity}
         else:
-            options = {"method": given.method or ("POST" if given.data is not None else None), "mode": given.mode,
-                       "credentials": given.credentials, "redirect": given.redirect, "body": given.data,
+            options = {"method": given.method or ("POST" if self.body is not None else None), "mode": given.mode,
+                       "credentials": given.credentials, "redirect": given.redirect, "body": self.body,
                        "headers": [list(one) for one in given.header] or None, "integrity": given.integrity}
         return {"url": given.url, **{key: value for key, value in options.items() if value is not None}}
 
     def command(self):
-        return {"load" if self.given.load else "fetch": self.options()}
+        options = self.options()
+        if self.body is not None:
+            options["body"] = self.body.decode("utf-8", "replace")
+        return {"load" if self.given.load else "fetch": options}
 
     def scenario(self, **more):
         """`more` are its servers, or its routes."""
@@ -102,7 +122,10 @@ class Question:
 
     def client(self):
         policy = fiorrudda.ReferrerPolicy[(self.given.referrer_policy or "default").upper().replace("-", "_")]
-        return fiorrudda.Client(self.page, policy=policy, policies=self.given.policy, cookies=self.cookies())
+        try:
+            return fiorrudda.Client(self.page, policy=policy, policies=self.given.policy, cookies=self.cookies())
+        except fiorrudda.NotAHeader:
+            raise Wrong("--cookie: no header has the value %r: take line ends and zero bytes out" % self.cookies()[0][1]) from None
 
     def request(self):
         options = self.options()
@@ -129,11 +152,8 @@ class Answered:
 
     def routes(self):
         """The address of each origin that was asked, as a scenario has them."""
-        found = {}
-        for exchange in self.wire.exchanges:
-            parts = urlsplit(exchange.origin)
-            found[exchange.origin] = "%s:%d" % (parts.hostname, parts.port or live.PORTS[parts.scheme])
-        return [list(pair) for pair in found.items()]
+        found = {exchange.origin: self.wire.place(exchange.origin) for exchange in self.wire.exchanges}
+        return [[origin, ("[%s]:%d" if ":" in host else "%s:%d") % (host, port)] for origin, (host, port) in found.items()]
 
     def answer_of(self, request):
         exchange = self.left.pop(0)
@@ -143,19 +163,36 @@ class Answered:
         """What is to be said besides, in sentences."""
         given = self.question.given
         found = [] if given.page else ["it was asked as from a page of its own origin; --from PAGE asks as another page would"]
-        if given.cookie and not fiorrudda.same_site(self.question.page, given.url):
-            found.append("%s is of another site than the page: a browser sends its cookies along only where they were set with "
-                         "SameSite=None and Secure, and many users block them" % origin_of(given.url))
+        found += [self.of_cookies()] if given.cookie else []
         found += ["%s: %s" % (one.origin, one.note) for one in self.wire.exchanges if one.note]
         found += [self.unkept] if self.unkept else []
-        return found
+        return list(filter(None, found))
+
+    def of_cookies(self):
+        """What is to be said of the cookies that were given, or None."""
+        own, page = self.question.origin, self.question.page
+        requests = [request for case in self.told.cases for request, _ in case.exchanges if not play_text.is_preflight(request)]
+        if not requests:
+            return "no cookie was sent, since only a preflight was, or nothing"
+        if any(play_text.header_of(request, "Cookie") for request in requests):
+            is_same = fiorrudda.same_site(page, own) and urlsplit(page).scheme == urlsplit(own).scheme
+            return None if is_same else (
+                "%s is of another site than the page: a browser sends its cookies along only where they were set with "
+                "SameSite=None and Secure, and many users block them" % own)
+        command = self.told.cases[-1].command
+        if command.options["credentials"] == "omit":
+            return "no cookie was sent: --credentials omit keeps them back"
+        if not command.includes() and not fiorrudda.same_origin(page, own):
+            return "no cookie was sent: to another origin than that of the page they go with %s alone" % (
+                "--crossorigin use-credentials" if command.is_load else "--credentials include")
+        return "no cookie was sent: they are those of %s, and no request went there" % own
 
     def status(self):
-        """0 read, 1 refused, 3 no connection or the time limit."""
+        """0 read, 1 refused or not to be read, 3 no connection or the time limit."""
         result = self.told.cases[-1].result
-        if any(one.link in NO_CONNECTION for one in self.wire.exchanges):
+        if any(one.link in (*NO_CONNECTION, "tls-port") for one in self.wire.exchanges):
             return 3
-        return 1 if result.is_refused() else 0
+        return 0 if results.is_met("read", result) and result.ending != "cut" else 1
 
     def pieces(self):
         """The lines of the play between its first line and its end, each with what is said of it."""
@@ -170,6 +207,8 @@ class Answered:
     def exported(self):
         """The scenario, and what it does not have, in sentences."""
         rules, lacks, kept = {}, [], {}
+        if self.question.body is not None and self.question.command()["fetch"]["body"].encode() != self.question.body:
+            lacks.append("the body is no UTF-8, and a scenario has texts: it is another there")
         if self.question.given.book:
             lacks.append("the scenario begins with no known host and an empty preflight cache, at time 0")
         requests = [request for case in self.told.cases for request, _ in case.exchanges]
@@ -204,6 +243,8 @@ def ask(self, given):
         return streams.complain(2, "%s: %s" % (self, wrong))
     except fiorrudda.FiorruddaError as error:
         return streams.complain(2, "%s: %s" % (self, error))
+    except UnicodeEncodeError:
+        return streams.complain(2, "%s: a word is no UTF-8" % self)
     notes = answered.notes()
     if given.export:
         scenario, lacks = answered.exported()
@@ -215,7 +256,7 @@ def ask(self, given):
         except OSError as error:
             notes.append("%s is not written: %s" % (given.export, error.strerror))
     if given.json:
-        streams.write(json.dumps({"notes": notes, "fetches": answered.told.data()}, indent=1, ensure_ascii=False) + "\n")
+        streams.write_json({"notes": notes, "fetches": answered.told.data()})
     else:
         for line, own in answered.pieces():
             streams.write_play(line)

@@ -78,9 +78,9 @@ def why(self, name, data, given):
     warnings = [(json_text.place_of(text, place), sentence)
                 for place, sentence in doubts.doubts(scenario, all_told.play, given.net)]
     if given.json:
-        streams.write(json.dumps({
+        streams.write_json({
             "warnings": [{"line": line, "column": column, "sentence": sentence} for (line, column), sentence in warnings],
-            "fetches": all_told.data()}, indent=1, ensure_ascii=False) + "\n")
+            "fetches": all_told.data()})
         return 0
     streams.write_lines("# warning: %s:%d:%d: %s" % (name, line, column, sentence) for (line, column), sentence in warnings)
     for line, own in all_told.pieces():
@@ -91,6 +91,6 @@ def why(self, name, data, given):
 
 def refused(name, refusal, as_json):
     if as_json:
-        streams.write(json.dumps({"refused": refusal.data()}, indent=1, ensure_ascii=False) + "\n")
+        streams.write_json({"refused": refusal.data()})
         return 1
     return streams.complain(1, "\n".join(refusal.told(name)))

@@ -256,9 +256,8 @@ class Case:
 
     @property
     def is_cut(self):
-        """Whether the body ends before its framing says so."""
-        length = self.get("Content-Length")
-        return bool(length and length.isdigit() and len(self.answer.body()) < int(length))
+        """Whether the body ends before its framing says so, or failed."""
+        return self.link in ("hang", "reset") or len(self.answer.body()) < (self.answer.length() or 0)
 
     @property
     def hidden(self):
@@ -272,6 +271,12 @@ class Case:
     @property
     def link(self):
         return self.answer.link if self.answer else None
+
+    @property
+    def is_silent(self):
+        """Whether the connection was given up, since nothing more came: by whoever kept the answer, or by fetchplay itself, who is
+        less patient then."""
+        return self.link == "hang" or (self.link == "done" and not self.is_direct)
 
     @property
     def route(self):

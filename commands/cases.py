@@ -168,10 +168,12 @@ NET = {
     "link/bad-address": "nowhere",
     "link/unknown-name": "no-such-name.invalid:80",
     "link/refused": "closed",
+    "link/unreached": "full",
     "link/hang": "hang",
     "link/reset": "reset",
     "head/tls": b"\x15\x03\x01\x00\x02\x02\x46",
     "head/nothing": b"",
+    "seen/body-hang": "stalled",
     "seen/body-fault": "broken",
 }
 

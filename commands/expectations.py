@@ -5,9 +5,11 @@ import re
 
 from commands import asking, play_text, refusals, results, running
 from commands.asking import Wrong
+from commands.explanations import TABLE
 from commands.schema import Schema
 
 SCHEMA = os.path.join(running.ROOT, "schema", "expect.schema.json")
+WAYS = [way.name for way in TABLE]
 KEY = re.compile(r"(?:document (\d+) )?(fetch|load) (\d+)")
 
 
@@ -61,6 +63,11 @@ def check(text, root):
             meant = refusals.nearest(word, results.WORDS)
             raise Wrong(refusals.Refusal(text, result.start, "/expect/" + key.value, 'no result has the word "%s": write %s' % (
                 word, '"%s"' % meant if meant else "read, refused, or a result as it is printed")))
+        why = value.member("why") if value.kind == "object" else None
+        if why is not None and why.value not in WAYS:
+            meant = refusals.nearest(why.value, WAYS)
+            raise Wrong(refusals.Refusal(text, why.start, "/expect/%s/why" % key.value, 'no way has the name "%s": write %s' % (
+                why.value, '"%s"' % meant if meant else "one of those that bin/why --ways lists")))
 
 
 def scenario_of(node, text, path):

@@ -231,14 +231,15 @@ ANSWERS = [
 
 # of connections that bin/ask makes itself
 DIRECT = [
-    Way("link/tls-port", "7 12 25", lambda c: c.link == "tls-port",
-        "{c.request.origin} speaks TLS, and was asked in plain", "", "ask for {c.secure_url}", "../ask.md"),
+    Way("link/tls-port", "7 8 12 13 20 21 22 23 24 25 s", lambda c: c.link == "tls-port",
+        "{c.request.origin} was asked in plain, and what came is what a port that speaks TLS answers to that", "",
+        "ask for {c.secure_url}", "../ask.md"),
     Way("link/certificate", "24", lambda c: c.link == "certificate",
         "this machine does not trust the certificate that {c.request.origin} shows, and a browser would not either", "",
         "let the server show a certificate for this name, with its whole chain; an authority of your own is named by "
         "SSL_CERT_FILE", "../ask.md"),
     Way("link/no-tls", "24", lambda c: c.link == "no-tls",
-        "{c.request.origin} was asked over TLS, and what came is none", "",
+        "{c.request.origin} was asked over TLS, and the handshake failed: it speaks none, or none that is accepted here", "",
         "ask for http, or let the server speak TLS at this port", "../ask.md"),
 ]
 
@@ -254,7 +255,11 @@ LINKS = [
         "write an IP address, or a name that this machine can look up", "../check-your-server.md#what-the-scenario-says"),
     Way("link/refused", "24", lambda c: c.link == "refused", "nothing listens at {c.route}", "",
         "start the server, or mend the port of the route", "../check-your-server.md#what-the-scenario-says"),
-    Way("link/hang", "24", lambda c: c.link == "hang",
+    Way("link/unreached", "24", lambda c: c.link == "unreached",
+        "no connection to {c.route} came about until the time limit", "",
+        "look whether a firewall keeps it back, or whether another program listens there",
+        "../check-your-server.md#how-to-read-what-it-prints"),
+    Way("link/hang", "24", lambda c: c.is_silent,
         "the server at {c.route} took the request, and nothing more came until the time limit", "",
         "look why it does not answer; --timeout gives it longer", "../check-your-server.md#how-to-read-what-it-prints"),
     Way("link/reset", "24", always, "the connection to {c.route} broke before the head of the answer was whole", "",
@@ -325,6 +330,9 @@ SEEN = [
     Way("seen/body-cut", "s", lambda c: c.result.ending == "cut",
         "the body ends before the end that its head announced, or does not fit it", "Content-Length",
         "send all of it, and its right length", "answers.md#the-body"),
+    Way("seen/body-hang", "s", lambda c: c.result.ending == "fault" and c.is_silent,
+        "the head came, and the body did not end before the time limit", "",
+        "end it; of a stream that has no end a page reads what comes, which is not done here", "answers.md#the-body"),
     Way("seen/body-fault", "s", lambda c: c.result.ending == "fault", "the connection broke in the middle of the body", "",
         "look into the server's log", "answers.md#the-body"),
     Way("seen/body-toobig", "s", lambda c: c.result.ending == "toobig", "the body is longer than the scenario's body limit",
@@ -340,20 +348,41 @@ SEEN = [
         "where it needs them send `Access-Control-Expose-Headers: {c.hidden_by_cors}`", "responses.md#exposed-names"),
 ]
 
+# What bin/ask says in the place of these, since it has no routes and no scenario: the condition, and what to change.
+ASKED = {
+    "link/unknown-name": ("the name in `{c.route}` is not known here",
+                          "mend the name; or say where its server is by --connect-to"),
+    "link/refused": ("nothing listens at {c.route}", "start the server, or mend the port of the URL"),
+    "seen/body-toobig": ("the body is longer than the 1,048,576 bytes that are read here", "nothing: a page reads on"),
+}
+
 TABLE = DIRECT + CORS_CHECK + PREFLIGHTS + BEFORE_SENDING + ANSWERS + LINKS + REQUESTS + SEEN
+
+
+def way_lines():
+    """Each way in a line: its name, its results, and its condition, in which words in capitals stand for what is told of the
+    fetch."""
+    for way in TABLE:
+        condition = re.sub(r"\{c\.(?:\w+[.\[])*(\w+)\]?\}", lambda found: found.group(1).replace("_", " ").upper(),
+                           way.condition.replace("{c.where}", ""))
+        yield "%s (%s): %s" % (way.name, way.results, condition)
 
 
 class Explanation:
     """A way that holds of a case, with its texts filled in."""
 
     def __init__(self, way, c):
+        condition, change, rule = way.condition, way.change, way.rule
+        if c.is_direct:
+            condition, change = ASKED.get(way.name, (condition, change))
+            rule = "../ask.md" if rule.startswith("../check-your-server.md") else rule
         self.way = way.name
-        self.condition = way.condition.format(c=c)
-        self.change = way.change.format(c=c)
-        self.rule = "docs/rules/" + way.rule if not way.rule.startswith("../") else "docs/" + way.rule[3:]
+        self.condition = condition.format(c=c)
+        self.change = change.format(c=c)
+        self.rule = "docs/rules/" + rule if not rule.startswith("../") else "docs/" + rule[3:]
         self.header = way.header.format(c=c)
         self.value = c.get(self.header) if self.header else None
-        self.needs = least_headers(c) if key_of(c.result) in ("7", "8", "9", "10", "11") else []
+        self.needs = least_headers(c) if key_of(c.result) in ("7", "8", "9", "10", "11") and way not in DIRECT else []
 
     def lines(self):
         """As it stands between the lines of a play."""

@@ -1,5 +1,6 @@
 """Fetches over real connections. The library says what is to be done next; here it is done, and written down as `fetchplay`
 prints it."""
+import re
 import socket
 import ssl
 import time
@@ -10,12 +11,14 @@ from fiorrudda import printed
 
 PIECE = 65536
 PORTS = {"http": 80, "https": 443}
-ALERT = (b"\x15\x03", b"\x16\x03")
+RECORD = (b"\x15\x03", b"\x16\x03")  # an alert, or a handshake
+BAD_REQUEST = re.compile(rb"HTTP/1\.[01] 400[ \r\n]")
+TOLD_BY = re.compile(rb"plain HTTP|HTTPS|requires TLS")
 
 
 class Exchange:
-    """One request and the bytes of its answer. `link` says how the connection went: done, unknown-name, refused, certificate,
-    no-tls, tls-port, hang, reset; `note` has what the system says of it."""
+    """One request and the bytes of its answer. `link` says how the connection went: done, unknown-name, refused, unreached,
+    certificate, no-tls, tls-port, hang, reset; `note` has what the system says of it."""
 
     def __init__(self, origin):
         self.origin = origin
@@ -42,19 +45,40 @@ class Wire:
         self.exchanges.append(exchange)
         try:
             self.connect(act.origin)
+        except (OSError, ValueError) as error:  # the latter of names that are none to the system
+            return self.fail(exchange, error, "refused" if self.socket is None else "reset", "unreached")
+        try:
             self.socket.sendall(act.request)
             return True
         except OSError as error:
-            return self.fail(exchange, error, "refused" if self.socket is None else "reset")
+            return self.fail(exchange, error, "reset")
 
     def connect(self, origin):
+        self.socket = self.reached(*self.place(origin))
+        if origin.startswith("https:"):
+            self.socket.settimeout(self.left())
+            self.socket = self.trust.wrap_socket(self.socket, server_hostname=urlsplit(origin).hostname)
+        self.socket.settimeout(self.left())
+
+    def reached(self, host, port):
+        """A connection to the first address of a host that takes one; the time that is left is for all of them."""
+        found = socket.getaddrinfo(host, port, type=socket.SOCK_STREAM)
+        for number, (family, kind, _, _, address) in enumerate(found, 1):
+            one = socket.socket(family, kind)
+            try:
+                one.settimeout(self.left() / (len(found) - number + 1))
+                one.connect(address)
+                return one
+            except OSError:
+                one.close()
+                if number == len(found):
+                    raise
+
+    def place(self, origin):
+        """The host and the port to which an origin's requests go."""
         parts = urlsplit(origin)
-        host, port = parts.hostname, parts.port or PORTS[parts.scheme]
-        plain = socket.create_connection(self.places.get((host, port), (host, port)), self.left())
-        self.socket = plain
-        plain.settimeout(self.left())
-        if parts.scheme == "https":
-            self.socket = self.trust.wrap_socket(plain, server_hostname=host)
+        own = parts.hostname, parts.port or PORTS[parts.scheme]
+        return self.places.get(own, own)
 
     def receive(self):
         """The next bytes of the answer, none at its end, and None where the connection failed."""
@@ -77,9 +101,11 @@ class Wire:
             raise TimeoutError("the time limit")
         return left
 
-    def fail(self, exchange, error, word):
-        exchange.link = word_of(error, word)
-        exchange.note = str(getattr(error, "verify_message", "") or getattr(error, "reason", "") or error.strerror or error)
+    def fail(self, exchange, error, word, late="hang"):
+        """`late` is the word where the time limit came."""
+        if exchange.link != "tls-port":
+            said = (getattr(error, name, None) for name in ("verify_message", "reason", "strerror"))
+            exchange.link, exchange.note = word_of(error, word, late), str(next(filter(None, said), error))
         return False
 
     def close(self):
@@ -88,16 +114,17 @@ class Wire:
             self.socket = None
 
 
-def word_of(error, otherwise):
+def word_of(error, otherwise, late):
     """How a connection failed, in a word."""
-    kinds = [(ssl.SSLCertVerificationError, "certificate"), (ssl.SSLError, "no-tls"), (socket.gaierror, "unknown-name"),
-             (TimeoutError, "hang"), (socket.timeout, "hang")]
+    kinds = [(TimeoutError, late), (socket.timeout, late), (ssl.SSLCertVerificationError, "certificate"), (ssl.SSLError, "no-tls"),
+             (socket.gaierror, "unknown-name"), (ValueError, "unknown-name")]
     return next((word for kind, word in kinds if isinstance(error, kind)), otherwise)
 
 
 def is_tls_port(answer):
-    """Whether an answer to a plain request is that of a port which speaks TLS."""
-    return answer.startswith(ALERT) or (answer.startswith(b"HTTP/1.1 400") and b"HTTPS port" in answer)
+    """Whether an answer to a plain request is that of a port which speaks TLS: a record of TLS, or a 400 that speaks of HTTPS, as
+    nginx, Apache, Go and Tomcat word it."""
+    return answer.startswith(RECORD) or bool(BAD_REQUEST.match(answer) and TOLD_BY.search(answer))
 
 
 class Page:

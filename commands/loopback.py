@@ -5,6 +5,7 @@ import ssl
 import struct
 import subprocess
 import threading
+import time
 
 
 def certificate(folder, name, hosts):
@@ -27,7 +28,7 @@ class Request:
 
 
 class Servers:
-    """One listener for all origins: what it answers is `answer(request)`, bytes, or a word: hang, reset."""
+    """One listener for all origins: what it answers is `answer(request)`: bytes, a word (hang, reset), or bytes and then a word."""
 
     def __init__(self, answer, pair=None):
         self.answer = answer
@@ -75,6 +76,10 @@ class Servers:
             peer.close()
 
     def say(self, peer, said):
+        if isinstance(said, tuple):
+            peer.sendall(said[0])
+            time.sleep(0.3)  # else a reset takes back what came
+            said = said[1]
         if said == "hang":
             self.open.append(peer)
             return

@@ -5,6 +5,8 @@ import threading
 
 from commands import cases
 
+WORDS = ("closed", "full", "hang", "reset", "broken", "stalled")
+
 
 class Peer:
     """`kind` is what it answers (bytes), a word for what else it does, an address that is none, or None for no route."""
@@ -16,12 +18,14 @@ class Peer:
         self.address = kind if isinstance(kind, str) else None
 
     def __enter__(self):
-        if self.kind is None or (isinstance(self.kind, str) and self.kind not in ("closed", "hang", "reset", "broken")):
+        if self.kind is None or (isinstance(self.kind, str) and self.kind not in WORDS):
             return self
-        self.listener = socket.create_server(("127.0.0.1", 0))
+        self.listener = socket.create_server(("127.0.0.1", 0), backlog=0 if self.kind == "full" else None)
         self.address = "127.0.0.1:%d" % self.listener.getsockname()[1]
         if self.kind == "closed":
             self.listener.close()
+        elif self.kind == "full":
+            self.fill()
         else:
             threading.Thread(target=self.serve, daemon=True).start()
         return self
@@ -29,6 +33,16 @@ class Peer:
     def __exit__(self, *error):
         for one in self.open + ([self.listener] if self.listener and self.kind != "closed" else []):
             one.close()
+
+    def fill(self):
+        """Connects until no more are taken."""
+        for _ in range(16):
+            self.open.append(socket.socket())
+            self.open[-1].settimeout(0.2)
+            try:
+                self.open[-1].connect(self.listener.getsockname())
+            except socket.timeout:
+                return
 
     def serve(self):
         peer, _ = self.listener.accept()
@@ -39,14 +53,16 @@ class Peer:
             self.open.append(peer)
             return
         peer.sendall(self.said())
-        if self.kind in ("reset", "broken"):
+        if self.kind == "stalled":
+            self.open.append(peer)
+        elif self.kind in ("reset", "broken"):
             peer.setsockopt(socket.SOL_SOCKET, socket.SO_LINGER, struct.pack("ii", 1, 0))
             threading.Timer(0.3, peer.close).start()
         else:
             peer.close()
 
     def said(self):
-        if self.kind == "broken":
+        if self.kind in ("broken", "stalled"):
             return b"HTTP/1.1 200 OK\r\nAccess-Control-Allow-Origin: *\r\nContent-Length: 9\r\n\r\nhi"
         return b"" if self.kind == "reset" else self.kind
 

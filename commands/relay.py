@@ -13,7 +13,7 @@ CONNECT = 10  # seconds
 
 
 class Connection:
-    """One request and its answer, as bytes; `link` says how it went: done, refused, unknown-name, hang, reset."""
+    """One request and its answer, as bytes; `link` says how it went: done, refused, unreached, unknown-name, hang, reset."""
 
     def __init__(self, address):
         self.address = address
@@ -67,7 +67,7 @@ class Relay:
     def carry(self, peer, connection):
         server = None
         try:
-            server = connect(connection)
+            server = connect(connection, min(CONNECT, self.patience))
             if server is None:
                 peer.settimeout(self.patience)
                 connection.request = peer.recv(PIECE)
@@ -89,11 +89,13 @@ def split(address):
     return found.group(1).strip("[]"), int(found.group(2))
 
 
-def connect(connection):
+def connect(connection, patience):
     try:
-        return socket.create_connection(split(connection.address), CONNECT)
-    except socket.gaierror:
+        return socket.create_connection(split(connection.address), patience)
+    except (socket.gaierror, UnicodeError):  # of a name that is too long, too
         connection.link = "unknown-name"
+    except (TimeoutError, socket.timeout):
+        connection.link = "unreached"
     except OSError:
         connection.link = "refused"
     return None

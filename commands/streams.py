@@ -1,9 +1,11 @@
 """What the commands read and print. Where the reader of what is printed is gone nothing more is said."""
 import argparse
+import json
 import os
 import re
 import signal
 import sys
+import traceback
 
 
 # What a terminal takes for an order, or turns lines around.
@@ -39,6 +41,11 @@ def write_lines(lines):
     write("".join(printable(line) + "\n" for line in lines))
 
 
+def write_json(data):
+    """As JSON, with all that is not ASCII told by its number: a server's answer may have any."""
+    write(json.dumps(data, indent=1) + "\n")
+
+
 def complain(status, text):
     """Says it on standard error, and gives the status."""
     sys.stdout.flush()
@@ -47,16 +54,24 @@ def complain(status, text):
     return status
 
 
-def run(main):
-    """Ends the program with the status of `main`, also where a pipe is closed or Ctrl-C is pressed."""
+def run(main, broken=2):
+    """Ends the program with the status of `main`, also where a pipe is closed or Ctrl-C is pressed; with the status `broken`, and
+    a line, where the command itself is wrong."""
     try:
-        status = main()
+        try:
+            status = main()
+        except SystemExit as end:  # of argparse, which has written its help into a buffer
+            status = end.code or 0
         sys.stdout.flush()
         sys.stderr.flush()
     except BrokenPipeError:
         status = 128 + signal.SIGPIPE
     except KeyboardInterrupt:
         status = 128 + signal.SIGINT
+    except Exception as error:
+        place = traceback.extract_tb(error.__traceback__)[-1]
+        status = complain(broken, "%s: a fault of this command: %s: %s (%s, line %d)" % (
+            os.path.basename(sys.argv[0]), type(error).__name__, str(error).partition("\n")[0], place.filename, place.lineno))
     if status >= 128:
         os.dup2(os.open(os.devnull, os.O_WRONLY), 1)
         os.dup2(os.open(os.devnull, os.O_WRONLY), 2)

@@ -24,8 +24,8 @@ PROGRAMS = [
 
 SCRIPTS = [
     Script("why", "plays a scenario, and says why each fetch came to what it came",
-           ["fiorrudda-why [--net] [--json] [--timeout S] [SCENARIO]"], ["docs/why.md"],
-           ["--net", "--json", "--timeout", "--help"]),
+           ["fiorrudda-why [--net] [--json] [--timeout S] [SCENARIO]", "fiorrudda-why --ways"], ["docs/why.md"],
+           ["--net", "--json", "--timeout", "--ways", "--help"]),
     Script("expect", "plays tests: scenarios, each beside what it should come to",
            ["fiorrudda-expect [--net] [--json] [--jobs N] [--timeout S] TEST.."], ["docs/why.md"],
            ["--net", "--json", "--jobs", "--timeout", "--help"]),

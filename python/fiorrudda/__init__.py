@@ -85,7 +85,7 @@ class WrongHandle(FiorruddaError):
 
 
 class NoSuchNumber(FiorruddaError):
-    """A number is none of those that the call takes: the status of an answer, say, that is no three digits."""
+    """A number is none of those that the call takes."""
 
 
 class NotAUrl(FiorruddaError):
@@ -237,10 +237,12 @@ _CALLS = {
 }
 
 _lib = _library()
-_lib.fiorrudda_free.argtypes, _lib.fiorrudda_free.restype = _HELD, None
 for _name, _types in _CALLS.items():
-    _call = getattr(_lib, f"fiorrudda_{_name}")
+    _call = getattr(_lib, f"fiorrudda_{_name}", None)
+    if _call is None:
+        raise ImportError(f"{_lib._name} is older than this module, and has no fiorrudda_{_name}: build it by bin/lib")
     _call.argtypes, _call.restype = _types, ctypes.c_uint32
+_lib.fiorrudda_free.argtypes, _lib.fiorrudda_free.restype = _HELD, None
 
 
 def _lent(text: Text) -> tuple:
@@ -255,7 +257,8 @@ def _told(code: int) -> bool:
         return code == _OK
     if code == NoRequest.code:
         raise NoRequest(0, 0)
-    raise _ERRORS.get(code, FiorruddaError)(f"code {code}")
+    kind = _ERRORS.get(code, FiorruddaError)
+    raise kind(" ".join((kind.__doc__ or f"code {code}").split()))
 
 
 def _written(call, *given) -> Optional[bytes]:
@@ -330,7 +333,7 @@ class Headers(_Thing):
 
 class Book(_Thing):
     """Known HSTS hosts, and the CORS-preflight cache. Times are in seconds since any fixed moment, which is 1970 for a book
-    that lasts over restarts."""
+    that lasts over restarts. Threads that share one hold a lock of their own around each call of it, and around `Fetch.ask`."""
 
     def __init__(self) -> None:
         super().__init__(_lib.fiorrudda_book)
