@@ -19,7 +19,7 @@ use wf_fetch_acts::Act;
 use wf_fetch_answers::{Redirection, redirected, redirection, refusal_after};
 use wf_fetch_rules::note_of;
 use wf_send::hop_of;
-use wf_text::OutOfMemory;
+use wf_text::{Boxed, OutOfMemory};
 use wf_types::{Head, NetError, Request};
 
 // HTTP fetch: the request is sent (step 4.3).
@@ -29,7 +29,12 @@ pub(crate) fn send(alloc: Global, context: &Context<'_>, level: Level) -> Result
         (at_level context.now level spec.http_fetch) }
 {
     let hop = hop_of(alloc, &level.request, context.cookies)?;
-    Ok(going(context, level, Place::Sending, Act::Send(hop)))
+    Ok(going(
+        context,
+        level,
+        Place::Sending,
+        Act::Send(Boxed::new(alloc, hop)?),
+    ))
 }
 
 // The head of the answer is read, unless the link failed.
@@ -70,7 +75,12 @@ pub(crate) fn answered(
     };
     match note_of(alloc, &level.request, &head, context.time)? {
         None => judge(alloc, context, level, head),
-        Some(op) => Ok(going(context, level, Place::Noting(head), Act::Ask(op))),
+        Some(op) => Ok(going(
+            context,
+            level,
+            Place::Noting(head),
+            Act::Ask(Boxed::new(alloc, op)?),
+        )),
     }
 }
 

@@ -23,7 +23,7 @@ use wf_fetch_rules::{
     Switch, is_at_http, match_of, refusal_before, secure, set_referrer, set_tainting, switch_of,
     upgrade_request,
 };
-use wf_text::OutOfMemory;
+use wf_text::{Boxed, OutOfMemory};
 use wf_types::{NetError, Tainting};
 
 // The level with this response tainting of its request.
@@ -122,7 +122,12 @@ pub(crate) fn ask_host(
 {
     match match_of(alloc, &level.request, context.time)? {
         None => switch(alloc, context, level),
-        Some(op) => Ok(going(context, level, Place::Matching, Act::Ask(op))),
+        Some(op) => Ok(going(
+            context,
+            level,
+            Place::Matching,
+            Act::Ask(Boxed::new(alloc, op)?),
+        )),
     }
 }
 
@@ -146,7 +151,12 @@ pub(crate) fn tell_blocks(
     }
     let violation = copied(alloc, violations.at(at))?;
     let place = Place::Blocking(violations, at + 1);
-    Ok(going(context, level, place, Act::Tell(violation)))
+    Ok(going(
+        context,
+        level,
+        place,
+        Act::Tell(Boxed::new(alloc, violation)?),
+    ))
 }
 
 // Enforced policies that are violated block the request (step 7).
@@ -203,7 +213,12 @@ pub(crate) fn tell_reports(
     if at < violations.len() {
         let violation = copied(alloc, violations.at(at))?;
         let place = Place::Reporting(violations, at + 1);
-        return Ok(going(context, level, place, Act::Tell(violation)));
+        return Ok(going(
+            context,
+            level,
+            place,
+            Act::Tell(Boxed::new(alloc, violation)?),
+        ));
     }
     check(alloc, context, upgraded_level(context, level)?)
 }

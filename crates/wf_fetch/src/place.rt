@@ -8,7 +8,7 @@ use wf_cors::Checked;
 use wf_csp::Violations;
 use wf_fetch_acts::Act;
 use wf_fetch_answers::Ended;
-use wf_text::OutOfMemory;
+use wf_text::{Boxed, OutOfMemory};
 use wf_types::{Head, NetError, Outcome, Request, Response};
 
 /// The request as it is now, how many outer levels owe a clear, and whether this one does.
@@ -57,9 +57,9 @@ pub enum Place {
     /// A known host was noted by that head.
     Noting(Head),
     /// Violations by the response were told, so many of them, and then the fetch ends so.
-    Ending(Violations, usize, Ended),
+    Ending(Violations, usize, Boxed<Ended>),
     /// The body of the response is read.
-    BodyReading(Response),
+    BodyReading(Boxed<Response>),
     /// After an error the preflight cache was told to forget what it has of the request's origin and URL.
     Clearing(NetError),
 }
@@ -80,5 +80,5 @@ pub struct Fetching {
 #[derive(Drop)]
 pub enum Step {
     Going(Fetching, Act),
-    Over(Outcome),
+    Over(Boxed<Outcome>),
 }

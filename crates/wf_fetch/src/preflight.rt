@@ -14,7 +14,7 @@ use wf_cors::{Checked, preflight_of, verdict};
 use wf_fetch_acts::Act;
 use wf_fetch_rules::{covers_of, learn_of, note_of};
 use wf_safelist::unsafe_names;
-use wf_text::OutOfMemory;
+use wf_text::{Boxed, OutOfMemory};
 use wf_types::{Head, NetError, Request, serialized_origin};
 
 // HTTP fetch with a CORS-preflight: the preflight cache is asked (step 4.1). From here on the level owes a clear.
@@ -31,7 +31,12 @@ pub(crate) fn ask_cache(
     let op = covers_of(alloc, context.client, &level.request, context.time)?;
     let mut level = level;
     level.owes = true;
-    Ok(going(context, level, Place::Covering, Act::Ask(op)))
+    Ok(going(
+        context,
+        level,
+        Place::Covering,
+        Act::Ask(Boxed::new(alloc, op)?),
+    ))
 }
 
 // The preflight cache covers the request, or a preflight goes before it.
@@ -65,7 +70,12 @@ pub(crate) fn send_preflight(
 {
     let names = unsafe_names(alloc, &level.request.headers)?;
     let hop = preflight_of(alloc, &level.request, &names)?;
-    Ok(going(context, level, Place::PreflightSending, Act::Send(hop)))
+    Ok(going(
+        context,
+        level,
+        Place::PreflightSending,
+        Act::Send(Boxed::new(alloc, hop)?),
+    ))
 }
 
 // The head of the answer to the preflight is read, unless the link failed.
@@ -121,7 +131,7 @@ pub(crate) fn preflight_answered(
             context,
             level,
             Place::PreflightNoting(checked),
-            Act::Ask(op),
+            Act::Ask(Boxed::new(alloc, op)?),
         )),
     }
 }
@@ -154,7 +164,12 @@ pub(crate) fn judge_preflight(
                 names,
                 context.time,
             )?;
-            Ok(going(context, level, Place::Learning, Act::Ask(op)))
+            Ok(going(
+                context,
+                level,
+                Place::Learning,
+                Act::Ask(Boxed::new(alloc, op)?),
+            ))
         }
     }
 }

@@ -22,14 +22,14 @@ use wf_link::Link;
 use wf_link_wire::Wire;
 use wf_script_events::Events;
 use wf_script_run::Running;
-use wf_text::OutOfMemory;
+use wf_text::{Boxed, OutOfMemory};
 use wf_types::{Client, Cookies, Outcome, Request};
 
 /// What one fetch has shown, and what it came to.
 #[derive(Drop)]
 pub struct FetchRun {
     pub events: Events,
-    pub outcome: Outcome,
+    pub outcome: Boxed<Outcome>,
 }
 
 // Shows what came of an act, and takes the fetch on from its input.
@@ -76,7 +76,11 @@ impl<R: Threads + Wait + Sync, S: Share, L: Link> Player<'_, '_, '_, '_, '_, R, 
 
     // Plays one fetch of a request, to its outcome, at a time in seconds (Fetch, section 4.1), over the wire as it is,
     // which the caller hangs up. It makes 126 calls of the book at most.
-    pub(crate) fn fetch(&mut self, request: Request, now: u64) -> Result<Outcome, OutOfMemory>
+    pub(crate) fn fetch(
+        &mut self,
+        request: Request,
+        now: u64,
+    ) -> Result<Boxed<Outcome>, OutOfMemory>
         requires ready { IsReady S.belongs self.old }
         requires request { IsRequest request }
         requires timely { now < 2 ^ 48 }

@@ -3,6 +3,7 @@
 
 mod among;
 mod base64;
+mod boxed;
 mod bytes;
 mod digits;
 mod find;
@@ -20,6 +21,7 @@ mod wildcard;
 
 pub use among::{has_text, has_text_fold, is_among, is_among_fold};
 pub use base64::is_base64_value;
+pub use boxed::Boxed;
 pub use bytes::{Bytes, copy_of};
 pub use digits::{digits_at_most, is_digits, parse_digits};
 pub use find::{after_byte, before_byte, position_of};
