@@ -17,6 +17,7 @@ use crate::place::{Level, Place, Step};
 use crate::preflight::ask_cache;
 use crate::steps::{copied, going, refused};
 use std::alloc::Global;
+use wf_boxed::Boxed;
 use wf_csp::Violations;
 use wf_fetch_acts::Act;
 use wf_fetch_rules::{
@@ -122,7 +123,12 @@ pub(crate) fn ask_host(
 {
     match match_of(alloc, &level.request, context.time)? {
         None => switch(alloc, context, level),
-        Some(op) => Ok(going(context, level, Place::Matching, Act::Ask(op))),
+        Some(op) => Ok(going(
+            context,
+            level,
+            Place::Matching,
+            Act::Ask(Boxed::new(alloc, op)?),
+        )),
     }
 }
 
@@ -146,7 +152,12 @@ pub(crate) fn tell_blocks(
     }
     let violation = copied(alloc, violations.at(at))?;
     let place = Place::Blocking(violations, at + 1);
-    Ok(going(context, level, place, Act::Tell(violation)))
+    Ok(going(
+        context,
+        level,
+        place,
+        Act::Tell(Boxed::new(alloc, violation)?),
+    ))
 }
 
 // Enforced policies that are violated block the request (step 7).
@@ -203,7 +214,12 @@ pub(crate) fn tell_reports(
     if at < violations.len() {
         let violation = copied(alloc, violations.at(at))?;
         let place = Place::Reporting(violations, at + 1);
-        return Ok(going(context, level, place, Act::Tell(violation)));
+        return Ok(going(
+            context,
+            level,
+            place,
+            Act::Tell(Boxed::new(alloc, violation)?),
+        ));
     }
     check(alloc, context, upgraded_level(context, level)?)
 }

@@ -4,6 +4,7 @@ ghost use Rattle.wf_fetch.specs.Ready.{is_ready_at, owes_early};
 
 use std::alloc::Global;
 use std::snapshot::Snapshot;
+use wf_boxed::Boxed;
 use wf_cors::Checked;
 use wf_csp::Violations;
 use wf_fetch_acts::Act;
@@ -57,9 +58,9 @@ pub enum Place {
     /// A known host was noted by that head.
     Noting(Head),
     /// Violations by the response were told, so many of them, and then the fetch ends so.
-    Ending(Violations, usize, Ended),
+    Ending(Violations, usize, Boxed<Ended>),
     /// The body of the response is read.
-    BodyReading(Response),
+    BodyReading(Boxed<Response>),
     /// After an error the preflight cache was told to forget what it has of the request's origin and URL.
     Clearing(NetError),
 }
@@ -80,5 +81,5 @@ pub struct Fetching {
 #[derive(Drop)]
 pub enum Step {
     Going(Fetching, Act),
-    Over(Outcome),
+    Over(Boxed<Outcome>),
 }

@@ -10,6 +10,7 @@ use crate::http::send;
 use crate::place::{Level, Place, Step};
 use crate::steps::{going, refused};
 use std::alloc::Global;
+use wf_boxed::Boxed;
 use wf_cors::{Checked, preflight_of, verdict};
 use wf_fetch_acts::Act;
 use wf_fetch_rules::{covers_of, learn_of, note_of};
@@ -31,7 +32,12 @@ pub(crate) fn ask_cache(
     let op = covers_of(alloc, context.client, &level.request, context.time)?;
     let mut level = level;
     level.owes = true;
-    Ok(going(context, level, Place::Covering, Act::Ask(op)))
+    Ok(going(
+        context,
+        level,
+        Place::Covering,
+        Act::Ask(Boxed::new(alloc, op)?),
+    ))
 }
 
 // The preflight cache covers the request, or a preflight goes before it.
@@ -65,7 +71,12 @@ pub(crate) fn send_preflight(
 {
     let names = unsafe_names(alloc, &level.request.headers)?;
     let hop = preflight_of(alloc, &level.request, &names)?;
-    Ok(going(context, level, Place::PreflightSending, Act::Send(hop)))
+    Ok(going(
+        context,
+        level,
+        Place::PreflightSending,
+        Act::Send(Boxed::new(alloc, hop)?),
+    ))
 }
 
 // The head of the answer to the preflight is read, unless the link failed.
@@ -121,7 +132,7 @@ pub(crate) fn preflight_answered(
             context,
             level,
             Place::PreflightNoting(checked),
-            Act::Ask(op),
+            Act::Ask(Boxed::new(alloc, op)?),
         )),
     }
 }
@@ -154,7 +165,12 @@ pub(crate) fn judge_preflight(
                 names,
                 context.time,
             )?;
-            Ok(going(context, level, Place::Learning, Act::Ask(op)))
+            Ok(going(
+                context,
+                level,
+                Place::Learning,
+                Act::Ask(Boxed::new(alloc, op)?),
+            ))
         }
     }
 }

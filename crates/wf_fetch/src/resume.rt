@@ -142,9 +142,19 @@ impl Fetching {
             Place::HeadReading => answered(alloc, context, level, head_of(input)),
             Place::Noting(head) => judge(alloc, context, level, head),
             Place::Ending(violations, at, ended) => tell_at_end(
-                alloc, context, level, violations, at, ended,
+                alloc,
+                context,
+                level,
+                violations,
+                at,
+                ended.into_inner(),
             ),
-            Place::BodyReading(response) => body_read(alloc, level, response, body_of(input)),
+            Place::BodyReading(response) => body_read(
+                alloc,
+                level,
+                response.into_inner(),
+                body_of(input),
+            ),
             Place::Clearing(error) => refused(alloc, context, level, error),
         }
     }

@@ -15,6 +15,7 @@ use crate::place::{Fetching, Level, Place, Step};
 use std::alloc::Global;
 use std::snapshot::Snapshot;
 use wf_book::Op;
+use wf_boxed::Boxed;
 use wf_csp::Violations;
 use wf_fetch_acts::Act;
 use wf_fetch_answers::{Ended, after_body, ended};
@@ -82,7 +83,7 @@ pub(crate) fn refused(
         owes,
     } = level;
     if !owes && owed == 0 {
-        return Ok(Step::Over(Outcome::Error(error)));
+        return Ok(Step::Over(Boxed::new(alloc, Outcome::Error(error))?));
     }
     let op = clear_of(alloc, context.client, &request, context.time)?;
     let level = Level {
@@ -90,21 +91,31 @@ pub(crate) fn refused(
         owed: one_less(owed, owes),
         owes: false,
     };
-    Ok(going(context, level, Place::Clearing(error), Act::Ask(op)))
+    Ok(going(
+        context,
+        level,
+        Place::Clearing(error),
+        Act::Ask(Boxed::new(alloc, op)?),
+    ))
 }
 
 // The fetch is over, or the body is read.
-fn end(context: &Context<'_>, level: Level, ended: Ended) -> Step
+fn end(
+    alloc: Global,
+    context: &Context<'_>,
+    level: Level,
+    ended: Ended,
+) -> Result<Step, OutOfMemory>
     ensures { Does context.now result (ends level.request.value ended) }
 {
     match ended {
-        Ended::Over(outcome) => Step::Over(outcome),
-        Ended::Reads(response) => going(
+        Ended::Over(outcome) => Ok(Step::Over(Boxed::new(alloc, outcome)?)),
+        Ended::Reads(response) => Ok(going(
             context,
             level,
-            Place::BodyReading(response),
+            Place::BodyReading(Boxed::new(alloc, response)?),
             Act::ReadBody,
-        ),
+        )),
     }
 }
 
@@ -121,11 +132,16 @@ pub(crate) fn tell_at_end(
         (tell_all level.request.value (drop at violations) (ends level.request.value ended)) }
 {
     if at >= violations.len() {
-        return Ok(end(context, level, ended));
+        return end(alloc, context, level, ended);
     }
     let violation = copied(alloc, violations.at(at))?;
-    let place = Place::Ending(violations, at + 1, ended);
-    Ok(going(context, level, place, Act::Tell(violation)))
+    let place = Place::Ending(violations, at + 1, Boxed::new(alloc, ended)?);
+    Ok(going(
+        context,
+        level,
+        place,
+        Act::Tell(Boxed::new(alloc, violation)?),
+    ))
 }
 
 // The response: the policies that it violates are told, and then it is blocked, handed over, or its
@@ -157,5 +173,5 @@ pub(crate) fn body_read(
         (ended_with (outcome_of level.request.value response end)) }
 {
     let outcome = after_body(alloc, &level.request, response, end)?;
-    Ok(Step::Over(outcome))
+    Ok(Step::Over(Boxed::new(alloc, outcome)?))
 }

@@ -3,21 +3,22 @@ ghost use Rattle.wf_fetch_acts.specs.Process as spec;
 ghost use Rattle.wf_book.specs.Ops.{is_answer, is_question};
 
 use wf_book::{Op, Reply};
+use wf_boxed::Boxed;
 use wf_types::{BodyEnd, Head, Hop, Violation};
 
 /// What a fetch asks for next.
 #[derive(Drop)]
 pub enum Act {
     /// The shared book is to be asked, or told.
-    Ask(Op),
+    Ask(Boxed<Op>),
     /// The request is to be sent.
-    Send(Hop),
+    Send(Boxed<Hop>),
     /// The head of the answer to the last request is to be read.
     ReadHead,
     /// The body of that answer is to be read.
     ReadBody,
     /// The document is to be told of a violation of its policies.
-    Tell(Violation),
+    Tell(Boxed<Violation>),
 }
 
 /// What came of an act.
@@ -73,7 +74,7 @@ pub fn fits(act: &Act, input: &Input) -> bool
     ensures { result ≡ spec.fits act.now input.now }
 {
     match (act, input) {
-        (Act::Ask(op), Input::Replied(reply)) => is_reply_to(op, *reply),
+        (Act::Ask(op), Input::Replied(reply)) => is_reply_to(op.get(), *reply),
         (Act::Send(_), Input::Sent | Input::Fault) => true,
         (Act::ReadHead, Input::HeadIs(_) | Input::HeadBad | Input::HeadLong | Input::Fault) => true,
         (Act::ReadBody, Input::BodyIs(_)) => true,

@@ -53,8 +53,8 @@ impl<R: Threads + Wait + Sync, S: Share, L: Link> Player<'_, '_, '_, '_, '_, R, 
     {
         let lent = self.lent;
         match act {
-            Act::Ask(op) => ask(lent, self.pass, op),
-            Act::Send(hop) => self.wire.send(self.link, *lent.alloc, hop),
+            Act::Ask(op) => ask(lent, self.pass, op.get()),
+            Act::Send(hop) => self.wire.send(self.link, *lent.alloc, hop.get()),
             Act::ReadHead => self.wire.read_head(self.link, *lent.alloc),
             Act::ReadBody => self.wire.read_body(self.link, *lent.alloc, lent.limit),
             Act::Tell(_) => Ok(Input::Told),

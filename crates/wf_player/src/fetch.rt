@@ -15,6 +15,7 @@ use std::alloc::Global;
 use std::sync::Wait;
 use std::thread::Threads;
 use wf_book::Share;
+use wf_boxed::Boxed;
 use wf_csp::Compiled;
 use wf_fetch::{Fetching, Step};
 use wf_fetch_acts::{Act, Input};
@@ -29,7 +30,7 @@ use wf_types::{Client, Cookies, Outcome, Request};
 #[derive(Drop)]
 pub struct FetchRun {
     pub events: Events,
-    pub outcome: Outcome,
+    pub outcome: Boxed<Outcome>,
 }
 
 // Shows what came of an act, and takes the fetch on from its input.
@@ -76,7 +77,11 @@ impl<R: Threads + Wait + Sync, S: Share, L: Link> Player<'_, '_, '_, '_, '_, R, 
 
     // Plays one fetch of a request, to its outcome, at a time in seconds (Fetch, section 4.1), over the wire as it is,
     // which the caller hangs up. It makes 126 calls of the book at most.
-    pub(crate) fn fetch(&mut self, request: Request, now: u64) -> Result<Outcome, OutOfMemory>
+    pub(crate) fn fetch(
+        &mut self,
+        request: Request,
+        now: u64,
+    ) -> Result<Boxed<Outcome>, OutOfMemory>
         requires ready { IsReady S.belongs self.old }
         requires request { IsRequest request }
         requires timely { now < 2 ^ 48 }

@@ -36,8 +36,8 @@ impl Kind {
         match (self, event) {
             (Kind::Fetch, Event::Fetch(_)) => true,
             (Kind::Request, Event::Sent(_)) => true,
-            (Kind::Response, Event::Result(Outcome::Answer(_))) => true,
-            (Kind::Error, Event::Result(Outcome::Error(_))) => true,
+            (Kind::Response, Event::Result(outcome)) => matches!(outcome.get(), Outcome::Answer(_)),
+            (Kind::Error, Event::Result(outcome)) => matches!(outcome.get(), Outcome::Error(_)),
             _ => false,
         }
     }

@@ -95,7 +95,7 @@ fn next_violation(events: &[Event]) -> Option<(&Violation, &[Event])>
     let mut left = events;
     while let Some((event, rest)) = left.split_first() {
         if let Event::Told(violation) = event {
-            return Some((violation, rest));
+            return Some((violation.get(), rest));
         }
         left = rest;
     }

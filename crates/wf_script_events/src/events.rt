@@ -1,4 +1,5 @@
 use wf_book::{Op, Reply};
+use wf_boxed::Boxed;
 use wf_text::{Bytes, Items};
 use wf_types::{Destination, Hop, NetError, Outcome, TypeFault, Violation};
 
@@ -10,13 +11,13 @@ pub enum Event {
     /// The load of that number starts.
     Load(u32, Destination),
     /// An operation was done on the shared book, and replied.
-    Call(Op, Reply),
+    Call(Boxed<Op>, Reply),
     /// A request was sent.
-    Sent(Hop),
+    Sent(Boxed<Hop>),
     /// A policy was violated.
-    Told(Violation),
+    Told(Boxed<Violation>),
     /// What a fetch came to, or a load that succeeded.
-    Result(Outcome),
+    Result(Boxed<Outcome>),
     /// The network error of a load.
     LoadFailed(NetError),
     /// A fetch of which no request was made.

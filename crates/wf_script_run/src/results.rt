@@ -28,7 +28,10 @@ fn response_of(event: &Event) -> Option<&Response>
     ensures { option_map (λ response. response.now) result ≡ spec.response_of event.now }
 {
     match event {
-        Event::Result(Outcome::Answer(response)) => Some(response),
+        Event::Result(outcome) => match outcome.get() {
+            Outcome::Answer(response) => Some(response),
+            _ => None,
+        },
         _ => None,
     }
 }
@@ -69,7 +72,7 @@ fn result_type(event: &Event) -> &'static str
     ensures { result.now ≡ spec.result_type event.now }
 {
     match event {
-        Event::Result(outcome) => outcome_type(outcome),
+        Event::Result(outcome) => outcome_type(outcome.get()),
         Event::TypeError(_) => "type-error",
         Event::LoadFailed(_) => "failed",
         Event::LoadError(_) => "failed",
@@ -198,7 +201,7 @@ fn is_error(last: Option<&Event>) -> bool
     ensures { result ≡ spec.is_error (lent_result last.entry) }
 {
     match last {
-        Some(Event::Result(Outcome::Error(_))) => true,
+        Some(Event::Result(outcome)) => matches!(outcome.get(), Outcome::Error(_)),
         Some(Event::LoadFailed(_)) => true,
         Some(Event::TypeError(_)) => true,
         Some(Event::LoadError(_)) => true,

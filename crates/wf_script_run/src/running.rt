@@ -10,6 +10,7 @@ ghost use Rattle.wf_script_run.specs.Runs.{started, waited};
 use crate::shown::Shown;
 use std::alloc::Global;
 use std::marker::Model;
+use wf_boxed::Boxed;
 use wf_fetch_acts::{Act, Input};
 use wf_script_commands::Command;
 use wf_script_events::{Ending, Event, Events};
@@ -70,17 +71,20 @@ pub fn fault_event(kind: Destination, fault: TypeFault) -> Event
 }
 
 // What a load came to.
-fn load_event(outcome: Outcome) -> Event
+fn load_event(outcome: Boxed<Outcome>) -> Event
     ensures { result ≡ spec.load_event outcome }
 {
-    match outcome {
+    if !matches!(outcome.get(), Outcome::Error(_)) {
+        return Event::Result(outcome);
+    }
+    match outcome.into_inner() {
         Outcome::Error(error) => Event::LoadFailed(error),
-        _ => Event::Result(outcome),
+        Outcome::Answer(_) | Outcome::Loaded => unreachable!(),
     }
 }
 
 /// What a fetch, or a load of a kind, came to.
-pub fn outcome_event(kind: Destination, outcome: Outcome) -> Event
+pub fn outcome_event(kind: Destination, outcome: Boxed<Outcome>) -> Event
     ensures { result ≡ spec.outcome_event kind outcome }
 {
     match kind {
