@@ -1,8 +1,8 @@
 #!/usr/bin/env bash
-# What the gate costs from nothing: `rt ci --anew` at the top of the repository, its processor time (user and
-# system) and how it is shared among the crates, in seconds, and among their proofs, their tests and the edits
-# that must fail. The shares are read off the running checks once a second, so they are a little less than
-# the whole. It takes all processors for half an hour.
+# What the gate costs from nothing: `rt ci --anew` at the top of the repository (`rt ci` where the kit keeps nothing from run to
+# run, and so knows no such word), its processor time (user and system) and how it is shared among the crates, in seconds, and
+# among their proofs, their tests and the edits that must fail. The shares are read off the running checks once a second, so
+# they are a little less than the whole. It takes all processors for an hour.
 set -eu
 source "$(dirname "${BASH_SOURCE[0]}")/common.bash"
 cd "$root"
@@ -28,12 +28,14 @@ sampled() {
     done
 }
 
+anew=
+if rt help 2>&1 | grep -q -e '--anew'; then anew=--anew; fi
 sampled &
 sampler=$!
 start=$(date +%s)
 TIMEFORMAT='%U %S'
 status=0
-{ time rt ci --anew >"$work/log" 2>&1 || status=$?; } 2>"$work/time"
+{ time rt ci $anew >"$work/log" 2>&1 || status=$?; } 2>"$work/time"
 kill "$sampler"
 tail -n 3 "$work/log"
 read -r user system <"$work/time"
