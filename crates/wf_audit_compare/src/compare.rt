@@ -1,6 +1,7 @@
 // The text of a play, compared with another text.
 ghost use Rattle.std.specs.Prelude.{IfOk};
-ghost use Rattle.wf_print.specs.Text.{HasText, play_text};
+ghost use Rattle.wf_print.specs.Text.{play_text};
+ghost use Rattle.wf_script_events.specs.Endings.{HasText};
 ghost use Rattle.wf_audit_compare.specs.Differences.{AreCompared};
 
 use crate::comparing::Comparing;

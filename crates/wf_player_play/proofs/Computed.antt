@@ -1,7 +1,6 @@
 -- The definitions computed on a worked example: what scripted servers answer to a document that fetches its own root.
 use Rattle.std.proofs.Common.{◌≡◌, refl, List, [], ◌∷◌, codes, Some, None}
 use Rattle.wf_script_values.specs.Servers.{answer}
-use Rattle.wf_script.specs.Answers.{answer_bytes}
 use Rattle.wf_script_values.specs.declared.servers.Server.{Server}
 use Rattle.wf_script_run.proofs.Computed.{hop}
 
@@ -11,13 +10,13 @@ servers =
     record {
       origin = codes "https://a.test";
       rules =
-          record { method = Some (codes "PUT"); path = None; answer = answer_bytes 201 [] [] }
-          ∷ record { method = None; path = Some (codes "/"); answer = answer_bytes 200 [] (codes "hi") }
+          record { method = Some (codes "PUT"); path = None; answer = codes "HTTP/1.1 201 Scripted\r\n\r\n" }
+          ∷ record { method = None; path = Some (codes "/"); answer = codes "HTTP/1.1 200 Scripted\r\n\r\nhi" }
           ∷ [];
     } ∷ []
 
 -- the second rule answers the document's request
-pub second_rule : answer servers hop.origin hop.method hop.url ≡ answer_bytes 200 [] (codes "hi")
+pub second_rule : answer servers hop.origin hop.method hop.url ≡ codes "HTTP/1.1 200 Scripted\r\n\r\nhi"
 second_rule = refl
 
 -- without a rule the status is 404, and without a server the answer is empty

@@ -7,7 +7,7 @@ use Rattle.wf_book.specs.declared.entry.Entry.{Entry}
 use Rattle.wf_book.specs.Entries.{entries_of}
 use Rattle.wf_script_events.specs.declared.events.Ending.TheVariants as ending
 use Rattle.wf_script_events.specs.declared.events.Transcript.{Transcript}
-use Rattle.wf_print.specs.Text.{HasText}
+use Rattle.wf_script_events.specs.Endings.{HasText}
 use Rattle.wf_script_run.specs.Documents.{EachDocument}
 use Rattle.wf_script_run.proofs.DocumentLemmas.{each-after, each-seen, each-with}
 use Rattle.wf_script_run.specs.Runs.{document_run}

@@ -1,6 +1,6 @@
 // A play: the book is opened, the documents are seated and played, and the book is closed.
 ghost use Rattle.std.specs.Prelude.{◌≤◌, ◌+◌, ◌^◌, vec_capacity, vec_len, IfOk, OnErr};
-ghost use Rattle.wf_print.specs.Text.{HasText};
+ghost use Rattle.wf_script_events.specs.Endings.{HasText};
 ghost use Rattle.wf_script_values.specs.Valid.{IsValid};
 ghost use Rattle.wf_link_wire.specs.Wires.{over_link};
 ghost use Rattle.wf_player_play.specs.Links.{IsPlayOverLinks, WasRefused, maker_of};
@@ -17,8 +17,7 @@ use wf_faults::{law_faults_counted, law_faults_shown};
 use wf_link::Links;
 use wf_player::{Seating, play_all};
 use wf_player_seats::{opened, passes_of, seat_all, unseat};
-use wf_print::has_text;
-use wf_script_events::Transcripts;
+use wf_script_events::{Transcripts, has_text};
 use wf_script_values::Scenario;
 use wf_sim::SimLinks;
 use wf_text::OutOfMemory;

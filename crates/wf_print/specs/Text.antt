@@ -1,7 +1,7 @@
 -- The printed text of a play: each document with its events in order and how it ended, then the history of the shared
 -- book (the output of `fetchplay play`).
-use Rattle.std.specs.Prelude.{ℕ, ◌≢◌, List, [], ◌++◌, codes, decimal}
-use Rattle.std.specs.List.{flat_map, All}
+use Rattle.std.specs.Prelude.{ℕ, List, [], ◌++◌, codes, decimal}
+use Rattle.std.specs.List.{flat_map}
 use Rattle.wf_book.specs.declared.entry.Entry.{Entry}
 use Rattle.wf_script_events.specs.Calls.{call_text}
 use Rattle.wf_script_events.specs.declared.events.Ending.{Ending}
@@ -22,10 +22,6 @@ abbrev pub transcript_text : Transcript → List ℕ
 transcript_text transcript =
     line (codes "document " ++ decimal transcript.document ++ codes " " ++ transcript.key)
     ++ flat_map event_text transcript.events ++ ending_line transcript.ending
-
--- the run has a text: no document ended for memory
-abbrev pub HasText : List Transcript → Type 0
-HasText transcripts = All (λ transcript. transcript.ending ≢ ending.Memory) transcripts
 
 -- an entry of the history: the turn and the document of an operation, the operation, and what it replied
 abbrev pub entry_line : Entry → List ℕ

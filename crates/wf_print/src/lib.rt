@@ -15,5 +15,5 @@ pub use failure::Failure;
 pub use laws::law_one_history;
 pub use lines::{add_event, add_number};
 pub use page::Page;
-pub use play::{has_text, write_entries, write_play, write_text};
+pub use play::{write_entries, write_play, write_text};
 pub use summary::write_summary;

@@ -1,7 +1,8 @@
-ghost use Rattle.std.specs.Prelude.{◌≡◌, ◌≤◌, ◌++◌, ◌↔◌, IsTrue, Err, IfOk, OnOk, OnErr};
+ghost use Rattle.std.specs.Prelude.{◌≡◌, ◌≤◌, ◌++◌, Err, IfOk, OnOk, OnErr};
 ghost use Rattle.std.specs.List.{flat_map};
 ghost use Rattle.wf_link.specs.Counts.{Rose};
 ghost use Rattle.wf_link.specs.Sinks.{Took, TookPart};
+ghost use Rattle.wf_script_events.specs.Endings.{HasText};
 ghost use Rattle.wf_script_events.specs.Lines.{event_text};
 ghost use Rattle.wf_print.specs.Text as spec;
 ghost use Rattle.wf_print.specs.Writes.{Writes};
@@ -121,16 +122,6 @@ fn put_play<K: Sink>(
     write_text(sink, b"done\n")
 }
 
-/// Whether the play has a text: no document ended for want of memory.
-pub fn has_text(transcripts: &Transcripts) -> bool
-    ensures { IsTrue result ↔ spec.HasText transcripts.now }
-{
-    transcripts
-        .as_slice()
-        .iter()
-        .all(|transcript| transcript.ending != Ending::Memory)
-}
-
 /// Writes the text of a play: its documents, a document at a time, and the history. After a failure
 /// the sink has taken a first part of the text: `Fault` where the sink failed, `TookNothing` where it
 /// took nothing of a piece that was not empty, and `OutOfMemory` where memory was refused.
@@ -140,7 +131,7 @@ pub fn write_play<K: Sink>(
     history: &History,
     sink: &mut K,
 ) -> Result<(), Failure>
-    requires { spec.HasText transcripts.now }
+    requires { HasText transcripts.now }
 
     ensures ok { OnOk result
         (Took (K.takes sink.old).taken (K.takes sink.new).taken (spec.play_text transcripts.now history.now)) }

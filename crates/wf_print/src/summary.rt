@@ -4,8 +4,8 @@ ghost use Rattle.wf_link.specs.Sinks.{Took, TookPart};
 ghost use Rattle.wf_print.specs.Private.Kinds.{is_of};
 ghost use Rattle.wf_print.specs.Writes.{Writes};
 ghost use Rattle.wf_print.specs.Summary as spec;
+ghost use Rattle.wf_script_events.specs.Endings.{HasText};
 ghost use Rattle.wf_script_events.specs.Lines.{line};
-ghost use Rattle.wf_print.specs.Text.{HasText};
 
 use crate::failure::Failure;
 use crate::lines::add_number;

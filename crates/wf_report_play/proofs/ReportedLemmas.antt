@@ -23,7 +23,7 @@ use Rattle.wf_player_seats.specs.Seated.{links_in, passes_in}
 use Rattle.wf_player_seats.proofs.ClosedLemmas.{ran-of}
 use Rattle.wf_player_seats.proofs.ListLemmas.{unmap}
 use Rattle.wf_player_seats.proofs.ServerLemmas.{by_bytes, ran-by-rules, ran-state, sim_told}
-use Rattle.wf_print.specs.Text.{HasText}
+use Rattle.wf_script_events.specs.Endings.{HasText}
 use Rattle.wf_report.specs.declared.delivery.Delivered.{Delivered}
 use Rattle.wf_report.specs.Reporting.{ending_of, reporting}
 use Rattle.wf_report_play.specs.Plays.{AreInOrderFrom, EachReported, IsReported, IsReportedPlay}

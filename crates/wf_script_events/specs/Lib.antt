@@ -1,4 +1,5 @@
 pub mod Calls
+pub mod Endings
 pub mod Escapes
 pub mod Lengths
 pub mod Lines

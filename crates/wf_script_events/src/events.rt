@@ -1,3 +1,6 @@
+ghost use Rattle.std.specs.Prelude.{◌↔◌, IsTrue};
+ghost use Rattle.wf_script_events.specs.Endings as spec;
+
 use wf_book::{Op, Reply};
 use wf_boxed::Boxed;
 use wf_text::{Bytes, Items};
@@ -56,3 +59,13 @@ pub struct Transcript {
 
 /// The runs of the documents, in order.
 pub type Transcripts = Items<Transcript>;
+
+/// Whether the play has a text: no document ended for want of memory.
+pub fn has_text(transcripts: &Transcripts) -> bool
+    ensures { IsTrue result ↔ spec.HasText transcripts.now }
+{
+    transcripts
+        .as_slice()
+        .iter()
+        .all(|transcript| transcript.ending != Ending::Memory)
+}

@@ -8,5 +8,5 @@ mod length;
 mod lines;
 
 pub use escape::{are_plain, is_plain};
-pub use events::{Ending, Event, Events, Transcript, Transcripts};
+pub use events::{Ending, Event, Events, Transcript, Transcripts, has_text};
 pub use lines::event_len;

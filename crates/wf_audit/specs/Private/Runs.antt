@@ -4,7 +4,7 @@ use Rattle.std.specs.List.{slice_get}
 use Rattle.wf_book.specs.declared.entry.Entry.{Entry}
 use Rattle.wf_script_events.specs.declared.events.Ending.TheVariants.{Memory}
 use Rattle.wf_script_events.specs.declared.events.Transcript.{Transcript}
-use Rattle.wf_print.specs.Text.{HasText}
+use Rattle.wf_script_events.specs.Endings.{HasText}
 use Rattle.wf_script_run.specs.Documents.{EachDocument}
 use Rattle.wf_script_values.specs.declared.document.Document.{Document}
 use Rattle.wf_script_values.specs.declared.scenario.Scenario.{Scenario}
