@@ -18,7 +18,7 @@ use Rattle.wf_script_values.specs.declared.document.Document.{Document}
 use Rattle.wf_script_run.specs.Play.{Play, PlayRun, emit, over, run_play, step}
 use Rattle.wf_script_run.specs.Runs.{document_run}
 use Rattle.wf_script_run.specs.Traces.{PlayTrace, shown, stepped, stop}
-use Rattle.wf_player.specs.Worlds.{Answers, Outside, Settles, World}
+use Rattle.wf_player.specs.Worlds.{Outside, Settles, World, WorldAnswers}
 use Rattle.wf_player.specs.Playing.{RunCameTo, RunCut, RunPlayed}
 use Rattle.wf_faults.specs.Failures.{tells_fault}
 use Rattle.wf_faults.specs.Laws.{AreShown, FaultsCounted, FaultsCountedCut, RanShown, ToldCounted}
@@ -59,7 +59,7 @@ no-faults (emit one rest) = no-faults rest
 no-faults (step request first after) = refl
 
 module _ {State : Type 0} (by : Answering State) (limit document : ℕ) where
-  act-caused : (a b : World State) (first : Act) (input : Input) → Answers by limit document a first input b
+  act-caused : (a b : World State) (first : Act) (input : Input) → WorldAnswers by limit document a first input b
       → IsCaused input a.exchange.faults b.exchange.faults
   act-caused a b (Ask op) input is =
       uncaused input a.exchange.faults b.exchange.faults (ap (λ (e : Exchange State). e.faults) is.exchange_is)
@@ -77,7 +77,7 @@ module _ {State : Type 0} (by : Answering State) (limit document : ℕ) where
   event-faults a b one is = ap (λ (w : World State). w.exchange.faults) is
 
   counts : {p q : Play} {a b : World State} {t : List Input} {e : List Event}
-      → PlayTrace (Answers by limit document) Settles p a t e q b
+      → PlayTrace (WorldAnswers by limit document) Settles p a t e q b
       → b.exchange.faults ≡ counted_on a.exchange.faults (faults_of p t)
   counts {p = p} {a = a} stop = rw (no-faults p) (none-more (2 ^ 64 - 1) a.exchange.faults)
   counts {a = a} {b = b} (shown {q = rest} {mid = mid} {tape = tape} one is x) =

@@ -16,7 +16,7 @@ use Rattle.wf_script_events.specs.declared.events.Event.TheVariants as event
 use Rattle.wf_script_run.specs.Play.{Play, over}
 use Rattle.wf_script_run.specs.Traces.{PlayTrace, shown, stepped, stop}
 use Rattle.wf_link_wire.specs.Exchanges.{Answering, Exchange}
-use Rattle.wf_player.specs.Worlds.{Answers, IsCalled, Outside, Settles, World}
+use Rattle.wf_player.specs.Worlds.{IsCalled, Outside, Settles, World, WorldAnswers}
 use Rattle.wf_iso.specs.Calls.{PartAtReply}
 use Rattle.wf_iso.proofs.ExchangeLemmas.{Coming, IsOne, no-fault, one-body, one-head, one-sent}
 use Rattle.wf_iso.proofs.OrderLemmas.{Can, OrderedPlay, Stage, asking, headed, idle, stage_after}
@@ -36,7 +36,8 @@ module _ {State : Type 0} (by : Answering State) (limit document : ℕ) where
   same-faults : (a b : ℕ) → b ≡ a → a ≤ b
   same-faults a b is = omega (arith, is)
 
-  grown-act : (a b : World State) (first : Act) (input : Input) → Answers by limit document a first input b → Grown a b
+  grown-act : (a b : World State) (first : Act) (input : Input) → WorldAnswers by limit document a first input b
+      → Grown a b
   grown-act a b (Ask op) input is = record {
     more = is.asked.entry ∷ [];
     own = is.asked.own_is;
@@ -83,7 +84,7 @@ module _ {State : Type 0} (by : Answering State) (limit document : ℕ) where
   }
 
   grown : {p q : Play} {a b : World State} {t : List Input} {e : List Event}
-      → PlayTrace (Answers by limit document) Settles p a t e q b → Grown a b
+      → PlayTrace (WorldAnswers by limit document) Settles p a t e q b → Grown a b
   grown {a = a} stop = grown-outside a a refl refl
   grown {a = a} {b = b} (shown {mid = mid} one is x) =
       let left = left-by one a mid is in
@@ -177,7 +178,8 @@ module _ {State : Type 0} (by : Answering State) (limit document : ℕ) where
   }
 
   alike : HasOneEnd → (stage : Stage) (first : Act) (input other : Input) (a b c d : World State) → Can stage first
-      → AreSame stage a b → Answers by limit document a first input c → Answers by limit document b first other d
+      → AreSame stage a b → WorldAnswers by limit document a first input c
+      → WorldAnswers by limit document b first other d
       → EndAlike c d → GoAlike stage first input other c d
   alike law stage (Ask op) input other a b c d can same is are end =
       alike-ask stage op input other a b c d same is are end
@@ -250,8 +252,8 @@ module _ {State : Type 0} (by : Answering State) (limit document : ℕ) where
 
   pub once : HasOneEnd → {p : Play} {a b c d : World State} {t u : List Input} {e f : List Event}
       {ending another : Ending} {clock time : ℕ}
-      → PlayTrace (Answers by limit document) Settles p a t e (over ending clock) c
-      → PlayTrace (Answers by limit document) Settles p b u f (over another time) d → (stage : Stage)
+      → PlayTrace (WorldAnswers by limit document) Settles p a t e (over ending clock) c
+      → PlayTrace (WorldAnswers by limit document) Settles p b u f (over another time) d → (stage : Stage)
       → OrderedPlay stage p → AreSame stage a b
       → c.own ≡ d.own → c.exchange.faults ≡ 0 → d.exchange.faults ≡ 0 → t ≡ u
   once law stop stop stage ordered same own none nothing = refl
@@ -265,7 +267,7 @@ module _ {State : Type 0} (by : Answering State) (limit document : ℕ) where
       (end-alike mid place c d (grown x) (grown y) own none nothing) in
       ap (λ (i : Input). i ∷ tape) goes.input_is
       ∙ ap (λ (l : List Input). other ∷ l)
-      (once law x (subst (λ (i : Input). PlayTrace (Answers by limit document) Settles (after i) place tapes
+      (once law x (subst (λ (i : Input). PlayTrace (WorldAnswers by limit document) Settles (after i) place tapes
       events (over another time) d) (sym goes.input_is) y) (stage_after stage first input) (ordered.1 input) goes.same
       own none nothing)
 
@@ -289,8 +291,8 @@ module _ {State : Type 0} (by : Answering State) (limit document : ℕ) where
 
   -- one act, where it is no call
   part-quiet : HasOneEnd → (stage : Stage) (first : Act) (input other : Input) (a b mid place c d : World State)
-      → Can stage first → AreSame stage a b → Answers by limit document a first input mid
-      → Answers by limit document b first other place → mid.own ≡ a.own → place.own ≡ b.own → Grown mid c
+      → Can stage first → AreSame stage a b → WorldAnswers by limit document a first input mid
+      → WorldAnswers by limit document b first other place → mid.own ≡ a.own → place.own ≡ b.own → Grown mid c
       → Grown place d → c.exchange.faults ≡ 0 → d.exchange.faults ≡ 0 → Follows stage first input other mid place c d
       → (more others : List Entry) → c.own ≡ a.own ++ more → d.own ≡ b.own ++ others → PartAtReply more others
   unfolding Follows
@@ -307,8 +309,8 @@ module _ {State : Type 0} (by : Answering State) (limit document : ℕ) where
       }))
 
   part-act : HasOneEnd → (stage : Stage) (first : Act) (input other : Input) (a b mid place c d : World State)
-      → Can stage first → AreSame stage a b → Answers by limit document a first input mid
-      → Answers by limit document b first other place → Grown mid c → Grown place d → c.exchange.faults ≡ 0
+      → Can stage first → AreSame stage a b → WorldAnswers by limit document a first input mid
+      → WorldAnswers by limit document b first other place → Grown mid c → Grown place d → c.exchange.faults ≡ 0
       → d.exchange.faults ≡ 0 → Follows stage first input other mid place c d
       → (more others : List Entry) → c.own ≡ a.own ++ more → d.own ≡ b.own ++ others → PartAtReply more others
   unfolding Follows
@@ -344,8 +346,8 @@ module _ {State : Type 0} (by : Answering State) (limit document : ℕ) where
 
   pub part : HasOneEnd → {p : Play} {a b c d : World State} {t u : List Input} {e f : List Event}
       {ending another : Ending} {clock time : ℕ}
-      → PlayTrace (Answers by limit document) Settles p a t e (over ending clock) c
-      → PlayTrace (Answers by limit document) Settles p b u f (over another time) d → (stage : Stage)
+      → PlayTrace (WorldAnswers by limit document) Settles p a t e (over ending clock) c
+      → PlayTrace (WorldAnswers by limit document) Settles p b u f (over another time) d → (stage : Stage)
       → OrderedPlay stage p → AreSame stage a b → c.exchange.faults ≡ 0 → d.exchange.faults ≡ 0
       → (more others : List Entry) → c.own ≡ a.own ++ more → d.own ≡ b.own ++ others → PartAtReply more others
   unfolding Follows
@@ -365,6 +367,6 @@ module _ {State : Type 0} (by : Answering State) (limit document : ℕ) where
       same none nothing more others one two =
       part-act law stage first input other a b mid place c d ordered.0 same is are (grown x) (grown y) none nothing
       (λ rest others_then own owns goes. part law x
-      (subst (λ (i : Input). PlayTrace (Answers by limit document) Settles (after i) place tapes
+      (subst (λ (i : Input). PlayTrace (WorldAnswers by limit document) Settles (after i) place tapes
       events (over another time) d) (sym goes.input_is) y) (stage_after stage first input) (ordered.1 input) goes.same
       none nothing rest others_then own owns) more others one two

@@ -20,7 +20,7 @@ use Rattle.wf_script_run.specs.Runs.{document_client, document_run}
 use Rattle.wf_script_run.specs.Traces.{PlayTrace, shown, stepped, stop}
 use Rattle.wf_script_run.proofs.DocumentLemmas.{each-so}
 use Rattle.wf_link_wire.specs.Exchanges.{Answering}
-use Rattle.wf_player.specs.Worlds.{Answers, Outside, Settles, World}
+use Rattle.wf_player.specs.Worlds.{Outside, Settles, World, WorldAnswers}
 use Rattle.wf_iso.specs.Calls.{call_of, calls_in, calls_of}
 use Rattle.wf_iso.specs.Isolated.{IsAlone, alone_in, run_in, run_of}
 use Rattle.wf_iso.specs.Laws.{IsIn, PlaysAlone, WorldsAlike}
@@ -43,7 +43,7 @@ same-calls : (own own' : List Entry) → own' ≡ own → calls_of own' ≡ call
 same-calls own own' is = ap calls_of is ∙ sym (append-nil (calls_of own))
 
 module _ {State : Type 0} (by : Answering State) (limit document : ℕ) where
-  act-calls : (a b : World State) (first : Act) (input : Input) → Answers by limit document a first input b
+  act-calls : (a b : World State) (first : Act) (input : Input) → WorldAnswers by limit document a first input b
       → calls_of b.own ≡ calls_of a.own ++ calls_in (events_of first input)
   act-calls a b (Ask op) input is =
       asked-calls a.own b.own is.asked.entry (calls_in (events_of (Ask op) input)) is.asked.own_is
@@ -59,7 +59,7 @@ module _ {State : Type 0} (by : Answering State) (limit document : ℕ) where
   event-own a b one is = ap (λ (w : World State). w.own) is
 
   trace-calls : {p q : Play} {a b : World State} {t : List Input} {e : List Event}
-      → PlayTrace (Answers by limit document) Settles p a t e q b → ShowsNoCall p
+      → PlayTrace (WorldAnswers by limit document) Settles p a t e q b → ShowsNoCall p
       → calls_of b.own ≡ calls_of a.own ++ calls_in e
   trace-calls {a = a} stop silent = sym (append-nil (calls_of a.own))
   trace-calls {a = a} {b = b} (shown {mid = mid} {events = events} one is x) silent =

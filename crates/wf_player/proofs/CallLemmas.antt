@@ -3,9 +3,9 @@ use Rattle.wf_script_events.specs.declared.events.Event.TheVariants as event
 use Rattle.std.proofs.lemmas.List.{length-append}
 use Rattle.wf_book.specs.declared.entry.Entry.{Entry}
 use Rattle.wf_script_run.specs.Traces.{stop}
-use Rattle.wf_player.proofs.Words.{[], ℕ, ◌++◌, ◌+◌, ◌∙◌, ◌∷◌, ◌≡◌, Act, AllByRecursion, Answering, Answers, Ask, Event}
-use Rattle.wf_player.proofs.Words.{Input, IsHungUp, List, Outside, Play, PlayTrace, Send, Settles, Tell, World, ap}
-use Rattle.wf_player.proofs.Words.{append-nil, append_assoc, arith, length, refl, shown, stepped, sym}
+use Rattle.wf_player.proofs.Words.{[], ℕ, ◌++◌, ◌+◌, ◌∙◌, ◌∷◌, ◌≡◌, Act, AllByRecursion, Answering, Ask, Event, Input}
+use Rattle.wf_player.proofs.Words.{IsHungUp, List, Outside, Play, PlayTrace, Send, Settles, Tell, World, WorldAnswers}
+use Rattle.wf_player.proofs.Words.{ap, append-nil, append_assoc, arith, length, refl, shown, stepped, sym}
 
 -- Between two worlds these entries were added, each of them the document's, and the calls left fell by as many.
 pub record Calls {State : Type 0} (document : ℕ) (a b : World State) : Type 0 where
@@ -35,7 +35,7 @@ module _ {State : Type 0} (by : Answering State) (limit document : ℕ) where
   calls-hung is = calls-alike (ap (λ (o : Outside State). o.own) is.outside_is)
       (ap (λ (o : Outside State). o.left) is.outside_is)
 
-  calls-act : {a b : World State} (first : Act) (input : Input) → Answers by limit document a first input b
+  calls-act : {a b : World State} (first : Act) (input : Input) → WorldAnswers by limit document a first input b
       → Calls document a b
   calls-act (Ask op) input is = record {
     more = is.asked.entry ∷ [];
@@ -62,7 +62,7 @@ module _ {State : Type 0} (by : Answering State) (limit document : ℕ) where
 
   -- over a trace
   pub trace-calls : {p q : Play} {a b : World State} {t : List Input} {e : List Event}
-      → PlayTrace (Answers by limit document) Settles p a t e q b → Calls document a b
+      → PlayTrace (WorldAnswers by limit document) Settles p a t e q b → Calls document a b
   trace-calls stop = calls-alike refl refl
   trace-calls (shown one is x) = calls-then (calls-event one is) (trace-calls x)
   trace-calls (stepped request first after input is fit x) = calls-then (calls-act first input is) (trace-calls x)

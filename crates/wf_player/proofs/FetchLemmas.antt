@@ -12,13 +12,12 @@ use Rattle.wf_fetch.specs.Machine.{Does, rest}
 use Rattle.wf_fetch_laws.specs.Own.{IsOwnAct}
 use Rattle.wf_fetch_laws.proofs.OwnLemmas.{asks-at-most, fetch-within}
 use Rattle.wf_player.specs.Private.Going.{PartNoted, WentOn, from_act}
-use Rattle.wf_player.proofs.Words.{[], ℕ, ◌++◌, ◌+◌, ◌-◌, ◌<◌, ◌^◌, ◌∙◌, ◌∷◌, ◌≡◌, ◌≤◌, Act, Answering, Answers}
-use Rattle.wf_player.proofs.Words.{Anything, Ask, Context, DriveCut, Event, FetchCut, FetchPlayed, FetchReached, Input}
-use Rattle.wf_player.proofs.Words.{IsIdle, IsTrue, LeadsOn, List, Outcome, Outside, Process, Progress, Request, Send}
-use Rattle.wf_player.proofs.Words.{Some, Standing, Tell, Terms, Within, World, WorldRefused, act, acts, after_events}
-use Rattle.wf_player.proofs.Words.{ap, append-nil, append_assoc, arith, asks, at_time, ended, events_of, fetch}
-use Rattle.wf_player.proofs.Words.{fetch_price, fits, length, level_price, levels, most_asks, outside_of, price_of}
-use Rattle.wf_player.proofs.Words.{refl, subst, sym}
+use Rattle.wf_player.proofs.Words.{[], ℕ, ◌++◌, ◌+◌, ◌-◌, ◌<◌, ◌^◌, ◌∙◌, ◌∷◌, ◌≡◌, ◌≤◌, Act, Answering, Anything, Ask}
+use Rattle.wf_player.proofs.Words.{Context, DriveCut, Event, FetchCut, FetchPlayed, FetchReached, Input, IsIdle, IsTrue}
+use Rattle.wf_player.proofs.Words.{LeadsOn, List, Outcome, Outside, Process, Progress, Request, Send, Some, Standing}
+use Rattle.wf_player.proofs.Words.{Tell, Terms, Within, World, WorldAnswers, WorldRefused, act, acts, after_events, ap}
+use Rattle.wf_player.proofs.Words.{append-nil, append_assoc, arith, asks, at_time, ended, events_of, fetch, fetch_price}
+use Rattle.wf_player.proofs.Words.{fits, length, level_price, levels, most_asks, outside_of, price_of, refl, subst, sym}
 use Rattle.wf_player.proofs.AskLemmas.{refuses-none}
 use Rattle.wf_player.proofs.PartLemmas.{lost-none, lost-then}
 
@@ -51,7 +50,7 @@ still old = record {
 
 -- a call of the book costs one call, and nothing else costs any
 left-after : {State : Type 0} (by : Answering State) (limit document : ℕ) (old new : World State) (first : Act)
-    (input : Input) → Answers by limit document old first input new → old.left ≤ new.left + price_of asks first
+    (input : Input) → WorldAnswers by limit document old first input new → old.left ≤ new.left + price_of asks first
 left-after by limit document old new (Ask op) input is = omega (arith, is.asked.left_is)
 left-after by limit document old new (Send hop) input is = omega (arith, is.1.left_is)
 left-after by limit document old new (Tell violation) input is = omega (arith, ap (λ (w : World _). w.left) is.1)
@@ -71,7 +70,7 @@ module _ {State : Type 0} {by : Answering State} where
     tape = x.tape ++ y.tape;
     made = x.made ++ y.made;
     added = rw (y.added, x.added, append_assoc) refl;
-    trace = trace-append (with_events (Answers by a.terms.limit a.terms.document) events_of) x.trace
+    trace = trace-append (with_events (WorldAnswers by a.terms.limit a.terms.document) events_of) x.trace
         (subst (λ (t : Terms). LeadsOn by t.limit t.document middle b.world y.tape y.made place c.world) x.same
         y.trace);
   }
@@ -99,7 +98,7 @@ module _ {State : Type 0} {by : Answering State} where
 
   act-came : (context : Context) (fetching : Fetching) (first : Act) (input : Input) {a b : Standing State}
       → b.terms ≡ a.terms → IsTrue (fits first input)
-      → Answers by a.terms.limit a.terms.document a.world first input b.world
+      → WorldAnswers by a.terms.limit a.terms.document a.world first input b.world
       → b.progress ≡ after_events (events_of first input) a.progress
       → FetchReached by (from_act context fetching first) a (rest context fetching input) b
   act-came context fetching first input {a = a} {b = b} same fit came noted = record {
@@ -107,7 +106,7 @@ module _ {State : Type 0} {by : Answering State} where
     tape = input ∷ [];
     made = events_of first input;
     added = noted;
-    trace = trace-one (with_events (Answers by a.terms.limit a.terms.document) events_of)
+    trace = trace-one (with_events (WorldAnswers by a.terms.limit a.terms.document) events_of)
         fetching.level.request.value first (rest context fetching) input a.world b.world (events_of first input)
         (came, refl) fit;
   }
@@ -115,7 +114,7 @@ module _ {State : Type 0} {by : Answering State} where
   -- memory was refused for its events, or after them
   pub act-cut : (context : Context) (fetching : Fetching) (first : Act) (input : Input) {a b : Standing State}
       → b.terms ≡ a.terms → IsTrue (fits first input)
-      → Answers by a.terms.limit a.terms.document a.world first input b.world
+      → WorldAnswers by a.terms.limit a.terms.document a.world first input b.world
       → PartNoted first input a.progress b.progress → FetchCut by (from_act context fetching first) a b
   unfolding act-came
   act-cut context fetching first input {a = a} {b = b} same fit came x = record {
@@ -246,7 +245,7 @@ module _ {State : Type 0} {by : Answering State} where
           driven = record {
             tape = x.tape;
             trace = trace;
-            shows = trace-tells (with_events (Answers by old.terms.limit old.terms.document) events_of) events_of
+            shows = trace-tells (with_events (WorldAnswers by old.terms.limit old.terms.document) events_of) events_of
                 (λ a f i s b is. is.1) outcome trace;
           };
           to = sym ends;

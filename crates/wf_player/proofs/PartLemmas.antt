@@ -4,7 +4,7 @@ use Rattle.wf_types.specs.declared.policy.Destination.TheVariants as destination
 use Rattle.wf_types.specs.declared.response.Outcome.TheVariants as outcome
 use Rattle.wf_script_run.proofs.EmbedLemmas.{embedded}
 use Rattle.wf_types.specs.declared.policy.Destination.{Destination}
-use Rattle.wf_player.proofs.Words.{[], ℕ, ◌++◌, ◌∙◌, ◌∷◌, ◌≡◌, Answering, Answers, Ending, Err, Event, FetchCut}
+use Rattle.wf_player.proofs.Words.{[], ℕ, ◌++◌, ◌∙◌, ◌∷◌, ◌≡◌, Answering, WorldAnswers, Ending, Err, Event, FetchCut}
 use Rattle.wf_player.proofs.Words.{FetchReached, HasLost, IsErr, IsHungUp, LeadsTo, List, MatchResult-from_err, Next}
 use Rattle.wf_player.proofs.Words.{Ok, Option, Outcome, OutOfMemory, PartCut, PartReached, Play, PlaysOn, Process}
 use Rattle.wf_player.proofs.Words.{Progress, Request, Result, Rule, RuleCameTo, Settles, Standing, Terms, TypeFault}
@@ -67,7 +67,7 @@ module _ {State : Type 0} {by : Answering State} where
     tape = x.tape ++ y.tape;
     made = x.made ++ y.made;
     added = rw (y.added, x.added, append_assoc) refl;
-    trace = λ n. play-append (Answers by a.terms.limit a.terms.document) Settles (x.trace n)
+    trace = λ n. play-append (WorldAnswers by a.terms.limit a.terms.document) Settles (x.trace n)
         (subst (λ (t : Terms). PlaysOn by t.limit t.document (middle n) b.world y.tape y.made (last n) c.world)
         x.same (y.trace n));
   }
@@ -112,7 +112,7 @@ module _ {State : Type 0} {by : Answering State} where
     tape = x.tape;
     made = x.made;
     added = ap (λ (p : Progress). p.shown) x.added;
-    trace = λ n. rw x.added (embedded (Answers by a.terms.limit a.terms.document) Settles x.trace (onward kind n)
+    trace = λ n. rw x.added (embedded (WorldAnswers by a.terms.limit a.terms.document) Settles x.trace (onward kind n)
         a.progress);
   }
 

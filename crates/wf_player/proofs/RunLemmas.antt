@@ -5,11 +5,11 @@ use Rattle.wf_types.specs.declared.client.Cookie.{Cookie}
 use Rattle.wf_types.specs.declared.client.Client.{Client}
 use Rattle.wf_player.specs.Playing.{RunCameTo, RunCut, RunPlayed}
 use Rattle.wf_player.specs.Private.Parts.{ended_by}
-use Rattle.wf_player.proofs.Words.{[], ℕ, ◌++◌, ◌∙◌, ◌≡◌, ◌≢◌, Answering, Answers, Document, Ending, Err, Event}
-use Rattle.wf_player.proofs.Words.{IsAtEnd, IsIdle, List, Memory, None, Ok, Option, OutOfMemory, Outside, PartCut}
-use Rattle.wf_player.proofs.Words.{PartReached, Play, PlayRun, Result, Rule, RuleCameTo, Settles, Some, Standing, Steps}
-use Rattle.wf_player.proofs.Words.{ap, append-nil, append_assoc, arith, beginning, document_client, document_run}
-use Rattle.wf_player.proofs.Words.{finished, outside_of, over, play-run, refl, script_run, setting, sym}
+use Rattle.wf_player.proofs.Words.{[], ℕ, ◌++◌, ◌∙◌, ◌≡◌, ◌≢◌, Answering, Document, Ending, Err, Event, IsAtEnd, IsIdle}
+use Rattle.wf_player.proofs.Words.{List, Memory, None, Ok, Option, OutOfMemory, Outside, PartCut, PartReached, Play}
+use Rattle.wf_player.proofs.Words.{PlayRun, Result, Rule, RuleCameTo, Settles, Some, Standing, Steps, WorldAnswers, ap}
+use Rattle.wf_player.proofs.Words.{append-nil, append_assoc, arith, beginning, document_client, document_run, finished}
+use Rattle.wf_player.proofs.Words.{outside_of, over, play-run, refl, script_run, setting, sym}
 use Rattle.wf_player.proofs.AskLemmas.{refuses-none}
 use Rattle.wf_player.proofs.FetchLemmas.{still}
 use Rattle.wf_player.proofs.PartLemmas.{cut-here, played-cut}
@@ -35,7 +35,7 @@ module _ {State : Type 0} (by : Answering State) {whole : Play} (old now : Stand
         trace = trace;
         to = ends;
         runs = simp append-nil at
-            (play-run (Answers by old.terms.limit old.terms.document) Settles trace []);
+            (play-run (WorldAnswers by old.terms.limit old.terms.document) Settles trace []);
       }
 
   -- it was cut off
@@ -57,7 +57,7 @@ module _ {State : Type 0} (by : Answering State) {whole : Play} (old now : Stand
         trace = trace;
         left = rw (← ends) x.lost.refused;
         runs = simp (append-nil, append_assoc) at (ap (λ (r : PlayRun). r.events)
-            (play-run (Answers by old.terms.limit old.terms.document) Settles trace []));
+            (play-run (WorldAnswers by old.terms.limit old.terms.document) Settles trace []));
       }
 
   -- what the script came to, the run did

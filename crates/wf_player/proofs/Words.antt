@@ -27,8 +27,8 @@ pub use Rattle.wf_player.specs.Words.{beginning, command_started, context_of, do
 pub use Rattle.wf_player.specs.Words.{events_of, fetch, fetched, filled_init, finished, fits, lent_result, limit_before}
 pub use Rattle.wf_player.specs.Words.{most_asks, over, over_link, price_of, range_with_len, repeated, script_run}
 pub use Rattle.wf_player.specs.Words.{setting, started, step_of, unless_limit}
-pub use Rattle.wf_player.specs.Worlds.{Answers, IsHungUp, KeepsPass, Outside, Settles, World, WorldRefused, most_calls}
-pub use Rattle.wf_player.specs.Worlds.{outside, outside_of}
+pub use Rattle.wf_player.specs.Worlds.{IsHungUp, KeepsPass, Outside, Settles, World, WorldAnswers, WorldRefused}
+pub use Rattle.wf_player.specs.Worlds.{most_calls, outside, outside_of}
 pub use Rattle.wf_script_commands.specs.Commands.{steps_of}
 pub use Rattle.wf_script_commands.specs.Depth.{step_size, steps_size}
 pub use Rattle.wf_script_commands.specs.Scripts.{Steps}

@@ -3,12 +3,12 @@ use Rattle.std.specs.Prelude.{ℕ, ◌≡◌, List, MatchResult, Result}
 use Rattle.wf_player.specs.declared.fetch.FetchRun.{FetchRun}
 use Rattle.wf_player.specs.Words.{Answering, Driven, Event, Input, IsIdle, Outcome, OutOfMemory, Process, Trace}
 use Rattle.wf_player.specs.Words.{events_of, with_events}
-use Rattle.wf_player.specs.Worlds.{Answers, Outside, World, WorldRefused, outside_of}
+use Rattle.wf_player.specs.Worlds.{Outside, World, WorldAnswers, WorldRefused, outside_of}
 
 -- with these items of a tape a process shows these events in the world of a document, and goes on
 abbrev pub LeadsOn : {State : Type 0} → Answering State → ℕ → ℕ → Process → World State → List Input → List Event
     → Process → World State → Type 0
-LeadsOn by limit document = Trace (with_events (Answers by limit document) events_of)
+LeadsOn by limit document = Trace (with_events (WorldAnswers by limit document) events_of)
 
 -- From a world in which nothing is to come, for some tape each item is the world's answer, what was shown is what the
 -- fetch shows over that tape, and its outcome is the fetch's.
@@ -18,7 +18,7 @@ pub record FetchPlayed {State : Type 0} (by : Answering State) (limit document :
   pub idle : IsIdle first.exchange
   pub from : outside_of first ≡ old
   pub last : World State
-  pub driven : Driven (Answers by limit document) events_of whole first events outcome last
+  pub driven : Driven (WorldAnswers by limit document) events_of whole first events outcome last
   pub to : outside_of last ≡ new
 
 -- Memory was refused: the fetch came to some place, and the calls that were made are those on the way.

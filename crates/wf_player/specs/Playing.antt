@@ -1,12 +1,12 @@
 -- What a document's run comes to in the document's world.
 use Rattle.std.specs.Prelude.{[], ℕ, ◌++◌, ◌≡◌, ◌≤◌, List, Some, length}
 use Rattle.wf_player.specs.Words.{Answering, Ending, Event, Input, IsIdle, Memory, Play, PlayTrace, over, run_play}
-use Rattle.wf_player.specs.Worlds.{Answers, Outside, Settles, World, WorldRefused, outside_of}
+use Rattle.wf_player.specs.Worlds.{Outside, Settles, World, WorldAnswers, WorldRefused, outside_of}
 
 -- with these items of a tape a run shows these events in the world of a document, and goes on
 abbrev pub PlaysOn : {State : Type 0} → Answering State → ℕ → ℕ → Play → World State → List Input → List Event → Play
     → World State → Type 0
-PlaysOn by limit document = PlayTrace (Answers by limit document) Settles
+PlaysOn by limit document = PlayTrace (WorldAnswers by limit document) Settles
 
 -- From a world in which nothing is to come, for some tape each item is the world's answer, and what was shown is the
 -- run over that tape: `runs` follows from the trace, and says the same by the run's own function.

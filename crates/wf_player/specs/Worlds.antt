@@ -74,11 +74,11 @@ pub record IsExchanged {State : Type 0} (by : Answering State) (limit : ℕ) (ol
 
 -- what comes of an act in a document's world, with bodies of so many bytes at most: a call of the book, a request
 -- whose method and target have no space, what is read of its answer, or that the document is told
-abbrev pub Answers : {State : Type 0} → Answering State → ℕ → ℕ → World State → Act → Input → World State → Type 0
-Answers by limit document old (Ask op) input new = IsCalled document old op input new
-Answers by limit document old (Send hop) input new = IsSendable hop × IsExchanged by limit old (Send hop) input new
-Answers by limit document old (Tell violation) input new = (input ≡ Told) × (new ≡ old)
-Answers by limit document old first input new = IsExchanged by limit old first input new
+abbrev pub WorldAnswers : {State : Type 0} → Answering State → ℕ → ℕ → World State → Act → Input → World State → Type 0
+WorldAnswers by limit document old (Ask op) input new = IsCalled document old op input new
+WorldAnswers by limit document old (Send hop) input new = IsSendable hop × IsExchanged by limit old (Send hop) input new
+WorldAnswers by limit document old (Tell violation) input new = (input ≡ Told) × (new ≡ old)
+WorldAnswers by limit document old first input new = IsExchanged by limit old first input new
 
 -- Nothing more of the answer is to come, and what outlives the run is as it was.
 pub record IsHungUp {State : Type 0} (old new : World State) : Type 0 where

@@ -3,7 +3,7 @@ ghost use Rattle.std.specs.Prelude.{◌+◌, ◌<◌, ◌≡◌, ◌≤◌, IfOk
 ghost use Rattle.wf_player.specs.Private.Going.{CanAnswer, IsRefusedCall};
 ghost use Rattle.wf_player.specs.Private.Standings.{IsReady, Keeps, world};
 ghost use Rattle.wf_player.specs.Words.{Ask, InRange, asks, fits, over_link, price_of};
-ghost use Rattle.wf_player.specs.Worlds.{Answers, IsBookCall, KeepsPass, WorldRefused, outside_of};
+ghost use Rattle.wf_player.specs.Worlds.{IsBookCall, KeepsPass, WorldAnswers, WorldRefused, outside_of};
 
 use crate::lent::Lent;
 use crate::player::Player;
@@ -40,7 +40,7 @@ impl<R: Threads + Wait + Sync, S: Share, L: Link> Player<'_, '_, '_, '_, '_, R, 
     pub(crate) fn answer(&mut self, act: &Act) -> Result<Input, OutOfMemory>
         requires ready { IsReady S.belongs self.old }
         requires can { CanAnswer act.now (world S.account L.told self.old).left }
-        ensures came { IfOk result (λ input. Answers (over_link L.serves) self.old.lent.now.limit
+        ensures came { IfOk result (λ input. WorldAnswers (over_link L.serves) self.old.lent.now.limit
             (S.account self.old.pass.now).document (world S.account L.told self.old) act.now input
             (world S.account L.told self.new)) }
         ensures fits { IfOk result (λ input. IsTrue (fits act.now input)) }

@@ -18,7 +18,7 @@ use Rattle.wf_link_wire.specs.Exchanges.{Answering, Exchange}
 use Rattle.wf_link_wire.specs.Wires.{over_link}
 use Rattle.wf_link_wire.proofs.LawLemmas.{exchange-alike}
 use Rattle.wf_player.specs.Playing.{RunPlayed}
-use Rattle.wf_player.specs.Worlds.{Answers, Outside, Settles, World}
+use Rattle.wf_player.specs.Worlds.{Outside, Settles, World, WorldAnswers}
 use Rattle.wf_link.specs.Links.{Serves, LinkTold}
 use Rattle.wf_iso.specs.Plays.{by_rules}
 
@@ -41,7 +41,7 @@ by_bytes = over_link sim_serves
 
 -- what the link answers to a request that has no space in its method and its target the rules answer
 answered : (limit document : ℕ) (a : World (List Server)) (first : Act) (input : Input) (b : World (List Server))
-    → Answers by_bytes limit document a first input b → Answers by_rules limit document a first input b
+    → WorldAnswers by_bytes limit document a first input b → WorldAnswers by_rules limit document a first input b
 answered limit document a (Ask op) input b is = is
 answered limit document a (Send hop) input b is = (
   is.0,
@@ -75,7 +75,7 @@ ran-by-rules limit document whole old events ending clock new x = record {
   from = x.from;
   tape = x.tape;
   last = x.last;
-  trace = play-map (Answers by_bytes limit document) Settles (Answers by_rules limit document) Settles
+  trace = play-map (WorldAnswers by_bytes limit document) Settles (WorldAnswers by_rules limit document) Settles
       (λ (w : World (List Server)). w) (answered limit document) (λ event a b is. is) x.trace;
   to = x.to;
   runs = x.runs;
@@ -89,7 +89,7 @@ asked-state (Some servers) = refl
 asked-state None = refl
 
 act-state : (limit document : ℕ) (a : World (List Server)) (first : Act) (input : Input) (b : World (List Server))
-    → Answers by_bytes limit document a first input b → b.exchange.state ≡ a.exchange.state
+    → WorldAnswers by_bytes limit document a first input b → b.exchange.state ≡ a.exchange.state
 act-state limit document a (Ask op) input b is = ap (λ (e : Exchange (List Server)). e.state) is.exchange_is
 act-state limit document a (Send hop) input b is = is.1.exchanged.state_is ∙ asked-state a.exchange.state
 act-state limit document a ReadHead input b is = is.exchanged.state_is
@@ -110,7 +110,7 @@ event-state a (event.LoadError fault) b is = ap (λ (w : World (List Server)). w
 
 -- the servers stay as they are over a run
 pub trace-state : (limit document : ℕ) {p q : Play} {a b : World (List Server)} {t : List Input} {e : List Event}
-    → PlayTrace (Answers by_bytes limit document) Settles p a t e q b → b.exchange.state ≡ a.exchange.state
+    → PlayTrace (WorldAnswers by_bytes limit document) Settles p a t e q b → b.exchange.state ≡ a.exchange.state
 trace-state limit document stop = refl
 trace-state limit document {a = a} (shown {mid = mid} one is x) =
     trace-state limit document x ∙ event-state a one mid is

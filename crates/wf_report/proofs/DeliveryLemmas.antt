@@ -8,7 +8,7 @@ use Rattle.wf_fetch_acts.specs.declared.act.Input.{Input}
 use Rattle.wf_fetch.specs.Fetch.{fetch}
 use Rattle.wf_player.specs.Driving.{DriveCut, FetchPlayed}
 use Rattle.wf_player.specs.Playing.{PlaysOn, RunPlayed}
-use Rattle.wf_player.specs.Worlds.{Answers, Outside, Settles, World, WorldRefused, outside_of}
+use Rattle.wf_player.specs.Worlds.{Outside, Settles, World, WorldAnswers, WorldRefused, outside_of}
 use Rattle.wf_player.proofs.AskLemmas.{refuses-none}
 use Rattle.wf_player.proofs.FetchLemmas.{still}
 use Rattle.wf_script_events.specs.declared.events.Ending.{Ending}
@@ -73,7 +73,7 @@ module _ {State : Type 0} (by : Answering State) (limit document : ℕ) (whole :
     idle = path.idle;
     from = path.from;
     tape = path.tape ++ tape;
-    trace = play-append (Answers by limit document) Settles path.trace x;
+    trace = play-append (WorldAnswers by limit document) Settles path.trace x;
   }
 
   -- a path on which memory was refused
@@ -95,7 +95,7 @@ module _ {State : Type 0} (by : Answering State) (limit document : ℕ) (whole :
           (sym (append-nil events)) path.trace;
       left = left;
       runs = ap (λ (t : List Input). (run_play whole t).events) (sym (append-nil path.tape))
-          ∙ ap (λ (r : PlayRun). r.events) (play-run (Answers by limit document) Settles path.trace []);
+          ∙ ap (λ (r : PlayRun). r.events) (play-run (WorldAnswers by limit document) Settles path.trace []);
     };
   }
 
@@ -114,9 +114,10 @@ module _ {State : Type 0} (by : Answering State) (limit document : ℕ) (whole :
       subst (λ (p : Play). Path by limit document whole old shown p x.first)
       (report-begun lent request requests next progress none) (path x.first x.idle x.from) in
       path-then shown (events ++ event.Result outcome ∷ []) begun rest x.first last (x.driven.tape ++ []) to
-      (play-append (Answers by limit document) Settles
-      (embedded (Answers by limit document) Settles x.driven.trace (onward lent requests next) (fetch_started progress))
-      (play-event (Answers by limit document) Settles (event.Result outcome) rest x.last last
+      (play-append (WorldAnswers by limit document) Settles
+      (embedded (WorldAnswers by limit document) Settles x.driven.trace (onward lent requests next)
+      (fetch_started progress))
+      (play-event (WorldAnswers by limit document) Settles (event.Result outcome) rest x.last last
       (record { idle = idle; outside_is = is ∙ sym x.to })))
 
   -- memory was refused in a report
@@ -133,7 +134,7 @@ module _ {State : Type 0} (by : Answering State) (limit document : ℕ) (whole :
       subst (λ (p : Play). Path by limit document whole old shown p x.first)
       (report-begun lent request requests next progress none) (path x.first x.idle x.from) in
       path-cut (shown ++ x.events) place x.last new (path-then shown x.events begun place x.first x.last x.tape to
-      (embedded (Answers by limit document) Settles x.trace (onward lent requests next)
+      (embedded (WorldAnswers by limit document) Settles x.trace (onward lent requests next)
       (fetch_started progress))) x.left
 
   -- memory was refused between reports
@@ -170,7 +171,7 @@ module _ {State : Type 0} (by : Answering State) (limit document : ℕ) (whole :
         trace = x.trace;
         to = refl;
         runs = ap (run_play whole) (sym (append-nil x.tape))
-            ∙ play-run (Answers by limit document) Settles x.trace []
+            ∙ play-run (WorldAnswers by limit document) Settles x.trace []
             ∙ ap (λ (l : List Event). let r : PlayRun = record { events = l; ending = Some (ending, clock) } in r)
             (append-nil events);
       }

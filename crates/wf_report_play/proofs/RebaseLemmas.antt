@@ -9,7 +9,7 @@ use Rattle.wf_fetch_acts.specs.declared.act.Input.{Input}
 use Rattle.wf_iso.specs.Plays.{RunsOver, Way, outside_on}
 use Rattle.wf_link_wire.specs.Exchanges.{Answering}
 use Rattle.wf_player.specs.Playing.{RunPlayed}
-use Rattle.wf_player.specs.Worlds.{Answers, IsExchanged, Outside, Settles, World}
+use Rattle.wf_player.specs.Worlds.{IsExchanged, Outside, Settles, World, WorldAnswers}
 use Rattle.wf_report_play.proofs.HistoryLemmas.{numbered-push}
 use Rattle.wf_report_play.specs.Private.Delivered.{numbered}
 use Rattle.wf_script_events.specs.declared.events.Ending.{Ending}
@@ -41,8 +41,9 @@ module _ {State : Type 0} (by : Answering State) (limit document turn : ℕ) whe
     left_is = is.left_is;
   }
 
-  answers-as : (a : World State) (first : Act) (input : Input) (b : World State) → Answers by limit 0 a first input b
-      → Answers by limit document (as_document a) first input (as_document b)
+  answers-as : (a : World State) (first : Act) (input : Input) (b : World State)
+      → WorldAnswers by limit 0 a first input b
+      → WorldAnswers by limit document (as_document a) first input (as_document b)
   answers-as a (Ask op) input b is =
       let e = is.asked.entry in
       record {
@@ -81,7 +82,8 @@ module _ {State : Type 0} (by : Answering State) (limit document turn : ℕ) whe
     from = ap outside_as ran.from;
     tape = ran.tape;
     last = as_document ran.last;
-    trace = play-map (Answers by limit 0) Settles (Answers by limit document) Settles as_document answers-as settles-as
+    trace = play-map (WorldAnswers by limit 0) Settles
+        (WorldAnswers by limit document) Settles as_document answers-as settles-as
         ran.trace;
     to = ap outside_as ran.to;
     runs = ran.runs;

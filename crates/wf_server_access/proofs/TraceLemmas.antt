@@ -32,7 +32,7 @@ use Rattle.wf_script_events.specs.declared.events.Event.{Event}
 use Rattle.wf_script_events.specs.declared.events.Event.TheVariants as event
 use Rattle.wf_script_run.specs.Play.{events_of}
 use Rattle.wf_player.specs.Driving.{LeadsOn}
-use Rattle.wf_player.specs.Worlds.{Answers, World}
+use Rattle.wf_player.specs.Worlds.{World, WorldAnswers}
 
 -- ---- a trace by its first act
 
@@ -132,7 +132,7 @@ legal-at book turn (one ∷ before) more entry legal =
 
 module _ {State : Type 0} (by : Answering State) (limit document : ℕ) where
   -- an act adds to the document's calls
-  own-after : (a b : World State) (first : Act) (input : Input) → Answers by limit document a first input b
+  own-after : (a b : World State) (first : Act) (input : Input) → WorldAnswers by limit document a first input b
       → (more : List Entry) × (b.own ≡ a.own ++ more)
   own-after a b (Ask op) input is = (is.asked.entry ∷ [], is.asked.own_is)
   own-after a b (Send hop) input is = ([], is.1.own_is ∙ sym (append-nil a.own))
@@ -182,7 +182,7 @@ module _ {State : Type 0} (by : Answering State) (Fine : State → Hop → Type 
 
   -- behind an act it is so of what is left
   behind-act : (limit document : ℕ) (world mid : World State) (first : Act) (input : Input) (more : List Event)
-      → Answers by limit document world first input mid
+      → WorldAnswers by limit document world first input mid
       → AllToldSent by Fine world.exchange.state (events_of first input ++ more)
       → AllToldSent by Fine mid.exchange.state more
   behind-act limit document world mid (Ask op) input more is all =
@@ -213,13 +213,13 @@ module _ {State : Type 0} (by : Answering State) (limit document : ℕ) (Fine : 
 
   -- it has ended with its outcome
   pub goes-ended : (came : Outcome) (world : World State) → Goes (ended came) world → came ≡ outcome
-  goes-ended came world goes = opened (with_events (Answers by limit document) events_of) outcome goes.trace
+  goes-ended came world goes = opened (with_events (WorldAnswers by limit document) events_of) outcome goes.trace
 
   -- What came of the first act, and what is left then.
   record Next (first : Act) (after : Input → Process) (world : World State) : Type 0 where
     input : Input
     mid : World State
-    came : Answers by limit document world first input mid
+    came : WorldAnswers by limit document world first input mid
     quiet : is_fault input ≡ false
     more : List Event
     sends : AllToldSent by Fine world.exchange.state (events_of first input ++ more)
@@ -228,7 +228,7 @@ module _ {State : Type 0} (by : Answering State) (limit document : ℕ) (Fine : 
   next : (request : Request) (first : Act) (after : Input → Process) (world : World State)
       → Goes (act request first after) world → Next first after world
   next request first after world goes =
-      let exchange = with_events (Answers by limit document) events_of in
+      let exchange = with_events (WorldAnswers by limit document) events_of in
       let step : Stepped exchange first after world goes.tape goes.events (ended outcome) last =
       opened exchange outcome goes.trace in
       let quiet : (is_fault step.input ≡ false) × (list_any is_fault step.rest ≡ false) =

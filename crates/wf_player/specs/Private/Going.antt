@@ -5,7 +5,7 @@ use Rattle.wf_player.specs.Private.Standings.{Standing}
 use Rattle.wf_player.specs.Words.{Act, Answering, Ask, Context, Does, Entry, Event, Fetching, InRange, Input}
 use Rattle.wf_player.specs.Words.{IsSendable, OutOfMemory, Process, Progress, Send, Step, act, after_events, events_of}
 use Rattle.wf_player.specs.Words.{fits, rest}
-use Rattle.wf_player.specs.Worlds.{Answers}
+use Rattle.wf_player.specs.Worlds.{WorldAnswers}
 
 -- a call of the book is in range, and one may be made; a request has no space in its method and its target
 abbrev pub CanAnswer : Act → ℕ → Type 0
@@ -28,7 +28,7 @@ pub record WentOn {State : Type 0} (by : Answering State) (context : Context) (f
   pub same : new.terms ≡ old.terms
   pub input : Input
   pub fit : IsTrue (fits first input)
-  pub came : Answers by old.terms.limit old.terms.document old.world first input new.world
+  pub came : WorldAnswers by old.terms.limit old.terms.document old.world first input new.world
   pub noted : new.progress ≡ after_events (events_of first input) old.progress
   pub does : Does context at (rest context fetching input)
 
