@@ -2,7 +2,7 @@
 ghost use Rattle.std.specs.Prelude.{◌≡◌, ◌≢◌, None, Some};
 ghost use Rattle.fiorrudda.specs.Fetches as spec;
 ghost use Rattle.fiorrudda.specs.Parts as parts;
-ghost use Rattle.fiorrudda_rules.specs.Answers.{Answers};
+ghost use Rattle.fiorrudda_rules.specs.Answers.{IsUnlessMemory};
 ghost use Rattle.fiorrudda.specs.Fetches.{Begins, GivesAct, GivesNumber, GivesRequest, GivesText};
 
 use crate::parts::{amount_numbered, part_numbered};
@@ -273,7 +273,7 @@ pub extern "C" fn fiorrudda_number(
 
 // All bytes of the request that a fetch sends.
 fn request_bytes(alloc: Global, session: &Session) -> Result<Option<Bytes>, Refusal>
-    ensures { Answers result (spec.request_in session.now) }
+    ensures { IsUnlessMemory result (spec.request_in session.now) }
 {
     Ok(request_of(alloc, session)?)
 }

@@ -1,7 +1,7 @@
 // What a page sees of an answer.
 ghost use Rattle.std.specs.Prelude.{◌≡◌};
 ghost use Rattle.fiorrudda_checks.specs.Answers as spec;
-ghost use Rattle.fiorrudda_rules.specs.Answers.{Answers};
+ghost use Rattle.fiorrudda_rules.specs.Answers.{IsUnlessMemory};
 ghost use Rattle.wf_filter.specs.Blocks as blocks;
 
 use crate::requested::request_of;
@@ -24,7 +24,7 @@ pub fn seen_response(
     status: u16,
     list: &HeaderList,
 ) -> Result<Response, Refusal>
-    ensures { Answers result (spec.seen_response settings.now asked.now tainting
+    ensures { IsUnlessMemory result (spec.seen_response settings.now asked.now tainting
         (record { status = status; headers = list.now })) }
 {
     let mut request = request_of(alloc, settings, asked)?;
@@ -53,7 +53,7 @@ fn is_style(destination: Destination) -> bool
 /// Whether an answer with this header list to a request is blocked for its MIME type (Fetch, "should response to
 /// request be blocked due to its MIME type").
 pub fn is_type_blocked(alloc: Global, asked: &Asked, list: &HeaderList) -> Result<bool, Refusal>
-    ensures { Answers result (spec.is_type_blocked asked.now list.now) }
+    ensures { IsUnlessMemory result (spec.is_type_blocked asked.now list.now) }
 {
     let essence = essence_of(alloc, list)?;
     let script = is_script(asked.destination());
@@ -63,7 +63,7 @@ pub fn is_type_blocked(alloc: Global, asked: &Asked, list: &HeaderList) -> Resul
 /// Whether an answer with this header list to a request is blocked since it says nosniff (Fetch, "should response to
 /// request be blocked due to nosniff").
 pub fn is_nosniff_blocked(alloc: Global, asked: &Asked, list: &HeaderList) -> Result<bool, Refusal>
-    ensures { Answers result (spec.is_nosniff_blocked asked.now list.now) }
+    ensures { IsUnlessMemory result (spec.is_nosniff_blocked asked.now list.now) }
 {
     if !nosniff(list) {
         return Ok(false);

@@ -1,7 +1,7 @@
 // Mixed content and policies.
 ghost use Rattle.std.specs.Prelude.{◌≡◌, IfOk};
 ghost use Rattle.fiorrudda_checks.specs.Checks as spec;
-ghost use Rattle.fiorrudda_rules.specs.Answers.{Answers};
+ghost use Rattle.fiorrudda_rules.specs.Answers.{IsUnlessMemory};
 ghost use Rattle.wf_types.specs.Requests.{IsRequest};
 
 use crate::found::Found;
@@ -32,7 +32,7 @@ pub fn is_mixed_upgraded(
     asked: &Asked,
     redirect: &[u8],
 ) -> Result<bool, Refusal>
-    ensures { Answers result (spec.is_mixed_upgraded settings.now asked.now redirect.now) }
+    ensures { IsUnlessMemory result (spec.is_mixed_upgraded settings.now asked.now redirect.now) }
 {
     let request = request_at(alloc, settings, asked, redirect)?;
     let client = settings.client();
@@ -47,7 +47,7 @@ pub fn is_mixed_blocked(
     asked: &Asked,
     redirect: &[u8],
 ) -> Result<bool, Refusal>
-    ensures { Answers result (spec.is_mixed_blocked settings.now asked.now redirect.now) }
+    ensures { IsUnlessMemory result (spec.is_mixed_blocked settings.now asked.now redirect.now) }
 {
     let request = request_at(alloc, settings, asked, redirect)?;
     let client = settings.client();
@@ -85,7 +85,7 @@ pub fn violations_of(
     asked: &Asked,
     redirect: &[u8],
 ) -> Result<Found, Refusal>
-    ensures { Answers result (spec.violations_of check policies.now settings.now asked.now redirect.now) }
+    ensures { IsUnlessMemory result (spec.violations_of check policies.now settings.now asked.now redirect.now) }
 {
     let request = request_at(alloc, settings, asked, redirect)?;
     let violations = violations_by(alloc, check, policies, settings.client(), &request)?;

@@ -1,7 +1,7 @@
 // The preflight of a request, and the verdict on its answer.
 ghost use Rattle.std.specs.Prelude.{◌≡◌, IfOk};
 ghost use Rattle.fiorrudda_checks.specs.Preflights as spec;
-ghost use Rattle.fiorrudda_rules.specs.Answers.{Answers};
+ghost use Rattle.fiorrudda_rules.specs.Answers.{IsUnlessMemory};
 ghost use Rattle.wf_fetch_rules.specs.Referrers.{with_referrer};
 ghost use Rattle.wf_fetch_rules.specs.Switch.{switch_of as switched};
 ghost use Rattle.wf_types.specs.Requests.{IsAtHttp, IsClient, IsRequest};
@@ -40,7 +40,7 @@ fn preflight_to(
 
 // The CORS-preflight request of a client's request.
 fn preflight(alloc: Global, settings: &Settings, asked: &Asked) -> Result<Option<Hop>, Refusal>
-    ensures { Answers result (spec.preflight settings.now asked.now) }
+    ensures { IsUnlessMemory result (spec.preflight settings.now asked.now) }
 {
     let request = request_of(alloc, settings, asked)?;
     if !is_at_http(&request) {
@@ -57,7 +57,7 @@ pub fn preflight_bytes(
     settings: &Settings,
     asked: &Asked,
 ) -> Result<Option<Bytes>, Refusal>
-    ensures { Answers result (spec.preflight_bytes settings.now asked.now) }
+    ensures { IsUnlessMemory result (spec.preflight_bytes settings.now asked.now) }
 {
     match preflight(alloc, settings, asked)? {
         None => Ok(None),
@@ -84,7 +84,7 @@ pub fn preflight_verdict(
     status: u16,
     list: &HeaderList,
 ) -> Result<Checked, Refusal>
-    ensures { Answers result (spec.preflight_verdict settings.now asked.now
+    ensures { IsUnlessMemory result (spec.preflight_verdict settings.now asked.now
         (record { status = status; headers = list.now })) }
 {
     let request = request_of(alloc, settings, asked)?;
@@ -105,7 +105,7 @@ pub fn refused_name(
     status: u16,
     list: &HeaderList,
 ) -> Result<Option<Bytes>, Refusal>
-    ensures { Answers result (spec.refused_name settings.now asked.now
+    ensures { IsUnlessMemory result (spec.refused_name settings.now asked.now
         (record { status = status; headers = list.now })) }
 {
     match preflight_verdict(alloc, settings, asked, status, list)? {

@@ -1,7 +1,7 @@
 // The request that rules look at.
 ghost use Rattle.std.specs.Prelude.{IfOk};
 ghost use Rattle.fiorrudda_checks.specs.Requested as spec;
-ghost use Rattle.fiorrudda_rules.specs.Answers.{Answers};
+ghost use Rattle.fiorrudda_rules.specs.Answers.{IsUnlessMemory};
 ghost use Rattle.wf_types.specs.Requests.{IsRequest};
 
 use fiorrudda_fetch::{Asked, Settings, requested};
@@ -16,7 +16,7 @@ use wf_types::{Head, MOST_REDIRECTS, Request};
 /// The request that a client makes of what is asked for (Fetch, sections 5.4 and 5.6; HTML, section 2.5.1).
 /// `NoRequest` where none can be made of it.
 pub fn request_of(alloc: Global, settings: &Settings, asked: &Asked) -> Result<Request, Refusal>
-    ensures told { Answers result (spec.request_of settings.now asked.now) }
+    ensures told { IsUnlessMemory result (spec.request_of settings.now asked.now) }
     ensures valid { IfOk result IsRequest }
 {
     match requested(alloc, settings, asked)? {
@@ -28,7 +28,7 @@ pub fn request_of(alloc: Global, settings: &Settings, asked: &Asked) -> Result<R
 // The request after a redirect to a URL that keeps its method.
 fn redirected_to(alloc: Global, request: Request, url: Url) -> Result<Request, Refusal>
     requires { IsRequest request }
-    ensures told { Answers result (spec.redirected_to request url) }
+    ensures told { IsUnlessMemory result (spec.redirected_to request url) }
     ensures valid { IfOk result IsRequest }
 {
     if !is_at_http(&request) || request.redirects >= MOST_REDIRECTS {
@@ -44,7 +44,7 @@ fn redirected_to(alloc: Global, request: Request, url: Url) -> Result<Request, R
 // The request, or after a redirect to the URL that a text gives, where it is not empty.
 fn redirected_by(alloc: Global, request: Request, redirect: &[u8]) -> Result<Request, Refusal>
     requires { IsRequest request }
-    ensures told { Answers result (spec.redirected_by redirect.now request) }
+    ensures told { IsUnlessMemory result (spec.redirected_by redirect.now request) }
     ensures valid { IfOk result IsRequest }
 {
     if redirect.is_empty() {
@@ -64,7 +64,7 @@ pub fn request_at(
     asked: &Asked,
     redirect: &[u8],
 ) -> Result<Request, Refusal>
-    ensures told { Answers result (spec.request_at settings.now asked.now redirect.now) }
+    ensures told { IsUnlessMemory result (spec.request_at settings.now asked.now redirect.now) }
     ensures valid { IfOk result IsRequest }
 {
     let request = request_of(alloc, settings, asked)?;

@@ -1,5 +1,5 @@
 ghost use Rattle.std.specs.Prelude.{◌≡◌, ◌≢◌, ◌++◌, IfErr, IfOk, IsTrue, OnErr, OnOk};
-ghost use Rattle.fiorrudda_rules.specs.Answers.{Answers};
+ghost use Rattle.fiorrudda_rules.specs.Answers.{IsUnlessMemory};
 ghost use Rattle.fiorrudda_rules.specs.Reading as reading;
 ghost use Rattle.wf_types.specs.Requests as requests;
 
@@ -44,7 +44,7 @@ impl Model for Settings {
 
 // The http or https URL that a text gives by itself.
 fn web_url(alloc: Global, text: &[u8]) -> Result<Url, Refusal>
-    ensures told { Answers result (reading.web_url_in text.now) }
+    ensures told { IsUnlessMemory result (reading.web_url_in text.now) }
     ensures http { IfOk result (λ url. IsTrue (requests.is_http_url url)) }
 {
     let url = read_url(alloc, text)?;
@@ -109,7 +109,7 @@ impl Settings {
         top: &[u8],
         policy: ReferrerPolicy,
     ) -> Result<Settings, Refusal>
-        ensures { Answers result (settings_of url.now top.now policy) }
+        ensures { IsUnlessMemory result (settings_of url.now top.now policy) }
     {
         let policy = policy_or(policy, ReferrerPolicy::StrictOriginWhenCrossOrigin);
         let url = web_url(alloc, url)?;

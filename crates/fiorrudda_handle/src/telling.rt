@@ -1,7 +1,7 @@
 // Answers, told by a code and in the room that the caller lends.
 ghost use Rattle.std.specs.Prelude.{◌≡◌, ◌≢◌, Bool, ℕ, List, Option, Result};
 ghost use Rattle.fiorrudda_handle.specs.Codes.{code_of, some_text, told, yes_or_no, IsTold, IsWritten};
-ghost use Rattle.fiorrudda_rules.specs.Answers.{Answers};
+ghost use Rattle.fiorrudda_rules.specs.Answers.{IsUnlessMemory};
 
 use crate::codes::{
     NO, NO_REQUEST, NOT_A_HEADER, NOT_A_URL, NOT_HTTP, OK, OUT_OF_MEMORY, TOO_LATE, TOO_SHORT,
@@ -33,7 +33,7 @@ pub fn yes_or_no(holds: bool) -> u32
 // The code that tells whether something holds, or why there is no answer.
 pub fn told(answer: Result<bool, Refusal>) -> u32
     ensures code { result ≡ told answer }
-    ensures told { (expected : Result Bool Refusal) → Answers answer expected → result ≢ OUT_OF_MEMORY
+    ensures told { (expected : Result Bool Refusal) → IsUnlessMemory answer expected → result ≢ OUT_OF_MEMORY
         → result ≡ told expected }
 {
     match answer {
@@ -58,7 +58,8 @@ pub fn write(text: &[u8], room: &mut [u8], len: &mut usize) -> u32
 // Writes the text that answers, if one does.
 pub fn write_answer(answer: Result<Option<Bytes>, Refusal>, room: &mut [u8], len: &mut usize) -> u32
     ensures code { IsTold answer room.old room.new len.old len.new result }
-    ensures told { (expected : Result (Option (List ℕ)) Refusal) → Answers answer expected → result ≢ OUT_OF_MEMORY →
+    ensures told { (expected : Result (Option (List ℕ)) Refusal) → IsUnlessMemory answer expected →
+        result ≢ OUT_OF_MEMORY →
         IsTold expected room.old room.new len.old len.new result }
     ensures out_of_memory { result ≡ OUT_OF_MEMORY → (room.new ≡ room.old) × (len.new ≡ len.old) }
 {
@@ -72,7 +73,7 @@ pub fn write_answer(answer: Result<Option<Bytes>, Refusal>, room: &mut [u8], len
 // Writes the text that answers.
 pub fn write_text(answer: Result<Bytes, Refusal>, room: &mut [u8], len: &mut usize) -> u32
     ensures code { IsTold (some_text answer) room.old room.new len.old len.new result }
-    ensures told { (expected : Result (List ℕ) Refusal) → Answers answer expected → result ≢ OUT_OF_MEMORY →
+    ensures told { (expected : Result (List ℕ) Refusal) → IsUnlessMemory answer expected → result ≢ OUT_OF_MEMORY →
         IsTold (some_text expected) room.old room.new len.old len.new result }
     ensures out_of_memory { result ≡ OUT_OF_MEMORY → (room.new ≡ room.old) × (len.new ≡ len.old) }
 {

@@ -1,7 +1,7 @@
 // The preflight of a request, and the verdict on its answer.
 ghost use Rattle.std.specs.Prelude.{◌≡◌, ◌≢◌, Result, Some};
 ghost use Rattle.fiorrudda_policies.specs.Preflights.{IsPreflight, IsRefusedName, IsVerdict, IsVerdictOn};
-ghost use Rattle.fiorrudda_rules.specs.Answers.{Answers};
+ghost use Rattle.fiorrudda_rules.specs.Answers.{IsUnlessMemory};
 ghost use Rattle.fiorrudda_rules.specs.declared.refusal.Refusal.{Refusal as Refused};
 ghost use Rattle.wf_cors.specs.declared.answer.Checked.{Checked as Verdict};
 
@@ -71,7 +71,7 @@ pub extern "C" fn fiorrudda_preflight(
 
 // Tells a verdict.
 fn tell(answer: Result<Checked, Refusal>, error: &mut u32, age: &mut u64) -> u32
-    ensures told { (expected : Result Verdict Refused) → Answers answer expected → result ≢ OUT_OF_MEMORY
+    ensures told { (expected : Result Verdict Refused) → IsUnlessMemory answer expected → result ≢ OUT_OF_MEMORY
         → IsVerdict expected error.old error.new age.old age.new result }
     ensures out_of_memory { result ≡ OUT_OF_MEMORY → (error.new ≡ error.old) × (age.new ≡ age.old) }
 {

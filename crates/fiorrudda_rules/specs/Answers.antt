@@ -4,9 +4,9 @@ use Rattle.fiorrudda_rules.specs.declared.refusal.Refusal.{Refusal}
 use Rattle.fiorrudda_rules.specs.declared.refusal.Refusal.TheVariants.{OutOfMemory}
 
 -- the result is this answer, unless memory was refused
-abbrev pub Answers : {X : Type 0} → Result X Refusal → Result X Refusal → Type 0
-Answers (Ok x) answer = answer ≡ Ok x
-Answers (Err refusal) answer = refusal ≢ OutOfMemory → answer ≡ Err refusal
+abbrev pub IsUnlessMemory : {X : Type 0} → Result X Refusal → Result X Refusal → Type 0
+IsUnlessMemory (Ok x) answer = answer ≡ Ok x
+IsUnlessMemory (Err refusal) answer = refusal ≢ OutOfMemory → answer ≡ Err refusal
 
 -- what follows from an answer; a refusal stays
 abbrev pub and_then : {X Y : Type 0} → Result X Refusal → (X → Result Y Refusal) → Result Y Refusal

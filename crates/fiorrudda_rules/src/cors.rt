@@ -1,5 +1,5 @@
 // What an answer's headers let a request of another origin have.
-ghost use Rattle.fiorrudda_rules.specs.Answers.{Answers};
+ghost use Rattle.fiorrudda_rules.specs.Answers.{IsUnlessMemory};
 ghost use Rattle.fiorrudda_rules.specs.Cors as spec;
 
 use crate::reading::read_web_url;
@@ -17,7 +17,7 @@ pub fn is_kept_by_resource_policy(
     url: &[u8],
     headers: &HeaderList,
 ) -> Result<bool, Refusal>
-    ensures { Answers result (spec.is_kept_by_resource_policy page.now url.now headers.now) }
+    ensures { IsUnlessMemory result (spec.is_kept_by_resource_policy page.now url.now headers.now) }
 {
     let page = read_web_url(alloc, page)?;
     let url = read_web_url(alloc, url)?;

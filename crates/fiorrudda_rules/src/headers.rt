@@ -1,6 +1,6 @@
 // Header lists of given names and values.
 ghost use Rattle.std.specs.Prelude.{◌≡◌, ◌≢◌, IfErr, OnErr, OnOk, Ok, Err};
-ghost use Rattle.fiorrudda_rules.specs.Answers.{Answers};
+ghost use Rattle.fiorrudda_rules.specs.Answers.{IsUnlessMemory};
 ghost use Rattle.fiorrudda_rules.specs.Headers as spec;
 
 use crate::refusal::Refusal;
@@ -25,7 +25,7 @@ pub fn append_header(list: &mut HeaderList, name: &[u8], value: &[u8]) -> Result
 /// "get": all values of a name joined by a comma and a space, or nothing where the list does not contain it (Fetch,
 /// section 2.2.2).
 pub fn value_of(alloc: Global, list: &HeaderList, name: &[u8]) -> Result<Option<Bytes>, Refusal>
-    ensures { Answers result (spec.value_of name.now list.now) }
+    ensures { IsUnlessMemory result (spec.value_of name.now list.now) }
 {
     Ok(list.get(alloc, name)?)
 }

@@ -1,6 +1,6 @@
 // The known hosts of a book.
 ghost use Rattle.std.specs.Prelude.{◌≡◌, OnErr, OnOk};
-ghost use Rattle.fiorrudda_rules.specs.Answers.{Answers};
+ghost use Rattle.fiorrudda_rules.specs.Answers.{IsUnlessMemory};
 ghost use Rattle.fiorrudda_rules.specs.Hosts as spec;
 
 use crate::refusal::Refusal;
@@ -22,7 +22,7 @@ pub fn note_field(
     field: &[u8],
     now: u64,
 ) -> Result<bool, Refusal>
-    ensures told { Answers result (spec.says field.now now) }
+    ensures told { IsUnlessMemory result (spec.says field.now now) }
     ensures ok { OnOk result (book.new ≡ spec.after_field host.now field.now now book.old) }
     ensures err { OnErr result (book.new ≡ book.old) }
 {
@@ -40,7 +40,7 @@ pub fn note_field(
 /// Whether a host is a known HSTS host at a time in seconds (RFC 6797, section 8.2). `TooLate` at 2^48 seconds. The
 /// book stays as it was.
 pub fn is_known_host(alloc: Global, book: &mut Book, host: &[u8], now: u64) -> Result<bool, Refusal>
-    ensures told { Answers result (spec.is_known_host host.now now book.old) }
+    ensures told { IsUnlessMemory result (spec.is_known_host host.now now book.old) }
     ensures kept { book.new ≡ book.old }
 {
     if now >= END_OF_TIME {

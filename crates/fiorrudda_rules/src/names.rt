@@ -1,6 +1,6 @@
 // Names of headers.
 ghost use Rattle.std.specs.Prelude.{◌≡◌, slice_get, IfOk};
-ghost use Rattle.fiorrudda_rules.specs.Answers.{Answers};
+ghost use Rattle.fiorrudda_rules.specs.Answers.{IsUnlessMemory};
 ghost use Rattle.fiorrudda_rules.specs.Names as spec;
 
 use crate::refusal::Refusal;
@@ -23,7 +23,7 @@ fn text_at(alloc: Global, texts: &[Bytes], at: usize) -> Result<Option<Bytes>, O
 /// The CORS-unsafe request-header name of a header list at an index, in lower case, or nothing behind the last (Fetch,
 /// section 2.2.2, "CORS-unsafe request-header names"). They ascend by their bytes.
 pub fn unsafe_name_at(alloc: Global, list: &HeaderList, at: usize) -> Result<Option<Bytes>, Refusal>
-    ensures { Answers result (spec.unsafe_name_at list.now at) }
+    ensures { IsUnlessMemory result (spec.unsafe_name_at list.now at) }
 {
     let names = unsafe_names(alloc, list)?;
     Ok(text_at(alloc, names.as_slice(), at)?)
@@ -37,7 +37,7 @@ pub fn exposed_name_at(
     include: bool,
     at: usize,
 ) -> Result<Option<Bytes>, Refusal>
-    ensures { Answers result (spec.exposed_name_at include list.now at) }
+    ensures { IsUnlessMemory result (spec.exposed_name_at include list.now at) }
 {
     let names = exposed_names(alloc, list, include)?;
     Ok(text_at(alloc, names.as_slice(), at)?)
@@ -46,7 +46,7 @@ pub fn exposed_name_at(
 /// Whether a name and a value are a forbidden request-header, which no script can set (Fetch, section 2.2.2).
 /// `NotHeader` where the name is no token or the value no header value.
 pub fn is_forbidden_header(alloc: Global, name: &[u8], value: &[u8]) -> Result<bool, Refusal>
-    ensures { Answers result (spec.is_forbidden name.now value.now) }
+    ensures { IsUnlessMemory result (spec.is_forbidden name.now value.now) }
 {
     let mut none = HeaderList::new(alloc);
     match guarded_append(alloc, &mut none, Guard::Request, name, value)? {

@@ -1,5 +1,5 @@
 // Origins of URLs that are given as texts.
-ghost use Rattle.fiorrudda_rules.specs.Answers.{Answers};
+ghost use Rattle.fiorrudda_rules.specs.Answers.{IsUnlessMemory};
 ghost use Rattle.fiorrudda_rules.specs.Origins as spec;
 
 use crate::reading::{read_url, read_web_url};
@@ -12,7 +12,7 @@ use wf_text::Bytes;
 /// The serialised origin of an http or https URL (HTML, section 7.1.1, "serialization of an origin"). `NotUrl`, or
 /// `NotHttp` for a URL of another scheme, whose origin is not looked at here.
 pub fn origin_text(alloc: Global, url: &[u8]) -> Result<Bytes, Refusal>
-    ensures { Answers result (spec.origin_text url.now) }
+    ensures { IsUnlessMemory result (spec.origin_text url.now) }
 {
     let url = read_web_url(alloc, url)?;
     let origin = tuple_origin(alloc, &url)?;
@@ -22,7 +22,7 @@ pub fn origin_text(alloc: Global, url: &[u8]) -> Result<Bytes, Refusal>
 /// Whether two http or https URLs have the same origin (HTML, section 7.1.1, "same origin"). `NotUrl` or `NotHttp`, of
 /// the first URL that is refused.
 pub fn are_same_origin(alloc: Global, a: &[u8], b: &[u8]) -> Result<bool, Refusal>
-    ensures { Answers result (spec.are_same_origin a.now b.now) }
+    ensures { IsUnlessMemory result (spec.are_same_origin a.now b.now) }
 {
     let a = read_web_url(alloc, a)?;
     let b = read_web_url(alloc, b)?;
@@ -33,7 +33,7 @@ pub fn are_same_origin(alloc: Global, a: &[u8], b: &[u8]) -> Result<bool, Refusa
 /// 7.1.1, "schemelessly same site", with the last two labels of a domain in the place of a registrable domain).
 /// `NotUrl` or `NotHttp`, of the first URL that is refused.
 pub fn are_same_site(alloc: Global, a: &[u8], b: &[u8]) -> Result<bool, Refusal>
-    ensures { Answers result (spec.are_same_site a.now b.now) }
+    ensures { IsUnlessMemory result (spec.are_same_site a.now b.now) }
 {
     let a = read_web_url(alloc, a)?;
     let b = read_web_url(alloc, b)?;
@@ -43,7 +43,7 @@ pub fn are_same_site(alloc: Global, a: &[u8], b: &[u8]) -> Result<bool, Refusal>
 /// Whether a URL is potentially trustworthy (Secure Contexts, section 3.2, "is url potentially trustworthy"); one that
 /// is neither http nor https is not. `NotUrl`.
 pub fn is_trustworthy(alloc: Global, url: &[u8]) -> Result<bool, Refusal>
-    ensures { Answers result (spec.is_trustworthy url.now) }
+    ensures { IsUnlessMemory result (spec.is_trustworthy url.now) }
 {
     let url = read_url(alloc, url)?;
     Ok(is_trustworthy_url(&url))
@@ -52,7 +52,7 @@ pub fn is_trustworthy(alloc: Global, url: &[u8]) -> Result<bool, Refusal>
 /// Whether an http or https URL has a bad port, to which nothing is sent (Fetch, section 2.9, "bad port"). `NotUrl` or
 /// `NotHttp`.
 pub fn goes_to_bad_port(alloc: Global, url: &[u8]) -> Result<bool, Refusal>
-    ensures { Answers result (spec.goes_to_bad_port url.now) }
+    ensures { IsUnlessMemory result (spec.goes_to_bad_port url.now) }
 {
     let url = read_web_url(alloc, url)?;
     Ok(bad_port(url.port()))

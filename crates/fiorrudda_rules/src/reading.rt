@@ -1,5 +1,5 @@
 // URLs of texts.
-ghost use Rattle.fiorrudda_rules.specs.Answers.{Answers};
+ghost use Rattle.fiorrudda_rules.specs.Answers.{IsUnlessMemory};
 ghost use Rattle.fiorrudda_rules.specs.Reading as spec;
 
 use crate::refusal::Refusal;
@@ -10,7 +10,7 @@ use wf_types::{url_alone, utf8_text};
 
 /// The URL that a text gives by itself (URL Standard, section 4.4), or `NotUrl`.
 pub fn read_url(alloc: Global, text: &[u8]) -> Result<Url, Refusal>
-    ensures { Answers result (spec.url_in text.now) }
+    ensures { IsUnlessMemory result (spec.url_in text.now) }
 {
     let Some(address) = utf8_text(text) else {
         return Err(Refusal::NotUrl);
@@ -23,7 +23,7 @@ pub fn read_url(alloc: Global, text: &[u8]) -> Result<Url, Refusal>
 
 /// The http or https URL that a text gives by itself; `NotUrl`, or `NotHttp` for one of another scheme.
 pub fn read_web_url(alloc: Global, text: &[u8]) -> Result<Url, Refusal>
-    ensures { Answers result (spec.web_url_in text.now) }
+    ensures { IsUnlessMemory result (spec.web_url_in text.now) }
 {
     let url = read_url(alloc, text)?;
     if is_http_url(&url) {

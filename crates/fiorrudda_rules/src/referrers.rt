@@ -1,5 +1,5 @@
 // The referrer that a request tells.
-ghost use Rattle.fiorrudda_rules.specs.Answers.{Answers};
+ghost use Rattle.fiorrudda_rules.specs.Answers.{IsUnlessMemory};
 ghost use Rattle.fiorrudda_rules.specs.Referrers as spec;
 
 use crate::reading::read_web_url;
@@ -18,7 +18,7 @@ pub fn told_referrer(
     source: &[u8],
     target: &[u8],
 ) -> Result<Option<Bytes>, Refusal>
-    ensures { Answers result (spec.told_referrer policy source.now target.now) }
+    ensures { IsUnlessMemory result (spec.told_referrer policy source.now target.now) }
 {
     let policy = policy_or(policy, ReferrerPolicy::StrictOriginWhenCrossOrigin);
     let source = read_web_url(alloc, source)?;

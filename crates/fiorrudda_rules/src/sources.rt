@@ -1,5 +1,5 @@
 // Source expressions of content security policies.
-ghost use Rattle.fiorrudda_rules.specs.Answers.{Answers};
+ghost use Rattle.fiorrudda_rules.specs.Answers.{IsUnlessMemory};
 ghost use Rattle.fiorrudda_rules.specs.Sources as spec;
 
 use crate::reading::{read_url, read_web_url};
@@ -18,7 +18,7 @@ pub fn source_matches(
     page: &[u8],
     redirects: u32,
 ) -> Result<bool, Refusal>
-    ensures { Answers result (spec.source_matches word.now url.now page.now redirects) }
+    ensures { IsUnlessMemory result (spec.source_matches word.now url.now page.now redirects) }
 {
     let url = read_url(alloc, url)?;
     let page = read_web_url(alloc, page)?;

@@ -1,5 +1,5 @@
 // MIME types of answers.
-ghost use Rattle.fiorrudda_rules.specs.Answers.{Answers};
+ghost use Rattle.fiorrudda_rules.specs.Answers.{IsUnlessMemory};
 ghost use Rattle.fiorrudda_rules.specs.Types as spec;
 
 use crate::refusal::Refusal;
@@ -10,7 +10,7 @@ use wf_text::Bytes;
 /// The essence, in lower case, of the MIME type that a header list gives, or nothing where it gives none (Fetch,
 /// "extract a MIME type").
 pub fn essence_in(alloc: Global, list: &HeaderList) -> Result<Option<Bytes>, Refusal>
-    ensures { Answers result (spec.essence_in list.now) }
+    ensures { IsUnlessMemory result (spec.essence_in list.now) }
 {
     Ok(wf_mime::essence_of(alloc, list)?)
 }
