@@ -52,9 +52,9 @@ abbrev pub Received : ℕ → Option (List ℕ) → Option (List ℕ) → Type 0
 Received more old new = new ≡ option_map (with_bytes more) old
 
 -- the link that was made is the one told
-abbrev pub IsTold : {Link : Type 0} → Option Link → Link → Type 0
-IsTold None link = Unit {0}
-IsTold (Some told) link = link ≡ told
+abbrev pub IsForetold : {Link : Type 0} → Option Link → Link → Type 0
+IsForetold None link = Unit {0}
+IsForetold (Some told) link = link ≡ told
 
 -- the links taken back, and how many more are out
 pub record Lendings (Link : Type 0) : Type 0 where

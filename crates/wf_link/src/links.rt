@@ -1,6 +1,6 @@
 ghost use Rattle.std.specs.Prelude.{◌≡◌, ◌+◌, ℕ, List, Option, IfOk, OnErr, option_map};
 ghost use Rattle.wf_link.specs.Counts.{grown_by};
-ghost use Rattle.wf_link.specs.Links.{IsTold, Lendings, TookBack, one_out};
+ghost use Rattle.wf_link.specs.Links.{IsForetold, Lendings, TookBack, one_out};
 ghost use Rattle.wf_link.specs.declared.target.Route.{Route};
 
 use crate::link::Link;
@@ -31,7 +31,7 @@ pub trait Links {
         document: u32,
         routes: &Routes,
     ) -> Result<Self::Link, OutOfMemory>
-        ensures told { IfOk result (λ link. IsTold (opening self.old 0 document routes.now) link) }
+        ensures told { IfOk result (λ link. IsForetold (opening self.old 0 document routes.now) link) }
         ensures later { IfOk result (λ _. (k number : ℕ) (by : List Route)
             → opening self.new k number by ≡ opening self.old (k + 1) number by) }
         ensures refused { OnErr result ((k number : ℕ) (by : List Route)

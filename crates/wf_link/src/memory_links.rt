@@ -1,6 +1,6 @@
 ghost use Rattle.std.specs.Prelude.{◌≡◌, ◌+◌, ℕ, List, [], drop, slice_get, ok_or, Some, IfOk, OnOk, OnErr, option_map};
 ghost use Rattle.wf_link.specs.Counts.{grown_by};
-ghost use Rattle.wf_link.specs.Links.{IsTold, TookBack, one_out};
+ghost use Rattle.wf_link.specs.Links.{IsForetold, TookBack, one_out};
 ghost use Rattle.wf_link.specs.MemoryLinks.{after_make, after_take_back};
 ghost use Rattle.wf_link.specs.declared.target.Route.{Route};
 ghost use Rattle.wf_text.specs.declared.memory.OutOfMemory.{OutOfMemory};
@@ -85,7 +85,7 @@ impl Links for MemoryLinks {
         _document: u32,
         _routes: &Routes,
     ) -> Result<MemoryLink, OutOfMemory>
-        ensures told { IfOk result (λ link. IsTold (slice_get self.old.waiting 0) link) }
+        ensures told { IfOk result (λ link. IsForetold (slice_get self.old.waiting 0) link) }
         ensures later { IfOk result (λ _. (k number : ℕ) (by : List Route)
             → slice_get self.new.waiting k ≡ slice_get self.old.waiting (k + 1)) }
         ensures refused { OnErr result ((k number : ℕ) (by : List Route)

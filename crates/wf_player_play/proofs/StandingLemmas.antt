@@ -17,7 +17,7 @@ use Rattle.wf_script_values.specs.declared.scenario.Scenario.{Scenario}
 use Rattle.wf_script_values.specs.declared.servers.Server.{Server}
 use Rattle.wf_sim.specs.Sim.{SimState}
 use Rattle.wf_player.specs.Playing.{RunPlayed}
-use Rattle.wf_link.specs.Links.{IsTold}
+use Rattle.wf_link.specs.Links.{IsForetold}
 use Rattle.wf_link.specs.declared.target.Route.{Route}
 use Rattle.wf_player_seats.specs.Links.{way_of}
 use Rattle.wf_player_seats.proofs.ServerLemmas.{by_bytes, ran-by-rules, ran-state, sim_told}
@@ -95,7 +95,7 @@ scripted-play scenario transcripts history link old new servers opens x =
       runs = transcripts-by-rules scenario scenario.now history x.play.runs
           (All-map (λ (w : Way (List Server)). w ≡ way_to_servers scenario) way x.made
           (λ k d lt. let told : get_or x.made k d ≡ link =
-          subst (λ (o : Option SimState). IsTold o (get_or x.made k d)) (opens k k scenario.routes)
+          subst (λ (o : Option SimState). IsForetold o (get_or x.made k d)) (opens k k scenario.routes)
           (x.opened k (get_or x.made k d) (read x.made k d lt)) in
           ap way told ∙ ap (λ (s : List Server). record { state = Some s; received = None; faults = 0 }) servers))
           (All-map IsQuiet way x.back (λ k d lt. (refl, refl)));

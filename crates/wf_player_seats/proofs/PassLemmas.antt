@@ -5,7 +5,7 @@ use Rattle.std.specs.Prelude.{◌==◌, slice_get}
 use Rattle.std.specs.List.{range_with_len}
 use Rattle.std.proofs.lemmas.Bool.Decides.{eqb_tells}
 use Rattle.std.proofs.lemmas.List.Sums.{sum_by-cons, sum_by_push}
-use Rattle.wf_link.specs.Links.{IsTold}
+use Rattle.wf_link.specs.Links.{IsForetold}
 use Rattle.wf_turn.specs.Counts.{times}
 use Rattle.wf_player_seats.specs.Links.{AreOpened}
 
@@ -72,13 +72,13 @@ made-more count made made' is more d =
 
 -- a link more, where the next one was to be made
 pub opened-more : {L : Type 0} (first later : ℕ → Option L) (links : List L) (link : L)
-    → AreOpened first links → ((k : ℕ) → later k ≡ first (k + length links)) → IsTold (later 0) link
+    → AreOpened first links → ((k : ℕ) → later k ≡ first (k + length links)) → IsForetold (later 0) link
     → AreOpened first (links ++ link ∷ [])
 opened-more {L} first later links link opened shifted told k other at = elim (place links k at) [
   | inl inside ↦ opened k other inside
   | inr last ↦
-      subst (λ (o : Option L). IsTold o other) (shifted 0 ∙ ap first (zero_before (length links) ∙ last.0))
-      (subst (λ (l : L). IsTold (later 0) l) last.1 told)
+      subst (λ (o : Option L). IsForetold o other) (shifted 0 ∙ ap first (zero_before (length links) ∙ last.0))
+      (subst (λ (l : L). IsForetold (later 0) l) last.1 told)
 ]
   where
     zero_before : (n : ℕ) → 0 + n ≡ n

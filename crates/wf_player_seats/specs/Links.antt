@@ -2,7 +2,7 @@
 -- faults that grows by theirs as they are taken back (this project's own).
 use Rattle.std.specs.Prelude.{◌≡◌, ℕ, List, [], ◌∷◌, slice_get, Option, Some}
 use Rattle.wf_link.specs.Counts.{grown_by}
-use Rattle.wf_link.specs.Links.{IsTold, LinkTold}
+use Rattle.wf_link.specs.Links.{IsForetold, LinkTold}
 use Rattle.wf_link.specs.declared.target.Route.{Route}
 use Rattle.wf_iso.specs.Plays.{Way}
 
@@ -17,7 +17,7 @@ for_documents opening routes k = opening k k routes
 
 -- the links are those that were to be made, where told: the first at 0, and so on
 abbrev pub AreOpened : {L : Type 0} → (ℕ → Option L) → List L → Type 0
-AreOpened {L} opening links = (k : ℕ) (link : L) → slice_get links k ≡ Some link → IsTold (opening k) link
+AreOpened {L} opening links = (k : ℕ) (link : L) → slice_get links k ≡ Some link → IsForetold (opening k) link
 
 -- a count that has grown by each of these
 abbrev pub grown_by_all : ℕ → List ℕ → ℕ

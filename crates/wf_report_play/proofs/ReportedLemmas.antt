@@ -11,7 +11,7 @@ use Rattle.wf_book.specs.declared.entry.Entry.{Entry}
 use Rattle.wf_book.specs.Entries.{Legal, book_after, entries_of}
 use Rattle.wf_iso.specs.Plays.{HasTurnsFrom, IsPlay, IsPlayOver, IsTranscript, RunsOver, Way, by_rules, opening_book}
 use Rattle.wf_iso.specs.Plays.{outside_on, way_to_servers}
-use Rattle.wf_link.specs.Links.{IsTold, LinkTold}
+use Rattle.wf_link.specs.Links.{IsForetold, LinkTold}
 use Rattle.wf_link.specs.declared.target.Route.{Route}
 use Rattle.wf_link_wire.specs.Exchanges.{Answering}
 use Rattle.wf_player.specs.Playing.{RunPlayed}
@@ -395,6 +395,6 @@ reported-play scenario made transcripts delivereds history link opening servers 
         → k < length links → ServesAt scenario (get_or links k d)
     at links are k d lt =
         ap (λ (l : SimState). let o : Option (List Server) = Some l.servers in o)
-        (subst (λ (o : Option SimState). IsTold o (get_or links k d)) (opens k k scenario.routes)
+        (subst (λ (o : Option SimState). IsForetold o (get_or links k d)) (opens k k scenario.routes)
         (are k (get_or links k d) (read links k d lt)))
         ∙ ap (λ (s : List Server). let o : Option (List Server) = Some s in o) servers

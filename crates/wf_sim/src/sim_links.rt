@@ -1,5 +1,5 @@
 ghost use Rattle.std.specs.Prelude.{◌≡◌, ◌+◌, ℕ, List, [], Ok, Some, IfOk, OnErr, option_map};
-ghost use Rattle.wf_link.specs.Links.{IsTold, one_out};
+ghost use Rattle.wf_link.specs.Links.{IsForetold, one_out};
 ghost use Rattle.wf_link.specs.declared.target.Route.{Route};
 ghost use Rattle.wf_script_values.specs.Valid.{IsValid};
 ghost use Rattle.wf_sim.specs.Sim.{fault_count, not_lent};
@@ -61,7 +61,7 @@ impl<'a> Links for SimLinks<'a> {
         _document: u32,
         _routes: &Routes,
     ) -> Result<SimLink<'a>, OutOfMemory>
-        ensures told { IfOk result (λ link. IsTold (Some self.old) link) }
+        ensures told { IfOk result (λ link. IsForetold (Some self.old) link) }
         ensures later { IfOk result (λ _. (k number : ℕ) (by : List Route) → Some self.new ≡ Some self.old) }
         ensures refused { OnErr result ((k number : ℕ) (by : List Route) → Some self.new ≡ Some self.old) }
         ensures lent { IfOk result (λ _. not_lent ≡ option_map one_out not_lent) }

@@ -1,6 +1,6 @@
 use Rattle.std.proofs.Common.{◌≡◌, ℕ, ◌+◌, [], ◌∷◌, ◌++◌, ◌∙◌, ap, arith, length, length-append, map, subst}
 use Rattle.std.proofs.lemmas.List.{length-map, map_push}
-use Rattle.wf_link.specs.Links.{IsTold}
+use Rattle.wf_link.specs.Links.{IsForetold}
 use Rattle.wf_player_seats.specs.Links.{for_documents}
 use Rattle.wf_player_seats.proofs.LendingLemmas.{out-one}
 use Rattle.wf_player_seats.proofs.PassLemmas.{opened-more}
@@ -27,7 +27,7 @@ loop-pass-preserved g c =
       opened = rw pushed (opened-more (for_documents opening routes)
           (λ k. g.N.Links.opening c.loop-pass.links k (k + length links) routes) links link i.opened
           (λ k. i.later k (k + length links) routes)
-          (subst (λ n. IsTold (g.N.Links.opening c.loop-pass.links 0 n routes) link) number e.told));
+          (subst (λ n. IsForetold (g.N.Links.opening c.loop-pass.links 0 n routes) link) number e.told));
       later = λ k n by. e.later k n by ∙ i.later (k + 1) n by ∙ ap (λ m. opening m n by) (further k (length links)
           (length (map (λ s. s.link) c.push_reserved.new.self.items))
           (ap length pushed ∙ length-append links (link ∷ [])));
