@@ -12,7 +12,7 @@ use Rattle.wf_script_run.specs.Documents.{EachDocument}
 use Rattle.wf_script_run.specs.Play.{PlayRun, run_play}
 use Rattle.wf_link_wire.specs.Exchanges.{Answering}
 use Rattle.wf_iso.specs.Isolated.{run_in, run_of}
-use Rattle.wf_iso.specs.Laws.{CallsFollow, IsTold, PlaysOnce, TapesOnce}
+use Rattle.wf_iso.specs.Laws.{CallsFollow, PlaysOnce, TapesOnce, TellsWithoutFaults}
 use Rattle.wf_iso.specs.Plays.{IsTranscript, Way, by_rules}
 use Rattle.wf_iso.proofs.OnceLemmas.{once, opened-same, part}
 use Rattle.wf_iso.proofs.OrderLemmas.{idle, ordered-document}
@@ -34,7 +34,7 @@ transcript-by a b document key runs =
 module _ (law : HasOneEnd) {State : Type 0} (by : Answering State) (scenario : Scenario) (base : ℕ)
     (history : List Entry) where
   module _ (number : ℕ) (document : Document) (old new : Way State) (transcript different : Transcript)
-      (told : IsTold old new)
+      (told : TellsWithoutFaults old new)
       (one : IsTranscript by scenario base history number document old new transcript)
       (two : IsTranscript by scenario base history number document old new different) where
     tape-once : one.run_is.ran.tape ≡ two.run_is.ran.tape
@@ -84,7 +84,7 @@ calls-follow law State by scenario base history others number document old new t
 abbrev way : List Server → Way (List Server)
 way servers = record { state = Some servers; received = None; faults = 0 }
 
-way-told : (servers : List Server) → IsTold (way servers) (way servers)
+way-told : (servers : List Server) → TellsWithoutFaults (way servers) (way servers)
 way-told servers = record { state = servers; told = refl; none = refl }
 
 -- the ways of these documents

@@ -79,7 +79,7 @@ RunsAlike =
 -- ---- plays
 
 -- A link tells its state at the first, and has not failed since.
-pub record IsTold {State : Type 0} (old new : Way State) : Type 0 where
+pub record TellsWithoutFaults {State : Type 0} (old new : Way State) : Type 0 where
   pub state : State
   pub told : old.state ≡ Some state
   pub none : new.faults ≡ 0
@@ -89,7 +89,7 @@ pub record IsTold {State : Type 0} (old new : Way State) : Type 0 where
 abbrev pub TapesOnce : Type 0 → Type 0
 TapesOnce State =
     (by : Answering State) (scenario : Scenario) (base : ℕ) (history : List Entry) (number : ℕ) (document : Document)
-    (old new : Way State) (transcript different : Transcript) → IsTold old new
+    (old new : Way State) (transcript different : Transcript) → TellsWithoutFaults old new
     → (one : IsTranscript by scenario base history number document old new transcript)
     → (two : IsTranscript by scenario base history number document old new different)
     → (one.run_is.ran.tape ≡ two.run_is.ran.tape) × (transcript ≡ different)
@@ -99,7 +99,7 @@ TapesOnce State =
 abbrev pub CallsFollow : Type 0 → Type 0
 CallsFollow State =
     (by : Answering State) (scenario : Scenario) (base : ℕ) (history others : List Entry) (number : ℕ)
-    (document : Document) (old new : Way State) (transcript different : Transcript) → IsTold old new
+    (document : Document) (old new : Way State) (transcript different : Transcript) → TellsWithoutFaults old new
     → IsTranscript by scenario base history number document old new transcript
     → IsTranscript by scenario base others number document old new different
     → PartAtReply (entries_of number history) (entries_of number others)
