@@ -8,7 +8,7 @@ use Rattle.fiorrudda_rules.specs.Cors.{is_kept_by_resource_policy}
 use Rattle.fiorrudda_rules.specs.Headers.{appending}
 use Rattle.fiorrudda_rules.specs.Hosts.{after_field, is_known_host, says}
 use Rattle.fiorrudda_rules.specs.declared.refusal.Refusal.{Refusal}
-use Rattle.fiorrudda_handle.specs.Codes.{code_of, told, yes_or_no, IsKept, IsTold}
+use Rattle.fiorrudda_handle.specs.Codes.{code_of, told, yes_or_no, IsKept, IsTextTold}
 use Rattle.fiorrudda_handle.specs.declared.codes.TheConstants.{OK, WRONG_HANDLE}
 use Rattle.fiorrudda_handle.specs.declared.thing.Thing.{Thing}
 use Rattle.fiorrudda_handle.specs.declared.thing.Thing.TheVariants as thing
@@ -48,7 +48,7 @@ resource_policy page url (Some _) = WRONG_HANDLE
 abbrev pub IsGot : List ℕ → Option Thing → List ℕ → List ℕ → ℕ → ℕ → ℕ → Type 0
 IsGot name None room after len_before len code = (code ≡ WRONG_HANDLE) × IsKept room after len_before len
 IsGot name (Some (thing.Headers list)) room after len_before len code =
-    IsTold (Ok (combined name list)) room after len_before len code
+    IsTextTold (Ok (combined name list)) room after len_before len code
 IsGot name (Some _) room after len_before len code =
     (code ≡ WRONG_HANDLE) × IsKept room after len_before len
 

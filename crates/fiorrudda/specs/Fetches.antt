@@ -17,7 +17,7 @@ use Rattle.fiorrudda_fetch.specs.declared.amounts.Amount.{Amount}
 use Rattle.fiorrudda_fetch.specs.declared.asked.Asked.{Asked}
 use Rattle.fiorrudda_fetch.specs.declared.parts.Part.{Part}
 use Rattle.fiorrudda_fetch.specs.Setups.{Setup}
-use Rattle.fiorrudda_handle.specs.Codes.{IsKept, IsTold}
+use Rattle.fiorrudda_handle.specs.Codes.{IsKept, IsTextTold}
 use Rattle.fiorrudda_handle.specs.declared.codes.TheConstants.{NO, NO_REQUEST, NO_SUCH_NUMBER, OK}
 use Rattle.fiorrudda_handle.specs.declared.codes.TheConstants.{TOO_LATE, WRONG_HANDLE}
 use Rattle.fiorrudda_handle.specs.declared.thing.Thing.{Thing}
@@ -87,7 +87,7 @@ GivesAct _ before number code = (code ≡ WRONG_HANDLE) × (number ≡ before)
 abbrev pub GivesTextOf : Option Part → ℕ → Session → List ℕ → List ℕ → ℕ → ℕ → ℕ → Type 0
 GivesTextOf None at session room after len_before len code = (code ≡ NO_SUCH_NUMBER) × IsKept room after len_before len
 GivesTextOf (Some part) at session room after len_before len code =
-    IsTold (Ok (text_of (standing_of session) part at)) room after len_before len code
+    IsTextTold (Ok (text_of (standing_of session) part at)) room after len_before len code
 
 abbrev pub GivesText : Option Part → ℕ → Option Thing → List ℕ → List ℕ → ℕ → ℕ → ℕ → Type 0
 GivesText part at (Some (thing.Fetch session)) = GivesTextOf part at session
@@ -112,5 +112,5 @@ abbrev pub request_in : Session → Result (Option (List ℕ)) Refusal
 request_in session = Ok (request_of (standing_of session))
 
 abbrev pub GivesRequest : Option Thing → List ℕ → List ℕ → ℕ → ℕ → ℕ → Type 0
-GivesRequest (Some (thing.Fetch session)) = IsTold (request_in session)
+GivesRequest (Some (thing.Fetch session)) = IsTextTold (request_in session)
 GivesRequest _ = λ room after len_before len code. (code ≡ WRONG_HANDLE) × IsKept room after len_before len

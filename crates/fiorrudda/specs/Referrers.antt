@@ -1,6 +1,6 @@
 -- Referrer policies by their numbers, and what is told of a referrer.
 use Rattle.std.specs.Prelude.{◌≡◌, ℕ, ◌==◌, List, Option, Some, None, if◌then◌else◌}
-use Rattle.fiorrudda_handle.specs.Codes.{IsKept, IsTold}
+use Rattle.fiorrudda_handle.specs.Codes.{IsKept, IsTextTold}
 use Rattle.fiorrudda_handle.specs.declared.codes.TheConstants.{NO_SUCH_NUMBER}
 use Rattle.wf_types.specs.declared.mode.ReferrerPolicy.{ReferrerPolicy}
 use Rattle.wf_types.specs.declared.mode.ReferrerPolicy.TheVariants as policy
@@ -25,7 +25,7 @@ abbrev pub IsReferrerBy : Option ReferrerPolicy → List ℕ → List ℕ → Li
 IsReferrerBy None source target room after len_before len code =
     (code ≡ NO_SUCH_NUMBER) × IsKept room after len_before len
 IsReferrerBy (Some policy) source target room after len_before len code =
-    IsTold (told_referrer policy source target) room after len_before len code
+    IsTextTold (told_referrer policy source target) room after len_before len code
 
 abbrev pub IsReferrer : ℕ → List ℕ → List ℕ → List ℕ → List ℕ → ℕ → ℕ → ℕ → Type 0
 IsReferrer number = IsReferrerBy (policy_numbered number)

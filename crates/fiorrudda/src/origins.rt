@@ -1,6 +1,6 @@
 // Rules on URLs and their origins.
 ghost use Rattle.std.specs.Prelude.{◌≡◌, ◌≢◌};
-ghost use Rattle.fiorrudda_handle.specs.Codes.{some_text, told, IsTold};
+ghost use Rattle.fiorrudda_handle.specs.Codes.{some_text, told, IsTextTold};
 ghost use Rattle.fiorrudda_rules.specs.Origins as origins;
 
 use fiorrudda_handle::{OUT_OF_MEMORY, told, write_text};
@@ -21,7 +21,8 @@ pub extern "C" fn fiorrudda_origin(
     room: &mut [u8],
     len: &mut usize,
 ) -> u32
-    ensures told { result ≢ OUT_OF_MEMORY → IsTold (some_text (origins.origin_text url.now)) room.old room.new len.old len.new result }
+    ensures told { result ≢ OUT_OF_MEMORY
+        → IsTextTold (some_text (origins.origin_text url.now)) room.old room.new len.old len.new result }
     ensures out_of_memory { result ≡ OUT_OF_MEMORY → (room.new ≡ room.old) × (len.new ≡ len.old) }
 {
     write_text(origin_text(alloc, url), room, len)

@@ -44,10 +44,10 @@ abbrev pub IsKept : List ℕ → List ℕ → ℕ → ℕ → Type 0
 IsKept room after len_before len = (after ≡ room) × (len ≡ len_before)
 
 -- a text that there may be is written, or why there is no answer is told
-abbrev pub IsTold : Result (Option (List ℕ)) Refusal → List ℕ → List ℕ → ℕ → ℕ → ℕ → Type 0
-IsTold (Ok (Some text)) room after len_before len code = IsWritten text room after len code
-IsTold (Ok None) room after len_before len code = (code ≡ NO) × IsKept room after len_before len
-IsTold (Err refusal) room after len_before len code = (code ≡ code_of refusal) × IsKept room after len_before len
+abbrev pub IsTextTold : Result (Option (List ℕ)) Refusal → List ℕ → List ℕ → ℕ → ℕ → ℕ → Type 0
+IsTextTold (Ok (Some text)) room after len_before len code = IsWritten text room after len code
+IsTextTold (Ok None) room after len_before len code = (code ≡ NO) × IsKept room after len_before len
+IsTextTold (Err refusal) room after len_before len code = (code ≡ code_of refusal) × IsKept room after len_before len
 
 -- a text, as one that there may be
 abbrev pub some_text : Result (List ℕ) Refusal → Result (Option (List ℕ)) Refusal

@@ -1,6 +1,6 @@
 // Answers, told by a code and in the room that the caller lends.
 ghost use Rattle.std.specs.Prelude.{◌≡◌, ◌≢◌, Bool, ℕ, List, Option, Result};
-ghost use Rattle.fiorrudda_handle.specs.Codes.{code_of, some_text, told, yes_or_no, IsTold, IsWritten};
+ghost use Rattle.fiorrudda_handle.specs.Codes.{code_of, some_text, told, yes_or_no, IsTextTold, IsWritten};
 ghost use Rattle.fiorrudda_rules.specs.Answers.{IsUnlessMemory};
 
 use crate::codes::{
@@ -57,10 +57,10 @@ pub fn write(text: &[u8], room: &mut [u8], len: &mut usize) -> u32
 
 // Writes the text that answers, if one does.
 pub fn write_answer(answer: Result<Option<Bytes>, Refusal>, room: &mut [u8], len: &mut usize) -> u32
-    ensures code { IsTold answer room.old room.new len.old len.new result }
+    ensures code { IsTextTold answer room.old room.new len.old len.new result }
     ensures told { (expected : Result (Option (List ℕ)) Refusal) → IsUnlessMemory answer expected →
         result ≢ OUT_OF_MEMORY →
-        IsTold expected room.old room.new len.old len.new result }
+        IsTextTold expected room.old room.new len.old len.new result }
     ensures out_of_memory { result ≡ OUT_OF_MEMORY → (room.new ≡ room.old) × (len.new ≡ len.old) }
 {
     match answer {
@@ -72,9 +72,9 @@ pub fn write_answer(answer: Result<Option<Bytes>, Refusal>, room: &mut [u8], len
 
 // Writes the text that answers.
 pub fn write_text(answer: Result<Bytes, Refusal>, room: &mut [u8], len: &mut usize) -> u32
-    ensures code { IsTold (some_text answer) room.old room.new len.old len.new result }
+    ensures code { IsTextTold (some_text answer) room.old room.new len.old len.new result }
     ensures told { (expected : Result (List ℕ) Refusal) → IsUnlessMemory answer expected → result ≢ OUT_OF_MEMORY →
-        IsTold (some_text expected) room.old room.new len.old len.new result }
+        IsTextTold (some_text expected) room.old room.new len.old len.new result }
     ensures out_of_memory { result ≡ OUT_OF_MEMORY → (room.new ≡ room.old) × (len.new ≡ len.old) }
 {
     match answer {

@@ -7,7 +7,7 @@ use Rattle.fiorrudda_checks.specs.Checks as checks
 use Rattle.fiorrudda_checks.specs.Checks.{violations_of}
 use Rattle.fiorrudda_checks.specs.declared.checks.Check.{Check}
 use Rattle.fiorrudda_checks.specs.declared.checks.Check.TheVariants.{Enforced, ReportOnly, Response}
-use Rattle.fiorrudda_handle.specs.Codes.{code_of, told, yes_or_no, IsKept, IsTold}
+use Rattle.fiorrudda_handle.specs.Codes.{code_of, told, yes_or_no, IsKept, IsTextTold}
 use Rattle.fiorrudda_handle.specs.declared.codes.TheConstants.{NO, NO_SUCH_NUMBER, OK, WRONG_HANDLE}
 use Rattle.fiorrudda_handle.specs.declared.thing.Thing.{Thing}
 use Rattle.fiorrudda_handle.specs.declared.thing.Thing.TheVariants as thing
@@ -67,10 +67,10 @@ IsViolationAt at _ = λ policy_before policy enforced_before enforced code.
 -- the effective directive of a violation, and the URL that is reported
 abbrev pub IsDirectiveAt : ℕ → Option Thing → List ℕ → List ℕ → ℕ → ℕ → ℕ → Type 0
 IsDirectiveAt at (Some (thing.Violations found)) =
-    IsTold (Ok (option_map (λ violation. directive_name violation.directive) (slice_get found at)))
+    IsTextTold (Ok (option_map (λ violation. directive_name violation.directive) (slice_get found at)))
 IsDirectiveAt at _ = IsNotHeld
 
 abbrev pub IsUrlAt : ℕ → Option Thing → List ℕ → List ℕ → ℕ → ℕ → ℕ → Type 0
 IsUrlAt at (Some (thing.Violations found)) =
-    IsTold (Ok (option_map (λ violation. violation.url) (slice_get found at)))
+    IsTextTold (Ok (option_map (λ violation. violation.url) (slice_get found at)))
 IsUrlAt at _ = IsNotHeld

@@ -6,7 +6,7 @@ use Rattle.wf_headers.specs.declared.headers.Header.{Header}
 use Rattle.wf_types.specs.Errors.{error_number}
 use Rattle.wf_types.specs.declared.hop.Head.{Head}
 use Rattle.fiorrudda_checks.specs.Preflights.{preflight_bytes, preflight_verdict, refused_name}
-use Rattle.fiorrudda_handle.specs.Codes.{code_of, IsTold}
+use Rattle.fiorrudda_handle.specs.Codes.{code_of, IsTextTold}
 use Rattle.fiorrudda_handle.specs.declared.codes.TheConstants.{NO, OK, WRONG_HANDLE}
 use Rattle.fiorrudda_handle.specs.declared.thing.Thing.{Thing}
 use Rattle.fiorrudda_handle.specs.declared.thing.Thing.TheVariants as thing
@@ -15,7 +15,7 @@ use Rattle.fiorrudda_policies.specs.Headers.{IsNotHeld}
 
 -- the bytes of the preflight are written
 abbrev pub IsPreflight : Option Thing → Option Thing → List ℕ → List ℕ → ℕ → ℕ → ℕ → Type 0
-IsPreflight (Some (thing.Client settings)) (Some (thing.Request asked)) = IsTold (preflight_bytes settings asked)
+IsPreflight (Some (thing.Client settings)) (Some (thing.Request asked)) = IsTextTold (preflight_bytes settings asked)
 IsPreflight _ _ = IsNotHeld
 
 -- an answer of a status and a header list
@@ -40,5 +40,5 @@ IsVerdictOn status _ _ _ = λ error_before error age_before told code.
 -- the name of the header that is refused is written
 abbrev pub IsRefusedName : ℕ → Option Thing → Option Thing → Option Thing → List ℕ → List ℕ → ℕ → ℕ → ℕ → Type 0
 IsRefusedName status (Some (thing.Client settings)) (Some (thing.Request asked)) (Some (thing.Headers list)) =
-    IsTold (refused_name settings asked (head_of status list))
+    IsTextTold (refused_name settings asked (head_of status list))
 IsRefusedName status _ _ _ = IsNotHeld
