@@ -14,7 +14,7 @@ use Rattle.wf_iso.specs.Plays.{IsTranscript, Way, outside_on}
 use Rattle.wf_book.specs.Entries.{entries_of}
 use Rattle.wf_player_play.specs.Faults.{AllAreTold, all_faults}
 use Rattle.wf_player_seats.specs.Links.{grown_by_all, way_of}
-use Rattle.wf_player_play.specs.Links.{Maker, TookBack}
+use Rattle.wf_player_play.specs.Links.{Maker, TookAllBack}
 use Rattle.wf_player_seats.proofs.ListLemmas.{map-map}
 use Rattle.wf_link.specs.Links.{LinkTold}
 
@@ -59,7 +59,7 @@ module _ {State : Type 0} (by : Answering State) (scenario : Scenario) (base : �
 -- what made the links has counted them
 pub counted-faults : {L State : Type 0} (by : Answering State) (told : L → LinkTold State)
     (scenario : Scenario) (base : ℕ) (history : List Entry) (placed : FaultsPlaced) (counted : FaultsCounted State)
-    (shown : RanShown State) (old new : Maker L) (made back : List L) (transcripts : List Transcript) → TookBack told
+    (shown : RanShown State) (old new : Maker L) (made back : List L) (transcripts : List Transcript) → TookAllBack told
     old new back
     → (runs : EachDocument (IsTranscript by scenario base history) 0 scenario.documents
     (map (way_of told) made) (map (way_of told) back) transcripts)

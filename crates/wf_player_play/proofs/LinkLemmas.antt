@@ -9,7 +9,7 @@ use Rattle.wf_player_seats.specs.Lendings.{AreTaken, out_more}
 use Rattle.wf_player_seats.specs.Links.{grown_by_all}
 use Rattle.wf_player_seats.specs.Seated.{links_in}
 use Rattle.wf_player_play.specs.Links.{AreBack}
-use Rattle.wf_player_play.specs.Links.{TookBack as TookAll, Maker, HasTakenBack}
+use Rattle.wf_player_play.specs.Links.{TookAllBack, Maker, HasTakenBack}
 use Rattle.wf_player.specs.declared.seating.Seating.{Seating}
 use Rattle.wf_turn.specs.declared.pass.TurnPass.{TurnPass}
 
@@ -29,7 +29,7 @@ all-back {L} (Some lent) mid last links count out taken many =
 -- ---- what makes links
 
 -- nothing was made
-pub nothing-taken : {L State : Type 0} (told : L → LinkTold State) (maker : Maker L) → TookAll told maker maker []
+pub nothing-taken : {L State : Type 0} (told : L → LinkTold State) (maker : Maker L) → TookAllBack told maker maker []
 nothing-taken {L} told maker = record { lent = same maker.lent; counted = refl }
   where
     same : (lent : Option (Lendings L)) → AreBack lent lent []
@@ -45,7 +45,7 @@ none-taken told maker = record { back = []; took = nothing-taken told maker }
 pub took-all : {L State : Type 0} (told : L → LinkTold State) (old mid new : Maker L) (links : List L) (count : ℕ)
     → mid.lent ≡ option_map (out_more count) old.lent → mid.faults ≡ old.faults → length links ≡ count
     → AreTaken mid.lent new.lent links → new.faults ≡ grown_by_all mid.faults (map (faults_told told) links)
-    → TookAll told old new links
+    → TookAllBack told old new links
 took-all told old mid new links count out same many taken counted = record {
   lent = all-back old.lent mid.lent new.lent links count out taken many;
   counted = counted ∙ ap (λ (n : ℕ). grown_by_all n (map (faults_told told) links)) same;
@@ -57,7 +57,7 @@ pub took-seats : {L State : Type 0} (told : L → LinkTold State) (old mid new :
     → mid.lent ≡ option_map (out_more (length seats)) old.lent → mid.faults ≡ old.faults
     → AreTaken mid.lent new.lent (links_in seats) → new.faults ≡ grown_by_all mid.faults
     (map (faults_told told) (links_in seats))
-    → TookAll told old new (links_in seats)
+    → TookAllBack told old new (links_in seats)
 took-seats {L} told old mid new seats out same taken counted =
     took-all told old mid new (links_in seats) (length seats) out same
     (length-map seats (λ (s : Seating L TurnPass). s.link)) taken counted

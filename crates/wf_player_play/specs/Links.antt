@@ -33,14 +33,15 @@ AreBack None new links = Unit {0}
 AreBack (Some old) new links = new ≡ Some (record { back = old.back ++ links; out = old.out })
 
 -- These links were made and taken back, in this order, and their faults were counted.
-pub record TookBack {L State : Type 0} (told : L → LinkTold State) (old new : Maker L) (links : List L) : Type 0 where
+pub record TookAllBack {L State : Type 0} (told : L → LinkTold State) (old new : Maker L) (links : List L)
+    : Type 0 where
   pub lent : AreBack old.lent new.lent links
   pub counted : new.faults ≡ grown_by_all old.faults (map (faults_told told) links)
 
 -- Each link that was made was taken back.
 pub record HasTakenBack {L State : Type 0} (told : L → LinkTold State) (old new : Maker L) : Type 0 where
   pub back : List L
-  pub took : TookBack told old new back
+  pub took : TookAllBack told old new back
 
 -- ---- the play
 
@@ -52,7 +53,7 @@ pub record IsPlayOverLinks {L State : Type 0} (by : Answering State) (told : L �
   pub made : List L
   pub back : List L
   pub opened : AreOpened (for_documents old.opening scenario.routes) made
-  pub took : TookBack told old new back
+  pub took : TookAllBack told old new back
   pub play : IsPlayOver by scenario base (map (way_of told) made) (map (way_of told) back) transcripts history
   pub tells : AllAreTold play.runs
   pub counted : grown_by old.faults (all_faults play.runs) ≤ new.faults
@@ -65,5 +66,5 @@ pub record WasRefused {L State : Type 0} (by : Answering State) (told : L → Li
   pub back : List L
   pub opened : AreOpened (for_documents old.opening scenario.routes) made
   pub few : length made ≤ length scenario.documents
-  pub took : TookBack told old new back
+  pub took : TookAllBack told old new back
   pub left : NoneOrAllPlayed by scenario base (map (way_of told) made) (map (way_of told) back)
