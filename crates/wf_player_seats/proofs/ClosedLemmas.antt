@@ -26,7 +26,7 @@ use Rattle.wf_player.specs.Seats.{Seat}
 use Rattle.wf_player.proofs.CallLemmas.{trace-calls}
 use Rattle.wf_player.specs.declared.seating.Seating.{Seating}
 use Rattle.wf_turn.specs.Counts.{times}
-use Rattle.wf_turn.specs.Passes.{IsOneHistory, IsWhole, calls_of, is_of, opening_of, own_of}
+use Rattle.wf_turn.specs.Passes.{HasEveryPass, IsOneHistory, calls_of, is_of, opening_of, own_of}
 use Rattle.wf_turn.specs.declared.pass.TurnPass.{TurnPass}
 use Rattle.wf_turn.proofs.Count.{turns-are-places}
 use Rattle.wf_turn.proofs.Whole.{whole_of}
@@ -143,7 +143,7 @@ others-apart (suc count) from (p ∷ ps) few is =
 pub whole-passes : (id : TableId) (opening : Book) (count : ℕ) (first : TurnPass) (passes back : List TurnPass)
     → ArePasses id opening count first passes → count ≤ 128
     → All (λ (p : TurnPass). p.seat.table_id ≡ id) back
-    → map (λ (p : TurnPass). p.document) back ≡ range_with_len 0 count → IsWhole id (first ∷ back)
+    → map (λ (p : TurnPass). p.document) back ≡ range_with_len 0 count → HasEveryPass id (first ∷ back)
 whole-passes id opening count first passes back are few belong documents =
     let Apart : TurnPass → Type 0 = λ p. p.document ≢ 4294967295 in
     let apart = others-apart count 0 back (omega (arith, few)) documents in

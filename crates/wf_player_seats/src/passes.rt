@@ -1,6 +1,6 @@
 // Passes of the shared book.
 ghost use Rattle.std.specs.Prelude.{◌≡◌, ◌≤◌, ◌<◌, [], IfOk};
-ghost use Rattle.wf_turn.specs.Passes.{IsOneHistory, IsWhole, left_of, made_of, opening_of, own_of};
+ghost use Rattle.wf_turn.specs.Passes.{HasEveryPass, IsOneHistory, left_of, made_of, opening_of, own_of};
 ghost use Rattle.wf_player_seats.specs.Passes.{ArePasses, IsFirst};
 
 use std::alloc::Global;

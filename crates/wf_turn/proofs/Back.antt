@@ -19,7 +19,7 @@ use Rattle.wf_turn.specs.Counts.{times}
 use Rattle.wf_turn.specs.Private.Sums.{total, one, often}
 use Rattle.wf_turn.specs.Private.Rule.{HasDocument, desk, drawn}
 use Rattle.wf_turn.specs.Private.Steps.{ending, joined}
-use Rattle.wf_turn.specs.Passes.{is_of, calls_of, IsWhole, IsOneHistory}
+use Rattle.wf_turn.specs.Passes.{is_of, calls_of, HasEveryPass, IsOneHistory}
 use Rattle.wf_turn.specs.Private.Taken.{endings, taken_in}
 use Rattle.wf_turn.specs.declared.pass.TurnPass.{TurnPass}
 use Rattle.wf_turn.specs.declared.desk.Desk.{Desk}
@@ -119,7 +119,7 @@ named-all passes docs (e ∷ es) up a =
     (named-all passes docs es up a.1)
 
 module _ (passes rest : List TurnPass) (first : TurnPass) (same : IsPermutation passes (first ∷ rest))
-    (is-first : first.document ≡ 4294967295) (t : TableId) (all : IsWhole t passes) (v : View) (taken : v
+    (is-first : first.document ≡ 4294967295) (t : TableId) (all : HasEveryPass t passes) (v : View) (taken : v
     ≡ taken_in first.seat.me.0 rest) where
   WholeOf : TurnPass → Type 0
   WholeOf p = p.document ≡ 4294967295 → (d : ℕ) → 0 < times d p.seat.me.0.made → 0 < count_by (is_of d) passes

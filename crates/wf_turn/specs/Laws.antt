@@ -7,7 +7,7 @@ use Rattle.atomic_table.specs.Seated.{TableId}
 use Rattle.wf_book.specs.declared.book.Book.{Book}
 use Rattle.wf_book.specs.declared.entry.Entry.{Entry}
 use Rattle.wf_turn.specs.Counts.{times}
-use Rattle.wf_turn.specs.Passes.{IsOneHistory, IsWhole, calls_of, is_of, made_of, own_of}
+use Rattle.wf_turn.specs.Passes.{HasEveryPass, IsOneHistory, calls_of, is_of, made_of, own_of}
 use Rattle.wf_turn.specs.declared.pass.TurnPass.{TurnPass}
 
 -- the first pass, and passes of other documents among which is one for each that it has made, are all
@@ -17,7 +17,7 @@ AreAllPasses = (id : TableId) (first : TurnPass) (others : List TurnPass)
     → first.seat.table_id ≡ id → first.document ≡ 4294967295
     → All (λ p. (p.seat.table_id ≡ id) × (p.document ≢ 4294967295)) others
     → ((d : ℕ) → 0 < times d (made_of first) → 0 < count_by (is_of d) others)
-    → IsWhole id (first ∷ others)
+    → HasEveryPass id (first ∷ others)
 
 -- where each call on these passes has its entry, each turn number is the entry's place in the history
 abbrev pub TurnsArePlaces : Type 0

@@ -46,7 +46,7 @@ abbrev pub is_of : ℕ → TurnPass → Bool
 is_of document pass = pass.document == document
 
 -- the first pass of the book, and a pass for each document that it has made
-pub record IsWhole (id : TableId) (passes : List TurnPass) : Type 0 where
+pub record HasEveryPass (id : TableId) (passes : List TurnPass) : Type 0 where
   pub belong : All (λ p. p.seat.table_id ≡ id) passes
   pub first : 0 < count_by (is_of 4294967295) passes
   pub whole : All (λ p. p.document ≡ 4294967295 → (d : ℕ) → 0 < times d (made_of p)

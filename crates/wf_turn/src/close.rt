@@ -1,7 +1,7 @@
 ghost use Rattle.std.specs.Prelude.{◌≡◌, ◌<◌, ◌∷◌, true, length, slice_index_or};
 ghost use Rattle.std.specs.List.{All, count_by};
 ghost use Rattle.std.specs.List.Sorted.{IsPermutation};
-ghost use Rattle.wf_turn.specs.Passes.{IsOneHistory, IsWhole, is_of};
+ghost use Rattle.wf_turn.specs.Passes.{HasEveryPass, IsOneHistory, is_of};
 ghost use Rattle.wf_turn.specs.Private.Taken.{taken_in};
 
 use crate::book::TurnBook;
@@ -60,7 +60,7 @@ impl TurnBook {
     /// Closes the book: the first pass and that of each document come back, in any order, and leave the
     /// book and the one history of all calls. It takes no memory.
     pub fn close(self, mut passes: Vec<TurnPass>) -> Closed
-        requires { IsWhole self.table.shared.table_id passes.items }
+        requires { HasEveryPass self.table.shared.table_id passes.items }
         ensures { IsOneHistory passes.items result.book result.history }
     {
         let first = take_first(&mut passes);

@@ -1,5 +1,5 @@
 ghost use Rattle.std.specs.Prelude.{◌≡◌, ◌≤◌, ◌<◌, ◌-◌, ◌^◌, [], IfOk, IfSome};
-ghost use Rattle.wf_turn.specs.Passes.{IsWhole, left_of, made_of};
+ghost use Rattle.wf_turn.specs.Passes.{HasEveryPass, left_of, made_of};
 
 use crate::ops::{is_numbered, numbered, time_of};
 use crate::passes::{collected, two_documents};
@@ -181,7 +181,7 @@ fn play_passes<R: Threads + Wait + Sync>(
 ) -> Result<(Vec<TurnPass>, Replies, Replies), Failed>
     requires belongs { first.seat.table_id ≡ book.now.table.shared.table_id }
     requires first { (first.document ≡ 4294967295) × (made_of first ≡ []) }
-    ensures { IfOk result (λ played. IsWhole book.now.table.shared.table_id played.0.items) }
+    ensures { IfOk result (λ played. HasEveryPass book.now.table.shared.table_id played.0.items) }
 {
     let room = Vec::with_capacity(alloc, 3)?;
     let (zero, one) = two_documents(alloc, book, &mut first)?;

@@ -1,5 +1,5 @@
 ghost use Rattle.std.specs.Prelude.{◌≡◌, ◌<◌, [], IfOk};
-ghost use Rattle.wf_turn.specs.Passes.{IsWhole, left_of, made_of};
+ghost use Rattle.wf_turn.specs.Passes.{HasEveryPass, left_of, made_of};
 
 use crate::alone::show_entries;
 use crate::ops::{covers, learn};
@@ -39,7 +39,7 @@ fn play_passes<R: Threads + Wait + Sync>(
 ) -> Result<Vec<TurnPass>, Failed>
     requires belongs { first.seat.table_id ≡ book.now.table.shared.table_id }
     requires first { (first.document ≡ 4294967295) × (made_of first ≡ []) }
-    ensures { IfOk result (λ passes. IsWhole book.now.table.shared.table_id passes.items) }
+    ensures { IfOk result (λ passes. HasEveryPass book.now.table.shared.table_id passes.items) }
 {
     let room = Vec::with_capacity(alloc, 3)?;
     let (mut zero, mut one) = two_documents(alloc, book, &mut first)?;

@@ -1,5 +1,5 @@
 use Rattle.std.proofs.Common.{◌∙◌, List, ◌++◌, ap, length, refl, subst, sym}
-use Rattle.wf_turn.specs.Passes.{IsOneHistory, IsWhole}
+use Rattle.wf_turn.specs.Passes.{HasEveryPass, IsOneHistory}
 use Rattle.wf_turn.specs.declared.pass.TurnPass.{TurnPass}
 use Rattle.wf_player.proofs.AskLemmas.{on-err}
 use Rattle.wf_iso.specs.Plays.{opening_book}
@@ -28,7 +28,8 @@ close-history-requires g c =
     let scenario = c.args.scenario.now in
     let ready = c.requires.ready in
     let back = c.play_all-played.new.seats.items in
-    subst (IsWhole id) (sym (c.unseat.ensures.passes ∙ ap (λ (l : List TurnPass). l ++ passes_in back) ready.alone))
+    subst (HasEveryPass id)
+    (sym (c.unseat.ensures.passes ∙ ap (λ (l : List TurnPass). l ++ passes_in back) ready.alone))
     (whole-passes id (opening_book scenario) (length scenario.documents) ready.first (passes_in c.args.seats.items)
     (passes_in back) ready.made c.requires.valid.few_documents (belong-passes id back c.play_all-played.ensures.belong)
     (documents-in back (length scenario.documents) c.play_all-played.ensures.documents))

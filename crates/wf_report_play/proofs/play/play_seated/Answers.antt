@@ -9,7 +9,7 @@ use Rattle.wf_player_seats.proofs.ClosedLemmas.{whole-passes}
 use Rattle.wf_player_seats.proofs.SeatedLemmas.{as-many, belong-at, belong-passes, documents-in, ready-seats}
 use Rattle.wf_report_play.proofs.ReportedLemmas.{can-report, closed-book, many-transcripts}
 use Rattle.wf_report_play.specs.Private.Delivered.{AreDelivered}
-use Rattle.wf_turn.specs.Passes.{IsOneHistory, IsWhole}
+use Rattle.wf_turn.specs.Passes.{HasEveryPass, IsOneHistory}
 use Rattle.wf_turn.specs.declared.pass.TurnPass.{TurnPass}
 use Rattle.wf_report_play.proofs.play.play_seated.Goals as goal
 
@@ -33,7 +33,7 @@ close-book-requires g c =
     let ready = c.requires.ready in
     let back = c.play_all.new.seats.items in
     let same = c.in_ok-links.ensures.passes ∙ ap (λ (l : List TurnPass). l ++ passes_in back) ready.alone in
-    subst (IsWhole id) (sym same)
+    subst (HasEveryPass id) (sym same)
     (whole-passes id (opening_book scenario) count ready.first (passes_in c.args.seats.items) (passes_in back)
     ready.made c.requires.valid.few_documents (belong-passes id back c.play_all.ensures.belong)
     (documents-in back count c.play_all.ensures.documents))
