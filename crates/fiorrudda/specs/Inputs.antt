@@ -88,9 +88,9 @@ abbrev pub IsReply : Option Reply → ℕ → ℕ → Type 0
 IsReply None before number = number ≡ before
 IsReply (Some reply) before number = number ≡ reply_number reply
 
-abbrev pub IsAsked : Option Thing → Option Thing → ℕ → ℕ → Option Thing → Option Thing → ℕ → Type 0
-IsAsked (Some (thing.Fetch session)) (Some (thing.Book book)) before code held held_book reply =
+abbrev pub IsBookAsked : Option Thing → Option Thing → ℕ → ℕ → Option Thing → Option Thing → ℕ → Type 0
+IsBookAsked (Some (thing.Fetch session)) (Some (thing.Book book)) before code held held_book reply =
     Tells (Asks book (standing_of session)) code held × IsBook (standing_of session) book code held_book
     × IsReply (reply_told (went_told code) book (act_of (standing_of session))) before reply
-IsAsked other other_book before code held held_book reply =
+IsBookAsked other other_book before code held held_book reply =
     (code ≡ WRONG_HANDLE) × (held ≡ other) × (held_book ≡ other_book) × (reply ≡ before)

@@ -1,7 +1,7 @@
 // What came of the acts of a fetch.
 ghost use Rattle.std.specs.Prelude.{◌≡◌, Some};
 ghost use Rattle.fiorrudda.specs.Inputs as spec;
-ghost use Rattle.fiorrudda.specs.Inputs.{IsAsked, IsFed, IsSaid};
+ghost use Rattle.fiorrudda.specs.Inputs.{IsBookAsked, IsFed, IsSaid};
 ghost use Rattle.wf_fetch_session.specs.Sessions.{standing_of};
 
 use fiorrudda_handle::{
@@ -173,7 +173,7 @@ fn tell_reply(answer: Option<Reply>, reply: &mut u32)
 
 // Has a thing that is a fetch ask a thing that is a book.
 fn asked(alloc: Global, fetch: &mut Thing, book: &mut Thing, reply: &mut u32) -> u32
-    ensures { IsAsked (Some fetch.old) (Some book.old) reply.old result (Some fetch.new) (Some book.new) reply.new }
+    ensures { IsBookAsked (Some fetch.old) (Some book.old) reply.old result (Some fetch.new) (Some book.new) reply.new }
 {
     let Thing::Fetch(session) = fetch else {
         return WRONG_HANDLE;
@@ -199,7 +199,7 @@ pub extern "C" fn fiorrudda_ask(
     book: &mut Handle,
     reply: &mut u32,
 ) -> u32
-    ensures { IsAsked fetch.old.held book.old.held reply.old result fetch.new.held book.new.held reply.new }
+    ensures { IsBookAsked fetch.old.held book.old.held reply.old result fetch.new.held book.new.held reply.new }
 {
     let Some(mut thing) = fetch.take(alloc) else {
         return WRONG_HANDLE;
