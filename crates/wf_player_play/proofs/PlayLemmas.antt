@@ -28,7 +28,7 @@ use Rattle.wf_player_seats.specs.Seated.{HasOwn, IsFresh, links_in, passes_in, s
 use Rattle.wf_player_seats.proofs.ClosedLemmas.{HasCalled, called-on, ran-calls, ran-of, seat_way}
 use Rattle.wf_player_seats.proofs.ClosedLemmas.{fresh-seats, legal-history, named-history, own-entries, turns-closed}
 use Rattle.wf_player_seats.proofs.ClosedLemmas.{ways-of}
-use Rattle.wf_player_play.specs.Refused.{HasRun, NoneOrAllPlayed}
+use Rattle.wf_player_play.specs.Refused.{NoneOrAllPlayed, RanInHistory}
 use Rattle.wf_iso.specs.Plays.{IsPlayOver, IsTranscript, opening_book, outside_on}
 
 -- ---- one document
@@ -85,7 +85,7 @@ has-run : {State : Type 0} (by : Answering State) (scenario : Scenario) (base : 
     (number : ℕ) (document : Document) (old new : Seat State) (transcript : Transcript)
     → DocumentCameTo by scenario base number document old new transcript → old.outside.own ≡ []
     → entries_of number history ≡ new.outside.own
-    → HasRun by scenario base history number document (seat_way old) (seat_way new) transcript
+    → RanInHistory by scenario base history number document (seat_way old) (seat_way new) transcript
 has-run {State} by scenario base history number document old new transcript is none own =
     let whole = document_run scenario.cookies base document in
     record {
@@ -107,7 +107,7 @@ have-run : {State : Type 0} (by : Answering State) (scenario : Scenario) (base :
     {number : ℕ} {documents : List Document} {olds news : List (Seat State)} {transcripts : List Transcript}
     → EachDocument (DocumentCameTo by scenario base) number documents olds news transcripts → All IsFresh olds
     → All (HasOwn history) news
-    → EachDocument (HasRun by scenario base history) number documents (map seat_way olds) (map seat_way news)
+    → EachDocument (RanInHistory by scenario base history) number documents (map seat_way olds) (map seat_way news)
     transcripts
 have-run by scenario base history {transcripts = transcripts} played fresh own =
     each-seen seat_way (λ number document old new transcript is.

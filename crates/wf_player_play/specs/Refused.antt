@@ -17,7 +17,7 @@ use Rattle.wf_iso.specs.Plays.{Way, opening_book, outside_on}
 -- From one moment of its link to another, the run of the document of this number came to its transcript's ending, or to
 -- where memory was refused. It made the calls of the document's entries of the history, in order, and no others. The
 -- calls that it may still make fell by as many at most as a whole script makes.
-pub record HasRun {State : Type 0} (by : Answering State) (scenario : Scenario) (base : ℕ) (history : List Entry)
+pub record RanInHistory {State : Type 0} (by : Answering State) (scenario : Scenario) (base : ℕ) (history : List Entry)
     (number : ℕ) (document : Document) (old new : Way State) (transcript : Transcript) : Type 0 where
   pub before : ℕ
   pub behind : ℕ
@@ -35,7 +35,7 @@ pub record WasPlayed {State : Type 0} (by : Answering State) (scenario : Scenari
   pub legal : Legal (opening_book scenario) history
   pub named : AllByRecursion (λ (entry : Entry). entry.document < length scenario.documents) history
   pub transcripts : List Transcript
-  pub runs : EachDocument (HasRun by scenario base history) 0 scenario.documents olds news transcripts
+  pub runs : EachDocument (RanInHistory by scenario base history) 0 scenario.documents olds news transcripts
 
 -- over links from their first moments to their last: each link is as it was, or each document was played
 abbrev pub NoneOrAllPlayed : {State : Type 0} → Answering State → Scenario → ℕ → List (Way State) → List (Way State)
