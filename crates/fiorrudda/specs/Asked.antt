@@ -2,7 +2,7 @@
 use Rattle.std.specs.Prelude.{◌≡◌, ℕ, List, Option, Some, None, option_and_then}
 use Rattle.fiorrudda_fetch.specs.Asked.{Change, chosen, header_added, load_of, text_set}
 use Rattle.fiorrudda_fetch.specs.declared.asked.Asked.{Asked}
-use Rattle.fiorrudda_fetch.specs.declared.asked.Setting.{Setting}
+use Rattle.fiorrudda_fetch.specs.declared.asked.Choice.{Choice}
 use Rattle.fiorrudda_fetch.specs.declared.asked.Words.{Words}
 use Rattle.fiorrudda.specs.Calls.{Done, done}
 use Rattle.fiorrudda.specs.Choices.{load_numbered}
@@ -40,11 +40,11 @@ set_text words text (Some (thing.Request asked)) = set_text_of words text asked
 set_text words text (Some other) = done WRONG_HANDLE (Some other)
 
 -- a request with a choice
-abbrev pub choose_of : Option Setting → Asked → Done
+abbrev pub choose_of : Option Choice → Asked → Done
 choose_of None asked = done NO_SUCH_NUMBER (Some (thing.Request asked))
-choose_of (Some setting) asked = change_done (chosen setting asked)
+choose_of (Some choice) asked = change_done (chosen choice asked)
 
-abbrev pub choose : Option Setting → Option Thing → Done
-choose setting None = done WRONG_HANDLE None
-choose setting (Some (thing.Request asked)) = choose_of setting asked
-choose setting (Some other) = done WRONG_HANDLE (Some other)
+abbrev pub choose : Option Choice → Option Thing → Done
+choose choice None = done WRONG_HANDLE None
+choose choice (Some (thing.Request asked)) = choose_of choice asked
+choose choice (Some other) = done WRONG_HANDLE (Some other)

@@ -10,8 +10,8 @@ use Rattle.wf_types.specs.declared.mode.RedirectMode.{RedirectMode}
 use Rattle.wf_types.specs.declared.mode.RedirectMode.TheVariants as redirect
 use Rattle.wf_types.specs.declared.policy.Destination.{Destination}
 use Rattle.wf_types.specs.declared.policy.Destination.TheVariants as destination
-use Rattle.fiorrudda_fetch.specs.declared.asked.Setting.{Setting}
-use Rattle.fiorrudda_fetch.specs.declared.asked.Setting.TheVariants as setting
+use Rattle.fiorrudda_fetch.specs.declared.asked.Choice.{Choice}
+use Rattle.fiorrudda_fetch.specs.declared.asked.Choice.TheVariants as choice
 use Rattle.fiorrudda_fetch.specs.declared.asked.Words.{Words}
 use Rattle.fiorrudda_fetch.specs.declared.asked.Words.TheVariants as words
 use Rattle.fiorrudda.specs.Referrers.{policy_numbered}
@@ -57,16 +57,16 @@ test_numbered number =
     else None
 
 -- the choice of two numbers
-abbrev pub setting_numbered : ℕ → ℕ → Option Setting
-setting_numbered choice number =
-    if choice == 0 then option_map setting.Mode (mode_numbered number)
-    else if choice == 1 then option_map setting.Credentials (credentials_numbered number)
-    else if choice == 2 then option_map setting.Redirect (redirect_numbered number)
-    else if choice == 3 then option_map setting.ClientReferrer (test_numbered number)
-    else if choice == 4 then option_map setting.Policy (policy_numbered number)
-    else if choice == 5 then option_map setting.Upload (test_numbered number)
-    else if choice == 6 then option_map setting.CrossOrigin (crossorigin_numbered number)
-    else if choice == 7 then option_map setting.Parser (test_numbered number)
+abbrev pub choice_numbered : ℕ → ℕ → Option Choice
+choice_numbered which number =
+    if which == 0 then option_map choice.Mode (mode_numbered number)
+    else if which == 1 then option_map choice.Credentials (credentials_numbered number)
+    else if which == 2 then option_map choice.Redirect (redirect_numbered number)
+    else if which == 3 then option_map choice.ClientReferrer (test_numbered number)
+    else if which == 4 then option_map choice.Policy (policy_numbered number)
+    else if which == 5 then option_map choice.Upload (test_numbered number)
+    else if which == 6 then option_map choice.CrossOrigin (crossorigin_numbered number)
+    else if which == 7 then option_map choice.Parser (test_numbered number)
     else None
 
 -- what an element loads, by a number

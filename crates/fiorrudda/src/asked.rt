@@ -5,8 +5,8 @@ ghost use Rattle.fiorrudda.specs.Calls.{done};
 ghost use Rattle.fiorrudda.specs.Choices as choices;
 ghost use Rattle.fiorrudda_fetch.specs.Asked.{fetch_of};
 
-use crate::choices::{load_numbered, setting_numbered, words_numbered};
-use fiorrudda_fetch::{Asked, Setting, Words};
+use crate::choices::{choice_numbered, load_numbered, words_numbered};
+use fiorrudda_fetch::{Asked, Choice, Words};
 use fiorrudda_handle::{Handle, NO_SUCH_NUMBER, OK, OUT_OF_MEMORY, Thing, WRONG_HANDLE, yes_or_no};
 use std::alloc::Global;
 
@@ -131,15 +131,15 @@ pub extern "C" fn fiorrudda_request_text(
 }
 
 // Makes a choice of a thing that is a request.
-fn chosen(thing: &mut Thing, setting: Option<Setting>) -> u32
-    ensures { done result (Some thing.new) ≡ choose setting (Some thing.old) }
+fn chosen(thing: &mut Thing, choice: Option<Choice>) -> u32
+    ensures { done result (Some thing.new) ≡ choose choice (Some thing.old) }
 {
     let Thing::Request(asked) = thing else {
         return WRONG_HANDLE;
     };
-    match setting {
+    match choice {
         None => NO_SUCH_NUMBER,
-        Some(setting) => yes_or_no(asked.set(setting)),
+        Some(choice) => yes_or_no(asked.set(choice)),
     }
 }
 
@@ -154,12 +154,12 @@ pub extern "C" fn fiorrudda_request_choose(
     choice: u32,
     number: u32,
 ) -> u32
-    ensures { done result request.new.held ≡ choose (choices.setting_numbered choice number) request.old.held }
+    ensures { done result request.new.held ≡ choose (choices.choice_numbered choice number) request.old.held }
 {
     let Some(mut thing) = request.take(alloc) else {
         return WRONG_HANDLE;
     };
-    let code = chosen(&mut thing, setting_numbered(choice, number));
+    let code = chosen(&mut thing, choice_numbered(choice, number));
     request.put(thing);
     code
 }

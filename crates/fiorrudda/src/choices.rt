@@ -3,7 +3,7 @@ ghost use Rattle.std.specs.Prelude.{◌≡◌};
 ghost use Rattle.fiorrudda.specs.Choices as spec;
 
 use crate::policies::policy_numbered;
-use fiorrudda_fetch::{Setting, Words};
+use fiorrudda_fetch::{Choice, Words};
 use wf_types::{Credentials, CrossOrigin, Destination, Mode, RedirectMode};
 
 /// Mode: one of the numbers `MODE_..`.
@@ -139,18 +139,18 @@ fn test_numbered(number: u32) -> Option<bool>
 }
 
 // The choice of two numbers.
-pub(crate) fn setting_numbered(choice: u32, number: u32) -> Option<Setting>
-    ensures { result ≡ spec.setting_numbered choice number }
+pub(crate) fn choice_numbered(choice: u32, number: u32) -> Option<Choice>
+    ensures { result ≡ spec.choice_numbered choice number }
 {
     match choice {
-        CHOOSE_MODE => mode_numbered(number).map(|mode| Setting::Mode(mode)),
-        CHOOSE_CREDENTIALS => credentials_numbered(number).map(|mode| Setting::Credentials(mode)),
-        CHOOSE_REDIRECT => redirect_numbered(number).map(|mode| Setting::Redirect(mode)),
-        CHOOSE_REFERRER => test_numbered(number).map(|client| Setting::ClientReferrer(client)),
-        CHOOSE_REFERRER_POLICY => policy_numbered(number).map(|policy| Setting::Policy(policy)),
-        CHOOSE_UPLOAD => test_numbered(number).map(|upload| Setting::Upload(upload)),
-        CHOOSE_CROSSORIGIN => crossorigin_numbered(number).map(|state| Setting::CrossOrigin(state)),
-        CHOOSE_PARSER => test_numbered(number).map(|parser| Setting::Parser(parser)),
+        CHOOSE_MODE => mode_numbered(number).map(|mode| Choice::Mode(mode)),
+        CHOOSE_CREDENTIALS => credentials_numbered(number).map(|mode| Choice::Credentials(mode)),
+        CHOOSE_REDIRECT => redirect_numbered(number).map(|mode| Choice::Redirect(mode)),
+        CHOOSE_REFERRER => test_numbered(number).map(|client| Choice::ClientReferrer(client)),
+        CHOOSE_REFERRER_POLICY => policy_numbered(number).map(|policy| Choice::Policy(policy)),
+        CHOOSE_UPLOAD => test_numbered(number).map(|upload| Choice::Upload(upload)),
+        CHOOSE_CROSSORIGIN => crossorigin_numbered(number).map(|state| Choice::CrossOrigin(state)),
+        CHOOSE_PARSER => test_numbered(number).map(|parser| Choice::Parser(parser)),
         _ => None,
     }
 }

@@ -12,8 +12,8 @@ use Rattle.wf_types.specs.declared.policy.Destination.{Destination}
 use Rattle.wf_types.specs.declared.policy.Destination.TheVariants as destination
 use Rattle.fiorrudda_fetch.specs.declared.asked.Asked.{Asked}
 use Rattle.fiorrudda_fetch.specs.declared.asked.Asked.TheVariants.{Fetch, Load}
-use Rattle.fiorrudda_fetch.specs.declared.asked.Setting.{Setting}
-use Rattle.fiorrudda_fetch.specs.declared.asked.Setting.TheVariants as setting
+use Rattle.fiorrudda_fetch.specs.declared.asked.Choice.{Choice}
+use Rattle.fiorrudda_fetch.specs.declared.asked.Choice.TheVariants as choice
 use Rattle.fiorrudda_fetch.specs.declared.asked.Words.{Words}
 use Rattle.fiorrudda_fetch.specs.declared.asked.Words.TheVariants as words
 
@@ -111,23 +111,23 @@ text_set which text (Fetch init) = changed_to Fetch (init_text which text init)
 text_set which text (Load init) = changed_to Load (load_text which text init)
 
 -- a choice of a `fetch`
-abbrev pub init_chosen : Setting → Init → Change Init
-init_chosen (setting.Mode mode) init = changed true (record init { mode = mode })
-init_chosen (setting.Credentials credentials) init = changed true (record init { credentials = credentials })
-init_chosen (setting.Redirect redirect) init = changed true (record init { redirect = redirect })
-init_chosen (setting.ClientReferrer client) init = changed true (record init { client_referrer = client })
-init_chosen (setting.Policy policy) init = changed true (record init { referrer_policy = policy })
-init_chosen (setting.Upload upload) init = changed true (record init { upload = upload })
+abbrev pub init_chosen : Choice → Init → Change Init
+init_chosen (choice.Mode mode) init = changed true (record init { mode = mode })
+init_chosen (choice.Credentials credentials) init = changed true (record init { credentials = credentials })
+init_chosen (choice.Redirect redirect) init = changed true (record init { redirect = redirect })
+init_chosen (choice.ClientReferrer client) init = changed true (record init { client_referrer = client })
+init_chosen (choice.Policy policy) init = changed true (record init { referrer_policy = policy })
+init_chosen (choice.Upload upload) init = changed true (record init { upload = upload })
 init_chosen _ init = changed false init
 
 -- a choice of a load
-abbrev pub load_chosen : Setting → LoadInit → Change LoadInit
-load_chosen (setting.CrossOrigin crossorigin) init = changed true (record init { crossorigin = crossorigin })
-load_chosen (setting.Parser parser) init = changed true (record init { parser = parser })
-load_chosen (setting.Policy policy) init = changed true (record init { referrer_policy = policy })
+abbrev pub load_chosen : Choice → LoadInit → Change LoadInit
+load_chosen (choice.CrossOrigin crossorigin) init = changed true (record init { crossorigin = crossorigin })
+load_chosen (choice.Parser parser) init = changed true (record init { parser = parser })
+load_chosen (choice.Policy policy) init = changed true (record init { referrer_policy = policy })
 load_chosen _ init = changed false init
 
 -- a choice of what is asked for
-abbrev pub chosen : Setting → Asked → Change Asked
+abbrev pub chosen : Choice → Asked → Change Asked
 chosen choice (Fetch init) = changed_to Fetch (init_chosen choice init)
 chosen choice (Load init) = changed_to Load (load_chosen choice init)

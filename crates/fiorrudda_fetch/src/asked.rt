@@ -17,7 +17,7 @@ pub enum Asked {
 /// A choice of what is asked for. A `fetch` has no CORS settings and no parser, and a load has none of the others but a
 /// referrer policy.
 #[derive(Clone, Copy, Debug, PartialEq, Eq)]
-pub enum Setting {
+pub enum Choice {
     Mode(Mode),
     Credentials(Credentials),
     Redirect(RedirectMode),
@@ -105,12 +105,12 @@ impl Asked {
     }
 
     /// Makes a choice, and tells whether what is asked for has it.
-    pub fn set(&mut self, setting: Setting) -> bool
-        ensures { spec.chosen setting self.old ≡ spec.changed result self.new }
+    pub fn set(&mut self, choice: Choice) -> bool
+        ensures { spec.chosen choice self.old ≡ spec.changed result self.new }
     {
         match self {
-            Asked::Fetch(asked) => asked.set(setting),
-            Asked::Load(asked) => asked.set(setting),
+            Asked::Fetch(asked) => asked.set(choice),
+            Asked::Load(asked) => asked.set(choice),
         }
     }
 }

@@ -1,6 +1,6 @@
 ghost use Rattle.std.specs.Prelude.{◌≡◌, IfOk, OnErr, OnOk};
 
-use crate::asked::{Setting, Words};
+use crate::asked::{Choice, Words};
 use std::alloc::Global;
 use std::marker::Model;
 use wf_text::{Bytes, OutOfMemory, trim_http};
@@ -83,17 +83,17 @@ impl AskedFetch {
     }
 
     // Makes a choice, if it has it.
-    pub(crate) fn set(&mut self, setting: Setting) -> bool
-        ensures { spec.init_chosen setting self.old ≡ spec.changed result self.new }
+    pub(crate) fn set(&mut self, choice: Choice) -> bool
+        ensures { spec.init_chosen choice self.old ≡ spec.changed result self.new }
     {
-        match setting {
-            Setting::Mode(mode) => self.init.mode = mode,
-            Setting::Credentials(credentials) => self.init.credentials = credentials,
-            Setting::Redirect(redirect) => self.init.redirect = redirect,
-            Setting::ClientReferrer(client) => self.init.client_referrer = client,
-            Setting::Policy(policy) => self.init.referrer_policy = policy,
-            Setting::Upload(upload) => self.init.upload = upload,
-            Setting::CrossOrigin(_) | Setting::Parser(_) => return false,
+        match choice {
+            Choice::Mode(mode) => self.init.mode = mode,
+            Choice::Credentials(credentials) => self.init.credentials = credentials,
+            Choice::Redirect(redirect) => self.init.redirect = redirect,
+            Choice::ClientReferrer(client) => self.init.client_referrer = client,
+            Choice::Policy(policy) => self.init.referrer_policy = policy,
+            Choice::Upload(upload) => self.init.upload = upload,
+            Choice::CrossOrigin(_) | Choice::Parser(_) => return false,
         }
         true
     }

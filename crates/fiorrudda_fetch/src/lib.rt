@@ -12,7 +12,7 @@ mod policy_value;
 mod settings;
 
 pub use amounts::{Amount, amount_of};
-pub use asked::{Asked, Setting, Words};
+pub use asked::{Asked, Choice, Words};
 pub use beginning::{begin, requested};
 pub use fetch_init::AskedFetch;
 pub use load_init::AskedLoad;

@@ -1,6 +1,6 @@
 ghost use Rattle.std.specs.Prelude.{◌≡◌, IfOk};
 
-use crate::asked::{Setting, Words};
+use crate::asked::{Choice, Words};
 use std::alloc::Global;
 use std::marker::Model;
 use wf_text::{Bytes, OutOfMemory};
@@ -65,18 +65,18 @@ impl AskedLoad {
     }
 
     // Makes a choice, if it has it.
-    pub(crate) fn set(&mut self, setting: Setting) -> bool
-        ensures { spec.load_chosen setting self.old ≡ spec.changed result self.new }
+    pub(crate) fn set(&mut self, choice: Choice) -> bool
+        ensures { spec.load_chosen choice self.old ≡ spec.changed result self.new }
     {
-        match setting {
-            Setting::CrossOrigin(crossorigin) => self.init.crossorigin = crossorigin,
-            Setting::Parser(parser) => self.init.parser = parser,
-            Setting::Policy(policy) => self.init.referrer_policy = policy,
-            Setting::Mode(_)
-            | Setting::Credentials(_)
-            | Setting::Redirect(_)
-            | Setting::ClientReferrer(_)
-            | Setting::Upload(_) => return false,
+        match choice {
+            Choice::CrossOrigin(crossorigin) => self.init.crossorigin = crossorigin,
+            Choice::Parser(parser) => self.init.parser = parser,
+            Choice::Policy(policy) => self.init.referrer_policy = policy,
+            Choice::Mode(_)
+            | Choice::Credentials(_)
+            | Choice::Redirect(_)
+            | Choice::ClientReferrer(_)
+            | Choice::Upload(_) => return false,
         }
         true
     }
