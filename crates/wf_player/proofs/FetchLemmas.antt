@@ -143,7 +143,7 @@ module _ {State : Type 0} {by : Answering State} where
 -- After so many acts the fetch has shown what was added to the events, and is at this step.
 pub record IsFetching {State : Type 0} (by : Answering State) (context : Context) (request : Request)
     (old : Standing State) (count : ℕ) (now : Standing State) (at : Step) : Type 0 where
-  pub lent : at_time old.terms.lent context.now ≡ context
+  pub lent : at_time old.terms.setting context.now ≡ context
   pub process : Process
   pub does : Does context at process
   pub came : FetchReached by (fetch context request) old process now
@@ -153,7 +153,7 @@ pub record IsFetching {State : Type 0} (by : Answering State) (context : Context
   pub enough : calls + old.world.left ≤ now.world.left + most_asks
 
 pub fetching-start : {State : Type 0} {by : Answering State} {context : Context} {request : Request}
-    {old : Standing State} {at : Step} → at_time old.terms.lent context.now ≡ context
+    {old : Standing State} {at : Step} → at_time old.terms.setting context.now ≡ context
     → Does context at (fetch context request) → context.now < 2 ^ 48 → IsFetching by context request old 0 old at
 fetching-start {context = context} {request = request} lent does timely = record {
   lent = lent;
@@ -184,7 +184,7 @@ module _ {State : Type 0} {by : Answering State} {context : Context} {request : 
   came-here = rw is.does.process at is.came
 
   -- the fetch goes by the same as what it is lent now
-  same-context : at_time now.terms.lent fetching.now ≡ context
+  same-context : at_time now.terms.setting fetching.now ≡ context
   same-context = rw (is.came.same, is.does.now) is.lent
 
   -- it may act once more
@@ -194,7 +194,7 @@ module _ {State : Type 0} {by : Answering State} {context : Context} {request : 
 
   -- one act further
   pub fetching-went : {at : Step} {new : Standing State}
-      → WentOn by (at_time now.terms.lent fetching.now) fetching first now at new
+      → WentOn by (at_time now.terms.setting fetching.now) fetching first now at new
       → IsFetching by context request old (count + 1) new at
   unfolding acts-here asks-here
   fetching-went {at = at} {new = new} went =
@@ -219,7 +219,7 @@ module _ {State : Type 0} {by : Answering State} {context : Context} {request : 
 
   -- memory was refused at this act
   pub fetching-cut : {new : Standing State}
-      → FetchCut by (from_act (at_time now.terms.lent fetching.now) fetching first) now new
+      → FetchCut by (from_act (at_time now.terms.setting fetching.now) fetching first) now new
       → FetchCut by (fetch context request) old new
   fetching-cut {new = new} x = came-cut came-here
       (subst (λ (c : Context). FetchCut by (from_act c fetching first) now new) same-context x)

@@ -197,8 +197,8 @@ pub asked-begun : {State : Type 0} {by : Answering State} (kind : Destination) (
     → b.progress ≡ after_events (start_event kind a.progress.fetches ∷ []) (fetch_started (started a.progress))
     → LeadsTo by (λ lent next begun. asked lent kind made next (started begun)) a (λ lent. fetched lent kind made) b
 asked-begun {by = by} kind made {a = a} {b = b} same still noted =
-    subst (λ (t : Terms). PartReached by (λ (next : Next). asked a.terms.lent kind made next (started a.progress)) a
+    subst (λ (t : Terms). PartReached by (λ (next : Next). asked a.terms.setting kind made next (started a.progress)) a
     (λ next. fetched t.lent kind made next b.progress) b) (sym same)
-    (played-inside (fetched a.terms.lent kind made) (played-event same refl noted
+    (played-inside (fetched a.terms.setting kind made) (played-event same refl noted
     (subst (λ (w : World _). Settles (start_event kind a.progress.fetches) a.world w) (sym still)
     (settles-start kind a.progress.fetches a.world))))

@@ -62,7 +62,7 @@ module _ {State : Type 0} (by : Answering State) {whole : Play} (old now : Stand
 
   -- what the script came to, the run did
   pub run-came : (script : Steps) (result : Result (Option Ending) OutOfMemory)
-      → script_run old.terms.lent script finished old.progress ≡ whole
+      → script_run old.terms.setting script finished old.progress ≡ whole
       → RuleCameTo by (λ lent. script_run lent script) old result now
       → RunCameTo by old.terms.limit old.terms.document whole from now.progress.shown (ended_by result)
       now.progress.clock to

@@ -76,7 +76,7 @@ module _ {State : Type 0} {by : Answering State} where
       (limited : reached ≡ limit_before (step_of one) now.progress) where
     -- the commands behind it
     abbrev others : Next → Next
-    others next = script_run now.terms.lent (steps_of (drop (index + 1) items)) next
+    others next = script_run now.terms.setting (steps_of (drop (index + 1) items)) next
 
     -- a limit, or the command at the index, and then the others
     at-command : LeadsTo by (λ lent. script_run lent (steps_of items)) old
@@ -86,7 +86,7 @@ module _ {State : Type 0} {by : Answering State} where
     -- a limit ends the run before the command
     pub script-limited : is_some reached ≡ true → IsAtEnd now.world.exchange.left
         → RulePlayed by (λ lent. script_run lent (steps_of items)) old reached now
-    script-limited some rests = limited-in (λ next. command_started now.terms.lent (step_of one) (others next))
+    script-limited some rests = limited-in (λ next. command_started now.terms.setting (step_of one) (others next))
         at-command some rests
 
     module _ (free : is_some reached ≡ false) where
@@ -100,7 +100,8 @@ module _ {State : Type 0} {by : Answering State} where
           → RulePlayed by (λ lent. command_started lent (step_of one)) now ending later
           → IsAt by items (index + 1) old later
       script-next {later = later} goes x = record {
-        played = subst (λ (t : Terms). PartReached by (λ (next : Next). script_run old.terms.lent (steps_of items) next
+        played = subst
+            (λ (t : Terms). PartReached by (λ (next : Next). script_run old.terms.setting (steps_of items) next
             old.progress) old (λ next. script_run t.lent (steps_of (drop (index + 1) items)) next later.progress) later)
             (sym x.played.same) (played-then at-free (played-inside others (rw (no-ending goes) at x.played)));
       }
@@ -133,7 +134,7 @@ module _ {State : Type 0} {by : Answering State} where
       (within : round < times) where
     -- the rounds behind it
     abbrev rounds : Next → Next
-    rounds next = repeated (times - (round + 1)) (script_run now.terms.lent part) next
+    rounds next = repeated (times - (round + 1)) (script_run now.terms.setting part) next
 
     at-round : LeadsTo by (λ lent. repeated times (script_run lent part)) old
         (λ lent next. script_run lent part (rounds next)) now
@@ -143,7 +144,7 @@ module _ {State : Type 0} {by : Answering State} where
         → RulePlayed by (λ lent. script_run lent part) now ending later → IsRound by times part (round + 1) old later
     round-next {later = later} goes x = record {
       played = subst (λ (t : Terms). PartReached by
-          (λ (next : Next). repeated times (script_run old.terms.lent part) next
+          (λ (next : Next). repeated times (script_run old.terms.setting part) next
           old.progress) old (λ next. repeated (times - (round + 1)) (script_run t.lent part) next later.progress) later)
           (sym x.played.same) (played-then at-round (played-inside rounds (rw (no-ending goes) at x.played)));
     }

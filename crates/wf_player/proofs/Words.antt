@@ -17,7 +17,7 @@ pub use Rattle.wf_player.specs.Playing.{PlaysOn}
 pub use Rattle.wf_player.specs.Private.Parts.{FetchCut, FetchReached, HasLost}
 pub use Rattle.wf_player.specs.Private.Parts.{LeadsTo, PartCut, PartReached, Rule, RuleCameTo, RuleCut, RulePlayed}
 pub use Rattle.wf_player.specs.Private.Rows.{CanPlay, RowCameTo, seatings_of, transcripts_of}
-pub use Rattle.wf_player.specs.Private.Standings.{HasSpent, Keeps, MayGoOn, Standing, Terms, setting_of, standing}
+pub use Rattle.wf_player.specs.Private.Standings.{HasSpent, Keeps, MayGoOn, Standing, Terms, lent_setting, standing}
 pub use Rattle.wf_player.specs.Private.Standings.{terms_of}
 pub use Rattle.wf_player.specs.Seats.{AreSeated, DocumentCameTo, Seat, seat_of}
 pub use Rattle.wf_player.specs.Words.{Act, All, Answering, Ask, Context, Document, EachDocument, Ending, Event, Input}

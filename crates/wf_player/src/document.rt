@@ -2,7 +2,7 @@
 ghost use Rattle.std.specs.Prelude.{◌<◌, ◌^◌, ◌≡◌, ◌≢◌, ◌≤◌, IfOk, OnErr, Some, length, slice_get};
 ghost use Rattle.wf_player.specs.Playing.{RunCameTo};
 ghost use Rattle.wf_player.specs.Private.Parts as spec;
-ghost use Rattle.wf_player.specs.Private.Standings.{setting_of};
+ghost use Rattle.wf_player.specs.Private.Standings.{lent_setting};
 ghost use Rattle.wf_player.specs.Words.{AreValid, Document as OneDocument, IsAtEnd, IsClient, IsIdle, IsValid};
 ghost use Rattle.wf_player.specs.Words.{IsValidDocument, Memory, beginning, document_client, document_run, exchange_of};
 ghost use Rattle.wf_player.specs.Words.{finished, over_link, script_run};
@@ -50,7 +50,7 @@ fn play_script<R: Threads + Wait + Sync, S: Share, L: Link>(
     requires pass { S.belongs lent.now.share.now pass.old × (most_calls ≤ (S.account pass.old).left) }
     requires idle { IsIdle (exchange_of L.told link.old wire.old) }
     ensures came { RunCameTo (over_link L.serves) lent.now.limit (S.account pass.old).document
-        (script_run (setting_of lent.now) document.now.script finished (beginning base))
+        (script_run (lent_setting lent.now) document.now.script finished (beginning base))
         (outside S.account L.told pass.old link.old) result.events result.ending result.clock
         (outside S.account L.told pass.new link.new) }
     ensures rests { result.ending ≢ Memory → IsAtEnd (L.told link.new).left }

@@ -3,7 +3,7 @@ ghost use Rattle.std.specs.Prelude.{◌+◌, ◌<◌, ◌^◌, ◌≡◌, ◌≤
 ghost use Rattle.wf_player.specs.Driving.{DriveCameTo};
 ghost use Rattle.wf_player.specs.Private.Parts.{FetchCameTo};
 ghost use Rattle.wf_player.specs.Private.Going.{CanAnswer, GoesOn, PartNoted};
-ghost use Rattle.wf_player.specs.Private.Standings.{IsReady, Keeps, setting_of, standing, world};
+ghost use Rattle.wf_player.specs.Private.Standings.{IsReady, Keeps, lent_setting, standing, world};
 ghost use Rattle.wf_player.specs.Words.{IsAtEnd, IsClient, IsRequest, Leads, after_events, asks, at_time, context_of};
 ghost use Rattle.wf_player.specs.Words.{events_of, fetch, fits, most_asks, over_link, price_of, rest};
 ghost use Rattle.wf_player.specs.Worlds.{KeepsPass, outside};
@@ -44,8 +44,8 @@ fn take_on<R: Threads + Wait + Sync, S: Share>(
 ) -> Result<Step, OutOfMemory>
     requires client { IsClient lent.now.client.now }
     requires fits { IsTrue (fits fetching.last.value input) }
-    ensures process { Leads (at_time (setting_of lent.now) fetching.now) result
-        (rest (at_time (setting_of lent.now) fetching.now) fetching input) }
+    ensures process { Leads (at_time (lent_setting lent.now) fetching.now) result
+        (rest (at_time (lent_setting lent.now) fetching.now) fetching input) }
     ensures noted { OnOk result (running.new ≡ after_events (events_of act input) running.old) }
     ensures cut { OnErr result (PartNoted act input running.old running.new) }
 {
@@ -60,7 +60,7 @@ impl<R: Threads + Wait + Sync, S: Share, L: Link> Player<'_, '_, '_, '_, '_, R, 
         requires ready { IsReady S.belongs self.old }
         requires waits { fetching.last.value ≡ act }
         requires can { CanAnswer act (world S.account L.told self.old).left }
-        ensures went { GoesOn (over_link L.serves) (at_time (setting_of self.old.lent.now) fetching.now) fetching
+        ensures went { GoesOn (over_link L.serves) (at_time (lent_setting self.old.lent.now) fetching.now) fetching
             act (standing S.account L.told self.old) result (standing S.account L.told self.new) }
         ensures few { (world S.account L.told self.old).left
             ≤ (world S.account L.told self.new).left + price_of asks act }
@@ -86,7 +86,7 @@ impl<R: Threads + Wait + Sync, S: Share, L: Link> Player<'_, '_, '_, '_, '_, R, 
         requires request { IsRequest request }
         requires timely { now < 2 ^ 48 }
         requires left { most_asks ≤ (world S.account L.told self.old).left }
-        ensures came { FetchCameTo (over_link L.serves) (fetch (at_time (setting_of self.old.lent.now) now) request)
+        ensures came { FetchCameTo (over_link L.serves) (fetch (at_time (lent_setting self.old.lent.now) now) request)
             (standing S.account L.told self.old) result (standing S.account L.told self.new) }
         ensures few { (world S.account L.told self.old).left ≤ (world S.account L.told self.new).left + most_asks }
         ensures kept { Keeps S.account S.belongs self.old self.new }

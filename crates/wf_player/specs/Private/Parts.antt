@@ -67,8 +67,8 @@ Rule = Setting → Next → Next
 -- the rule was played as far as another, which follows
 abbrev pub LeadsTo : {State : Type 0} → Answering State → Rule → Standing State → Rule → Standing State → Type 0
 LeadsTo by rule old rest new =
-    PartReached by (λ (next : Next). rule old.terms.lent next old.progress) old
-    (λ next. rest new.terms.lent next new.progress) new
+    PartReached by (λ (next : Next). rule old.terms.setting next old.progress) old
+    (λ next. rest new.terms.setting next new.progress) new
 
 -- The rule was played: it leads on to what follows, or to an ending of the run. Nothing is to come over the link then.
 pub record RulePlayed {State : Type 0} (by : Answering State) (rule : Rule) (old : Standing State)
@@ -78,7 +78,7 @@ pub record RulePlayed {State : Type 0} (by : Answering State) (rule : Rule) (old
 
 -- memory was refused in it
 abbrev pub RuleCut : {State : Type 0} → Answering State → Rule → Standing State → Standing State → Type 0
-RuleCut by rule old new = PartCut by (λ next. rule old.terms.lent next old.progress) old new
+RuleCut by rule old new = PartCut by (λ next. rule old.terms.setting next old.progress) old new
 
 -- what the rule came to, with an ending, with none, or for want of memory
 abbrev pub RuleCameTo : {State : Type 0} → Answering State → Rule → Standing State → Result (Option Ending) OutOfMemory

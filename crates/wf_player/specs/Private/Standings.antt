@@ -8,7 +8,7 @@ use Rattle.wf_player.specs.Worlds.{World, most_calls, world_of}
 
 -- What a run goes by: what its fetches have in common, how many bytes a body may have, and the document's number.
 pub record Terms : Type 0 where
-  pub lent : Setting
+  pub setting : Setting
   pub limit : ℕ
   pub document : ℕ
 
@@ -34,13 +34,13 @@ pub record HasSpent {State : Type 0} (old new : Standing State) : Type 0 where
 -- ---- one value that plays
 
 -- what its fetches have in common
-abbrev pub setting_of : {R S : Type 0} → Lent R S → Setting
-setting_of lent = setting lent.client.now lent.policies.now lent.cookies.now
+abbrev pub lent_setting : {R S : Type 0} → Lent R S → Setting
+lent_setting lent = setting lent.client.now lent.policies.now lent.cookies.now
 
 -- what it goes by
 abbrev pub terms_of : {R S L P : Type 0} → (P → Account) → Player R S L P → Terms
 terms_of account player = record {
-  lent = setting_of player.lent.now;
+  setting = lent_setting player.lent.now;
   limit = player.lent.now.limit;
   document = (account player.pass.now).document;
 }

@@ -1,5 +1,5 @@
-use Rattle.wf_player.proofs.Words.{◌∙◌, ◌≡◌, IsAtEnd, Progress, ap, arith, finished, over_link, refl, rules, script_run}
-use Rattle.wf_player.proofs.Words.{setting_of, standing, window_of}
+use Rattle.wf_player.proofs.Words.{◌∙◌, ◌≡◌, IsAtEnd, Progress, ap, arith, finished, lent_setting, over_link, refl}
+use Rattle.wf_player.proofs.Words.{rules, script_run, standing, window_of}
 use Rattle.wf_player.proofs.AskLemmas.{end-left, keeps-pass, moved, outside-is}
 use Rattle.wf_player.proofs.RunLemmas.{run-came, run-rests}
 use Rattle.wf_player.proofs.document.play_script.Goals as goal
@@ -19,7 +19,7 @@ returns-clause-came g c =
     rw (shown, ticks, c.ended_by-ending.ensures) (run-came _ _ (standing g.S.Share.account g.L.Link.told last)
     c.requires.idle refl (search (rules, outside-is)) (ap (λ (p : Progress). p.shown) c.new-running.ensures)
     c.args.document.now.script c.script.result
-    (ap (script_run (setting_of c.args.lent.now) c.args.document.now.script finished) c.new-running.ensures)
+    (ap (script_run (lent_setting c.args.lent.now) c.args.document.now.script finished) c.new-running.ensures)
     c.script.ensures.came)
 
 pub returns-clause-rests : goal.returns-clause-rests

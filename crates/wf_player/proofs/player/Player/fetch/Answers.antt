@@ -1,4 +1,4 @@
-use Rattle.wf_player.proofs.Words.{MatchResult-from_err, arith, at_time, refl, rules, setting_of}
+use Rattle.wf_player.proofs.Words.{MatchResult-from_err, arith, at_time, lent_setting, refl, rules}
 use Rattle.wf_player.proofs.AskLemmas.{refuses-none}
 use Rattle.wf_player.proofs.FetchLemmas.{cut-unbegun, fetching-cut, fetching-room, fetching-start, fetching-went}
 use Rattle.wf_player.proofs.FetchLemmas.{few-acts}
@@ -18,7 +18,7 @@ pub overflow_add-acts : goal.overflow_add-acts
 overflow_add-acts g c = omega (
   arith,
   fetching-room (rw c.in-Going.is at c.loop-step.invariant.fetching),
-  few-acts (at_time (setting_of c.args.self.now.lent.now) c.args.now) c.args.request
+  few-acts (at_time (lent_setting c.args.self.now.lent.now) c.args.now) c.args.request
       (omega (arith, c.len-policies.ensures, c.len-policies.type_inv)),
 )
 

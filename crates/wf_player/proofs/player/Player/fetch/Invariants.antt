@@ -1,11 +1,11 @@
-use Rattle.wf_player.proofs.Words.{◌-◌, Keeps, acts, at_time, fetch_price, over_link, setting_of, standing}
+use Rattle.wf_player.proofs.Words.{◌-◌, Keeps, acts, at_time, fetch_price, lent_setting, over_link, standing}
 use Rattle.wf_player.proofs.FetchLemmas.{IsFetching}
 use Rattle.wf_player.proofs.player.Player.fetch.Given as goal
 
 -- the fetch is at this step, and has shown what was added to the events; what plays is as every call leaves it
 abbrev pub invariant-loop-step : goal.invariant-loop-step
 invariant-loop-step g l = record {
-  fetching : IsFetching (over_link g.L.Link.serves) (at_time (setting_of l.fn.self.lent.now) l.fn.now) l.fn.request
+  fetching : IsFetching (over_link g.L.Link.serves) (at_time (lent_setting l.fn.self.lent.now) l.fn.now) l.fn.request
       (standing g.S.Share.account g.L.Link.told l.fn.self) l.acts (standing g.S.Share.account g.L.Link.told l.self)
       l.step;
   kept : Keeps g.S.Share.account g.S.Share.belongs l.fn.self l.self;
@@ -14,4 +14,4 @@ invariant-loop-step g l = record {
 -- each act takes one of the fetch's acts
 abbrev pub decreases-loop-step : goal.decreases-loop-step
 decreases-loop-step g l =
-    fetch_price acts (at_time (setting_of l.fn.self.lent.now) l.fn.now) l.fn.request - l.acts
+    fetch_price acts (at_time (lent_setting l.fn.self.lent.now) l.fn.now) l.fn.request - l.acts

@@ -1,4 +1,4 @@
-use Rattle.wf_player.proofs.Words.{MatchResult-from_err, at_time, setting_of}
+use Rattle.wf_player.proofs.Words.{MatchResult-from_err, at_time, lent_setting}
 use Rattle.wf_player.proofs.AskLemmas.{same-terms}
 use Rattle.wf_player.proofs.FetchLemmas.{act-cut, cut-unbegun}
 use Rattle.wf_player.proofs.player.Player.go_on.Goals as goal
@@ -10,6 +10,6 @@ returns-in_err-input-clause-went g c = MatchResult-from_err c.from_residual.resu
 pub returns-in_err-step-clause-went : goal.returns-in_err-step-clause-went
 returns-in_err-step-clause-went g c =
     MatchResult-from_err c.from_residual-in_err-step.result _ _ c.from_residual-in_err-step.ensures.0
-    (λ one. act-cut (at_time (setting_of c.args.self.now.lent.now) c.args.fetching.now) c.args.fetching c.args.act
+    (λ one. act-cut (at_time (lent_setting c.args.self.now.lent.now) c.args.fetching.now) c.args.fetching c.args.act
     c.in_ok-input.input (same-terms c.answer.ensures.kept) c.in_ok-input.ensures.fits c.in_ok-input.ensures.came
     (rw (c.into_inner-act.ensures, c.answer.ensures.run) at c.in_err-step.ensures.cut))
