@@ -10,6 +10,9 @@ use Rattle.std.specs.Prelude.{◌==◌, ◌&&◌, not, bytes_eq, decimal, if◌t
 use Rattle.std.specs.List.{join_with_byte, list_all}
 use Rattle.wf_text.specs.Tokens.{is_token}
 use Rattle.wf_text.specs.declared.memory.OutOfMemory.{OutOfMemory}
+use Rattle.wf_decimal.specs.Decimals.{number_up_to}
+use Rattle.wf_decimal.proofs.DecimalLemmas.{lacks, number-lacks, number-read, number-writes}
+use Rattle.wf_decimal.proofs.TestLemmas.{and-both, chosen, done, mapped}
 use Rattle.wf_book.specs.declared.entry.Entry.{Entry}
 use Rattle.wf_book.specs.declared.op.Op.{Op}
 use Rattle.wf_book.specs.declared.op.Op.TheVariants.{Match, Note, Covers, Learn, Clear}
@@ -28,15 +31,13 @@ use Rattle.wf_audit_text.specs.declared.tail.Tail.{Tail}
 use Rattle.wf_audit_text.specs.Entries.{has_words, is_method, is_word, IsEntry, IsLineOf, IsReading}
 use Rattle.wf_audit_text.specs.Private.Reading.{call, call_in, clear_in, covers_in, credentials_in, entry_in, entry_of}
 use Rattle.wf_audit_text.specs.Private.Reading.{learn_in}
-use Rattle.wf_audit_text.specs.Private.Reading.{lesson_of, list_in, match_in, method_in, note_in, note_of, number_up_to}
+use Rattle.wf_audit_text.specs.Private.Reading.{lesson_of, list_in, match_in, method_in, note_in, note_of}
 use Rattle.wf_audit_text.specs.Private.Reading.{question_of, reply_in, subdomains_in, tail, tail_in, time_in, words_in}
 use Rattle.wf_audit_text.proofs.ListLemmas.{list-lacks, list-read, list-writes, method-lacks, method-read}
 use Rattle.wf_audit_text.proofs.ListLemmas.{method-writes}
 use Rattle.wf_audit_text.proofs.ListLemmas.{split-join, word-lacks}
-use Rattle.wf_audit_text.proofs.TestLemmas.{and-both, chosen, done, mapped}
-use Rattle.wf_audit_text.proofs.WordLemmas.{credentials-read, credentials-writes, lacks, number-lacks, number-read}
-use Rattle.wf_audit_text.proofs.WordLemmas.{number-writes, reply-read, reply-writes, subdomains-read, subdomains-writes}
-use Rattle.wf_audit_text.proofs.WordLemmas.{time-read, time-writes}
+use Rattle.wf_audit_text.proofs.WordLemmas.{credentials-read, credentials-writes, reply-read, reply-writes}
+use Rattle.wf_audit_text.proofs.WordLemmas.{subdomains-read, subdomains-writes, time-read, time-writes}
 
 -- ---- the words of entries
 

@@ -3,13 +3,13 @@ use Rattle.std.proofs.Common.{◌≡◌, ◌≤◌, ◌<◌, ℕ, List, ◌++◌
 use Rattle.std.proofs.Common.{arith, append_assoc, length-append, length-take, Some, None, inl}
 use Rattle.std.proofs.lemmas.List.{take-append-drop}
 use Rattle.std.specs.Prelude.{decimal}
+use Rattle.wf_decimal.specs.Decimals.{number_up_to}
+use Rattle.wf_decimal.proofs.DecimalLemmas.{number-lacks, number-read, number-writes}
 use Rattle.wf_script_events.specs.Lines.{line}
 use Rattle.wf_audit_text.specs.Frames.{IsFramed}
 use Rattle.wf_audit_text.specs.Histories.{IsLine}
 use Rattle.wf_audit_text.specs.Private.Cuts.{IsCut}
-use Rattle.wf_audit_text.specs.Private.Reading.{number_up_to}
 use Rattle.wf_audit_text.proofs.LineLemmas.{no-line, one-line}
-use Rattle.wf_audit_text.proofs.WordLemmas.{number-lacks, number-read, number-writes}
 
 framed-line : (input scenario play : List ℕ) → IsFramed input scenario play
     → input ≡ line (decimal (length scenario)) ++ (scenario ++ play)

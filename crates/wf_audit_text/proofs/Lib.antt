@@ -5,5 +5,4 @@ pub mod ListLemmas
 pub mod OneLemmas
 pub mod OnceLemmas
 pub mod ShortLemmas
-pub mod TestLemmas
 pub mod WordLemmas

@@ -22,8 +22,8 @@ use Rattle.wf_audit_text.specs.declared.history.Reading.{Reading}
 use Rattle.wf_audit_text.specs.declared.history.Reading.TheVariants.{Entries, Fault}
 use Rattle.wf_text.specs.declared.memory.OutOfMemory.{OutOfMemory}
 use Rattle.wf_audit_text.proofs.ListLemmas.{lacks-all}
-use Rattle.wf_audit_text.proofs.TestLemmas.{and-both, and-right}
-use Rattle.wf_audit_text.proofs.WordLemmas.{lacks}
+use Rattle.wf_decimal.proofs.TestLemmas.{and-both, and-right}
+use Rattle.wf_decimal.proofs.DecimalLemmas.{lacks}
 
 -- ---- one line
 

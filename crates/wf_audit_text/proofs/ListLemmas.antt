@@ -14,8 +14,8 @@ use Rattle.wf_text.specs.Tokens.{is_tchar, is_token}
 use Rattle.wf_script_events.specs.Calls.{comma_texts, list_text, method_text}
 use Rattle.wf_audit_text.specs.Entries.{is_method, is_visible, is_word}
 use Rattle.wf_audit_text.specs.Private.Reading.{list_in, method_in, tokens_in}
-use Rattle.wf_audit_text.proofs.TestLemmas.{and-both, and-left, and-right, choose, chosen, otherwise}
-use Rattle.wf_audit_text.proofs.WordLemmas.{lacks}
+use Rattle.wf_decimal.proofs.TestLemmas.{and-both, and-left, and-right, choose, chosen, otherwise}
+use Rattle.wf_decimal.proofs.DecimalLemmas.{lacks}
 
 -- ---- bytes that texts have not
 

@@ -19,7 +19,7 @@ use Rattle.wf_audit_text.specs.Laws.{HoldsOne}
 use Rattle.wf_audit_text.proofs.CallLemmas.{five, three}
 use Rattle.wf_audit_text.proofs.LineLemmas.{lined-then, one-line}
 use Rattle.wf_audit_text.proofs.ListLemmas.{token-lacks, word-lacks}
-use Rattle.wf_audit_text.proofs.TestLemmas.{and-left, and-right}
+use Rattle.wf_decimal.proofs.TestLemmas.{and-left, and-right}
 
 -- ---- entries can be read back
 

@@ -2,11 +2,11 @@ ghost use Rattle.std.specs.Prelude.{◌≡◌, map, IfOk};
 ghost use Rattle.wf_audit_text.specs.Private.Reading as spec;
 
 use crate::lists::{list_in, method_in};
-use crate::numbers::number_up_to;
 use crate::tail::tail_in;
 use crate::words::{credentials_in, is_word, subdomains_in};
 use std::alloc::Global;
 use wf_book::{Op, Reply};
+use wf_decimal::number_up_to;
 use wf_hsts::Sts;
 use wf_precache::{Lesson, Question};
 use wf_text::{Bytes, OutOfMemory};

@@ -3,9 +3,9 @@ ghost use Rattle.wf_audit_text.specs.Entries.{IsReading};
 ghost use Rattle.wf_audit_text.specs.Private.Reading as spec;
 
 use crate::calls::call_in;
-use crate::numbers::number_up_to;
 use std::alloc::Global;
 use wf_book::Entry;
+use wf_decimal::number_up_to;
 use wf_text::{OutOfMemory, parts_between};
 
 // The words of an entry's line.

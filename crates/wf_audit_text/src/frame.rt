@@ -2,7 +2,7 @@ ghost use Rattle.std.specs.Prelude.{ℕ, List, MatchOption};
 ghost use Rattle.wf_audit_text.specs.Frames.{IsFramed};
 
 use crate::history::cut;
-use crate::numbers::number_up_to;
+use wf_decimal::number_up_to;
 
 /// The longest scenario of an audit, in bytes.
 pub const MOST_SCENARIO: u64 = 4_194_304;

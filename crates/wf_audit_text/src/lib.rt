@@ -7,7 +7,6 @@ mod frame;
 mod history;
 mod laws;
 mod lists;
-mod numbers;
 mod tail;
 mod words;
 

@@ -1,8 +1,8 @@
 ghost use Rattle.std.specs.Prelude.{◌≡◌, map};
 ghost use Rattle.wf_audit_text.specs.Private.Reading as spec;
 
-use crate::numbers::number_up_to;
 use wf_book::Reply;
+use wf_decimal::number_up_to;
 use wf_text::before_byte;
 
 // Times are below 2^48.

@@ -26,7 +26,7 @@ use Rattle.wf_book_text.specs.Texts.{host_line, number_field}
 use Rattle.wf_book_text.specs.declared.refusal.Refusal.{Refusal}
 use Rattle.wf_book_text.proofs.FieldLemmas.{number-reads, prefix-complete, prefix-sound}
 use Rattle.wf_book_text.proofs.LineLemmas.{Lines, MayAll, entry-reads, host-reads, lines-complete, lines-sound}
-use Rattle.wf_book_text.proofs.TestLemmas.{done}
+use Rattle.wf_decimal.proofs.TestLemmas.{done}
 
 all-front : {A : Type 0} (P : A → Type 0) (a b : List A) → AllByRecursion P (a ++ b) → AllByRecursion P a
 all-front P [] b all = tt

@@ -9,10 +9,11 @@ use Rattle.std.proofs.lemmas.List.Sums.{passes_at_first, split_at_first}
 use Rattle.std.proofs.lemmas.Slice.Eq.{bytes_eq-Decides}
 use Rattle.std.specs.Prelude.{◌==◌, nat_lt, not, decimal, option_and_then, option_map, if◌then◌else◌, bytes_eq}
 use Rattle.std.specs.List.{position, position_or_len}
-use Rattle.wf_book_text.specs.Reading.{after_prefix, both_at, bytes_at, made_at, number_at, number_up_to, stopped, text_at}
+use Rattle.wf_decimal.specs.Decimals.{number_up_to}
+use Rattle.wf_decimal.proofs.DecimalLemmas.{lacks, number-lacks, number-read, number-writes}
+use Rattle.wf_decimal.proofs.TestLemmas.{and-right, chosen, done, mapped}
+use Rattle.wf_book_text.specs.Reading.{after_prefix, both_at, bytes_at, made_at, number_at, stopped, text_at}
 use Rattle.wf_book_text.specs.Texts.{greatest, number_field, text_field}
-use Rattle.wf_book_text.proofs.NumberLemmas.{lacks, number-lacks, number-read, number-writes}
-use Rattle.wf_book_text.proofs.TestLemmas.{and-right, chosen, done, mapped}
 
 -- a thing is read exactly where it is written
 pub record Reads {A : Type 0} (spell : A → List ℕ) (Fits : A → Type 0) (read : List ℕ → Option (A × List ℕ)) : Type 0 where

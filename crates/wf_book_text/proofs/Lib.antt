@@ -1,5 +1,3 @@
 pub mod BookLemmas
 pub mod FieldLemmas
 pub mod LineLemmas
-pub mod NumberLemmas
-pub mod TestLemmas

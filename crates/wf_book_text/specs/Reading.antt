@@ -1,11 +1,9 @@
 -- What a text is read as: a book, or the first line that is none of a book's and why (this project's own).
-use Rattle.std.specs.Prelude.{ℕ, zero, suc, ◌+◌, ◌==◌, ◌&&◌, ◌||◌, not, nat_le, nat_lt, Bool, false, List, []}
-use Rattle.std.specs.Prelude.{◌∷◌, ◌++◌, length, take, drop, codes, bytes_eq, Option, Some, None, option_map}
-use Rattle.std.specs.Prelude.{option_and_then, Result, Ok, Err, if◌then◌else◌}
+use Rattle.std.specs.Prelude.{ℕ, zero, suc, ◌+◌, ◌==◌, nat_lt, Bool, List, [], ◌∷◌, ◌++◌, length, take, drop, codes}
+use Rattle.std.specs.Prelude.{bytes_eq, Option, Some, None, option_map, option_and_then, Result, Ok, Err, if◌then◌else◌}
 use Rattle.std.specs.List.{position}
-use Rattle.std.specs.Str.Parse.{digits_value}
-use Rattle.wf_text.specs.Ascii.{colon, digit_zero, line_feed, space}
-use Rattle.wf_text.specs.Digits.{is_digits}
+use Rattle.wf_text.specs.Ascii.{colon, line_feed, space}
+use Rattle.wf_decimal.specs.Decimals.{number_up_to}
 use Rattle.wf_hsts.specs.Hosts.{known_host}
 use Rattle.wf_hsts.specs.Hosts as hosts
 use Rattle.wf_hsts.specs.declared.hosts.KnownHost.{KnownHost}
@@ -22,20 +20,6 @@ use Rattle.wf_book_text.specs.declared.refusal.Reason.TheVariants.{NoBook, Other
 use Rattle.wf_book_text.specs.declared.refusal.Refusal.{Refusal}
 
 -- ---- fields: what is read at the front of a text, and what follows it
-
-abbrev pub begins_with_zero : List ℕ → Bool
-begins_with_zero [] = false
-begins_with_zero (byte ∷ text) = byte == digit_zero
-
--- a decimal number of 64 bits, without a leading zero
-abbrev pub is_number : List ℕ → Bool
-is_number word =
-    is_digits word && (length word == 1 || not (begins_with_zero word)) && nat_le (digits_value 10 word) greatest
-
--- the number that a word is, up to this one
-abbrev pub number_up_to : ℕ → List ℕ → Option ℕ
-number_up_to most word =
-    if is_number word && nat_le (digits_value 10 word) most then Some (digits_value 10 word) else None
 
 -- a number up to this one, before the first such byte
 abbrev pub number_at : ℕ → ℕ → List ℕ → Option (ℕ × List ℕ)

@@ -1,28 +1,8 @@
 ghost use Rattle.std.specs.Prelude.{◌≡◌, ◌≤◌, IfSome, option_map};
 ghost use Rattle.wf_book_text.specs.Reading as spec;
 
-use wf_text::{digits_at_most, is_digits, parse_digits, position_of};
-
-// Whether the word is a decimal number of 64 bits, without a leading zero.
-fn is_number(word: &[u8]) -> bool
-    ensures { result ≡ spec.is_number word.now }
-{
-    is_digits(word)
-        && (word.len() == 1 || word.first() != Some(&b'0'))
-        && digits_at_most(word, b"18446744073709551615")
-}
-
-// The number that the word is, up to this one.
-fn number_up_to(most: u64, word: &[u8]) -> Option<u64>
-    ensures value { result ≡ spec.number_up_to most word.now }
-    ensures few { IfSome result (λ number. number ≤ most) }
-{
-    if !is_number(word) {
-        return None;
-    }
-    let number = parse_digits(word, u64::MAX)?;
-    if number <= most { Some(number) } else { None }
-}
+use wf_decimal::number_up_to;
+use wf_text::position_of;
 
 // The number up to this one before the first such byte, and what follows that.
 pub(crate) fn number_at(most: u64, stop: u8, text: &[u8]) -> Option<(u64, &[u8])>

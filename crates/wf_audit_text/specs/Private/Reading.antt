@@ -1,11 +1,10 @@
 -- How the words of a history's line are read.
-use Rattle.std.specs.Prelude.{ℕ, ◌+◌, ◌==◌, ◌&&◌, ◌||◌, Bool, true, false, not, nat_le, List, [], ◌∷◌, length, codes}
-use Rattle.std.specs.Prelude.{bytes_eq, Option, Some, None, option_map, option_and_then, if◌then◌else◌}
+use Rattle.std.specs.Prelude.{ℕ, ◌+◌, ◌==◌, ◌&&◌, Bool, true, false, List, [], ◌∷◌, length, codes, bytes_eq, Option}
+use Rattle.std.specs.Prelude.{Some, None, option_map, option_and_then, if◌then◌else◌}
 use Rattle.std.specs.List.{before_first, list_all, slice_split}
-use Rattle.std.specs.Str.Parse.{digits_value}
-use Rattle.wf_text.specs.Ascii.{colon, comma, digit_zero, space}
-use Rattle.wf_text.specs.Digits.{is_digits}
+use Rattle.wf_text.specs.Ascii.{colon, comma, space}
 use Rattle.wf_text.specs.Tokens.{is_token}
+use Rattle.wf_decimal.specs.Decimals.{number_up_to}
 use Rattle.wf_book.specs.declared.entry.Entry.{Entry}
 use Rattle.wf_book.specs.declared.op.Op.{Op}
 use Rattle.wf_book.specs.declared.op.Op.TheVariants.{Match, Note, Covers, Learn, Clear}
@@ -22,21 +21,6 @@ use Rattle.wf_audit_text.specs.Entries.{is_word}
 -- the words of a line: what is between its spaces
 abbrev pub words_in : List ℕ → List (List ℕ)
 words_in text = slice_split (λ byte. byte == space) text
-
-abbrev pub begins_with_zero : List ℕ → Bool
-begins_with_zero [] = false
-begins_with_zero (byte ∷ text) = byte == digit_zero
-
--- a decimal number of 64 bits, without a leading zero
-abbrev pub is_number : List ℕ → Bool
-is_number word =
-    is_digits word && (length word == 1 || not (begins_with_zero word))
-    && nat_le (digits_value 10 word) 18446744073709551615
-
--- the number that a word is, up to this one
-abbrev pub number_up_to : ℕ → List ℕ → Option ℕ
-number_up_to most word =
-    if is_number word && nat_le (digits_value 10 word) most then Some (digits_value 10 word) else None
 
 -- a time before 2^48, with the colon after it
 abbrev pub time_in : List ℕ → Option ℕ

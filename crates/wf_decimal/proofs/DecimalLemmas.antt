@@ -11,8 +11,9 @@ use Rattle.std.specs.Int.{IsInRange}
 use Rattle.std.specs.List.{list_all}
 use Rattle.std.specs.Str.Parse.{digits_value}
 use Rattle.wf_text.specs.Digits.{is_digits}
-use Rattle.wf_book_text.specs.Reading.{begins_with_zero, is_number, number_up_to}
-use Rattle.wf_book_text.proofs.TestLemmas.{and-both, and-left, and-right, choose, chosen}
+use Rattle.wf_decimal.specs.Decimals.{begins_with_zero, is_number, number_up_to}
+use Rattle.wf_decimal.specs.Laws.{ReadsDecimals, ReadsOnlyDecimals}
+use Rattle.wf_decimal.proofs.TestLemmas.{and-both, and-left, and-right, choose, chosen}
 
 -- ---- numbers
 
@@ -38,12 +39,6 @@ digits-test = record {
 
 model : IsNumeralModel AreDigits (digits_value 10)
 model = numerals_by_value AreDigits digits-test
-
--- a word is the decimal text of a number
-pub record Writes (most : ℕ) (word : List ℕ) (n : ℕ) : Type 0 where
-  pub text : decimal n ≡ word
-  pub few : n ≤ most
-  pub small : n < 2 ^ 64
 
 zero-alone : (word : List ℕ) → (length word == 1 || not (begins_with_zero word)) ≡ true → 0 < length word
     → get_or word 0 0 ≡ 48 → length word ≡ 1
@@ -76,7 +71,7 @@ number-text word e =
       below,
     )
 
-pub number-writes : (most : ℕ) (word : List ℕ) (n : ℕ) → number_up_to most word ≡ Some n → Writes most word n
+pub number-writes : ReadsOnlyDecimals
 number-writes most word n e =
     let is = chosen (is_number word && nat_le (digits_value 10 word) most) (Some (digits_value 10 word)) n e in
     let value : digits_value 10 word ≡ n = cc in
@@ -112,7 +107,7 @@ is-number n small =
     (some-length (decimal n) (decimal_nonempty n small)) (digits-of n small)) (plain-start n small))
     (true-le _ _ (omega (arith, value, small)))
 
-pub number-read : (most n : ℕ) → n ≤ most → n < 2 ^ 64 → number_up_to most (decimal n) ≡ Some n
+pub number-read : ReadsDecimals
 number-read most n few small =
     let value : digits_value 10 (decimal n) ≡ n = digits_value-decimal model n small in
     choose (is_number (decimal n) && nat_le (digits_value 10 (decimal n)) most) (Some (digits_value 10 (decimal n))) n

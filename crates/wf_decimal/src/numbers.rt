@@ -1,5 +1,5 @@
 ghost use Rattle.std.specs.Prelude.{◌≡◌, ◌≤◌, IfSome};
-ghost use Rattle.wf_audit_text.specs.Private.Reading as spec;
+ghost use Rattle.wf_decimal.specs.Decimals as spec;
 
 use wf_text::{digits_at_most, is_digits, parse_digits};
 
@@ -12,8 +12,9 @@ fn is_number(word: &[u8]) -> bool
         && digits_at_most(word, b"18446744073709551615")
 }
 
-// The number that the word is, up to this one.
-pub(crate) fn number_up_to(most: u64, word: &[u8]) -> Option<u64>
+/// The number whose decimal the word is: digits, without a leading zero or a sign. `None` exactly where it is that of
+/// no number up to `most`. It takes no memory.
+pub fn number_up_to(most: u64, word: &[u8]) -> Option<u64>
     ensures value { result ≡ spec.number_up_to most word.now }
     ensures few { IfSome result (λ number. number ≤ most) }
 {
