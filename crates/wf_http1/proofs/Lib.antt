@@ -15,3 +15,4 @@ pub mod OpenLemmas
 pub mod LengthLemmas
 pub mod FewestLemmas
 pub mod RequestLemmas
+pub mod ShortLemmas

@@ -3,7 +3,7 @@ ghost use Rattle.std.specs.List.{list_all};
 ghost use Rattle.std.specs.Str.Parse.{digits_value};
 ghost use Rattle.wf_text.specs.Digits.{is_digits, writes};
 ghost use Rattle.wf_http1.specs.Framings as spec;
-ghost use Rattle.wf_http1.specs.Private.Lengths.{first_value};
+ghost use Rattle.wf_http1.specs.Private.Lengths.{first_value, shortened};
 
 use std::alloc::Global;
 use wf_headers::{Header, HeaderList};
@@ -103,9 +103,21 @@ fn of_lengths(texts: &BytesList) -> Framing
     }
     let first = texts.at(0);
     match parse_digits(first, u64::MAX) {
-        Some(length) if all_write(texts, first) => Framing::Length(length),
+        Some(length) if all_write(texts, shortened(first)) => Framing::Length(length),
         _ => Framing::Broken,
     }
+}
+
+// The digits without the zeros in front, down to one digit. Each text of a list is compared with them, so
+// the first text's zeros are read once, and not once for each text.
+fn shortened(digits: &[u8]) -> &[u8]
+    ensures { result.now ≡ shortened digits.now }
+{
+    let mut rest = digits;
+    while let [b'0', _, ..] = rest {
+        rest = rest.split_at(1).1;
+    }
+    rest
 }
 
 // Whether all texts are digits of the number that these digits write.
