@@ -106,10 +106,23 @@ def waits(size):
     return scenario([document([{'wait': 1}] * (size // 11))])
 
 
-def redirects(count):
-    load = {'load': {'kind': 'image', 'url': '/'}}
-    return scenario([document([{'repeat': 1000, 'do': [load]}]) for _ in range(count)],
+def redirected(documents, command, headers=()):
+    """Documents that do a command, whose requests are redirected 20 times, until their text is long enough."""
+    return scenario([document([{'repeat': 1000, 'do': [command]}], headers)] * documents,
                     servers=[server([{'status': 302, 'headers': [['Location', '/']]}])])
+
+
+def redirects(documents):
+    return redirected(documents, {'load': {'kind': 'image', 'url': '/'}})
+
+
+def short_headers(documents):
+    return redirected(documents, {'fetch': {'url': '/', 'mode': 'same-origin', 'headers': [['a', '']] * 64}})
+
+
+def violations(documents):
+    policies = ['Content-Security-Policy-Report-Only', ','.join(["img-src 'none'"] * 16)]
+    return redirected(documents, {'load': {'kind': 'image', 'url': '/'}}, [policies])
 
 
 def routes(count):
@@ -137,9 +150,9 @@ def short_names(length):
     return (''.join(name) for name in itertools.product('abcdefghijklmnopqrstuvwxyz0123456789', repeat=length))
 
 
-def asking(url, times, headers, **more):
-    """A document that asks another origin so many times, whose answer lets every origin read it."""
-    allowed = [['Access-Control-Allow-Origin', '*']] + headers
+def asking(url, times, answered, **more):
+    """A document that asks another origin so many times, whose answer has these headers and lets all read it."""
+    allowed = [['Access-Control-Allow-Origin', '*']] + answered
     return scenario([document([{'repeat': times, 'do': [{'fetch': {'url': url, **more}}]}])],
                     servers=[server([{'status': 200, 'headers': allowed}], 'https://b.test')])
 
@@ -180,6 +193,16 @@ def allowed_names(size):
                   method='PUT', headers=[[name, ''] for name in names])
 
 
+def policy_words(count):
+    return scenario([document([], [['Content-Security-Policy', 'img-src' + ' a' * count]])])
+
+
+def checked_bodies(documents):
+    """Documents that load a body of a megabyte four times, each time to compare it with a digest."""
+    load = {'load': {'kind': 'script', 'url': '/', 'crossorigin': 'anonymous', 'integrity': 'sha512-a'}}
+    return answering('a' * MEGABYTE, [{'repeat': 4, 'do': [load]}], documents)
+
+
 class Case(typing.NamedTuple):
     name: str
     make: typing.Callable  # the input of a size: so many bytes, or so many of what the name says
@@ -210,6 +233,10 @@ CASES = [
     Case('names that are exposed', exposed_names, 15000, 60000),
     Case('names that are allowed', allowed_names, 15000, 60000),
     Case('documents with loads of 20 redirects', redirects, 32, 128),
+    Case('words of a policy', policy_words, 500000, 2000000),
+    Case('headers of one letter', short_headers, 2, 16),
+    Case('violations', violations, 2, 16),
+    Case('bodies that are compared with a digest', checked_bodies, 32, 128),
     Case('routes of 128 documents', routes, 37500, 150000, 'net'),
     Case('waits, as short as commands can be', waits, 1000000, 4190000),
     Case('nested objects that are refused', nested_objects, 1000000, 4190000),
@@ -265,7 +292,7 @@ def measured(case):
         if before:
             grown = counted / before[0] if counted and before[0] else seconds / max(before[1], 0.001)
             print(', %.2f and %.2f times' % (grown, memory / before[2]), end='')
-            if grown > 2.3:
+            if grown > 2.3 and (counted or before[1] > 0.5):
                 problems.append('%s, %d: %.2f times the time' % (case.name, size, grown))
         print(flush=True)
         before = counted, seconds, memory
