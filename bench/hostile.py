@@ -1,4 +1,5 @@
 # What bench/hostile.sh runs: inputs that are made to cost more than they are long, at three sizes each.
+import itertools
 import json
 import os
 import re
@@ -8,9 +9,10 @@ import subprocess
 import sys
 import threading
 import time
+import typing
 
-program, work = sys.argv[1], sys.argv[2]
-words = sys.argv[3:]
+program, launcher, work = sys.argv[1:4]
+words = sys.argv[4:]
 wanted = [word for word in words if not word.startswith('--')]
 MOST = 4194304
 MEGABYTE = 1048576
@@ -31,22 +33,33 @@ def server(rules, origin='https://a.test'):
     return {'origin': origin, 'rules': rules}
 
 
+def answering(body, script, documents=1):
+    """Documents with a script, at a server that answers with a body."""
+    return scenario([document(script)] * documents, servers=[server([{'status': 200, 'body': body}])])
+
+
 def templates(size, asked):
-    """Half of it an answer's body, half of it placeholders for this body."""
-    return scenario([document([{'fetch': {'url': '/'}}, {'fetch': asked('${body}' * (size // 14))}])],
-                    servers=[server([{'status': 200, 'body': 'a' * (size // 2)}])])
+    """Half of it an answer's body, half of it placeholders for this body: far more than is filled."""
+    return answering('a' * (size // 2), [{'fetch': {'url': '/'}}, {'fetch': asked('${body}' * (size // 14))}])
 
 
-def url_templates(size):
-    return templates(size, lambda text: {'url': '/' + text})
+# What a fetch asks for, with placeholders in one part.
+def in_url(text):
+    return {'url': '/' + text}
 
 
-def header_templates(size):
-    return templates(size, lambda text: {'url': '/', 'headers': [['X-A', text]]})
+def in_header(text):
+    return {'url': '/', 'headers': [['X-A', text]]}
 
 
-def body_templates(size):
-    return templates(size, lambda text: {'url': '/', 'method': 'POST', 'body': text})
+def in_body(text):
+    return {'url': '/', 'method': 'POST', 'body': text}
+
+
+def filled(asked, documents, times):
+    """Documents that put 1,000 bodies of 16,000 bytes, as much as is filled, into one part of a fetch so many times."""
+    fetches = [{'fetch': {'url': '/'}}, {'fetch': asked('${body}' * 1000)}]
+    return answering('<' * 16000, [{'repeat': times, 'do': fetches}], documents)
 
 
 def header_lines(count):
@@ -57,12 +70,23 @@ def directive_names(count):
     return scenario([document([], [['Content-Security-Policy', ';'.join('d%d' % i for i in range(count))]])])
 
 
-def integrity_tokens(count):
+def integrity_tokens(count, times=1):
     sources = ' '.join("'sha256-a%d'" % i for i in range(count))
     tokens = ' '.join('sha256-a%d' % i for i in range(count))
     load = {'load': {'kind': 'script', 'url': 'https://b.test/', 'crossorigin': 'anonymous', 'integrity': tokens}}
-    return scenario([document([load], [['Content-Security-Policy', 'script-src ' + sources]])],
+    policy = ['Content-Security-Policy', 'script-src ' + sources]
+    return scenario([document([{'repeat': times, 'do': [load]}], [policy])],
                     servers=[server([{'status': 200, 'body': 'a'}], 'https://b.test')])
+
+
+def integrity_hops(kind, count):
+    """Twenty loads of 20 redirects with so many integrity tokens; of a script, beside as many hash-sources."""
+    sources = ' '.join("'sha256-a%d'" % i for i in range(count))
+    tokens = ' '.join('sha256-a%d' % i for i in range(count)) + ' sha256-none'
+    load = {'load': {'kind': kind, 'url': '/', 'crossorigin': 'anonymous', 'integrity': tokens}}
+    policy = 'script-src https: ' + sources if kind == 'script' else 'x'
+    return scenario([document([{'repeat': 20, 'do': [load]}], [['Content-Security-Policy', policy]])],
+                    servers=[server([{'status': 302, 'headers': [['Location', '/']]}])])
 
 
 def lessons(count, names=','.join('x%06d' % i for i in range(5000))):
@@ -82,10 +106,23 @@ def waits(size):
     return scenario([document([{'wait': 1}] * (size // 11))])
 
 
-def redirects(count):
-    load = {'load': {'kind': 'image', 'url': '/'}}
-    return scenario([document([{'repeat': 1000, 'do': [load]}]) for _ in range(count)],
+def redirected(documents, command, headers=()):
+    """Documents that do a command, whose requests are redirected 20 times, until their text is long enough."""
+    return scenario([document([{'repeat': 1000, 'do': [command]}], headers)] * documents,
                     servers=[server([{'status': 302, 'headers': [['Location', '/']]}])])
+
+
+def redirects(documents):
+    return redirected(documents, {'load': {'kind': 'image', 'url': '/'}})
+
+
+def short_headers(documents):
+    return redirected(documents, {'fetch': {'url': '/', 'mode': 'same-origin', 'headers': [['a', '']] * 64}})
+
+
+def violations(documents):
+    policies = ['Content-Security-Policy-Report-Only', ','.join(["img-src 'none'"] * 16)]
+    return redirected(documents, {'load': {'kind': 'image', 'url': '/'}}, [policies])
 
 
 def routes(count):
@@ -108,34 +145,114 @@ def chunk_lines(count):
     return scenario([document([{'fetch': {'url': '/'}}])], servers=[server([{'raw': raw}])])
 
 
-# Name, how it is made, n, the size at which it is as long as a scenario may be (or as long as it may be tried), and the
-# word of the program. A size is of bytes or of what the name says.
+def short_names(length):
+    """All names of so many letters and digits, in order."""
+    return (''.join(name) for name in itertools.product('abcdefghijklmnopqrstuvwxyz0123456789', repeat=length))
+
+
+def asking(url, times, answered, **more):
+    """A document that asks another origin so many times, whose answer has these headers and lets all read it."""
+    allowed = [['Access-Control-Allow-Origin', '*']] + answered
+    return scenario([document([{'repeat': times, 'do': [{'fetch': {'url': url, **more}}]}])],
+                    servers=[server([{'status': 200, 'headers': allowed}], 'https://b.test')])
+
+
+def zeros(size):
+    """Ten loads whose answer has a Content-Length of many equal numbers, of which the first has many zeros."""
+    value = '0' * (size // 2) + '1' + ',1' * (size // 4)
+    return scenario([document([{'repeat': 10, 'do': [{'load': {'kind': 'image', 'url': '/'}}]}])],
+                    servers=[server([{'status': 200, 'headers': [['Content-Length', value]]}])])
+
+
+def long_lessons(size):
+    """Five preflights of a URL of so many bytes, each of which teaches as many names."""
+    return asking('https://b.test/' + 'a' * size, 5,
+                  [['Access-Control-Allow-Methods', 'PUT'], ['Access-Control-Max-Age', '7200'],
+                   ['Access-Control-Allow-Headers', ','.join(itertools.islice(short_names(3), size))]], method='PUT')
+
+
+def dots(size):
+    """300 known hosts of so many dots, and 20 fetches from another one."""
+    hosts = [{'host': '.' * size + 'b%dz' % i, 'subdomains': False, 'until': 9} for i in range(300)]
+    fetch = {'fetch': {'url': 'http://' + '.' * size + 'a/', 'mode': 'same-origin', 'referrer': 'none'}}
+    return scenario([document([{'repeat': 20, 'do': [fetch]}], url='http://d.test/')], hsts=hosts)
+
+
+def exposed_names(size):
+    """Fifty answers with so many bytes of names that are exposed, and a header line for each 512 of them."""
+    lines = [[name, ''] for name in itertools.islice(short_names(2), size // 512)]
+    return asking('https://b.test/', 50, [['Access-Control-Expose-Headers', ','.join(['zz'] * (size // 3))]] + lines)
+
+
+def allowed_names(size):
+    """Fifty preflights that allow so many bytes of names, and a request's name for each 1,000, the last not allowed."""
+    names = ['x%02d' % i for i in range(size // 1000)]
+    return asking('https://b.test/', 50,
+                  [['Access-Control-Allow-Methods', 'PUT'],
+                   ['Access-Control-Allow-Headers', ','.join(['zzz'] * (size // 4) + names[:-1])]],
+                  method='PUT', headers=[[name, ''] for name in names])
+
+
+def policy_words(count):
+    return scenario([document([], [['Content-Security-Policy', 'img-src' + ' a' * count]])])
+
+
+def checked_bodies(documents):
+    """Documents that load a body of a megabyte four times, each time to compare it with a digest."""
+    load = {'load': {'kind': 'script', 'url': '/', 'crossorigin': 'anonymous', 'integrity': 'sha512-a'}}
+    return answering('a' * MEGABYTE, [{'repeat': 4, 'do': [load]}], documents)
+
+
+class Case(typing.NamedTuple):
+    name: str
+    make: typing.Callable  # the input of a size: so many bytes, or so many of what the name says
+    first: int             # n
+    longest: int           # as long as a scenario may be, or as it may be tried
+    word: str = 'play'     # of the program
+
+
 CASES = [
-    ('templates in a URL', url_templates, 25000, 4100000, 'play'),
-    ('templates in a header value', header_templates, 25000, 4100000, 'play'),
-    ('templates in a body', body_templates, 25000, 4100000, 'play'),
-    ('header lines of a document', header_lines, 12500, 283000, 'play'),
-    ('directive names of a policy', directive_names, 20000, 500000, 'play'),
-    ('integrity tokens against hash sources', integrity_tokens, 8000, 120000, 'play'),
-    ('documents that learn and show much', lessons, 2, 128, 'play'),
-    ('documents that learn names of one letter', short_lessons, 2, 32, 'play'),
-    ('documents with loads of 20 redirects', redirects, 32, 128, 'play'),
-    ('routes of 128 documents', routes, 37500, 150000, 'net'),
-    ('waits, as short as commands can be', waits, 1000000, 4190000, 'play'),
-    ('nested objects that are refused', nested_objects, 1000000, 4190000, 'play'),
-    ('a key that is refused, with many values', refused_members, 1000000, 4190000, 'play'),
-    ('chunk lines of 4,000 bytes', chunk_lines, 250, 1000, 'play'),
+    Case('templates in a URL, refused', lambda size: templates(size, in_url), 25000, 4100000),
+    Case('templates in a header value, too many', lambda size: templates(size, in_header), 25000, 4100000),
+    Case('templates in a body', lambda size: templates(size, in_body), 25000, 4100000),
+    Case('a URL of 16 MB, filled in each of n documents', lambda count: filled(in_url, count, 1), 1, 16),
+    Case('a URL of 16 MB, filled n times', lambda count: filled(in_url, 1, count), 2, 20),
+    Case('a header value of 16 MB, filled in each of n documents', lambda count: filled(in_header, count, 1), 4, 128),
+    Case('a header value of 16 MB, filled n times', lambda count: filled(in_header, 1, count), 4, 128),
+    Case('header lines of a document', header_lines, 12500, 283000),
+    Case('directive names of a policy', directive_names, 20000, 500000),
+    Case('integrity tokens against hash sources', integrity_tokens, 8000, 120000),
+    Case('integrity tokens, n times', lambda count: integrity_tokens(2000, count), 10, 1000),
+    Case('integrity tokens of images of 20 redirects', lambda count: integrity_hops('image', count), 2000, 120000),
+    Case('integrity tokens of scripts of 20 redirects', lambda count: integrity_hops('script', count), 1000, 60000),
+    Case('documents that learn and show much', lessons, 2, 128),
+    Case('documents that learn names of one letter', short_lessons, 2, 32),
+    Case('lessons of long URLs', long_lessons, 2000, 8000),
+    Case('known hosts of dots', dots, 2000, 8000),
+    Case('a Content-Length of zeros', zeros, 16000, 64000),
+    Case('names that are exposed', exposed_names, 15000, 60000),
+    Case('names that are allowed', allowed_names, 15000, 60000),
+    Case('documents with loads of 20 redirects', redirects, 32, 128),
+    Case('words of a policy', policy_words, 500000, 2000000),
+    Case('headers of one letter', short_headers, 2, 16),
+    Case('violations', violations, 2, 16),
+    Case('bodies that are compared with a digest', checked_bodies, 32, 128),
+    Case('routes of 128 documents', routes, 37500, 150000, 'net'),
+    Case('waits, as short as commands can be', waits, 1000000, 4190000),
+    Case('nested objects that are refused', nested_objects, 1000000, 4190000),
+    Case('a key that is refused, with many values', refused_members, 1000000, 4190000),
+    Case('chunk lines of 4,000 bytes', chunk_lines, 250, 1000),
 ]
 
 
 # ---- measuring
 
-def run(command, path, limit=None):
+def run(command, path, limit=None, environment=None):
     """The status, the bytes written, the seconds of processor time and the peak of memory of a run."""
     written, told = os.path.join(work, 'written'), os.path.join(work, 'told')
     with open(path, 'rb') as text, open(written, 'wb') as output:
         status = subprocess.run(['/usr/bin/time', '-q', '-f', '%M %U %S', '-o', told] + command, stdin=text,
-                                stdout=output, stderr=subprocess.DEVNULL, preexec_fn=limit).returncode
+                                stdout=output, stderr=subprocess.DEVNULL, preexec_fn=limit, env=environment).returncode
     with open(told) as text:
         memory, user, system = text.read().split()[-3:]
     return status, os.path.getsize(written), float(user) + float(system), int(memory) * 1024
@@ -150,44 +267,46 @@ def instructions(word, path):
     return int(told.group(1)) if told else None
 
 
-def measure(name, make, size, word):
+def measure(case, size):
     """Plays the input of a size, prints what it took, and tells what is compared with the size before."""
-    text = make(size)
+    text = case.make(size)
     path = os.path.join(work, 'scenario')
     with open(path, 'wb') as file:
         file.write(text)
-    status, written, seconds, memory = run([program, word], path)
-    counted = instructions(word, path) if seconds < 2 and '--quick' not in words else None
+    status, written, seconds, memory = run([program, case.word], path)
+    counted = instructions(case.word, path) if seconds < 2 and '--quick' not in words else None
     room = 64 * MEGABYTE + 6 * written + 20 * len(text)
     if memory > room:
-        problems.append('%s, %d: %d MB, where %d are room' % (name, size, memory // MEGABYTE, room // MEGABYTE))
+        problems.append('%s, %d: %d MB, where %d are room' % (case.name, size, memory // MEGABYTE, room // MEGABYTE))
     print('  %9d: %9d bytes, status %d, %10d written, %6.2f s, %s%5d MB' % (
         size, len(text), status, written, seconds,
         '%14d instructions, ' % counted if counted else '', memory // MEGABYTE), end='')
-    return len(text), counted, seconds, memory
+    return counted, seconds, memory
 
 
-def measured(name, make, first, longest, word):
-    print('%s (%s)' % (name, word))
+def measured(case):
+    print('%s (%s)' % (case.name, case.word))
     before = None
-    for size in [first, 2 * first, 4 * first]:
-        length, counted, seconds, memory = measure(name, make, size, word)
+    for size in [case.first, 2 * case.first, 4 * case.first]:
+        counted, seconds, memory = measure(case, size)
         if before:
             grown = counted / before[0] if counted and before[0] else seconds / max(before[1], 0.001)
             print(', %.2f and %.2f times' % (grown, memory / before[2]), end='')
-            if grown > 2.3:
-                problems.append('%s, %d: %.2f times the time' % (name, size, grown))
+            if grown > 2.3 and (counted or before[1] > 0.5):
+                problems.append('%s, %d: %.2f times the time' % (case.name, size, grown))
         print(flush=True)
         before = counted, seconds, memory
     if '--long' in words:
-        _, _, seconds, _ = measure(name, make, longest, word)
+        _, seconds, _ = measure(case, case.longest)
         print(flush=True)
         if seconds > 10:
-            problems.append('%s, %d: %.1f s' % (name, longest, seconds))
+            problems.append('%s, %d: %.1f s' % (case.name, case.longest, seconds))
 
 
 def limited(kilobytes):
+    """The limits of bin/fetchplay, which it sets itself too, and one of address space."""
     def limit():
+        resource.setrlimit(resource.RLIMIT_STACK, (MEGABYTE, resource.getrlimit(resource.RLIMIT_STACK)[1]))
         resource.setrlimit(resource.RLIMIT_AS, (kilobytes * 1024, kilobytes * 1024))
     return limit
 
@@ -197,7 +316,8 @@ def measured_room():
     print('`gen 64`, by `ulimit -v`')
     least = None
     for kilobytes in [8000000, 4000000, 2000000, 1000000, 400000, 300000, 200000, 100000]:
-        status = run([program, 'gen', '64'], os.devnull, limited(kilobytes))[0]
+        arenas = {**os.environ, 'MALLOC_ARENA_MAX': '4'}
+        status = run([launcher, 'gen', '64'], os.devnull, limited(kilobytes), arenas)[0]
         if status != 0:
             break
         least = kilobytes
@@ -230,8 +350,8 @@ def measured_silence():
 
 
 for case in CASES:
-    if not wanted or any(word in case[0] for word in wanted):
-        measured(*case)
+    if not wanted or any(word in case.name for word in wanted):
+        measured(case)
 if not wanted or 'gen' in wanted:
     measured_room()
 if not wanted or 'net' in wanted:

@@ -1,2 +1,1 @@
--- What the crate's private contracts alone cite.
-pub mod Lasts
+pub mod Squeezes

@@ -5,6 +5,7 @@ ghost use Rattle.wf_script_run.specs.Filling as short;
 ghost use Rattle.wf_script_run.specs.Results.{lent_result, value_of};
 ghost use Rattle.wf_script_run.specs.Runs as spec;
 
+use crate::kept::{MOST_VALUE, kept};
 use crate::results::add_value;
 use std::alloc::Global;
 use wf_script_commands::next_piece;
@@ -14,10 +15,6 @@ use wf_types::{Init, LoadInit, Pair, Pairs};
 
 /// How many bytes of a body are handed on at most: one more than a request's body may have.
 const MOST_BODY: usize = 65_537;
-
-/// How many bytes of a header value are handed on at most, but for its mark: as many as the headers of a request may
-/// have together.
-const MOST_VALUE: usize = 16_384;
 
 /// How many bytes a text has at most once its placeholders were replaced. Memory is refused for a longer one, of
 /// which a URL may lose many again, and a header value those at its ends.
@@ -78,6 +75,29 @@ fn fill_body(alloc: Global, last: Option<&Event>, template: &[u8]) -> Result<Byt
     Ok(Bytes::from_vec(text))
 }
 
+// A header value with its placeholders replaced, of which no more is kept than is needed to normalise and to cut it. Its
+// rest is looked at and not kept.
+fn fill_value(alloc: Global, last: Option<&Event>, template: &[u8]) -> Result<Bytes, OutOfMemory>
+    ensures { IfOk result (λ text. short.cut_value (trimmed http_whitespace text)
+        ≡ short.cut_value (trimmed http_whitespace (filled (value_of (lent_result last.entry)) template.now))) }
+{
+    let (first, mut rest) = next_piece(template);
+    let mut text = Vec::from_slice(alloc, first)?;
+    let mut length = text.len();
+    while let Some(behind) = rest {
+        let (piece, more) = next_piece(behind);
+        let before = text.len();
+        add_placed(&mut text, alloc, last, piece)?;
+        length = length.saturating_add(text.len().saturating_sub(before));
+        if length > MOST_FILLED {
+            return Err(OutOfMemory);
+        }
+        text = kept(alloc, text)?;
+        rest = more;
+    }
+    Ok(Bytes::from_vec(text))
+}
+
 // A header value, normalised. It is copied only where there is something to trim.
 fn normalized(alloc: Global, value: Bytes) -> Result<Bytes, OutOfMemory>
     ensures { IfOk result (λ made. made ≡ trimmed http_whitespace value) }
@@ -113,7 +133,7 @@ fn cut(alloc: Global, value: Bytes) -> Result<Bytes, OutOfMemory>
 fn filled_pair(alloc: Global, last: Option<&Event>, pair: &Pair) -> Result<Pair, OutOfMemory>
     ensures { IfOk result (λ filled. filled ≡ short.cut_pair (spec.filled_pair (lent_result last.entry) pair.now)) }
 {
-    let value = fill(alloc, last, pair.value.as_slice())?;
+    let value = fill_value(alloc, last, pair.value.as_slice())?;
     let value = normalized(alloc, value)?;
     Ok(Pair {
         name: pair.name.copy(alloc)?,
@@ -153,7 +173,7 @@ fn filled_body(
 /// without tab, space, CR and LF at their ends (Fetch, section 2.2.2, "normalize a byte sequence"). Of a value
 /// that is longer than 16,384 bytes, which no request has, the first 16,384 are handed on, and behind them a
 /// letter, or NUL where the value has a byte that no header value has: so it is refused for what the whole
-/// one would be. A body that gets longer than 65,536 bytes, which no request has either, stops growing there,
+/// one would be. The rest of it is looked at as it comes, and not kept. A body that gets longer than 65,536 bytes, which no request has either, stops growing there,
 /// and its first 65,537 are handed on. A URL or a value that gets longer than 16,777,216 bytes is want of memory.
 pub fn filled_init(alloc: Global, last: Option<&Event>, init: &Init) -> Result<Init, OutOfMemory>
     ensures { IfOk result

@@ -2,6 +2,7 @@
 #![tactic(auto)]
 
 mod filling;
+mod kept;
 mod results;
 mod running;
 mod shown;
