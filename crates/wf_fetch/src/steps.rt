@@ -20,6 +20,7 @@ use wf_csp::Violations;
 use wf_fetch_acts::Act;
 use wf_fetch_answers::{Ended, after_body, ended};
 use wf_fetch_rules::clear_of;
+use wf_shared::Shared;
 use wf_text::OutOfMemory;
 use wf_types::{BodyEnd, Head, Hop, NetError, Outcome, Response, Violation};
 
@@ -67,7 +68,7 @@ pub(crate) fn asking(
     ensures { Leads context.now result
         (acting level.request.value (Act.Ask op) (rest_at context.now level place)) }
 {
-    let op = Boxed::new(alloc, op)?;
+    let op = Shared::new(alloc, op)?;
     Ok(going(context, level, place, Act::Ask(op)))
 }
 
