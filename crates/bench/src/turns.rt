@@ -11,6 +11,7 @@ use std::thread;
 use std::thread::Threads;
 use wf_book::{Book, Op, Share};
 use wf_precache::Lesson;
+use wf_shared::Shared;
 use wf_text::{Bytes, BytesList};
 use wf_turn::{TurnBook, TurnPass};
 use worked_rows::{Failed, Row};
@@ -71,6 +72,14 @@ fn numbered(alloc: Global, number: u64) -> Result<Op, Failed>
     }
 }
 
+// The same, to be held by who asks and by the history.
+fn shared(alloc: Global, number: u64) -> Result<Shared<Op>, Failed>
+    requires { number < 2 ^ 48 }
+    ensures { IfOk result (λ op. InRange op) }
+{
+    Ok(Shared::new(alloc, numbered(alloc, number)?)?)
+}
+
 // Makes so many calls on a pass, or fewer where memory runs out, and says how many were answered.
 fn calls<S: Share, R: Threads + Wait + Sync>(
     rt: &R,
@@ -83,7 +92,7 @@ fn calls<S: Share, R: Threads + Wait + Sync>(
     requires left { count ≤ (S.account pass.old).left }
 {
     for made in 0..count {
-        let Ok(op) = numbered(alloc, u64::from(made)) else {
+        let Ok(op) = shared(alloc, u64::from(made)) else {
             return u64::from(made);
         };
         if share.call(rt, alloc, pass, op).is_err() {

@@ -146,9 +146,9 @@ fn amount_of_act(act: &Act, which: Amount) -> Option<u64>
     ensures { result ≡ spec.amount_of_act act.now which }
 {
     match act {
-        Act::Ask(op) => ask_amount(op, which),
-        Act::Send(hop) => hop_amount(hop, which),
-        Act::Tell(violation) => violation_amount(violation, which),
+        Act::Ask(op) => ask_amount(op.get(), which),
+        Act::Send(hop) => hop_amount(hop.get(), which),
+        Act::Tell(violation) => violation_amount(violation.get(), which),
         Act::ReadHead | Act::ReadBody => None,
     }
 }

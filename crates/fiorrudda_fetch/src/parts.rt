@@ -158,9 +158,9 @@ fn text_of_act(act: &Act, part: Part, at: usize) -> Option<&[u8]>
     ensures { option_map (λ text. text.now) result ≡ spec.text_of_act act.now part at }
 {
     match act {
-        Act::Ask(op) => call_text(op, part, at),
-        Act::Send(hop) => hop_text(hop, part, at),
-        Act::Tell(violation) => violation_text(violation, part),
+        Act::Ask(op) => call_text(op.get(), part, at),
+        Act::Send(hop) => hop_text(hop.get(), part, at),
+        Act::Tell(violation) => violation_text(violation.get(), part),
         Act::ReadHead | Act::ReadBody => None,
     }
 }
@@ -224,7 +224,7 @@ fn request_of_act(alloc: Global, act: &Act) -> Result<Option<Bytes>, OutOfMemory
     ensures { IfOk result (λ bytes. bytes ≡ spec.request_of_act act.now) }
 {
     match act {
-        Act::Send(hop) => Ok(Some(write_request(alloc, hop)?)),
+        Act::Send(hop) => Ok(Some(write_request(alloc, hop.get())?)),
         _ => Ok(None),
     }
 }

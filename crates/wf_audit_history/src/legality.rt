@@ -26,7 +26,7 @@ pub fn first_illegal(
 {
     let mut turn = 0u64;
     for entry in history {
-        let reply = book.apply(alloc, &entry.op)?;
+        let reply = book.apply(alloc, entry.op.get())?;
         if !is_right(entry, turn, reply) {
             return Ok(Some(turn));
         }

@@ -13,6 +13,7 @@ use std::snapshot::Snapshot;
 use std::sync::Wait;
 use std::thread::Threads;
 use wf_book::{Book, Entry, Op, Reply, Share};
+use wf_shared::Shared;
 use wf_text::OutOfMemory;
 
 /// A share that replies to each call of a document by the document's next entry of a given history. It calls no book.
@@ -40,7 +41,7 @@ pub struct TapePass<'a> {
     history: &'a [Entry],
     opening: &'a Snapshot<Book>,
     at: usize,
-    strays: Vec<Op>,
+    strays: Vec<Shared<Op>>,
     calls: u64,
 }
 
@@ -170,7 +171,7 @@ impl<'a> TapePass<'a> {
         }
         let index = self.next()?;
         let entry = self.entry_at(index);
-        if !same_op(&entry.op, op) {
+        if !same_op(entry.op.get(), op) {
             return None;
         }
         let reply = entry.reply;
@@ -179,12 +180,12 @@ impl<'a> TapePass<'a> {
     }
 
     // The call is a stray.
-    fn stray(&mut self, op: Op) -> Result<Reply, OutOfMemory>
+    fn stray(&mut self, op: Shared<Op>) -> Result<Reply, OutOfMemory>
         requires { calls.IsNone self.old op }
         ensures ok { IfOk result (λ reply. calls.IsStrayed self.old op reply self.new) }
         ensures err { OnErr result (self.new ≡ self.old) }
     {
-        let reply = stray_reply(&op);
+        let reply = stray_reply(op.get());
         self.strays.push(op)?;
         Ok(reply)
     }
@@ -203,10 +204,10 @@ impl<'a> Share for TapeShare<'a> {
         _rt: &R,
         _alloc: Global,
         pass: &mut TapePass<'a>,
-        op: Op,
+        op: Shared<Op>,
     ) -> Result<Reply, OutOfMemory> {
         pass.count();
-        match pass.replied(&op) {
+        match pass.replied(op.get()) {
             Some(reply) => Ok(reply),
             None => pass.stray(op),
         }

@@ -6,6 +6,7 @@ use crate::calls::call_in;
 use std::alloc::Global;
 use wf_book::Entry;
 use wf_decimal::number_up_to;
+use wf_shared::Shared;
 use wf_text::{OutOfMemory, parts_between};
 
 // The words of an entry's line.
@@ -27,7 +28,7 @@ fn entry_in(alloc: Global, words: &[&[u8]]) -> Result<Option<Entry>, OutOfMemory
     Ok(Some(Entry {
         turn,
         document: document as u32,
-        op: call.op,
+        op: Shared::new(alloc, call.op)?,
         reply: call.reply,
     }))
 }

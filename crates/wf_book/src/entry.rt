@@ -1,10 +1,12 @@
 use crate::op::{Op, Reply};
+use wf_shared::Shared;
 
 /// An operation that was done on the book, in which turn and for which document, and what it replied.
+/// Who asked for the operation may hold it as well.
 #[derive(Drop)]
 pub struct Entry {
     pub turn: u64,
     pub document: u32,
-    pub op: Op,
+    pub op: Shared<Op>,
     pub reply: Reply,
 }

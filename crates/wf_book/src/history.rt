@@ -8,6 +8,7 @@ use crate::entry::Entry;
 use crate::op::{Op, Reply};
 use std::alloc::Global;
 use std::marker::Model;
+use wf_shared::Shared;
 use wf_text::OutOfMemory;
 
 /// What was done on the book, seen as the list of its entries.
@@ -74,7 +75,7 @@ impl History {
         book: &mut Book,
         turn: u64,
         document: u32,
-        op: Op,
+        op: Shared<Op>,
     ) -> Result<Reply, OutOfMemory>
         requires { InRange op }
         ensures reply { IfOk result (λ answer. answer ≡ reply book.old op) }
@@ -83,7 +84,7 @@ impl History {
         ensures err { OnErr result ((self.new ≡ self.old) × (book.new ≡ book.old)) }
     {
         self.entries.reserve(1)?;
-        let reply = book.apply(alloc, &op)?;
+        let reply = book.apply(alloc, op.get())?;
         self.entries.push_reserved(Entry {
             turn,
             document,

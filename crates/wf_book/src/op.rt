@@ -1,9 +1,6 @@
-ghost use Rattle.std.specs.Prelude.{◌≡◌, IfOk};
-
-use std::alloc::Global;
 use wf_hsts::Sts;
 use wf_precache::{Lesson, Question};
-use wf_text::{Bytes, OutOfMemory};
+use wf_text::Bytes;
 
 /// One operation on the book. The last number of each is its time, in seconds.
 #[derive(Drop)]
@@ -26,24 +23,4 @@ pub enum Reply {
     Yes,
     No,
     Done,
-}
-
-impl Op {
-    /// An equal operation.
-    pub fn copy(&self, alloc: Global) -> Result<Op, OutOfMemory>
-        ensures { IfOk result (λ op. op ≡ self.now) }
-    {
-        match self {
-            Op::Match(host, now) => Ok(Op::Match(host.copy(alloc)?, *now)),
-            Op::Note(host, sts, now) => Ok(Op::Note(host.copy(alloc)?, *sts, *now)),
-            Op::Covers(question, now) => Ok(Op::Covers(question.copy(alloc)?, *now)),
-            Op::Learn(lesson, now) => Ok(Op::Learn(lesson.copy(alloc)?, *now)),
-            Op::Clear(key, origin, url, now) => {
-                let key = key.copy(alloc)?;
-                let origin = origin.copy(alloc)?;
-                let url = url.copy(alloc)?;
-                Ok(Op::Clear(key, origin, url, *now))
-            }
-        }
-    }
 }

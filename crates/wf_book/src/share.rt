@@ -7,6 +7,7 @@ use crate::op::{Op, Reply};
 use std::alloc::Global;
 use std::sync::Wait;
 use std::thread::Threads;
+use wf_shared::Shared;
 use wf_text::OutOfMemory;
 
 /// A book that is shared by passes. Each document has one pass, and does its operations through it.
@@ -28,7 +29,7 @@ pub trait Share {
         rt: &R,
         alloc: Global,
         pass: &mut Self::Pass,
-        op: Op,
+        op: Shared<Op>,
     ) -> Result<Reply, OutOfMemory>
         requires belongs { belongs self.now pass.old }
         requires left { 0 < (account pass.old).left }

@@ -10,6 +10,7 @@ use std::marker::Model;
 use std::snapshot::Snapshot;
 use std::sync::Wait;
 use std::thread::Threads;
+use wf_shared::Shared;
 use wf_text::OutOfMemory;
 
 /// A share that one pass has for itself.
@@ -90,7 +91,7 @@ impl Share for SoloBook {
         _rt: &R,
         alloc: Global,
         pass: &mut SoloPass,
-        op: Op,
+        op: Shared<Op>,
     ) -> Result<Reply, OutOfMemory> {
         let turn = pass.calls;
         pass.calls += 1;

@@ -12,10 +12,9 @@ ghost use Rattle.wf_fetch.specs.Then as shared;
 use crate::context::Context;
 use crate::main_fetch::begin;
 use crate::place::{Level, Place, Step, boxed};
-use crate::steps::{finish, going, refused};
+use crate::steps::{asking, finish, going, refused, sending};
 use std::alloc::Global;
 use url::Url;
-use wf_boxed::Boxed;
 use wf_fetch_acts::Act;
 use wf_fetch_answers::{Redirection, redirected, redirection, refusal_after};
 use wf_fetch_rules::note_of;
@@ -30,12 +29,7 @@ pub(crate) fn send(alloc: Global, context: &Context<'_>, level: Level) -> Result
         (at_level context.now level spec.http_fetch) }
 {
     let hop = hop_of(alloc, &level.request, context.cookies)?;
-    Ok(going(
-        context,
-        level,
-        Place::Sending,
-        Act::Send(Boxed::new(alloc, hop)?),
-    ))
+    sending(alloc, context, level, Place::Sending, hop)
 }
 
 // The head of the answer is read, unless the link failed.
@@ -76,12 +70,7 @@ pub(crate) fn answered(
     };
     match note_of(alloc, &level.request, &head, context.time)? {
         None => judge(alloc, context, level, head),
-        Some(op) => Ok(going(
-            context,
-            level,
-            Place::Noting(head),
-            Act::Ask(Boxed::new(alloc, op)?),
-        )),
+        Some(op) => asking(alloc, context, level, Place::Noting(head), op),
     }
 }
 

@@ -15,9 +15,8 @@ use crate::context::Context;
 use crate::http::send;
 use crate::place::{Level, Place, Step};
 use crate::preflight::ask_cache;
-use crate::steps::{copied, going, refused};
+use crate::steps::{asking, copied, going, refused};
 use std::alloc::Global;
-use wf_boxed::Boxed;
 use wf_csp::Violations;
 use wf_fetch_acts::Act;
 use wf_fetch_rules::{
@@ -123,12 +122,7 @@ pub(crate) fn ask_host(
 {
     match match_of(alloc, &level.request, context.time)? {
         None => switch(alloc, context, level),
-        Some(op) => Ok(going(
-            context,
-            level,
-            Place::Matching,
-            Act::Ask(Boxed::new(alloc, op)?),
-        )),
+        Some(op) => asking(alloc, context, level, Place::Matching, op),
     }
 }
 
@@ -152,12 +146,7 @@ pub(crate) fn tell_blocks(
     }
     let violation = copied(alloc, violations.at(at))?;
     let place = Place::Blocking(violations, at + 1);
-    Ok(going(
-        context,
-        level,
-        place,
-        Act::Tell(Boxed::new(alloc, violation)?),
-    ))
+    Ok(going(context, level, place, Act::Tell(violation)))
 }
 
 // Enforced policies that are violated block the request (step 7).
@@ -214,12 +203,7 @@ pub(crate) fn tell_reports(
     if at < violations.len() {
         let violation = copied(alloc, violations.at(at))?;
         let place = Place::Reporting(violations, at + 1);
-        return Ok(going(
-            context,
-            level,
-            place,
-            Act::Tell(Boxed::new(alloc, violation)?),
-        ));
+        return Ok(going(context, level, place, Act::Tell(violation)));
     }
     check(alloc, context, upgraded_level(context, level)?)
 }

@@ -8,9 +8,8 @@ ghost use Rattle.wf_fetch.specs.Ready.{IsReady};
 use crate::context::Context;
 use crate::http::send;
 use crate::place::{Level, Place, Step};
-use crate::steps::{going, refused};
+use crate::steps::{asking, going, refused, sending};
 use std::alloc::Global;
-use wf_boxed::Boxed;
 use wf_cors::{Checked, preflight_of, verdict};
 use wf_fetch_acts::Act;
 use wf_fetch_rules::{covers_of, learn_of, note_of};
@@ -32,12 +31,7 @@ pub(crate) fn ask_cache(
     let op = covers_of(alloc, context.client, &level.request, context.time)?;
     let mut level = level;
     level.owes = true;
-    Ok(going(
-        context,
-        level,
-        Place::Covering,
-        Act::Ask(Boxed::new(alloc, op)?),
-    ))
+    asking(alloc, context, level, Place::Covering, op)
 }
 
 // The preflight cache covers the request, or a preflight goes before it.
@@ -71,12 +65,7 @@ pub(crate) fn send_preflight(
 {
     let names = unsafe_names(alloc, &level.request.headers)?;
     let hop = preflight_of(alloc, &level.request, &names)?;
-    Ok(going(
-        context,
-        level,
-        Place::PreflightSending,
-        Act::Send(Boxed::new(alloc, hop)?),
-    ))
+    sending(alloc, context, level, Place::PreflightSending, hop)
 }
 
 // The head of the answer to the preflight is read, unless the link failed.
@@ -128,12 +117,7 @@ pub(crate) fn preflight_answered(
     let checked = verdict_on(alloc, &level.request, &head)?;
     match note_of(alloc, &level.request, &head, context.time)? {
         None => judge_preflight(alloc, context, level, checked),
-        Some(op) => Ok(going(
-            context,
-            level,
-            Place::PreflightNoting(checked),
-            Act::Ask(Boxed::new(alloc, op)?),
-        )),
+        Some(op) => asking(alloc, context, level, Place::PreflightNoting(checked), op),
     }
 }
 
@@ -165,12 +149,7 @@ pub(crate) fn judge_preflight(
                 names,
                 context.time,
             )?;
-            Ok(going(
-                context,
-                level,
-                Place::Learning,
-                Act::Ask(Boxed::new(alloc, op)?),
-            ))
+            asking(alloc, context, level, Place::Learning, op)
         }
     }
 }

@@ -20,19 +20,21 @@ use wf_csp::Violations;
 use wf_fetch_acts::Act;
 use wf_fetch_answers::{Ended, after_body, ended};
 use wf_fetch_rules::clear_of;
+use wf_shared::Shared;
 use wf_text::OutOfMemory;
-use wf_types::{BodyEnd, Head, NetError, Outcome, Response, Violation};
+use wf_types::{BodyEnd, Head, Hop, NetError, Outcome, Response, Violation};
 
-// A copy of a violation.
-pub(crate) fn copied(alloc: Global, violation: &Violation) -> Result<Violation, OutOfMemory>
+// A copy of a violation, in a place of its own.
+pub(crate) fn copied(alloc: Global, violation: &Violation) -> Result<Boxed<Violation>, OutOfMemory>
     ensures { IfOk result (λ copy. copy ≡ violation.now) }
 {
-    Ok(Violation {
+    let copy = Violation {
         policy: violation.policy,
         enforced: violation.enforced,
         directive: violation.directive,
         url: violation.url.copy(alloc)?,
-    })
+    };
+    Boxed::new(alloc, copy)
 }
 
 // It asks for an act at a place of the level, and waits.
@@ -51,6 +53,48 @@ pub(crate) fn going(context: &Context<'_>, level: Level, place: Place, act: Act)
         last,
     };
     Step::Going(fetching, act)
+}
+
+// It asks the shared book at a place of the level, and waits.
+pub(crate) fn asking(
+    alloc: Global,
+    context: &Context<'_>,
+    level: Level,
+    place: Place,
+    op: Op,
+) -> Result<Step, OutOfMemory>
+    requires ready { IsTrue (is_ready_at place level.request.value) }
+    requires fresh { owes_early place level.owes ≡ false }
+    ensures { Leads context.now result
+        (acting level.request.value (Act.Ask op) (rest_at context.now level place)) }
+{
+    let op = Shared::new(alloc, op)?;
+    Ok(going(context, level, place, Act::Ask(op)))
+}
+
+// It sends a request at a place of the level, and waits.
+pub(crate) fn sending(
+    alloc: Global,
+    context: &Context<'_>,
+    level: Level,
+    place: Place,
+    hop: Hop,
+) -> Result<Step, OutOfMemory>
+    requires ready { IsTrue (is_ready_at place level.request.value) }
+    requires fresh { owes_early place level.owes ≡ false }
+    requires plain { IsPlain (Act.Send hop) }
+    ensures { Leads context.now result
+        (acting level.request.value (Act.Send hop) (rest_at context.now level place)) }
+{
+    let hop = Boxed::new(alloc, hop)?;
+    Ok(going(context, level, place, Act::Send(hop)))
+}
+
+// The fetch is over.
+fn over(alloc: Global, outcome: Outcome) -> Result<Step, OutOfMemory>
+    ensures { (context : shared.Context) → Leads context result (ended_with outcome) }
+{
+    Ok(Step::Over(Boxed::new(alloc, outcome)?))
 }
 
 // How many clears are owed after the next one.
@@ -83,7 +127,7 @@ pub(crate) fn refused(
         owes,
     } = level;
     if !owes && owed == 0 {
-        return Ok(Step::Over(Boxed::new(alloc, Outcome::Error(error))?));
+        return over(alloc, Outcome::Error(error));
     }
     let op = clear_of(alloc, context.client, &request, context.time)?;
     let level = Level {
@@ -91,12 +135,7 @@ pub(crate) fn refused(
         owed: one_less(owed, owes),
         owes: false,
     };
-    Ok(going(
-        context,
-        level,
-        Place::Clearing(error),
-        Act::Ask(Boxed::new(alloc, op)?),
-    ))
+    asking(alloc, context, level, Place::Clearing(error), op)
 }
 
 // The fetch is over, or the body is read.
@@ -106,16 +145,14 @@ fn end(
     level: Level,
     ended: Ended,
 ) -> Result<Step, OutOfMemory>
-    ensures { Does context.now result (ends level.request.value ended) }
+    ensures { Leads context.now result (ends level.request.value ended) }
 {
     match ended {
-        Ended::Over(outcome) => Ok(Step::Over(Boxed::new(alloc, outcome)?)),
-        Ended::Reads(response) => Ok(going(
-            context,
-            level,
-            Place::BodyReading(Boxed::new(alloc, response)?),
-            Act::ReadBody,
-        )),
+        Ended::Over(outcome) => over(alloc, outcome),
+        Ended::Reads(response) => {
+            let kept = Boxed::new(alloc, response)?;
+            Ok(going(context, level, Place::BodyReading(kept), Act::ReadBody))
+        }
     }
 }
 
@@ -134,14 +171,10 @@ pub(crate) fn tell_at_end(
     if at >= violations.len() {
         return end(alloc, context, level, ended);
     }
+    let kept = Boxed::new(alloc, ended)?;
     let violation = copied(alloc, violations.at(at))?;
-    let place = Place::Ending(violations, at + 1, Boxed::new(alloc, ended)?);
-    Ok(going(
-        context,
-        level,
-        place,
-        Act::Tell(Boxed::new(alloc, violation)?),
-    ))
+    let place = Place::Ending(violations, at + 1, kept);
+    Ok(going(context, level, place, Act::Tell(violation)))
 }
 
 // The response: the policies that it violates are told, and then it is blocked, handed over, or its
@@ -173,5 +206,5 @@ pub(crate) fn body_read(
         (ended_with (outcome_of level.request.value response end)) }
 {
     let outcome = after_body(alloc, &level.request, response, end)?;
-    Ok(Step::Over(Boxed::new(alloc, outcome)?))
+    over(alloc, outcome)
 }

@@ -4,13 +4,14 @@ ghost use Rattle.wf_book.specs.Ops.{is_answer, is_question};
 
 use wf_book::{Op, Reply};
 use wf_boxed::Boxed;
+use wf_shared::Shared;
 use wf_types::{BodyEnd, Head, Hop, Violation};
 
 /// What a fetch asks for next.
 #[derive(Drop)]
 pub enum Act {
     /// The shared book is to be asked, or told.
-    Ask(Boxed<Op>),
+    Ask(Shared<Op>),
     /// The request is to be sent.
     Send(Boxed<Hop>),
     /// The head of the answer to the last request is to be read.

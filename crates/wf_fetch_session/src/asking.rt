@@ -60,7 +60,7 @@ impl Session {
         ensures { result ≡ spec.asks (standing_of self.now) }
     {
         match self.act() {
-            Some(Act::Ask(op)) => is_in_range(op),
+            Some(Act::Ask(op)) => is_in_range(op.get()),
             _ => false,
         }
     }
@@ -88,7 +88,7 @@ impl Session {
         let Act::Ask(op) = act else {
             return unanswered(Went::NotAwaited);
         };
-        match book.apply(alloc, &op) {
+        match book.apply(alloc, op.get()) {
             Ok(reply) => answered(
                 self.go_on(alloc, fetching, bodies, Input::Replied(reply)),
                 reply,

@@ -5,6 +5,7 @@ ghost use Rattle.wf_fetch_session.specs.Readers.{bodies_read, suits};
 use crate::document::Document;
 use crate::reading::{Bodies, Reader};
 use std::mem::replace;
+use wf_boxed::Boxed;
 use wf_fetch::Fetching;
 use wf_fetch_acts::{Act, Input, fits};
 use wf_types::Outcome;
@@ -27,7 +28,7 @@ pub enum Stand {
     /// It waits for what comes of its act.
     Waits(Waiting),
     /// It is over; so bodies were read.
-    Ends(Outcome, Bodies),
+    Ends(Boxed<Outcome>, Bodies),
     /// Memory was refused in its midst, and it is gone.
     Gone,
 }
@@ -68,7 +69,7 @@ impl Session {
         ensures { option_map (λ outcome. outcome.now) result ≡ outcome_of (standing_of self.now) }
     {
         match &self.stand {
-            Stand::Ends(outcome, _) => Some(outcome),
+            Stand::Ends(outcome, _) => Some(outcome.get()),
             Stand::Waits(_) | Stand::Gone => None,
         }
     }

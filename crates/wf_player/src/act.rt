@@ -12,13 +12,14 @@ use std::thread::Threads;
 use wf_book::{Op, Share};
 use wf_fetch_acts::{Act, Input};
 use wf_link::Link;
+use wf_shared::Shared;
 use wf_text::OutOfMemory;
 
 // Makes one call of the book, and answers its reply.
 fn ask<R: Threads + Wait + Sync, S: Share>(
     lent: &Lent<'_, R, S>,
     pass: &mut S::Pass,
-    op: &Op,
+    op: &Shared<Op>,
 ) -> Result<Input, OutOfMemory>
     requires belongs { S.belongs lent.now.share.now pass.old }
     requires range { InRange op.now }
@@ -30,7 +31,7 @@ fn ask<R: Threads + Wait + Sync, S: Share>(
         (S.account pass.old).left (S.account pass.new).left) }
     ensures kept { KeepsPass S.account (S.belongs lent.now.share.now) 1 pass.old pass.new }
 {
-    let op = op.copy(*lent.alloc)?;
+    let op = op.share()?;
     let reply = lent.share.call(lent.rt, *lent.alloc, pass, op)?;
     Ok(Input::Replied(reply))
 }
@@ -53,7 +54,7 @@ impl<R: Threads + Wait + Sync, S: Share, L: Link> Player<'_, '_, '_, '_, '_, R, 
     {
         let lent = self.lent;
         match act {
-            Act::Ask(op) => ask(lent, self.pass, op.get()),
+            Act::Ask(op) => ask(lent, self.pass, op),
             Act::Send(hop) => self.wire.send(self.link, *lent.alloc, hop.get()),
             Act::ReadHead => self.wire.read_head(self.link, *lent.alloc),
             Act::ReadBody => self.wire.read_body(self.link, *lent.alloc, lent.limit),

@@ -17,7 +17,7 @@ fn add_entry(text: &mut Page, entry: &Entry) -> Result<(), OutOfMemory>
     text.append(b" ")?;
     add_number(text, entry.document)?;
     text.append(b" ")?;
-    add_call(text, &entry.op, entry.reply)?;
+    add_call(text, entry.op.get(), entry.reply)?;
     text.append(b"\n")
 }
 

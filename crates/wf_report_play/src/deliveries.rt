@@ -51,7 +51,6 @@ fn deliver_over<R: Threads + Wait + Sync, L: Link>(
 
 // Adds entries at the end of the history, as those of this document, with the turns that follow.
 fn append_entries(
-    alloc: Global,
     history: &mut History,
     document: u32,
     entries: &History,
@@ -61,7 +60,7 @@ fn append_entries(
 {
     for entry in entries.as_slice() {
         let turn = history.len() as u64;
-        let op = entry.op.copy(alloc)?;
+        let op = entry.op.share()?;
         history.push(Entry {
             turn,
             document,
@@ -94,7 +93,7 @@ pub(crate) fn deliver_all<R: Threads + Wait + Sync, L: Link + Drop>(
     for mut link in links {
         let transcript = transcripts.at(number);
         let one = deliver_over(rt, alloc, scenario, transcript, book, &mut link)?;
-        append_entries(alloc, history, transcript.document, &one.entries)?;
+        append_entries(history, transcript.document, &one.entries)?;
         reports.push(one.delivered)?;
         book = one.book;
         number += 1;

@@ -3,6 +3,7 @@ ghost use Rattle.wf_script_events.specs.Endings as spec;
 
 use wf_book::{Op, Reply};
 use wf_boxed::Boxed;
+use wf_shared::Shared;
 use wf_text::{Bytes, Items};
 use wf_types::{Destination, Hop, NetError, Outcome, TypeFault, Violation};
 
@@ -14,7 +15,7 @@ pub enum Event {
     /// The load of that number starts.
     Load(u32, Destination),
     /// An operation was done on the shared book, and replied.
-    Call(Boxed<Op>, Reply),
+    Call(Shared<Op>, Reply),
     /// A request was sent.
     Sent(Boxed<Hop>),
     /// A policy was violated.

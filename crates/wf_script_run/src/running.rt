@@ -74,12 +74,12 @@ pub fn fault_event(kind: Destination, fault: TypeFault) -> Event
 fn load_event(outcome: Boxed<Outcome>) -> Event
     ensures { result ≡ spec.load_event outcome }
 {
-    if !matches!(outcome.get(), Outcome::Error(_)) {
-        return Event::Result(outcome);
-    }
-    match outcome.into_inner() {
-        Outcome::Error(error) => Event::LoadFailed(error),
-        Outcome::Answer(_) | Outcome::Loaded => unreachable!(),
+    match outcome.get() {
+        Outcome::Error(_) => match outcome.into_inner() {
+            Outcome::Error(error) => Event::LoadFailed(error),
+            _ => unreachable!(),
+        },
+        _ => Event::Result(outcome),
     }
 }
 

@@ -15,6 +15,7 @@ use std::snapshot::Snapshot;
 use std::sync::{Mutex, Wait};
 use std::thread::Threads;
 use wf_book::{Book, History, Op, Reply, Share};
+use wf_shared::Shared;
 use wf_text::OutOfMemory;
 
 /// A book that threads share. A call waits for its turn; whose is next, no clause says.
@@ -103,7 +104,7 @@ impl Share for TurnBook {
         rt: &R,
         alloc: Global,
         pass: &mut TurnPass,
-        op: Op,
+        op: Shared<Op>,
     ) -> Result<Reply, OutOfMemory>
         requires belongs { pass.old.seat.table_id ≡ self.now.table.shared.table_id }
         requires left { 0 < left_of pass.old }

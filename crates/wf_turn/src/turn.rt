@@ -8,19 +8,20 @@ ghost use Rattle.wf_turn.specs.Private.Steps.{Made, Served};
 use crate::desk::Desk;
 use crate::steps::{Draw, Look, Note, Pass, Turns};
 use crate::view::View;
-use atomic_table::{Seat, Shared};
+use atomic_table::Seat;
 use std::alloc::Global;
 use std::snapshot::Snapshot;
 use std::sync::Wait;
 use std::thread;
 use wf_book::{Book, Op, Reply};
+use wf_shared::Shared;
 use wf_text::OutOfMemory;
 
 /// The seat of a pass.
 pub type Held = Seat<Option<Desk>, View>;
 
 /// What all passes share. Word 0 is the ticket that is drawn next, word 1 the one that is served.
-pub type Common = Shared<Option<Desk>, View, Snapshot<Book>, Turns>;
+pub type Common = atomic_table::Shared<Option<Desk>, View, Snapshot<Book>, Turns>;
 
 // Looks until the ticket is served. That is at the first look where calls come one at a time, as those of
 // `TurnBook` do.
@@ -46,7 +47,7 @@ fn work(
     desk: &mut Desk,
     turn: u64,
     document: u32,
-    op: Op,
+    op: Shared<Op>,
 ) -> Result<Reply, OutOfMemory>
     requires { InRange op }
     ensures made { Made turn document op desk.old desk.new result }
@@ -64,7 +65,7 @@ pub(crate) fn take_turn<R: Wait>(
     shared: &Common,
     seat: &mut Held,
     document: u32,
-    op: Op,
+    op: Shared<Op>,
 ) -> Result<Reply, OutOfMemory>
     requires table { (seat.old.table_id ≡ shared.now.table_id)
         × (shared.now.table_id.words ≡ 2) × (shared.now.table_id.slots ≡ 1) }

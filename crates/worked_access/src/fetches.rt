@@ -162,10 +162,10 @@ pub(crate) fn fetched<R: Threads + Wait + Sync>(
 fn add_run(run: &FetchRun, shown: &mut Shown) {
     for event in run.events.as_slice() {
         if let Event::Sent(hop) = event {
-            add_hop(hop, shown);
+            add_hop(hop.get(), shown);
         }
     }
-    add_outcome(&run.outcome, shown);
+    add_outcome(run.outcome.get(), shown);
 }
 
 // Adds the method of a request that was sent.

@@ -6,6 +6,7 @@ use std::alloc::Global;
 use std::sync::Wait;
 use std::thread::Threads;
 use wf_book::{Book, Entry, History, Op, Reply, Share, SoloBook, SoloPass};
+use wf_shared::Shared;
 use worked_rows::{Failed, Held, Shown};
 
 // A reply as it is printed.
@@ -17,21 +18,11 @@ fn add_reply(reply: Reply, shown: &mut Shown) {
     }
 }
 
-// Does an equal op on a book.
-fn applied(alloc: Global, book: &mut Book, op: &Op) -> Result<Reply, Failed>
-    requires { InRange op.now }
-{
-    let op = Held {
-        value: op.copy(alloc)?,
-    };
-    Ok(book.apply(alloc, &op.value)?)
-}
-
 // Does an op on a book, and shows the reply.
 fn tell_op(alloc: Global, book: &mut Book, op: &Op, shown: &mut Shown)
     requires { InRange op.now }
 {
-    match applied(alloc, book, op) {
+    match book.apply(alloc, op) {
         Ok(reply) => add_reply(reply, shown),
         Err(_) => shown.fail(),
     }
@@ -92,7 +83,7 @@ fn lengthen(alloc: Global, history: &mut History) -> Result<(), Failed>
     history.push(Entry {
         turn: 7,
         document: 1,
-        op: is_known(alloc, 9)?,
+        op: Shared::new(alloc, is_known(alloc, 9)?)?,
         reply: Reply::No,
     })?;
     Ok(())
@@ -119,8 +110,10 @@ fn note_and_ask<R: Threads + Wait + Sync>(
 ) -> Result<(), Failed>
     requires { pass.old.calls ≡ 0 }
 {
-    share.call(rt, alloc, pass, note(alloc, 0)?)?;
-    share.call(rt, alloc, pass, is_known(alloc, 9)?)?;
+    let noted = Shared::new(alloc, note(alloc, 0)?)?;
+    share.call(rt, alloc, pass, noted)?;
+    let asked = Shared::new(alloc, is_known(alloc, 9)?)?;
+    share.call(rt, alloc, pass, asked)?;
     Ok(())
 }
 

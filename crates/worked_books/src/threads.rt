@@ -8,6 +8,7 @@ use std::sync::Wait;
 use std::thread;
 use std::thread::Threads;
 use wf_book::{Book, Entry, History, Reply, Share};
+use wf_shared::Shared;
 use wf_turn::{TurnBook, TurnPass};
 use worked_rows::{Failed, Held, Shown};
 
@@ -32,7 +33,8 @@ fn make_call<R: Threads + Wait + Sync>(
     ensures document { pass.new.document ≡ pass.old.document }
     ensures left { left_of pass.old - 1 ≤ left_of pass.new }
 {
-    Ok(book.call(rt, alloc, pass, numbered(alloc, number)?)?)
+    let op = Shared::new(alloc, numbered(alloc, number)?)?;
+    Ok(book.call(rt, alloc, pass, op)?)
 }
 
 // A thread's calls. After one that is refused the others are still made.
@@ -86,7 +88,7 @@ fn are_calls(entries: &[Entry], document: u32, replies: &[Option<Reply>]) -> boo
     let mut number = answered_from(replies, 0);
     for entry in entries {
         if entry.document == document {
-            if !is_numbered(&entry.op, number as u64)
+            if !is_numbered(entry.op.get(), number as u64)
                 || replies.get(number) != Some(&Some(entry.reply))
             {
                 return false;
@@ -111,7 +113,7 @@ fn reply_to(alloc: Global, book: &mut Book, number: u64) -> Result<Reply, Failed
 fn time_at(turn: u64, entry: &Entry) -> Option<u64>
     ensures { IfSome result (λ time. time < 500) }
 {
-    let time = time_of(&entry.op)?;
+    let time = time_of(entry.op.get())?;
     if time < CALLS && turn <= entry.turn && entry.turn < 2 * CALLS {
         Some(time)
     } else {

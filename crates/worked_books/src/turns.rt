@@ -8,6 +8,7 @@ use std::alloc::Global;
 use std::sync::Wait;
 use std::thread::Threads;
 use wf_book::{Book, History, Share};
+use wf_shared::Shared;
 use wf_turn::{FIRST, TurnBook, TurnPass};
 use worked_rows::{Failed, Shown};
 
@@ -24,8 +25,10 @@ fn learn_and_ask<R: Threads + Wait + Sync>(
     ensures zero { (zero.new.seat.table_id ≡ zero.old.seat.table_id) × (zero.new.document ≡ zero.old.document) }
     ensures one { (one.new.seat.table_id ≡ one.old.seat.table_id) × (one.new.document ≡ one.old.document) }
 {
-    book.call(rt, alloc, zero, learn(alloc, 9)?)?;
-    book.call(rt, alloc, one, covers(alloc, 9)?)?;
+    let learnt = Shared::new(alloc, learn(alloc, 9)?)?;
+    book.call(rt, alloc, zero, learnt)?;
+    let asked = Shared::new(alloc, covers(alloc, 9)?)?;
+    book.call(rt, alloc, one, asked)?;
     Ok(())
 }
 

@@ -2,7 +2,7 @@ use Rattle.std.proofs.Common.{◌∙◌, ap, sym}
 use Rattle.wf_fetch.specs.Fetch.{onward_of}
 use Rattle.wf_fetch.specs.Machine.{next_of}
 use Rattle.wf_fetch.specs.Then.{Context}
-use Rattle.wf_fetch.proofs.MachineLemmas.{answered-notes, does-same}
+use Rattle.wf_fetch.proofs.MachineLemmas.{answered-notes, leads-same}
 use Rattle.wf_fetch.proofs.http.answered.Goals as goal
 
 pub returns-in-Some : goal.returns-in-Some
@@ -10,8 +10,8 @@ returns-in-Some c =
     let context = c.args.context.now in
     let time = ap (λ (x : Context). x.now) c.context.view_is in
     let next = next_of context c.args.level.owed c.args.level.owes in
-    does-same context c.going.result _ _
+    leads-same context c.asking.result _ _
     (answered-notes (onward_of context c.args.level.request.value) context next c.args.level.request.value c.args.came
     c.in-Ok.head
     c.in-Some.op c.in-Ok.is (sym (rw (c.deref.ensures, time) at c.in_ok-note_of.ensures.value) ∙ c.in-Some.is))
-    c.going.ensures
+    c.asking.ensures

@@ -5,8 +5,8 @@ use Rattle.wf_types.specs.declared.hop.Hop.{Hop}
 use Rattle.wf_fetch.specs.Then.{Context}
 use Rattle.wf_fetch.proofs.http.send.Goals as goal
 
-pub going-requires-clause-plain : goal.going-requires-clause-plain
-going-requires-clause-plain c = (
+pub sending-requires-clause-plain : goal.sending-requires-clause-plain
+sending-requires-clause-plain c = (
   subst (λ (h : Hop). IsTrue (lacks_space h.method)) (sym c.in_ok-hop.ensures.hop)
       (rw c.deref.ensures
       (token-lacks_space c.args.level.request.value.method c.args.level.valid.method)),
@@ -16,4 +16,4 @@ going-requires-clause-plain c = (
 pub returns : goal.returns
 returns c =
     let cookies = ap (λ (x : Context). x.cookies) c.context.view_is in
-    rw (c.in_ok-hop.ensures.hop, c.deref.ensures, cookies) at c.going.ensures
+    rw (c.in_ok-hop.ensures.hop, c.deref.ensures, cookies) at c.sending.ensures

@@ -3,15 +3,15 @@ use Rattle.wf_fetch.specs.Fetch.{onward_of}
 use Rattle.wf_fetch.specs.Machine.{next_of}
 use Rattle.wf_fetch.specs.MainFetch.{matched_by}
 use Rattle.wf_fetch.specs.Then.{Context}
-use Rattle.wf_fetch.proofs.MachineLemmas.{does-same}
+use Rattle.wf_fetch.proofs.MachineLemmas.{leads-same}
 use Rattle.wf_fetch.proofs.main_fetch.ask_host.Goals as goal
 
 pub returns-in-Some : goal.returns-in-Some
 returns-in-Some c =
     let context = c.args.context.now in
     let time = ap (λ (x : Context). x.now) c.context.view_is in
-    does-same context c.going.result _ _
+    leads-same context c.asking.result _ _
     (ap (matched_by (onward_of context c.args.level.request.value) context
     (next_of context c.args.level.owed c.args.level.owes) c.args.level.request.value)
     (sym (rw (c.deref.ensures, time) at c.in_ok-match_of.ensures.value) ∙ c.in-Some.is))
-    c.going.ensures
+    c.asking.ensures

@@ -6,4 +6,4 @@ pub returns-in_ok-op-in-Pass : goal.returns-in_ok-op-in-Pass
 returns-in_ok-op-in-Pass c =
     let client = ap (λ (x : Context). x.client) c.context.view_is in
     let time = ap (λ (x : Context). x.now) c.context.view_is in
-    rw c.in-Pass.is (rw (c.in_ok-op-in-Pass.ensures, c.deref.ensures, client, time) at c.going.ensures)
+    rw c.in-Pass.is (rw (c.in_ok-op-in-Pass.ensures, c.deref.ensures, client, time) at c.asking.ensures)

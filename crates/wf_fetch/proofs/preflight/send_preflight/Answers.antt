@@ -6,4 +6,4 @@ pub returns : goal.returns
 returns c =
     let hop = rw (c.deref.ensures, c.deref-2.ensures) at
     (c.in_ok-hop.ensures.hop ∙ ap (preflight_of c.deref-2.result.now) c.in_ok-names.ensures.names) in
-    rw hop at c.going.ensures
+    rw hop at c.sending.ensures

@@ -1,6 +1,6 @@
 use Rattle.std.proofs.Common.{ap}
 use Rattle.wf_fetch.specs.Then.{Context}
-use Rattle.wf_fetch.proofs.MachineLemmas.{does-same}
+use Rattle.wf_fetch.proofs.MachineLemmas.{leads-same}
 use Rattle.wf_fetch.proofs.steps.refused.Goals as goal
 
 pub returns : goal.returns
@@ -8,6 +8,6 @@ returns c =
     let context = c.args.context.now in
     let client = ap (λ (x : Context). x.client) c.context.view_is in
     let time = ap (λ (x : Context). x.now) c.context.view_is in
-    does-same context c.going.result _ _
+    leads-same context c.asking.result _ _
     (c.one_less.ensures.clears context c.args.level.request.value c.args.error)
-    (rw (c.in_ok-op.ensures, c.deref.ensures, client, time) at c.going.ensures)
+    (rw (c.in_ok-op.ensures, c.deref.ensures, client, time) at c.asking.ensures)

@@ -10,4 +10,4 @@ returns c =
     does-same context c.going.result _ _
     (ap (λ left. tell_all c.args.level.request.value left (ends c.args.level.request.value c.args.ended))
     (drop-found c.args.violations c.args.at c.at.result.now c.at.ensures))
-    (rw c.in_ok-violation.ensures at c.going.ensures)
+    (rw (c.in_ok-kept.ensures, c.in_ok-violation.ensures) at c.going.ensures)

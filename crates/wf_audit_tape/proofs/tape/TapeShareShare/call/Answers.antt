@@ -4,12 +4,12 @@ use Rattle.wf_audit_tape.proofs.tape.TapeShareShare.call.Goals as goal
 pub returns-in-Some-clause-ok : goal.returns-in-Some-clause-ok
 returns-in-Some-clause-ok g c =
     passed-call c.args.pass.now c.count.new.self c.replied.new.self c.args.op c.in-Some.reply c.count.ensures.tape
-    c.count.ensures.counted c.in-Some.ensures
+    c.count.ensures.counted (rw c.get.ensures at c.in-Some.ensures)
 
 pub returns-in-Some-clause-kind : goal.returns-in-Some-clause-kind
 returns-in-Some-clause-kind g c =
     passed-call-kind c.args.pass.now c.count.new.self c.replied.new.self c.args.op c.in-Some.reply
-    c.count.ensures.tape c.count.ensures.counted c.in-Some.ensures
+    c.count.ensures.tape c.count.ensures.counted (rw c.get.ensures at c.in-Some.ensures)
 
 pub returns-in-None-clause-ok : goal.returns-in-None-clause-ok
 returns-in-None-clause-ok g c =
