@@ -1,6 +1,6 @@
 -- Header values that are squeezed while they are filled: whatever follows, they are cut to the same.
-use Rattle.std.proofs.Common.{◌≡◌, ℕ, zero, suc, ◌<◌, ◌≤◌, Bool, true, false, cond, ◌&&◌, not, List, [], ◌∷◌, ◌++◌, length, take}
-use Rattle.std.proofs.Common.{drop, refl, ap, sym, ◌∙◌, arith, append_assoc, take_all, true≢false}
+use Rattle.std.proofs.Common.{◌≡◌, ℕ, zero, suc, ◌<◌, Bool, true, false, cond, ◌&&◌, not, List, [], ◌∷◌, ◌++◌, length}
+use Rattle.std.proofs.Common.{take, drop, refl, ap, sym, subst, ◌∙◌, arith, append_assoc, take_all, true≢false}
 use Rattle.std.proofs.lemmas.List.{append-nil, length-append, length-take, reverse-append, take-append-drop}
 use Rattle.std.proofs.lemmas.List.{take-append-le}
 use Rattle.std.proofs.lemmas.Slice.Eq.{bytes_eq-Decides}
@@ -195,9 +195,8 @@ blank-fit (byte ∷ e) is = absurd (true≢false (sym is))
 
 stand-in-alike : (text : List ℕ) → Alike text (stand_in text)
 stand-in-alike text =
-    let those = told (none (ended text)) (all_fit (ended text)) (all_fit text) (blank-fit (ended text))
-    (ended-fit text) in
-    rw (stand-in-by text) those
+    subst (Alike text) (sym (stand-in-by text))
+    (told (none (ended text)) (all_fit (ended text)) (all_fit text) (blank-fit (ended text)) (ended-fit text))
 
 -- ---- what is cut
 
@@ -270,11 +269,11 @@ value-fits (byte ∷ text) is =
     let same : ended (byte ∷ text) ≡ whole = ap (λ (b : Bool). cond (b && none (ended text)) [] whole) bare in
     let start : trimmed_start tab_or_space whole ≡ whole =
     ap (λ (b : Bool). cond b (trimmed_start tab_or_space (ended text)) whole) (less-blank byte bare) in
-    let end : trimmed tab_or_space whole ≡ whole =
+    let stays : trimmed tab_or_space whole ≡ whole =
     ap (trimmed_end tab_or_space) start ∙ end-core tab_or_space whole
     ∙ ap (core tab_or_space) (sym same) ∙ core-within (byte ∷ text) ∙ same in
     ap is_header_value same
-    ∙ ap (λ (b : Bool). b && all_fit whole) ((bytes_eq-Decides (trimmed tab_or_space whole) whole).1 end)
+    ∙ ap (λ (b : Bool). b && all_fit whole) ((bytes_eq-Decides (trimmed tab_or_space whole) whole).1 stays)
     ∙ ap all_fit (sym same)
 
 -- a value of which more than 16,384 bytes are there
