@@ -8,3 +8,4 @@ pub mod PlayLemmas
 pub mod ScriptLemmas
 pub mod SqueezeLemmas
 pub mod TrimLemmas
+pub mod ValueLemmas

@@ -38,13 +38,14 @@ start-append blanks (byte ∷ x) y =
 
 start-twice : (blanks x : List ℕ) → trimmed_start blanks (trimmed_start blanks x) ≡ trimmed_start blanks x
 start-twice blanks [] = refl
-start-twice blanks (byte ∷ x) = by-blank (is_blank blanks byte) refl
+start-twice blanks (byte ∷ x) = by-blank (is_blank blanks byte) refl (start-twice blanks x)
   where
     by-blank : (is : Bool) → is_blank blanks byte ≡ is
+        → trimmed_start blanks (trimmed_start blanks x) ≡ trimmed_start blanks x
         → trimmed_start blanks (cond is (trimmed_start blanks x) (byte ∷ x))
         ≡ cond is (trimmed_start blanks x) (byte ∷ x)
-    by-blank true e = start-twice blanks x
-    by-blank false e = ap (λ (b : Bool). cond b (trimmed_start blanks x) (byte ∷ x)) e
+    by-blank true e so = so
+    by-blank false e so = ap (λ (b : Bool). cond b (trimmed_start blanks x) (byte ∷ x)) e
 
 -- ---- blanks at the end
 
@@ -207,12 +208,13 @@ begins (byte ∷ text) = not (is_blank http_whitespace byte)
 
 begins-start : (text : List ℕ) → begins (trimmed_start http_whitespace text) ≡ true
 begins-start [] = refl
-begins-start (byte ∷ text) = by-blank (is_blank http_whitespace byte) refl
+begins-start (byte ∷ text) = by-blank (is_blank http_whitespace byte) refl (begins-start text)
   where
     by-blank : (is : Bool) → is_blank http_whitespace byte ≡ is
+        → begins (trimmed_start http_whitespace text) ≡ true
         → begins (cond is (trimmed_start http_whitespace text) (byte ∷ text)) ≡ true
-    by-blank true e = begins-start text
-    by-blank false e = ap not e
+    by-blank true e so = so
+    by-blank false e so = ap not e
 
 begins-take : (n : ℕ) (text : List ℕ) → begins text ≡ true → begins (take n text) ≡ true
 begins-take zero text is = refl
@@ -237,7 +239,7 @@ start-keeps (byte ∷ text) is =
 less-blank : (byte : ℕ) → is_blank http_whitespace byte ≡ false → is_blank tab_or_space byte ≡ false
 less-blank byte is = by-each (9 == byte) (10 == byte) (13 == byte) (32 == byte) is
   where
-    by-each : (a b c d : Bool) → (a || b || c || d || false) ≡ false → (a || d || false) ≡ false
+    by-each : (a b c d : Bool) → (a || (b || (c || (d || false)))) ≡ false → (a || (d || false)) ≡ false
     by-each true b c d e = absurd (true≢false e)
     by-each false true c d e = absurd (true≢false e)
     by-each false false true d e = absurd (true≢false e)
@@ -245,20 +247,22 @@ less-blank byte is = by-each (9 == byte) (10 == byte) (13 == byte) (32 == byte) 
 
 core-within : (text : List ℕ) → core tab_or_space (ended text) ≡ ended text
 core-within [] = refl
-core-within (byte ∷ text) = by-blank (is_blank http_whitespace byte) refl (none (ended text)) refl
+core-within (byte ∷ text) =
+    by-blank (core-within text) (is_blank http_whitespace byte) refl (none (ended text)) refl
   where
-    keeps : (is_blank tab_or_space byte && none (ended text)) ≡ false
+    keeps : core tab_or_space (ended text) ≡ ended text → (is_blank tab_or_space byte && none (ended text)) ≡ false
         → core tab_or_space (byte ∷ ended text) ≡ byte ∷ ended text
-    keeps e =
-        ap (λ (l : List ℕ). cond (is_blank tab_or_space byte && none l) [] (byte ∷ l)) (core-within text)
+    keeps so e =
+        ap (λ (l : List ℕ). cond (is_blank tab_or_space byte && none l) [] (byte ∷ l)) so
         ∙ ap (λ (b : Bool). cond b [] (byte ∷ ended text)) e
 
-    by-blank : (is : Bool) → is_blank http_whitespace byte ≡ is → (empty : Bool) → none (ended text) ≡ empty
+    by-blank : core tab_or_space (ended text) ≡ ended text → (is : Bool) → is_blank http_whitespace byte ≡ is
+        → (empty : Bool) → none (ended text) ≡ empty
         → core tab_or_space (cond (is && empty) [] (byte ∷ ended text)) ≡ cond (is && empty) [] (byte ∷ ended text)
-    by-blank true e true f = refl
-    by-blank true e false f = keeps (ap (λ (b : Bool). is_blank tab_or_space byte && b) f ∙ and-false _)
-    by-blank false e empty f =
-        keeps (ap (λ (b : Bool). b && none (ended text)) (less-blank byte e))
+    by-blank so true e true f = refl
+    by-blank so true e false f = keeps so (ap (λ (b : Bool). is_blank tab_or_space byte && b) f ∙ and-false _)
+    by-blank so false e empty f =
+        keeps so (ap (λ (b : Bool). b && none (ended text)) (less-blank byte e))
 
 -- without blanks at its ends it is a header value where each of its bytes fits
 value-fits : (text : List ℕ) → begins text ≡ true → is_header_value (ended text) ≡ all_fit (ended text)
