@@ -76,12 +76,15 @@ fn fill_body(alloc: Global, last: Option<&Event>, template: &[u8]) -> Result<Byt
 }
 
 // A header value with its placeholders replaced, of which no more is kept than is needed to normalise and to cut it.
-// Where the whole would get longer than that it is want of memory.
+// Where the whole would get longer than `MOST_FILLED` it is want of memory.
 fn fill_value(alloc: Global, last: Option<&Event>, template: &[u8]) -> Result<Bytes, OutOfMemory>
     ensures { IfOk result (λ text. short.cut_value (trimmed http_whitespace text)
         ≡ short.cut_value (trimmed http_whitespace (filled (value_of (lent_result last.entry)) template.now))) }
 {
     let (first, mut rest) = next_piece(template);
+    if rest.is_none() {
+        return Bytes::of(alloc, first);
+    }
     let mut text = Vec::from_slice(alloc, first)?;
     let mut length = text.len();
     while let Some(behind) = rest {
