@@ -39,8 +39,9 @@ def answering(body, script, documents=1):
 
 
 def templates(size, asked):
-    """Half of it an answer's body, half of it placeholders for this body: far more than is filled."""
-    return answering('a' * (size // 2), [{'fetch': {'url': '/'}}, {'fetch': asked('${body}' * (size // 14))}])
+    """An answer's body, and placeholders for this body: far more than is filled."""
+    body = 'a' * min(size // 2, 262144)
+    return answering(body, [{'fetch': {'url': '/'}}, {'fetch': asked('${body}' * ((size - len(body)) // 7))}])
 
 
 # What a fetch asks for, with placeholders in one part.
@@ -326,27 +327,41 @@ def measured_room():
         problems.append('`gen 64` does not play with 400000 kilobytes')
 
 
-def measured_silence():
-    """How long a play waits for a server that takes a connection and says nothing."""
-    print('a server that never answers (net)')
+def quiet_server(answer, kept):
+    """The address of a server that takes a connection, keeps it, sends this and then nothing more."""
     listener = socket.create_server(('127.0.0.1', 0))
-    taken = []
-    threading.Thread(target=lambda: taken.append(listener.accept()), daemon=True).start()
-    address = '127.0.0.1:%d' % listener.getsockname()[1]
+
+    def serve():
+        kept.append(listener.accept()[0])
+        kept[-1].sendall(answer)
+    threading.Thread(target=serve, daemon=True).start()
+    return '127.0.0.1:%d' % listener.getsockname()[1]
+
+
+def measured_silence():
+    """How long a play waits for a server that never answers, and for one that stops in the middle of a body."""
+    print('a server that never answers, and one that stops in a body (net)')
+    begun = b'HTTP/1.1 200 OK\r\nContent-Length: 9\r\nAccess-Control-Allow-Origin: *\r\n\r\nbegun'
+    asks = [{'fetch': {'url': 'http://b.test/'}}], [{'fetch': {'url': 'http://c.test/'}}]
+    kept = []
     path = os.path.join(work, 'scenario')
     with open(path, 'wb') as file:
-        file.write(scenario([document([{'fetch': {'url': 'http://b.test/', 'mode': 'no-cors'}}], url='http://a.test/')],
-                            routes=[['http://b.test', address]]))
+        file.write(scenario([document(ask, url='http://a.test/') for ask in asks],
+                            routes=[['http://b.test', quiet_server(b'', kept)],
+                                    ['http://c.test', quiet_server(begun, kept)]]))
     began = time.time()
     with open(path, 'rb') as text:
         try:
             ran = subprocess.run([program, 'net'], stdin=text, stdout=subprocess.PIPE, stderr=subprocess.DEVNULL,
                                  timeout=90)
-            line = [line for line in ran.stdout.decode().splitlines() if line.startswith('result')]
-            print('  ended after %.1f s: %s' % (time.time() - began, ', '.join(line)), flush=True)
         except subprocess.TimeoutExpired:
             print('  waits longer than 90 s', flush=True)
             problems.append('a server that never answers is waited for')
+            return
+    came = [line.strip() for line in ran.stdout.decode().splitlines() if re.match(r' *(result|body)', line)]
+    print('  ended after %.1f s: %s' % (time.time() - began, ', '.join(came)), flush=True)
+    if came != ['result error 24 LinkFault', 'result cors 200 http://c.test/', 'body fault 5']:
+        problems.append('a server that is silent: ' + ', '.join(came))
 
 
 for case in CASES:

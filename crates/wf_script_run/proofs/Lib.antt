@@ -6,4 +6,6 @@ pub mod FillingLemmas
 pub mod LastLemmas
 pub mod PlayLemmas
 pub mod ScriptLemmas
+pub mod SqueezeLemmas
 pub mod TrimLemmas
+pub mod ValueLemmas

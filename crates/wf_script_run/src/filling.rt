@@ -75,13 +75,16 @@ fn fill_body(alloc: Global, last: Option<&Event>, template: &[u8]) -> Result<Byt
     Ok(Bytes::from_vec(text))
 }
 
-// A header value with its placeholders replaced, of which no more is kept than is needed to normalise and to cut it. Its
-// rest is looked at and not kept.
+// A header value with its placeholders replaced, of which no more is kept than is needed to normalise and to cut it.
+// Where the whole would get longer than `MOST_FILLED` it is want of memory.
 fn fill_value(alloc: Global, last: Option<&Event>, template: &[u8]) -> Result<Bytes, OutOfMemory>
     ensures { IfOk result (λ text. short.cut_value (trimmed http_whitespace text)
         ≡ short.cut_value (trimmed http_whitespace (filled (value_of (lent_result last.entry)) template.now))) }
 {
     let (first, mut rest) = next_piece(template);
+    if rest.is_none() {
+        return Bytes::of(alloc, first);
+    }
     let mut text = Vec::from_slice(alloc, first)?;
     let mut length = text.len();
     while let Some(behind) = rest {
@@ -173,8 +176,9 @@ fn filled_body(
 /// without tab, space, CR and LF at their ends (Fetch, section 2.2.2, "normalize a byte sequence"). Of a value
 /// that is longer than 16,384 bytes, which no request has, the first 16,384 are handed on, and behind them a
 /// letter, or NUL where the value has a byte that no header value has: so it is refused for what the whole
-/// one would be. The rest of it is looked at as it comes, and not kept. A body that gets longer than 65,536 bytes, which no request has either, stops growing there,
-/// and its first 65,537 are handed on. A URL or a value that gets longer than 16,777,216 bytes is want of memory.
+/// one would be. Its rest is looked at as it comes, and not kept. A body that gets longer than 65,536 bytes,
+/// which no request has either, stops growing there, and its first 65,537 are handed on. A URL or a value that
+/// gets longer than 16,777,216 bytes is want of memory.
 pub fn filled_init(alloc: Global, last: Option<&Event>, init: &Init) -> Result<Init, OutOfMemory>
     ensures { IfOk result
         (λ filled. filled ≡ short.with_cuts (spec.filled_init (lent_result last.entry) init.now)) }

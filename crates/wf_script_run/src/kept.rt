@@ -68,7 +68,7 @@ fn stand_in(rest: &[u8]) -> &'static [u8]
     }
 }
 
-// A header value without blanks at its start, and with no more of what is behind its first 16,384 bytes than stands for it.
+// A header value without blanks at its start, and with what stands for all that is behind its first 16,384 bytes.
 fn squeezed(alloc: Global, text: &[u8]) -> Result<Vec<u8>, OutOfMemory>
     ensures { IfOk result (λ made. made.items ≡ short.squeezed text.now) }
 {

@@ -9,8 +9,8 @@ use Rattle.wf_script_run.specs.Filling.{cut_value}
 abbrev pub all_fit : List ℕ → Bool
 all_fit text = list_all (λ byte. not (is_nul_or_newline byte)) text
 
--- what stands for bytes that are not kept: a letter where not all of them are blank, and behind it a line end where there
--- is one among the blanks at their end; NUL where one of the others is none that a header value has
+-- what stands for bytes that are not kept: a letter where not all of them are blank, and a line end where there is one
+-- among the blanks at their end; NUL where another byte among them is none that a header value has
 abbrev pub stand_in : List ℕ → List ℕ
 stand_in rest =
     if length (trimmed_end http_whitespace rest) == 0 then (if all_fit rest then [] else 10 ∷ [])
@@ -28,4 +28,5 @@ squeezed text = squeezed_start (trimmed_start http_whitespace text)
 -- whatever follows, the two texts are cut to the same
 abbrev pub CutAlike : List ℕ → List ℕ → Type 0
 CutAlike one other =
-    (more : List ℕ) → cut_value (trimmed http_whitespace (one ++ more)) ≡ cut_value (trimmed http_whitespace (other ++ more))
+    (more : List ℕ)
+    → cut_value (trimmed http_whitespace (one ++ more)) ≡ cut_value (trimmed http_whitespace (other ++ more))
