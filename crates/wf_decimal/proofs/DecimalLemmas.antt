@@ -62,7 +62,8 @@ number-text word e =
     let front = and_parts (is_digits word) (is_plain word) is.0 in
     let digits = and_parts (not (length word == 0)) (list_all is_ascii_digit word) front.0 in
     let some = filled word digits.0 in
-    let most : digits_value 10 word ≤ 18446744073709551615 = leb-true (digits_value 10 word) 18446744073709551615 is.1 in
+    let most : digits_value 10 word ≤ 18446744073709551615 =
+    leb-true (digits_value 10 word) 18446744073709551615 is.1 in
     let below : digits_value 10 word < 2 ^ 64 = omega (arith, most) in
     (decimal-digits_value model word digits.1 some (zero-alone word front.1 some) below, below)
 
