@@ -1,6 +1,6 @@
 -- Words are read as what they write: times, replies, credentials modes and subdomains.
-use Rattle.std.proofs.Common.{◌≡◌, ◌<◌, ◌^◌, ℕ, Bool, true, false, List, [], ◌∷◌, ◌++◌, length, get_or, codes, refl, ap, sym}
-use Rattle.std.proofs.Common.{◌∙◌, arith, eq-eqb, length-append, length-take, Option, Some, None, ◌⊎◌, inl, inr}
+use Rattle.std.proofs.Common.{◌≡◌, ◌<◌, ◌^◌, ℕ, Bool, true, false, List, [], ◌∷◌, ◌++◌, length, get_or, codes, refl}
+use Rattle.std.proofs.Common.{ap, sym, ◌∙◌, arith, eq-eqb, length-append, length-take, Option, Some, None, ◌⊎◌, inl, inr}
 use Rattle.std.proofs.lemmas.Bool.Decides.{Decides-eqb, nat_tests}
 use Rattle.std.proofs.lemmas.Grind.{common_steps}
 use Rattle.std.proofs.lemmas.List.{take_at}

@@ -1,6 +1,7 @@
 -- Words are read as the numbers that they write.
 use Rattle.std.proofs.Common.{◌≡◌, ◌≤◌, ◌<◌, ◌^◌, ℕ, suc, zero, Bool, true, List, [], ◌∷◌, length, get_or}
 use Rattle.std.proofs.Common.{refl, ap, sym, ◌∙◌, arith, Some, ◌⊎◌}
+use Rattle.std.proofs.lemmas.Bool.{and_parts, le-leb, leb-true}
 use Rattle.std.proofs.lemmas.Bool.Decides.{nat_tests}
 use Rattle.std.proofs.lemmas.Fmt.{decimal-digits_value, decimal_nonempty, digits_decimal, digits_value-decimal}
 use Rattle.std.proofs.lemmas.Fmt.{decimal_digit, first_decimal}
@@ -11,7 +12,7 @@ use Rattle.std.specs.Int.{IsInRange}
 use Rattle.std.specs.List.{list_all}
 use Rattle.std.specs.Str.Parse.{digits_value}
 use Rattle.wf_text.specs.Digits.{is_digits}
-use Rattle.wf_decimal.specs.Decimals.{begins_with_zero, is_number, number_up_to}
+use Rattle.wf_decimal.specs.Decimals.{begins_with_zero, is_number}
 use Rattle.wf_decimal.specs.Laws.{ReadsDecimals, ReadsOnlyDecimals}
 use Rattle.wf_decimal.proofs.TestLemmas.{and-both, and-left, and-right, choose, chosen}
 
@@ -40,43 +41,39 @@ digits-test = record {
 model : IsNumeralModel AreDigits (digits_value 10)
 model = numerals_by_value AreDigits digits-test
 
-zero-alone : (word : List ℕ) → (length word == 1 || not (begins_with_zero word)) ≡ true → 0 < length word
-    → get_or word 0 0 ≡ 48 → length word ≡ 1
+-- the tests of a word: it has no leading zero, and its number is of 64 bits
+abbrev is_plain : List ℕ → Bool
+is_plain word = length word == 1 || not (begins_with_zero word)
+
+abbrev is_small : List ℕ → Bool
+is_small word = nat_le (digits_value 10 word) 18446744073709551615
+
+zero-alone : (word : List ℕ) → is_plain word ≡ true → 0 < length word → get_or word 0 0 ≡ 48 → length word ≡ 1
 zero-alone [] e some starts = absurd (omega (arith, some))
 zero-alone (byte ∷ word) e some starts = grind (arith, nat_tests)
 
 filled : (word : List ℕ) → not (length word == 0) ≡ true → 0 < length word
 filled word e = grind (arith, nat_tests)
 
-le-true : (a b : ℕ) → nat_le a b ≡ true → a ≤ b
-le-true a b e = grind (arith, nat_tests)
-
-true-le : (a b : ℕ) → a ≤ b → nat_le a b ≡ true
-true-le a b e = grind (arith, nat_tests)
-
 number-text : (word : List ℕ) → is_number word ≡ true
     → (decimal (digits_value 10 word) ≡ word) × (digits_value 10 word < 2 ^ 64)
 number-text word e =
-    let front = and-left (is_digits word && (length word == 1 || not (begins_with_zero word)))
-    (nat_le (digits_value 10 word) 18446744073709551615) e in
-    let small : digits_value 10 word ≤ 18446744073709551615 = le-true _ _
-    (and-right (is_digits word && (length word == 1 || not (begins_with_zero word)))
-    (nat_le (digits_value 10 word) 18446744073709551615) e) in
-    let digits = and-left (is_digits word) (length word == 1 || not (begins_with_zero word)) front in
-    let plain = and-right (is_digits word) (length word == 1 || not (begins_with_zero word)) front in
-    let some = filled word (and-left (not (length word == 0)) (list_all is_ascii_digit word) digits) in
-    let below : digits_value 10 word < 2 ^ 64 = omega (arith, small) in (
-      decimal-digits_value model word (and-right (not (length word == 0)) (list_all is_ascii_digit word) digits) some
-          (zero-alone word plain some) below,
-      below,
-    )
+    let is = and_parts (is_digits word && is_plain word) (is_small word) e in
+    let front = and_parts (is_digits word) (is_plain word) is.0 in
+    let digits = and_parts (not (length word == 0)) (list_all is_ascii_digit word) front.0 in
+    let some = filled word digits.0 in
+    let most : digits_value 10 word ≤ 18446744073709551615 =
+    leb-true (digits_value 10 word) 18446744073709551615 is.1 in
+    let below : digits_value 10 word < 2 ^ 64 = omega (arith, most) in
+    (decimal-digits_value model word digits.1 some (zero-alone word front.1 some) below, below)
 
 pub number-writes : ReadsOnlyDecimals
 number-writes most word n e =
     let is = chosen (is_number word && nat_le (digits_value 10 word) most) (Some (digits_value 10 word)) n e in
     let value : digits_value 10 word ≡ n = cc in
-    let text = number-text word (and-left (is_number word) (nat_le (digits_value 10 word) most) is.0) in
-    let few = le-true _ _ (and-right (is_number word) (nat_le (digits_value 10 word) most) is.0) in
+    let fits = and_parts (is_number word) (nat_le (digits_value 10 word) most) is.0 in
+    let text = number-text word fits.0 in
+    let few : digits_value 10 word ≤ most = leb-true (digits_value 10 word) most fits.1 in
     record {
       text = ap decimal (sym value) ∙ text.0;
       few = omega (arith, value, few);
@@ -86,33 +83,29 @@ number-writes most word n e =
 digits-of : (n : ℕ) → n < 2 ^ 64 → AreDigits (decimal n)
 digits-of n small = digits_decimal model n small
 
-plain-start : (n : ℕ) → n < 2 ^ 64 → (length (decimal n) == 1 || not (begins_with_zero (decimal n))) ≡ true
+plain-start : (n : ℕ) → n < 2 ^ 64 → is_plain (decimal n) ≡ true
 plain-start zero small = rw (decimal_digit 0 (omega arith)) refl
 plain-start (suc n) small = starts (decimal (suc n)) (first_decimal (suc n) (omega arith) small)
   where
-    starts : (text : List ℕ) → 48 < get_or text 0 0 → (length text == 1 || not (begins_with_zero text)) ≡ true
+    starts : (text : List ℕ) → 48 < get_or text 0 0 → is_plain text ≡ true
     starts [] e = absurd (omega (arith, e))
     starts (byte ∷ text) e = grind (arith, nat_tests)
 
 some-length : (text : List ℕ) → 0 < length text → not (length text == 0) ≡ true
 some-length text e = grind (arith, nat_tests)
 
-is-number : (n : ℕ) → n < 2 ^ 64 → is_number (decimal n) ≡ true
-is-number n small =
-    let value : digits_value 10 (decimal n) ≡ n = digits_value-decimal model n small in
-    and-both (is_digits (decimal n) && (length (decimal n) == 1 || not (begins_with_zero (decimal n))))
-    (nat_le (digits_value 10 (decimal n)) 18446744073709551615)
-    (and-both (is_digits (decimal n)) (length (decimal n) == 1 || not (begins_with_zero (decimal n)))
-    (and-both (not (length (decimal n) == 0)) (list_all is_ascii_digit (decimal n))
-    (some-length (decimal n) (decimal_nonempty n small)) (digits-of n small)) (plain-start n small))
-    (true-le _ _ (omega (arith, value, small)))
-
 pub number-read : ReadsDecimals
 number-read most n few small =
-    let value : digits_value 10 (decimal n) ≡ n = digits_value-decimal model n small in
-    choose (is_number (decimal n) && nat_le (digits_value 10 (decimal n)) most) (Some (digits_value 10 (decimal n))) n
-    (and-both (is_number (decimal n)) (nat_le (digits_value 10 (decimal n)) most) (is-number n small)
-    (true-le _ _ (omega (arith, value, few)))) (ap Some value)
+    let text = decimal n in
+    let value : digits_value 10 text ≡ n = digits_value-decimal model n small in
+    let digits = and-both (not (length text == 0)) (list_all is_ascii_digit text)
+    (some-length text (decimal_nonempty n small)) (digits-of n small) in
+    let plain = and-both (is_digits text) (is_plain text) digits (plain-start n small) in
+    let is = and-both (is_digits text && is_plain text) (is_small text) plain
+    (le-leb (digits_value 10 text) 18446744073709551615 (omega (arith, value, small))) in
+    choose (is_number text && nat_le (digits_value 10 text) most) (Some (digits_value 10 text)) n
+    (and-both (is_number text) (nat_le (digits_value 10 text) most) is
+    (le-leb (digits_value 10 text) most (omega (arith, value, few)))) (ap Some value)
 
 -- a number has digits alone
 abbrev pub lacks : ℕ → List ℕ → Bool
