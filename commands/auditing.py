@@ -123,7 +123,9 @@ def of_illegal(index, scenario, text, name):
 
 
 def of_stranger(index, scenario, text, name):
-    return at(name, text.heading + 1 + index, text, "entry %d names no document of the scenario" % index)
+    told = at(name, text.heading + 1 + index, text, "entry %d names no document of the scenario" % index)
+    return told + ["All %d entries are what the book gives: a history alone is legal where this is said of it."
+                   % len(text.entries())]
 
 
 def plays(scenario):

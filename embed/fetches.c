@@ -117,38 +117,38 @@ static void failures(void) {
     begin();
     IS(OK, fed("HTTP/1.1 200 OK\r\n"));
     IS(OK, fiorrudda_input(&fetch, FIORRUDDA_INPUT_ENDED));
-    HOLDS(says(FIORRUDDA_TEXT_WORD, "BadHead") && number(FIORRUDDA_NUMBER_ERROR) == 25);
+    HOLDS(says(FIORRUDDA_TEXT_WORD, "BadHead") && number(FIORRUDDA_NUMBER_ERROR) == FIORRUDDA_ERROR_BAD_HEAD);
     begin();
     IS(OK, fed("HTTP/1.1 200 OK\r\nContent-Length: 9\r\n\r\n"));
     IS(OK, fed("abc"));
     IS(OK, fiorrudda_input(&fetch, FIORRUDDA_INPUT_ENDED));
-    HOLDS(number(FIORRUDDA_NUMBER_END) == 2 && number(FIORRUDDA_NUMBER_COUNT) == 3);
+    HOLDS(number(FIORRUDDA_NUMBER_END) == FIORRUDDA_END_CUT && number(FIORRUDDA_NUMBER_COUNT) == 3);
     begin();
     IS(OK, fed("HTTP/1.1 200 OK\r\nContent-Length: 9\r\n\r\n"));
     IS(OK, fed("abcd"));
     IS(OK, fiorrudda_input(&fetch, FIORRUDDA_INPUT_FAILED));
-    HOLDS(number(FIORRUDDA_NUMBER_END) == 3 && number(FIORRUDDA_NUMBER_COUNT) == 4);
+    HOLDS(number(FIORRUDDA_NUMBER_END) == FIORRUDDA_END_FAULT && number(FIORRUDDA_NUMBER_COUNT) == 4);
     begin();
     IS(OK, fed("HTTP/1.1 200 OK\r\nContent-Length: 101\r\n\r\n"));
     for (int n = 0; n < 101 && act() == FIORRUDDA_ACT_READ_BODY; n++) IS(OK, fed("x"));
-    HOLDS(number(FIORRUDDA_NUMBER_END) == 4);
+    HOLDS(number(FIORRUDDA_NUMBER_END) == FIORRUDDA_END_TOO_BIG);
     begin();
     IS(OK, fed("HTTP/1.1 204 No Content\r\n\r\nabc"));
     HOLDS(used == 27);
     IS(NOT_AWAITED, fed("abc"));
-    HOLDS(act() == FIORRUDDA_ACT_OVER && number(FIORRUDDA_NUMBER_END) == 0);
+    HOLDS(act() == FIORRUDDA_ACT_OVER && number(FIORRUDDA_NUMBER_END) == FIORRUDDA_END_NULL);
 }
 
 // What no request can be made of.
 static void faults(void) {
     IS(OK, fiorrudda_request(&request, T("GET"), T("https://u:p@a.example/")));
     IS(NO_REQUEST, fiorrudda_fetch(&other, &client, &request, 0, 100, &fault, &header));
-    HOLDS(fault == 2 && header == 0 && other.at == NULL);
+    HOLDS(fault == FIORRUDDA_FAULT_URL_CREDENTIALS && header == 0 && other.at == NULL);
     IS(OK, fiorrudda_request(&request, T("GET"), T("/")));
     IS(OK, fiorrudda_request_header(&request, T("A"), T("1")));
     IS(OK, fiorrudda_request_header(&request, T("A B"), T("1")));
     IS(NO_REQUEST, fiorrudda_fetch(&other, &client, &request, 0, 100, &fault, &header));
-    HOLDS(fault == 7 && header == 1);
+    HOLDS(fault == FIORRUDDA_FAULT_BAD_HEADER && header == 1);
 }
 
 // A book of the caller's own, and a violation that is told.
@@ -159,7 +159,7 @@ static void other_book(void) {
     IS(OK, fiorrudda_fetch(&fetch, &client, &request, 5, 100, &fault, &header));
     HOLDS(act() == FIORRUDDA_ACT_TELL && says(FIORRUDDA_TEXT_WORD, "connect-src") && number(FIORRUDDA_NUMBER_ENFORCED) == 0);
     IS(OK, fiorrudda_input(&fetch, FIORRUDDA_INPUT_TOLD));
-    HOLDS(act() == FIORRUDDA_ACT_ASK && number(FIORRUDDA_NUMBER_CALL) == 0 && says(FIORRUDDA_TEXT_HOST, "a.example"));
+    HOLDS(act() == FIORRUDDA_ACT_ASK && number(FIORRUDDA_NUMBER_CALL) == FIORRUDDA_CALL_MATCH && says(FIORRUDDA_TEXT_HOST, "a.example"));
     HOLDS(number(FIORRUDDA_NUMBER_TIME) == 5);
     IS(NOT_AWAITED, fiorrudda_input(&fetch, FIORRUDDA_INPUT_DONE));
     IS(OK, fiorrudda_input(&fetch, FIORRUDDA_INPUT_YES));

@@ -1,6 +1,7 @@
 // Plays a scenario of one document by the library's whole fetch. It reads what `embed/flat` writes, and prints what
 // `fetchplay play` prints. With a number as its argument the answers come in pieces of so many bytes. The last result is told
 // on standard error where it is asked for.
+#include "calls.h"
 #include "fiorrudda.h"
 #include <inttypes.h>
 #include <stdio.h>
@@ -33,7 +34,8 @@ typedef struct play {
     const char *ending;
     fiorrudda_handle book, client, request, fetch;
     char *history; // the calls of the book
-    size_t history_len;
+    char *sent;    // the bytes of the last request, made of its parts
+    size_t history_len, sent_len;
     FILE *calls;
     unsigned turn;
 } play;
@@ -137,7 +139,8 @@ static uint64_t number(play *p, uint32_t which) {
     return it;
 }
 
-static void put_headers(play *p) {
+// Prints the headers, and writes them as they are sent where a stream is given.
+static void put_headers(play *p, FILE *sent) {
     text name;
     for (size_t i = 0; part(p, FIORRUDDA_TEXT_HEADER_NAME, i, &name); i++) {
         text value = known_part_at(p, FIORRUDDA_TEXT_HEADER_VALUE, i);
@@ -146,6 +149,12 @@ static void put_headers(play *p) {
         printf(": ");
         put_escaped(value);
         putchar('\n');
+        if (sent) {
+            put(sent, name);
+            fputs(": ", sent);
+            put(sent, value);
+            fputs("\r\n", sent);
+        }
         free(name.at);
         free(value.at);
     }
@@ -164,71 +173,28 @@ static void put_body(const char *label, text body) {
 }
 
 static void put_sent(play *p) {
-    text body;
+    text body, method = known_part(p, FIORRUDDA_TEXT_METHOD), url = known_part(p, FIORRUDDA_TEXT_URL);
+    FILE *sent = open_memstream(&p->sent, &p->sent_len);
+    if (!sent)
+        fail("no memory");
     printf("send ");
     put(stdout, known_part(p, FIORRUDDA_TEXT_ORIGIN));
     printf("\n  ");
-    put_escaped(known_part(p, FIORRUDDA_TEXT_METHOD));
+    put_escaped(method);
     putchar(' ');
-    put_escaped(known_part(p, FIORRUDDA_TEXT_URL));
+    put_escaped(url);
     printf(" HTTP/1.1\n");
-    put_headers(p);
-    if (part(p, FIORRUDDA_TEXT_BODY, 0, &body))
+    put(sent, method);
+    putc(' ', sent);
+    put(sent, url);
+    fputs(" HTTP/1.1\r\n", sent);
+    put_headers(p, sent);
+    fputs("\r\n", sent);
+    if (part(p, FIORRUDDA_TEXT_BODY, 0, &body)) {
         put_body("  body ", body);
-}
-
-static void put_list(FILE *out, play *p, uint32_t which) {
-    text it;
-    if (!part(p, which, 0, &it)) {
-        fprintf(out, "()");
-        return;
+        put(sent, body);
     }
-    put(out, it);
-    for (size_t i = 1; part(p, which, i, &it); i++) {
-        putc(',', out);
-        put(out, it);
-    }
-}
-
-static void put_part(FILE *out, play *p, uint32_t which) {
-    text it;
-    if (part(p, which, 0, &it))
-        put(out, it);
-    else
-        fprintf(out, "()");
-    putc(' ', out);
-}
-
-static const char *included(play *p) { return number(p, FIORRUDDA_NUMBER_INCLUDE) ? "include " : "other "; }
-
-static void put_call(FILE *out, play *p) {
-    static const char *const names[] = {"match", "note", "covers", "learn", "clear"};
-    uint64_t call = number(p, FIORRUDDA_NUMBER_CALL);
-    fprintf(out, "%s ", names[call]);
-    if (call < 2) {
-        put(out, known_part(p, FIORRUDDA_TEXT_HOST));
-    } else {
-        put_part(out, p, FIORRUDDA_TEXT_KEY);
-        put_part(out, p, FIORRUDDA_TEXT_ORIGIN);
-    }
-    if (call == 1)
-        fprintf(out, " %" PRIu64 " %s", number(p, FIORRUDDA_NUMBER_AGE), number(p, FIORRUDDA_NUMBER_SUBDOMAINS) ? "sub" : "exact");
-    if (call == 2) {
-        fputs(included(p), out);
-        put_part(out, p, FIORRUDDA_TEXT_METHOD);
-    }
-    if (call == 3) {
-        fprintf(out, "%s%" PRIu64 " ", included(p), number(p, FIORRUDDA_NUMBER_AGE));
-        put_list(out, p, FIORRUDDA_TEXT_LEARNT);
-        putc(' ', out);
-    }
-    if (call == 2 || call == 3) {
-        put_list(out, p, FIORRUDDA_TEXT_NAME);
-        putc(' ', out);
-    }
-    if (call >= 2)
-        put(out, known_part(p, FIORRUDDA_TEXT_URL));
-    fprintf(out, " at %" PRIu64 ": ", number(p, FIORRUDDA_NUMBER_TIME));
+    fclose(sent);
 }
 
 static void put_violation(play *p) {
@@ -249,20 +215,20 @@ static void put_response(play *p) {
     else
         printf("()");
     putchar('\n');
-    put_headers(p);
+    put_headers(p, NULL);
     switch (number(p, FIORRUDDA_NUMBER_END)) {
-    case 0: printf("  body none\n"); break;
-    case 1: put_body("  body whole ", known_part(p, FIORRUDDA_TEXT_BODY)); break;
-    case 2: printf("  body cut %" PRIu64 "\n", number(p, FIORRUDDA_NUMBER_COUNT)); break;
-    case 3: printf("  body fault %" PRIu64 "\n", number(p, FIORRUDDA_NUMBER_COUNT)); break;
+    case FIORRUDDA_END_NULL: printf("  body none\n"); break;
+    case FIORRUDDA_END_WHOLE: put_body("  body whole ", known_part(p, FIORRUDDA_TEXT_BODY)); break;
+    case FIORRUDDA_END_CUT: printf("  body cut %" PRIu64 "\n", number(p, FIORRUDDA_NUMBER_COUNT)); break;
+    case FIORRUDDA_END_FAULT: printf("  body fault %" PRIu64 "\n", number(p, FIORRUDDA_NUMBER_COUNT)); break;
     default: printf("  body toobig\n");
     }
 }
 
 static void put_outcome(play *p) {
     switch (number(p, FIORRUDDA_NUMBER_OUTCOME)) {
-    case 0: put_response(p); return;
-    case 1: printf("result loaded\n"); return;
+    case FIORRUDDA_OUTCOME_RESPONSE: put_response(p); return;
+    case FIORRUDDA_OUTCOME_LOADED: printf("result loaded\n"); return;
     }
     printf("result %s %" PRIu64 " ", p->loads ? "failed" : "error", number(p, FIORRUDDA_NUMBER_ERROR));
     put(stdout, known_part(p, FIORRUDDA_TEXT_WORD));
@@ -278,7 +244,7 @@ static void put_fault(play *p, uint32_t fault, uint32_t header) {
     static const char *const names[] = {"",           "BadUrl",    "UrlCredentials", "BadMethod", "ForbiddenMethod", "BodyWithGet",
                                         "NoCorsMethod", "BadHeader", "NavigateMode",   "TooLong"};
     printf("result %s %u %s", p->loads ? "failed type-error" : "type-error", fault, names[fault]);
-    if (fault == 7)
+    if (fault == FIORRUDDA_FAULT_BAD_HEADER)
         printf(" %u", header);
     putchar('\n');
 }
@@ -291,7 +257,7 @@ static void tell_response(play *p) {
     fprintf(stderr, " %" PRIu64, number(p, FIORRUDDA_NUMBER_STATUS));
     bool is = part(p, FIORRUDDA_TEXT_URL, 0, &it);
     put_hex(stderr, is, it);
-    is = number(p, FIORRUDDA_NUMBER_END) == 1 && part(p, FIORRUDDA_TEXT_BODY, 0, &it);
+    is = number(p, FIORRUDDA_NUMBER_END) == FIORRUDDA_END_WHOLE && part(p, FIORRUDDA_TEXT_BODY, 0, &it);
     put_hex(stderr, is, it);
     for (size_t i = 0; part(p, FIORRUDDA_TEXT_HEADER_NAME, i, &name); i++) {
         put_hex(stderr, true, name);
@@ -302,28 +268,27 @@ static void tell_response(play *p) {
 
 // Its type, its status, its URL, its body where it came whole, and its headers.
 static void tell(play *p) {
-    uint64_t outcome = p->began ? number(p, FIORRUDDA_NUMBER_OUTCOME) : 2;
+    uint64_t outcome = p->began ? number(p, FIORRUDDA_NUMBER_OUTCOME) : FIORRUDDA_OUTCOME_ERROR;
     if (!p->ran)
         fputs("none 0 - -\n", stderr);
-    else if (outcome == 0)
+    else if (outcome == FIORRUDDA_OUTCOME_RESPONSE)
         tell_response(p);
     else
-        fprintf(stderr, "%s 0 - -\n", outcome == 1 ? "loaded" : p->last_loads ? "failed" : p->began ? "error" : "type-error");
+        fprintf(stderr, "%s 0 - -\n", outcome == FIORRUDDA_OUTCOME_LOADED ? "loaded" : p->last_loads ? "failed" : p->began ? "error" : "type-error");
 }
 
 // ---- the acts
 
 static void ask(play *p) {
-    static const char *const replies[] = {"yes", "no", "done"};
     char *said;
     size_t len;
     FILE *call = open_memstream(&said, &len);
     if (!call)
         fail("no memory");
-    put_call(call, p);
+    put_call(call, &p->fetch);
     uint32_t reply = 0;
     done(fiorrudda_ask(&p->fetch, &p->book, &reply), "ask");
-    fputs(replies[reply - FIORRUDDA_INPUT_YES], call);
+    fputs(reply_word(reply), call);
     fclose(call);
     printf("call %s\n", said);
     fprintf(p->calls, "%u 0 %s\n", p->turn++, said);
@@ -348,7 +313,7 @@ static text answer(play *p) {
     return none;
 }
 
-// The request's bytes are those of its parts: its first line is looked at.
+// The request's bytes are those of its parts.
 static void check_request(play *p) {
     size_t len = 0;
     uint8_t *bytes = grown(NULL, 2048);
@@ -358,10 +323,10 @@ static void check_request(play *p) {
         code = fiorrudda_to_send(&p->fetch, bytes, len, &len);
     }
     done(code, "to_send");
-    text method = known_part(p, FIORRUDDA_TEXT_METHOD);
-    if (len < method.len || memcmp(bytes, method.at, method.len))
-        fail("the request has another method");
+    if (len != p->sent_len || memcmp(bytes, p->sent, len))
+        fail("the request has other bytes than its parts");
     free(bytes);
+    free(p->sent);
 }
 
 // Hands in a piece of the answer, or its end where all was read.

@@ -4,22 +4,12 @@
 // A text is a pointer and a length in bytes, of any bytes. A pointer is never null; with length 0 it may point anywhere.
 // Nothing is kept of what was lent to a call, and two things that are lent to one call do not overlap, unless both are
 // only read. Any call may be made at any time: what it is given, it takes or refuses by a code. A handle is used by one
-// thread at a time; otherwise calls may run side by side.
+// thread at a time; otherwise calls may run side by side. Times are in seconds.
 //
-//     fiorrudda_handle headers = {0};
-//     fiorrudda_headers(&headers);
-//     fiorrudda_append(&headers, T("Access-Control-Allow-Origin"), T("https://app.example"));
-//     switch (fiorrudda_cors_check(T("https://app.example"), false, &headers)) {
-//     case FIORRUDDA_OK: puts("the page may read it"); break;
-//     case FIORRUDDA_NO: puts("the page may not read it"); break;
-//     default: puts("the call was wrong");
-//     }
-//     fiorrudda_free(&headers);
-//
-// where T(text) is (const uint8_t *)(text), strlen(text).
-//
-// A whole fetch is a loop over its acts, from fiorrudda_fetch on: docs/embedding.md tells what is to be done at each, and
-// examples/embed/client.c is such a loop over sockets and TLS.
+// Below, after the constants, stand the calls by what they are for, each group with an example. In the examples T(text) is
+// (const uint8_t *)(text), sizeof(text) - 1 of a literal; handles are zeroed at first, as fiorrudda_handle book = {0};,
+// `room` is an array of bytes, and what is made is freed at last by fiorrudda_free. Where an example takes no notice of a
+// code, a program would.
 #pragma once
 #include <stdbool.h>
 #include <stddef.h>
@@ -237,8 +227,7 @@ extern "C" {
 // The name of the header that a preflight did not allow.
 #define FIORRUDDA_TEXT_REFUSED 11u
 
-// What the book is asked: 0 match a host, 1 note a host, 2 does the preflight cache cover a request, 3 it learns, 4
-// it forgets.
+// What the book is asked or told: one of the numbers FIORRUDDA_CALL_...
 #define FIORRUDDA_NUMBER_CALL 0u
 
 // The time of that, in seconds.
@@ -262,16 +251,16 @@ extern "C" {
 // 1 where that is enforced.
 #define FIORRUDDA_NUMBER_ENFORCED 7u
 
-// What the fetch came to: 0 a response, 1 a load that succeeded, 2 a network error.
+// What the fetch came to: one of the numbers FIORRUDDA_OUTCOME_...
 #define FIORRUDDA_NUMBER_OUTCOME 8u
 
 // The response's status.
 #define FIORRUDDA_NUMBER_STATUS 9u
 
-// The number of the network error.
+// The number of the network error: one of the numbers FIORRUDDA_ERROR_...
 #define FIORRUDDA_NUMBER_ERROR 10u
 
-// How the body ended: 0 it is null, 1 whole, 2 cut, 3 the connection failed, 4 too big.
+// How the body ended: one of the numbers FIORRUDDA_END_...
 #define FIORRUDDA_NUMBER_END 11u
 
 // How many bytes of the body came.
@@ -322,6 +311,76 @@ extern "C" {
 // The text goes on behind its last line.
 #define FIORRUDDA_REASON_TOO_LONG 5u
 
+// Network errors, by the rule that refuses: docs/rules/printed-text.md lists where each comes.
+#define FIORRUDDA_ERROR_SCHEME 1u
+#define FIORRUDDA_ERROR_BAD_PORT 2u
+#define FIORRUDDA_ERROR_MIXED 3u
+#define FIORRUDDA_ERROR_CSP_REQUEST 4u
+#define FIORRUDDA_ERROR_SAME_ORIGIN_MODE 5u
+#define FIORRUDDA_ERROR_NO_CORS_REDIRECT_MODE 6u
+#define FIORRUDDA_ERROR_PREFLIGHT_CORS 7u
+#define FIORRUDDA_ERROR_PREFLIGHT_STATUS 8u
+#define FIORRUDDA_ERROR_PREFLIGHT_LIST 9u
+#define FIORRUDDA_ERROR_PREFLIGHT_METHOD 10u
+#define FIORRUDDA_ERROR_PREFLIGHT_HEADER 11u
+#define FIORRUDDA_ERROR_CORS_CHECK 12u
+#define FIORRUDDA_ERROR_CORP 13u
+#define FIORRUDDA_ERROR_REDIRECT_MODE 14u
+#define FIORRUDDA_ERROR_BAD_LOCATION 15u
+#define FIORRUDDA_ERROR_REDIRECT_SCHEME 16u
+#define FIORRUDDA_ERROR_TOO_MANY_REDIRECTS 17u
+#define FIORRUDDA_ERROR_REDIRECT_CREDENTIALS 18u
+#define FIORRUDDA_ERROR_CSP_RESPONSE 19u
+#define FIORRUDDA_ERROR_MIME 20u
+#define FIORRUDDA_ERROR_NO_SNIFF 21u
+#define FIORRUDDA_ERROR_INTEGRITY 22u
+#define FIORRUDDA_ERROR_CODING 23u
+#define FIORRUDDA_ERROR_LINK_FAULT 24u
+#define FIORRUDDA_ERROR_BAD_HEAD 25u
+#define FIORRUDDA_ERROR_HEAD_TOO_BIG 26u
+
+// Why no request can be made of what is asked for: docs/rules/requests.md says where each comes.
+#define FIORRUDDA_FAULT_BAD_URL 1u
+#define FIORRUDDA_FAULT_URL_CREDENTIALS 2u
+#define FIORRUDDA_FAULT_BAD_METHOD 3u
+#define FIORRUDDA_FAULT_FORBIDDEN_METHOD 4u
+#define FIORRUDDA_FAULT_BODY_WITH_GET 5u
+#define FIORRUDDA_FAULT_NO_CORS_METHOD 6u
+#define FIORRUDDA_FAULT_BAD_HEADER 7u
+#define FIORRUDDA_FAULT_NAVIGATE_MODE 8u
+#define FIORRUDDA_FAULT_TOO_LONG 9u
+
+// How a body ended: it is null, came whole, was cut, its connection failed, or it is longer than `limit`.
+#define FIORRUDDA_END_NULL 0u
+#define FIORRUDDA_END_WHOLE 1u
+#define FIORRUDDA_END_CUT 2u
+#define FIORRUDDA_END_FAULT 3u
+#define FIORRUDDA_END_TOO_BIG 4u
+
+// What a book is asked or told: is a host known?
+#define FIORRUDDA_CALL_MATCH 0u
+
+// A host becomes known.
+#define FIORRUDDA_CALL_NOTE 1u
+
+// Does the preflight cache cover a request?
+#define FIORRUDDA_CALL_COVERS 2u
+
+// The preflight cache learns what a preflight allowed.
+#define FIORRUDDA_CALL_LEARN 3u
+
+// It forgets what it knows of a server.
+#define FIORRUDDA_CALL_CLEAR 4u
+
+// What a fetch came to: a response.
+#define FIORRUDDA_OUTCOME_RESPONSE 0u
+
+// A load that succeeded.
+#define FIORRUDDA_OUTCOME_LOADED 1u
+
+// A network error.
+#define FIORRUDDA_OUTCOME_ERROR 2u
+
 // One word that holds a header list, a book, a client, a request, a fetch, policies or violations, or nothing: all
 // zero it is empty. It is not to be copied, written or read but by the calls below, and it is given to one call at a
 // time, and not twice to one call. What it holds is freed by `fiorrudda_free`.
@@ -333,125 +392,22 @@ _Static_assert(offsetof(fiorrudda_handle, at) == 0, "at");
 _Static_assert(sizeof(fiorrudda_handle) == 8, "fiorrudda_handle");
 #endif
 
-// "determine nosniff" of an answer's header list (Fetch): scripts and styles of another MIME type are blocked then.
-//
-// FIORRUDDA_OK where the answer says nosniff; FIORRUDDA_NO; FIORRUDDA_WRONG_HANDLE.
-uint32_t fiorrudda_nosniff(fiorrudda_handle *headers);
+// ---- What a handle holds is freed by
 
-// Writes the essence of the MIME type of an answer, in lower case, at the beginning of `room`, with no NUL after it,
-// and tells in `len` how many bytes it is (Fetch, "extract a MIME type").
-//
-// FIORRUDDA_OK; FIORRUDDA_NO where the list gives no MIME type; FIORRUDDA_TOO_SHORT where `room` has less than `len`
-// bytes; FIORRUDDA_WRONG_HANDLE; FIORRUDDA_OUT_OF_MEMORY. But for FIORRUDDA_OK nothing is written to `room`, and but
-// for FIORRUDDA_OK and FIORRUDDA_TOO_SHORT nothing to `len`.
-uint32_t fiorrudda_essence(fiorrudda_handle *headers, uint8_t *room, size_t room_len, size_t *len);
-
-// Whether a word of a content security policy, as a source expression, matches a URL, for a page and a number of
-// redirects (CSP 3, "does url match expression in origin with redirect count").
-//
-// FIORRUDDA_OK where it matches; FIORRUDDA_NO; FIORRUDDA_NOT_A_URL, of the URL or of the page; FIORRUDDA_NOT_HTTP, of
-// the page; FIORRUDDA_OUT_OF_MEMORY.
-uint32_t fiorrudda_source_matches(const uint8_t *word, size_t word_len, const uint8_t *url, size_t url_len, const uint8_t *page, size_t page_len, uint32_t redirects);
-
-// Makes in a handle what a script asks of `fetch`: a URL, which may be relative to the client's, by a method (Fetch,
-// section 5.6). Its mode is cors, its credentials mode same-origin, its redirect mode follow, its referrer the
-// client; it has neither headers, body nor integrity metadata. What the handle held is freed first.
-//
-// FIORRUDDA_OK or FIORRUDDA_OUT_OF_MEMORY. The handle is empty but for FIORRUDDA_OK.
-uint32_t fiorrudda_request(fiorrudda_handle *request, const uint8_t *method, size_t method_len, const uint8_t *url, size_t url_len);
-
-// Makes in a handle what an element asks for that loads a resource (HTML, section 2.5.1, "create a potential-CORS
-// request"): one of the numbers FIORRUDDA_LOAD_.., and a URL, which may be relative to the client's. It has no
-// `crossorigin` attribute, no nonce and no integrity metadata, and no parser inserted it. What the handle held is
-// freed first.
-//
-// FIORRUDDA_OK; FIORRUDDA_NO_SUCH_NUMBER; FIORRUDDA_OUT_OF_MEMORY. The handle is empty but for FIORRUDDA_OK.
-uint32_t fiorrudda_load(fiorrudda_handle *request, uint32_t kind, const uint8_t *url, size_t url_len);
-
-// Adds a header to a `fetch`, its value without whitespace at its ends (Fetch, section 2.2.2, "normalize"). What is
-// no header is taken, and makes a fault of the request then.
-//
-// FIORRUDDA_OK; FIORRUDDA_NO, of a load, which has no headers; FIORRUDDA_WRONG_HANDLE; FIORRUDDA_OUT_OF_MEMORY. The
-// request is as it was but for FIORRUDDA_OK.
-uint32_t fiorrudda_request_header(fiorrudda_handle *request, const uint8_t *name, size_t name_len, const uint8_t *value, size_t value_len);
-
-// Sets a text of a request: its body, its integrity metadata or its nonce, by one of the numbers
-// FIORRUDDA_REQUEST_...
-//
-// FIORRUDDA_OK; FIORRUDDA_NO where it has none, as a `fetch` has no nonce and a load no body; FIORRUDDA_WRONG_HANDLE;
-// FIORRUDDA_NO_SUCH_NUMBER; FIORRUDDA_OUT_OF_MEMORY. The request is as it was but for FIORRUDDA_OK.
-uint32_t fiorrudda_request_text(fiorrudda_handle *request, uint32_t which, const uint8_t *text, size_t text_len);
-
-// Makes a choice of a request: one of the numbers FIORRUDDA_CHOOSE_.., and the number that it is set to.
-//
-// FIORRUDDA_OK; FIORRUDDA_NO where the request has no such choice, as a load has no mode; FIORRUDDA_WRONG_HANDLE;
-// FIORRUDDA_NO_SUCH_NUMBER. The request is as it was but for FIORRUDDA_OK.
-uint32_t fiorrudda_request_choose(fiorrudda_handle *request, uint32_t choice, uint32_t number);
-
-// Makes the client of a document in a handle (HTML, section 8.1.3.2, "environment settings object"): its URL, the URL
-// of the page at the top, which is its own where it is not embedded, and its referrer policy, one of the numbers
-// FIORRUDDA_REFERRER_... It has no content security policies and no cookies. What the handle held is freed first.
-//
-// FIORRUDDA_OK; FIORRUDDA_NO_SUCH_NUMBER; FIORRUDDA_NOT_A_URL and FIORRUDDA_NOT_HTTP, of either URL;
-// FIORRUDDA_OUT_OF_MEMORY. The handle is empty but for FIORRUDDA_OK.
-uint32_t fiorrudda_client(fiorrudda_handle *client, const uint8_t *url, size_t url_len, const uint8_t *top, size_t top_len, uint32_t policy);
-
-// Gives a client the policies of the value of a Content-Security-Policy header, or of a Content-Security-Policy-
-// Report-Only one where `enforced` is false (CSP 3, section 2.2). They are numbered from 0 on, in the order in which
-// they are given.
-//
-// FIORRUDDA_OK; FIORRUDDA_WRONG_HANDLE; FIORRUDDA_OUT_OF_MEMORY.
-uint32_t fiorrudda_client_policy(fiorrudda_handle *client, const uint8_t *value, size_t value_len, bool enforced);
-
-// Gives a client the value of the Cookie header for requests to the origin of a URL. The first of an origin counts.
-// Which cookies a request has is for the caller to say: it is sent with each request that includes credentials.
-//
-// FIORRUDDA_OK; FIORRUDDA_WRONG_HANDLE; FIORRUDDA_NOT_A_URL; FIORRUDDA_NOT_HTTP; FIORRUDDA_NOT_A_HEADER;
-// FIORRUDDA_OUT_OF_MEMORY. The client is as it was but for FIORRUDDA_OK.
-uint32_t fiorrudda_client_cookie(fiorrudda_handle *client, const uint8_t *url, size_t url_len, const uint8_t *value, size_t value_len);
-
-// Begins in a handle the fetch of a request for a client, at a time in seconds since any fixed moment, with bodies of
-// at most `limit` bytes (Fetch, section 4.1, "main fetch"). Nothing is kept of the client and the request: each may
-// be used again. What the handle held is freed first. The fetch is then done by a loop over its acts: `fiorrudda_act`
-// says what is to be done, and a call tells what came of it, until it is FIORRUDDA_ACT_OVER.
-//
-// FIORRUDDA_OK; FIORRUDDA_WRONG_HANDLE; FIORRUDDA_NO_REQUEST where no request can be made of it: `fault` is then the
-// number of the reason, from 1 to 9, and `header` the index of a header that is none (Fetch, sections 5.4 and 5.6);
-// FIORRUDDA_TOO_LATE; FIORRUDDA_OUT_OF_MEMORY. The handle is empty but for FIORRUDDA_OK, and but for
-// FIORRUDDA_NO_REQUEST nothing is written.
-uint32_t fiorrudda_fetch(fiorrudda_handle *fetch, fiorrudda_handle *client, fiorrudda_handle *request, uint64_t now, uint32_t limit, uint32_t *fault, uint32_t *header);
-
-// Tells in `act` what a fetch does next, by one of the numbers FIORRUDDA_ACT_... `fiorrudda_text` and
-// `fiorrudda_number` have the act's parts, or those of the outcome of a fetch that is over.
-//
-// FIORRUDDA_OK; FIORRUDDA_WRONG_HANDLE, and then nothing is written.
-uint32_t fiorrudda_act(fiorrudda_handle *fetch, uint32_t *act);
-
-// Writes a text that the act of a fetch has, or its outcome, at the beginning of `room`, with no NUL after it, and
-// tells in `len` how many bytes it is. The text is one of the numbers FIORRUDDA_TEXT_..; of a list it is that at the
-// index `at`.
-//
-// FIORRUDDA_OK; FIORRUDDA_NO where there is none; FIORRUDDA_TOO_SHORT where `room` has less than `len` bytes;
-// FIORRUDDA_WRONG_HANDLE; FIORRUDDA_NO_SUCH_NUMBER. But for FIORRUDDA_OK nothing is written to `room`, and but for
-// FIORRUDDA_OK and FIORRUDDA_TOO_SHORT nothing to `len`.
-uint32_t fiorrudda_text(fiorrudda_handle *fetch, uint32_t which, size_t at, uint8_t *room, size_t room_len, size_t *len);
-
-// Tells a number that the act of a fetch has, or its outcome: one of the numbers FIORRUDDA_NUMBER_...
-//
-// FIORRUDDA_OK; FIORRUDDA_NO where there is none; FIORRUDDA_WRONG_HANDLE; FIORRUDDA_NO_SUCH_NUMBER. But for
-// FIORRUDDA_OK nothing is written.
-uint32_t fiorrudda_number(fiorrudda_handle *fetch, uint32_t which, uint64_t *number);
-
-// Writes all bytes of the request that a fetch sends (RFC 9112, section 3) at the beginning of `room`, and tells in
-// `len` how many they are. They are for the server of FIORRUDDA_TEXT_ORIGIN, over a connection of their own.
-//
-// FIORRUDDA_OK; FIORRUDDA_NO where nothing is sent; FIORRUDDA_TOO_SHORT where `room` has less than `len` bytes;
-// FIORRUDDA_WRONG_HANDLE; FIORRUDDA_OUT_OF_MEMORY. But for FIORRUDDA_OK nothing is written to `room`, and but for
-// FIORRUDDA_OK and FIORRUDDA_TOO_SHORT nothing to `len`.
-uint32_t fiorrudda_to_send(fiorrudda_handle *fetch, uint8_t *room, size_t room_len, size_t *len);
-
-// Frees what a handle holds, and leaves it empty. An empty handle stays so.
+// Frees what a handle holds, and leaves it empty. An empty handle stays so. A book that threads share is freed under
+// their lock, or when the others are done with it.
 void fiorrudda_free(fiorrudda_handle *handle);
+
+// ---- Header lists
+//
+//     fiorrudda_headers(&headers);
+//     fiorrudda_append(&headers, T("Vary"), T("Origin"));
+//     fiorrudda_append(&headers, T("vary"), T("Accept"));
+//     if (fiorrudda_get(&headers, T("VARY"), room, sizeof room, &len) == FIORRUDDA_OK)
+//         printf("%.*s\n", (int)len, (char *)room); // Origin, Accept
+//     for (size_t at = 0; fiorrudda_name_at(&headers, at, room, sizeof room, &len) == FIORRUDDA_OK; at++)
+//         printf("%.*s\n", (int)len, (char *)room); // Vary, twice
+//     fiorrudda_free(&headers);
 
 // Makes an empty header list in a handle (Fetch, section 2.2.2). What the handle held is freed first, also where
 // memory is refused.
@@ -473,63 +429,29 @@ uint32_t fiorrudda_append(fiorrudda_handle *headers, const uint8_t *name, size_t
 // for FIORRUDDA_OK and FIORRUDDA_TOO_SHORT nothing to `len`.
 uint32_t fiorrudda_get(fiorrudda_handle *headers, const uint8_t *name, size_t name_len, uint8_t *room, size_t room_len, size_t *len);
 
-// Makes an empty book in a handle: no known HSTS hosts, and an empty CORS-preflight cache. What the handle held is
-// freed first, also where memory is refused. Threads that share a book call it under a lock of their own.
+// Writes the name of the header at an index of a list (Fetch, section 2.2.2), from 0 on, at the beginning of `room`,
+// with no NUL after it, and tells in `len` how many bytes it is.
 //
-// FIORRUDDA_OK or FIORRUDDA_OUT_OF_MEMORY.
-uint32_t fiorrudda_book(fiorrudda_handle *book);
+// FIORRUDDA_OK; FIORRUDDA_NO behind the last; FIORRUDDA_TOO_SHORT where `room` has less than `len` bytes;
+// FIORRUDDA_WRONG_HANDLE. But for FIORRUDDA_OK nothing is written to `room`, and but for FIORRUDDA_OK and
+// FIORRUDDA_TOO_SHORT nothing to `len`.
+uint32_t fiorrudda_name_at(fiorrudda_handle *headers, size_t at, uint8_t *room, size_t room_len, size_t *len);
 
-// Has a book note what the value of a Strict-Transport-Security field of a host says (RFC 6797, section 8.1), at a
-// time in seconds since any fixed moment. The host is the domain of a URL, in lower case: no IP address and no
-// localhost name, which is not looked at. The field came over https.
+// Writes the value of the header at an index of a list (Fetch, section 2.2.2), as `fiorrudda_name_at` its name.
 //
-// FIORRUDDA_OK where the field says something; FIORRUDDA_NO where it is to be ignored; FIORRUDDA_WRONG_HANDLE;
-// FIORRUDDA_TOO_LATE; FIORRUDDA_OUT_OF_MEMORY. The book is as it was but for FIORRUDDA_OK.
-uint32_t fiorrudda_note_host(fiorrudda_handle *book, const uint8_t *host, size_t host_len, const uint8_t *field, size_t field_len, uint64_t now);
+// The codes are the same.
+uint32_t fiorrudda_value_at(fiorrudda_handle *headers, size_t at, uint8_t *room, size_t room_len, size_t *len);
 
-// Whether a host is a known HSTS host of a book at a time in seconds (RFC 6797, section 8.2): http URLs of it are to
-// be asked by https. The host is the domain of a URL, in lower case: no IP address and no localhost name.
+// ---- Origins, sites, ports and the referrer
 //
-// FIORRUDDA_OK where it is; FIORRUDDA_NO; FIORRUDDA_WRONG_HANDLE; FIORRUDDA_TOO_LATE; FIORRUDDA_OUT_OF_MEMORY.
-uint32_t fiorrudda_known_host(fiorrudda_handle *book, const uint8_t *host, size_t host_len, uint64_t now);
-
-// What the value of a Strict-Transport-Security field says (RFC 6797, section 6.1): for how many seconds the host is
-// known, at most 4,294,967,295, and whether the names under it are too, 1 or 0.
-//
-// FIORRUDDA_OK; FIORRUDDA_NO where the field is to be ignored; FIORRUDDA_OUT_OF_MEMORY. But for FIORRUDDA_OK nothing
-// is written.
-uint32_t fiorrudda_sts(const uint8_t *field, size_t field_len, uint64_t *age, uint32_t *subdomains);
-
-// Tells a fetch what came of its act, by one of the numbers FIORRUDDA_INPUT_... FIORRUDDA_INPUT_SENT follows
-// FIORRUDDA_ACT_SEND; FIORRUDDA_INPUT_TOLD follows FIORRUDDA_ACT_TELL; FIORRUDDA_INPUT_ENDED follows
-// FIORRUDDA_ACT_READ_HEAD and FIORRUDDA_ACT_READ_BODY; FIORRUDDA_INPUT_FAILED follows these three;
-// FIORRUDDA_INPUT_YES and FIORRUDDA_INPUT_NO follow FIORRUDDA_ACT_ASK where it is a question, and
-// FIORRUDDA_INPUT_DONE where not.
-//
-// FIORRUDDA_OK; FIORRUDDA_NOT_AWAITED where it does not follow, and then the fetch stands where it stood;
-// FIORRUDDA_WRONG_HANDLE; FIORRUDDA_NO_SUCH_NUMBER; FIORRUDDA_OUT_OF_MEMORY, and then the fetch is gone: its act is
-// FIORRUDDA_ACT_GONE.
-uint32_t fiorrudda_input(fiorrudda_handle *fetch, uint32_t input);
-
-// Hands a fetch the next bytes of the answer, in any piece, be it empty, and tells in `used` how many of them were
-// read (RFC 9112, sections 4, 6 and 7). Where a head ends in the piece, the bytes behind it are not read: they are
-// the first of the body, and are handed in again where the next act is FIORRUDDA_ACT_READ_BODY, also where there are
-// none. What follows a body is of no use, and the connection is to be closed.
-//
-// FIORRUDDA_OK; FIORRUDDA_NOT_AWAITED where no bytes are read now, and then the fetch stands where it stood;
-// FIORRUDDA_WRONG_HANDLE; FIORRUDDA_OUT_OF_MEMORY, and then the fetch is gone: its act is FIORRUDDA_ACT_GONE. But for
-// FIORRUDDA_OK none are read; for FIORRUDDA_WRONG_HANDLE nothing is written.
-uint32_t fiorrudda_feed(fiorrudda_handle *fetch, const uint8_t *bytes, size_t bytes_len, size_t *used);
-
-// Has a fetch ask a book what its act asks for, or tell it that, and goes on from what the book replies, which is
-// told in `reply`: FIORRUDDA_INPUT_YES, FIORRUDDA_INPUT_NO or FIORRUDDA_INPUT_DONE. Threads that share a book call it
-// under a lock of their own.
-//
-// FIORRUDDA_OK; FIORRUDDA_NOT_AWAITED where the act asks no book, and then the fetch stands where it stood and the
-// book is as it was; FIORRUDDA_WRONG_HANDLE; FIORRUDDA_OUT_OF_MEMORY, and then the fetch is gone: its act is
-// FIORRUDDA_ACT_GONE. The book is then as it was, or as it is after the call. But for FIORRUDDA_OK nothing is written
-// to `reply`.
-uint32_t fiorrudda_ask(fiorrudda_handle *fetch, fiorrudda_handle *book, uint32_t *reply);
+//     if (fiorrudda_origin(T("HTTPS://App.Example:443/cart"), room, sizeof room, &len) == FIORRUDDA_OK)
+//         printf("%.*s\n", (int)len, (char *)room); // https://app.example
+//     if (fiorrudda_same_origin(T("https://app.example/"), T("https://api.example/")) == FIORRUDDA_NO)
+//         puts("another origin");
+//     if (fiorrudda_bad_port(T("https://app.example:25/")) != FIORRUDDA_NO) puts("nothing is sent there");
+//     if (fiorrudda_referrer(FIORRUDDA_REFERRER_DEFAULT, T("https://app.example/cart?a"), T("https://api.example/"),
+//                            room, sizeof room, &len) == FIORRUDDA_OK)
+//         printf("Referer: %.*s\n", (int)len, (char *)room); // https://app.example/
 
 // Writes the serialised origin of a URL at the beginning of `room`, with no NUL after it, and tells in `len` how many
 // bytes it is (HTML, section 7.1.1, "serialization of an origin").
@@ -562,32 +484,6 @@ uint32_t fiorrudda_trustworthy(const uint8_t *url, size_t url_len);
 // Test for FIORRUDDA_NO: then no error is taken for leave.
 uint32_t fiorrudda_bad_port(const uint8_t *url, size_t url_len);
 
-// Whether a name and a value are a CORS-safelisted request-header (Fetch, section 2.2.2): with it alone, no preflight
-// is sent.
-//
-// FIORRUDDA_OK where they are; FIORRUDDA_NO.
-uint32_t fiorrudda_safelisted(const uint8_t *name, size_t name_len, const uint8_t *value, size_t value_len);
-
-// Whether a method is forbidden to scripts: CONNECT, TRACE or TRACK, in any case (Fetch, section 2.2.1).
-//
-// FIORRUDDA_OK where it is forbidden; FIORRUDDA_NO.
-uint32_t fiorrudda_forbidden_method(const uint8_t *method, size_t method_len);
-
-// "CORS check" of an answer's header list, for the serialised origin of a request and whether its credentials mode is
-// include (Fetch, section 4.10). The origin is compared byte for byte; `null` is that of a request that was tainted
-// by redirects.
-//
-// FIORRUDDA_OK where the answer passes; FIORRUDDA_NO; FIORRUDDA_WRONG_HANDLE.
-uint32_t fiorrudda_cors_check(const uint8_t *origin, size_t origin_len, bool include, fiorrudda_handle *headers);
-
-// Whether the answer of a URL is kept from a page's requests in mode no-cors (Fetch, "cross-origin resource policy
-// check", of the page's origin and the URL's).
-//
-// FIORRUDDA_OK where it is kept from them; FIORRUDDA_NO; FIORRUDDA_WRONG_HANDLE; FIORRUDDA_NOT_A_URL and
-// FIORRUDDA_NOT_HTTP, of the page or of the URL; FIORRUDDA_OUT_OF_MEMORY. Test for FIORRUDDA_NO: then no error is
-// taken for leave.
-uint32_t fiorrudda_resource_policy(const uint8_t *page, size_t page_len, const uint8_t *url, size_t url_len, fiorrudda_handle *headers);
-
 // Writes the referrer that a policy tells the URL `target` of the page `source` at the beginning of `room`, with no
 // NUL after it, and tells in `len` how many bytes it is (Referrer Policy, section 8.3, "determine request's
 // Referrer"). The policy is one of the numbers FIORRUDDA_REFERRER_...
@@ -598,11 +494,196 @@ uint32_t fiorrudda_resource_policy(const uint8_t *page, size_t page_len, const u
 // FIORRUDDA_TOO_SHORT nothing to `len`.
 uint32_t fiorrudda_referrer(uint32_t policy, const uint8_t *source, size_t source_len, const uint8_t *target, size_t target_len, uint8_t *room, size_t room_len, size_t *len);
 
+// ---- CORS, and what scripts may send
+//
+//     fiorrudda_headers(&headers);
+//     fiorrudda_append(&headers, T("Access-Control-Allow-Origin"), T("https://app.example"));
+//     switch (fiorrudda_cors_check(T("https://app.example"), false, &headers)) {
+//     case FIORRUDDA_OK: puts("the page may read it"); break;
+//     case FIORRUDDA_NO: puts("the page may not read it"); break;
+//     default: puts("the call was wrong");
+//     }
+//     if (fiorrudda_safelisted(T("Content-Type"), T("application/json")) != FIORRUDDA_OK) puts("a preflight asks for it");
+
+// "CORS check" of an answer's header list, for the serialised origin of a request and whether its credentials mode is
+// include (Fetch, section 4.10). The origin is compared byte for byte; `null` is that of a request that was tainted
+// by redirects.
+//
+// FIORRUDDA_OK where the answer passes; FIORRUDDA_NO; FIORRUDDA_WRONG_HANDLE.
+uint32_t fiorrudda_cors_check(const uint8_t *origin, size_t origin_len, bool include, fiorrudda_handle *headers);
+
+// Writes one of the names that an answer's header list exposes to a page of another origin, at an index from 0 on, at
+// the beginning of `room`, with no NUL after it, and tells in `len` how many bytes it is (Fetch, section 2.2.6,
+// "CORS-exposed header-name list"). With `*` all names of the list are exposed, unless the credentials mode is
+// include, which `include` tells. A page sees the safelisted names, as Content-Type, without their being named, and
+// never Set-Cookie, even where it is named here: `fiorrudda_filtered` has what it sees.
+//
+// FIORRUDDA_OK; FIORRUDDA_NO behind the last; FIORRUDDA_TOO_SHORT where `room` has less than `len` bytes;
+// FIORRUDDA_WRONG_HANDLE; FIORRUDDA_OUT_OF_MEMORY. But for FIORRUDDA_OK nothing is written to `room`, and but for
+// FIORRUDDA_OK and FIORRUDDA_TOO_SHORT nothing to `len`.
+uint32_t fiorrudda_exposed_name(fiorrudda_handle *headers, bool include, size_t at, uint8_t *room, size_t room_len, size_t *len);
+
+// Whether a name and a value are a CORS-safelisted request-header (Fetch, section 2.2.2): with it alone, no preflight
+// is sent.
+//
+// FIORRUDDA_OK where they are; FIORRUDDA_NO.
+uint32_t fiorrudda_safelisted(const uint8_t *name, size_t name_len, const uint8_t *value, size_t value_len);
+
+// Writes one of the CORS-unsafe request-header names of a list, at an index from 0 on, at the beginning of `room`,
+// with no NUL after it, and tells in `len` how many bytes it is (Fetch, section 2.2.2). They are in lower case, each
+// once, and ascend by their bytes: those of which a preflight asks.
+//
+// FIORRUDDA_OK; FIORRUDDA_NO behind the last; FIORRUDDA_TOO_SHORT where `room` has less than `len` bytes;
+// FIORRUDDA_WRONG_HANDLE; FIORRUDDA_OUT_OF_MEMORY. But for FIORRUDDA_OK nothing is written to `room`, and but for
+// FIORRUDDA_OK and FIORRUDDA_TOO_SHORT nothing to `len`.
+uint32_t fiorrudda_unsafe_name(fiorrudda_handle *headers, size_t at, uint8_t *room, size_t room_len, size_t *len);
+
+// Whether a name and a value are a forbidden request-header, which no script can set (Fetch, section 2.2.2).
+//
+// FIORRUDDA_OK where they are; FIORRUDDA_NO; FIORRUDDA_NOT_A_HEADER; FIORRUDDA_OUT_OF_MEMORY. Test for FIORRUDDA_NO:
+// then no error is taken for leave.
+uint32_t fiorrudda_forbidden_header(const uint8_t *name, size_t name_len, const uint8_t *value, size_t value_len);
+
+// Whether a method is forbidden to scripts: CONNECT, TRACE or TRACK, in any case (Fetch, section 2.2.1).
+//
+// FIORRUDDA_OK where it is forbidden; FIORRUDDA_NO.
+uint32_t fiorrudda_forbidden_method(const uint8_t *method, size_t method_len);
+
+// ---- Answers: their types, their bodies, and from whom they are kept
+//
+//     fiorrudda_headers(&headers);
+//     fiorrudda_append(&headers, T("Content-Type"), T("text/html; charset=utf-8"));
+//     fiorrudda_append(&headers, T("X-Content-Type-Options"), T("nosniff"));
+//     fiorrudda_load(&request, FIORRUDDA_LOAD_SCRIPT, T("https://cdn.example/app.js"));
+//     if (fiorrudda_nosniff_blocked(&request, &headers) != FIORRUDDA_NO) puts("it is no JavaScript, and blocked");
+//     if (fiorrudda_integrity(T("sha256-47DEQpj8HBSa+/TImW+5JCeuQeRkm5NMpJWZG3hSuFU="), T("")) == FIORRUDDA_OK)
+//         puts("the empty body is the one that was meant");
+
+// Writes the essence of the MIME type of an answer, in lower case, at the beginning of `room`, with no NUL after it,
+// and tells in `len` how many bytes it is (Fetch, section 3.5, "extract a MIME type").
+//
+// FIORRUDDA_OK; FIORRUDDA_NO where the list gives no MIME type; FIORRUDDA_TOO_SHORT where `room` has less than `len`
+// bytes; FIORRUDDA_WRONG_HANDLE; FIORRUDDA_OUT_OF_MEMORY. But for FIORRUDDA_OK nothing is written to `room`, and but
+// for FIORRUDDA_OK and FIORRUDDA_TOO_SHORT nothing to `len`.
+uint32_t fiorrudda_essence(fiorrudda_handle *headers, uint8_t *room, size_t room_len, size_t *len);
+
+// "determine nosniff" of an answer's header list (Fetch, section 3.6): scripts and styles of another MIME type are
+// blocked then.
+//
+// FIORRUDDA_OK where the answer says nosniff; FIORRUDDA_NO; FIORRUDDA_WRONG_HANDLE.
+uint32_t fiorrudda_nosniff(fiorrudda_handle *headers);
+
+// Whether an answer to a request is blocked for its MIME type, by its header list: one of a script that is audio,
+// image, video or CSV (Fetch, section 2.10, "should response to request be blocked due to its MIME type").
+//
+// FIORRUDDA_OK where it is blocked; FIORRUDDA_NO; FIORRUDDA_WRONG_HANDLE; FIORRUDDA_OUT_OF_MEMORY. Test for
+// FIORRUDDA_NO: then no error is taken for leave.
+uint32_t fiorrudda_type_blocked(fiorrudda_handle *request, fiorrudda_handle *headers);
+
+// Whether an answer to a request is blocked since it says nosniff, by its header list: one of a script that is no
+// JavaScript, or of a style that is not `text/css` (Fetch, section 3.6.1, "should response to request be blocked due
+// to nosniff").
+//
+// FIORRUDDA_OK where it is blocked; FIORRUDDA_NO; FIORRUDDA_WRONG_HANDLE; FIORRUDDA_OUT_OF_MEMORY. Test for
+// FIORRUDDA_NO: then no error is taken for leave.
+uint32_t fiorrudda_nosniff_blocked(fiorrudda_handle *request, fiorrudda_handle *headers);
+
 // Whether a whole body matches an integrity text (Subresource Integrity, section 3.3, "do bytes match metadataList").
 // A text without valid metadata matches every body.
 //
 // FIORRUDDA_OK where it matches; FIORRUDDA_NO; FIORRUDDA_OUT_OF_MEMORY.
 uint32_t fiorrudda_integrity(const uint8_t *metadata, size_t metadata_len, const uint8_t *body, size_t body_len);
+
+// Whether the answer of a URL is kept from a page's requests in mode no-cors (Fetch, section 3.7, "cross-origin
+// resource policy check", of the page's origin and the URL's).
+//
+// FIORRUDDA_OK where it is kept from them; FIORRUDDA_NO; FIORRUDDA_WRONG_HANDLE; FIORRUDDA_NOT_A_URL and
+// FIORRUDDA_NOT_HTTP, of the page or of the URL; FIORRUDDA_OUT_OF_MEMORY. Test for FIORRUDDA_NO: then no error is
+// taken for leave.
+uint32_t fiorrudda_resource_policy(const uint8_t *page, size_t page_len, const uint8_t *url, size_t url_len, fiorrudda_handle *headers);
+
+// ---- Clients and requests, for the rules below and for whole fetches
+//
+//     fiorrudda_client(&client, T("https://app.example/"), T("https://app.example/"), FIORRUDDA_REFERRER_DEFAULT);
+//     fiorrudda_client_policy(&client, T("connect-src https://api.example"), true);
+//     fiorrudda_client_cookie(&client, T("https://api.example/"), T("session=1"));
+//     fiorrudda_request(&request, T("PUT"), T("https://api.example/cart"));
+//     fiorrudda_request_choose(&request, FIORRUDDA_CHOOSE_CREDENTIALS, FIORRUDDA_CREDENTIALS_INCLUDE);
+//     fiorrudda_request_header(&request, T("Content-Type"), T("application/json"));
+//     fiorrudda_request_text(&request, FIORRUDDA_REQUEST_BODY, T("{}"));
+//     if (fiorrudda_mixed_blocked(&client, &request, T("")) == FIORRUDDA_NO) puts("it is no mixed content");
+
+// Makes the client of a document in a handle (HTML, section 8.1.3.2, "environment settings object"): its URL, the URL
+// of the page at the top, which is its own where it is not embedded, and its referrer policy, one of the numbers
+// FIORRUDDA_REFERRER_... It has no content security policies and no cookies. What the handle held is freed first.
+//
+// FIORRUDDA_OK; FIORRUDDA_NO_SUCH_NUMBER; FIORRUDDA_NOT_A_URL and FIORRUDDA_NOT_HTTP, of either URL;
+// FIORRUDDA_OUT_OF_MEMORY. The handle is empty but for FIORRUDDA_OK.
+uint32_t fiorrudda_client(fiorrudda_handle *client, const uint8_t *url, size_t url_len, const uint8_t *top, size_t top_len, uint32_t policy);
+
+// Gives a client the policies of the value of a Content-Security-Policy header, or of a Content-Security-Policy-
+// Report-Only one where `enforced` is false (CSP 3, section 2.2). They are numbered from 0 on, in the order in which
+// they are given.
+//
+// FIORRUDDA_OK; FIORRUDDA_WRONG_HANDLE; FIORRUDDA_OUT_OF_MEMORY.
+uint32_t fiorrudda_client_policy(fiorrudda_handle *client, const uint8_t *value, size_t value_len, bool enforced);
+
+// Gives a client the value of the Cookie header for requests to the origin of a URL. The first of an origin counts.
+// Which cookies a request has is for the caller to say: it is sent with each request that includes credentials
+// (Fetch, section 4.6).
+//
+// FIORRUDDA_OK; FIORRUDDA_WRONG_HANDLE; FIORRUDDA_NOT_A_URL; FIORRUDDA_NOT_HTTP; FIORRUDDA_NOT_A_HEADER;
+// FIORRUDDA_OUT_OF_MEMORY. The client is as it was but for FIORRUDDA_OK.
+uint32_t fiorrudda_client_cookie(fiorrudda_handle *client, const uint8_t *url, size_t url_len, const uint8_t *value, size_t value_len);
+
+// Makes in a handle what a script asks of `fetch`: a URL, which may be relative to the client's, by a method (Fetch,
+// section 5.6). Its mode is cors, its credentials mode same-origin, its redirect mode follow, its referrer the
+// client; it has neither headers, body nor integrity metadata. What the handle held is freed first.
+//
+// FIORRUDDA_OK or FIORRUDDA_OUT_OF_MEMORY. The handle is empty but for FIORRUDDA_OK.
+uint32_t fiorrudda_request(fiorrudda_handle *request, const uint8_t *method, size_t method_len, const uint8_t *url, size_t url_len);
+
+// Makes in a handle what an element asks for that loads a resource (HTML, section 2.5.1, "create a potential-CORS
+// request"): one of the numbers FIORRUDDA_LOAD_.., and a URL, which may be relative to the client's. It has no
+// `crossorigin` attribute, no nonce and no integrity metadata, and no parser inserted it. What the handle held is
+// freed first.
+//
+// FIORRUDDA_OK; FIORRUDDA_NO_SUCH_NUMBER; FIORRUDDA_OUT_OF_MEMORY. The handle is empty but for FIORRUDDA_OK.
+uint32_t fiorrudda_load(fiorrudda_handle *request, uint32_t kind, const uint8_t *url, size_t url_len);
+
+// Adds a header to a `fetch`, its value without whitespace at its ends (Fetch, section 2.2.2, "normalize"). What is
+// no header is taken, and makes a fault of the request then.
+//
+// FIORRUDDA_OK; FIORRUDDA_NO, of a load, which has no headers; FIORRUDDA_WRONG_HANDLE; FIORRUDDA_OUT_OF_MEMORY. The
+// request is as it was but for FIORRUDDA_OK.
+uint32_t fiorrudda_request_header(fiorrudda_handle *request, const uint8_t *name, size_t name_len, const uint8_t *value, size_t value_len);
+
+// Sets a text of a request: its body, its integrity metadata or its nonce (Fetch, section 2.2.5), by one of the
+// numbers FIORRUDDA_REQUEST_...
+//
+// FIORRUDDA_OK; FIORRUDDA_NO where it has none, as a `fetch` has no nonce and a load no body; FIORRUDDA_WRONG_HANDLE;
+// FIORRUDDA_NO_SUCH_NUMBER; FIORRUDDA_OUT_OF_MEMORY. The request is as it was but for FIORRUDDA_OK.
+uint32_t fiorrudda_request_text(fiorrudda_handle *request, uint32_t which, const uint8_t *text, size_t text_len);
+
+// Makes a choice of a request (Fetch, section 2.2.5; HTML, section 2.5.1): one of the numbers FIORRUDDA_CHOOSE_..,
+// and the number that it is set to.
+//
+// FIORRUDDA_OK; FIORRUDDA_NO where the request has no such choice, as a load has no mode; FIORRUDDA_WRONG_HANDLE;
+// FIORRUDDA_NO_SUCH_NUMBER. The request is as it was but for FIORRUDDA_OK.
+uint32_t fiorrudda_request_choose(fiorrudda_handle *request, uint32_t choice, uint32_t number);
+
+// ---- Policies and mixed content
+//
+//     fiorrudda_headers(&headers);
+//     fiorrudda_append(&headers, T("Content-Security-Policy"), T("img-src 'self'"));
+//     fiorrudda_policies(&policies, &headers);
+//     fiorrudda_client(&client, T("https://app.example/"), T("https://app.example/"), FIORRUDDA_REFERRER_DEFAULT);
+//     fiorrudda_load(&request, FIORRUDDA_LOAD_IMAGE, T("https://ads.example/pixel"));
+//     code = fiorrudda_check(&found, &policies, &client, &request, T(""), FIORRUDDA_CHECK_ENFORCED);
+//     for (size_t at = 0; fiorrudda_violation(&found, at, &policy, &enforced) == FIORRUDDA_OK; at++)
+//         if (fiorrudda_violation_directive(&found, at, room, sizeof room, &len) == FIORRUDDA_OK)
+//             printf("policy %u forbids it by %.*s\n", (unsigned)policy, (int)len, (char *)room); // 0, img-src
+//     if (code == FIORRUDDA_OK) puts("it may be sent");
 
 // Makes in a handle the policies of a header list, parsed and read once (CSP 3, section 2.2, "parse a response's
 // Content Security Policies"): those of Content-Security-Policy, which are enforced, and then those of Content-
@@ -613,52 +694,11 @@ uint32_t fiorrudda_integrity(const uint8_t *metadata, size_t metadata_len, const
 uint32_t fiorrudda_policies(fiorrudda_handle *policies, fiorrudda_handle *headers);
 
 // Whether an enforced policy has `upgrade-insecure-requests`: the page's requests for http URLs are then made for
-// https ones (Upgrade Insecure Requests, "upgrade request to a potentially trustworthy URL, if appropriate").
+// https ones (Upgrade Insecure Requests, section 4.1, "upgrade request to a potentially trustworthy URL, if
+// appropriate").
 //
 // FIORRUDDA_OK where one has; FIORRUDDA_NO; FIORRUDDA_WRONG_HANDLE.
 uint32_t fiorrudda_upgrades(fiorrudda_handle *policies);
-
-// Makes in a handle the header list that a page sees of an answer to its request, and tells in `seen` the status that
-// it sees: those of the filtered response by one of the numbers FIORRUDDA_TAINTING_.. (Fetch, section 2.2.6). Basic
-// hides Set-Cookie; of CORS the safelisted and the exposed headers are seen, by the request's credentials mode; of
-// opaque nothing, and its status is 0, as that of an opaque-redirect filtered response. What the handle held is freed
-// first.
-//
-// FIORRUDDA_OK; FIORRUDDA_NO_SUCH_NUMBER; FIORRUDDA_WRONG_HANDLE, of the client, the request or the header list;
-// FIORRUDDA_NO_REQUEST where none can be made of what is asked for; FIORRUDDA_OUT_OF_MEMORY. The handle is empty but
-// for FIORRUDDA_OK, and but for FIORRUDDA_OK nothing is written.
-uint32_t fiorrudda_filtered(fiorrudda_handle *filtered, fiorrudda_handle *client, fiorrudda_handle *request, fiorrudda_handle *headers, uint16_t status, uint32_t tainting, uint32_t *seen);
-
-// Whether an answer to a request is blocked for its MIME type, by its header list: one of a script that is audio,
-// image, video or CSV (Fetch, "should response to request be blocked due to its MIME type").
-//
-// FIORRUDDA_OK where it is blocked; FIORRUDDA_NO; FIORRUDDA_WRONG_HANDLE; FIORRUDDA_OUT_OF_MEMORY. Test for
-// FIORRUDDA_NO: then no error is taken for leave.
-uint32_t fiorrudda_type_blocked(fiorrudda_handle *request, fiorrudda_handle *headers);
-
-// Whether an answer to a request is blocked since it says nosniff, by its header list: one of a script that is no
-// JavaScript, or of a style that is not `text/css` (Fetch, "should response to request be blocked due to nosniff").
-//
-// FIORRUDDA_OK where it is blocked; FIORRUDDA_NO; FIORRUDDA_WRONG_HANDLE; FIORRUDDA_OUT_OF_MEMORY. Test for
-// FIORRUDDA_NO: then no error is taken for leave.
-uint32_t fiorrudda_nosniff_blocked(fiorrudda_handle *request, fiorrudda_handle *headers);
-
-// Whether a client's request is upgraded as mixed content: for an image, audio or video of a page that is potentially
-// trustworthy, http becomes https (Mixed Content, section 4.1, "upgrade a mixed content request to a potentially
-// trustworthy URL, if appropriate"). `redirect` is the URL to which the request was redirected, or empty.
-//
-// FIORRUDDA_OK where it is upgraded; FIORRUDDA_NO; FIORRUDDA_WRONG_HANDLE; FIORRUDDA_NO_REQUEST where none can be
-// made of what is asked for, or nothing redirects it; FIORRUDDA_NOT_A_URL and FIORRUDDA_NOT_HTTP, of `redirect`;
-// FIORRUDDA_OUT_OF_MEMORY.
-uint32_t fiorrudda_mixed_upgraded(fiorrudda_handle *client, fiorrudda_handle *request, const uint8_t *redirect, size_t redirect_len);
-
-// Whether a client's request is blocked as mixed content (Mixed Content, section 4.4, "should fetching request be
-// blocked as mixed content?"). Ask first whether it is upgraded: one that is, is not blocked. `redirect` is the URL
-// to which the request was redirected, or empty.
-//
-// FIORRUDDA_OK where it is blocked; FIORRUDDA_NO; and the other codes of `fiorrudda_mixed_upgraded`. Test for
-// FIORRUDDA_NO: then no error is taken for leave.
-uint32_t fiorrudda_mixed_blocked(fiorrudda_handle *client, fiorrudda_handle *request, const uint8_t *redirect, size_t redirect_len);
 
 // Makes in a handle the violations of policies by a client's request, or by its response: one of the numbers
 // FIORRUDDA_CHECK_.. (CSP 3, section 4.1, "should request be blocked by Content Security Policy?", "report Content
@@ -675,8 +715,8 @@ uint32_t fiorrudda_mixed_blocked(fiorrudda_handle *client, fiorrudda_handle *req
 // that a policy or Mixed Content upgrades is to be asked with its https URL.
 uint32_t fiorrudda_check(fiorrudda_handle *violations, fiorrudda_handle *policies, fiorrudda_handle *client, fiorrudda_handle *request, const uint8_t *redirect, size_t redirect_len, uint32_t check);
 
-// Tells of the violation at an index, from 0 on, the number of the policy in `policy`, and 1 in `enforced` where that
-// is enforced, or 0.
+// Tells of the violation (CSP 3, section 2.4) at an index, from 0 on, the number of the policy in `policy`, and 1 in
+// `enforced` where that is enforced, or 0.
 //
 // FIORRUDDA_OK; FIORRUDDA_NO behind the last; FIORRUDDA_WRONG_HANDLE. But for FIORRUDDA_OK nothing is written.
 uint32_t fiorrudda_violation(fiorrudda_handle *violations, size_t at, uint32_t *policy, uint32_t *enforced);
@@ -696,44 +736,40 @@ uint32_t fiorrudda_violation_directive(fiorrudda_handle *violations, size_t at, 
 // The codes are the same.
 uint32_t fiorrudda_violation_url(fiorrudda_handle *violations, size_t at, uint8_t *room, size_t room_len, size_t *len);
 
-// Writes the name of the header at an index of a list, from 0 on, at the beginning of `room`, with no NUL after it,
-// and tells in `len` how many bytes it is.
+// Whether a word of a content security policy, as a source expression, matches a URL, for a page and a number of
+// redirects (CSP 3, section 6.7.2, "does url match expression in origin with redirect count").
 //
-// FIORRUDDA_OK; FIORRUDDA_NO behind the last; FIORRUDDA_TOO_SHORT where `room` has less than `len` bytes;
-// FIORRUDDA_WRONG_HANDLE. But for FIORRUDDA_OK nothing is written to `room`, and but for FIORRUDDA_OK and
-// FIORRUDDA_TOO_SHORT nothing to `len`.
-uint32_t fiorrudda_name_at(fiorrudda_handle *headers, size_t at, uint8_t *room, size_t room_len, size_t *len);
+// FIORRUDDA_OK where it matches; FIORRUDDA_NO; FIORRUDDA_NOT_A_URL, of the URL or of the page; FIORRUDDA_NOT_HTTP, of
+// the page; FIORRUDDA_OUT_OF_MEMORY.
+uint32_t fiorrudda_source_matches(const uint8_t *word, size_t word_len, const uint8_t *url, size_t url_len, const uint8_t *page, size_t page_len, uint32_t redirects);
 
-// Writes the value of the header at an index of a list, as `fiorrudda_name_at` its name.
+// Whether a client's request is upgraded as mixed content: for an image, audio or video of a page that is potentially
+// trustworthy, http becomes https (Mixed Content, section 4.1, "upgrade a mixed content request to a potentially
+// trustworthy URL, if appropriate"). `redirect` is the URL to which the request was redirected, or empty.
 //
-// The codes are the same.
-uint32_t fiorrudda_value_at(fiorrudda_handle *headers, size_t at, uint8_t *room, size_t room_len, size_t *len);
+// FIORRUDDA_OK where it is upgraded; FIORRUDDA_NO; FIORRUDDA_WRONG_HANDLE; FIORRUDDA_NO_REQUEST where none can be
+// made of what is asked for, or nothing redirects it; FIORRUDDA_NOT_A_URL and FIORRUDDA_NOT_HTTP, of `redirect`;
+// FIORRUDDA_OUT_OF_MEMORY.
+uint32_t fiorrudda_mixed_upgraded(fiorrudda_handle *client, fiorrudda_handle *request, const uint8_t *redirect, size_t redirect_len);
 
-// Writes one of the CORS-unsafe request-header names of a list, at an index from 0 on, at the beginning of `room`,
-// with no NUL after it, and tells in `len` how many bytes it is (Fetch, section 2.2.2). They are in lower case, each
-// once, and ascend by their bytes: those of which a preflight asks.
+// Whether a client's request is blocked as mixed content (Mixed Content, section 4.4, "should fetching request be
+// blocked as mixed content?"). Ask first whether it is upgraded: one that is, is not blocked. `redirect` is the URL
+// to which the request was redirected, or empty.
 //
-// FIORRUDDA_OK; FIORRUDDA_NO behind the last; FIORRUDDA_TOO_SHORT where `room` has less than `len` bytes;
-// FIORRUDDA_WRONG_HANDLE; FIORRUDDA_OUT_OF_MEMORY. But for FIORRUDDA_OK nothing is written to `room`, and but for
-// FIORRUDDA_OK and FIORRUDDA_TOO_SHORT nothing to `len`.
-uint32_t fiorrudda_unsafe_name(fiorrudda_handle *headers, size_t at, uint8_t *room, size_t room_len, size_t *len);
+// FIORRUDDA_OK where it is blocked; FIORRUDDA_NO; and the other codes of `fiorrudda_mixed_upgraded`. Test for
+// FIORRUDDA_NO: then no error is taken for leave.
+uint32_t fiorrudda_mixed_blocked(fiorrudda_handle *client, fiorrudda_handle *request, const uint8_t *redirect, size_t redirect_len);
 
-// Writes one of the names that an answer's header list exposes to a page of another origin, at an index from 0 on, at
-// the beginning of `room`, with no NUL after it, and tells in `len` how many bytes it is (Fetch, section 2.2.6,
-// "CORS-exposed header-name list"). With `*` all names of the list are exposed, unless the credentials mode is
-// include, which `include` tells. A page sees the safelisted names, as Content-Type, without their being named, and
-// never Set-Cookie, even where it is named here: `fiorrudda_filtered` has what it sees.
+// ---- Preflights
 //
-// FIORRUDDA_OK; FIORRUDDA_NO behind the last; FIORRUDDA_TOO_SHORT where `room` has less than `len` bytes;
-// FIORRUDDA_WRONG_HANDLE; FIORRUDDA_OUT_OF_MEMORY. But for FIORRUDDA_OK nothing is written to `room`, and but for
-// FIORRUDDA_OK and FIORRUDDA_TOO_SHORT nothing to `len`.
-uint32_t fiorrudda_exposed_name(fiorrudda_handle *headers, bool include, size_t at, uint8_t *room, size_t room_len, size_t *len);
-
-// Whether a name and a value are a forbidden request-header, which no script can set (Fetch, section 2.2.2).
-//
-// FIORRUDDA_OK where they are; FIORRUDDA_NO; FIORRUDDA_NOT_A_HEADER; FIORRUDDA_OUT_OF_MEMORY. Test for FIORRUDDA_NO:
-// then no error is taken for leave.
-uint32_t fiorrudda_forbidden_header(const uint8_t *name, size_t name_len, const uint8_t *value, size_t value_len);
+//     fiorrudda_client(&client, T("https://app.example/"), T("https://app.example/"), FIORRUDDA_REFERRER_DEFAULT);
+//     fiorrudda_request(&request, T("PUT"), T("https://api.example/cart"));
+//     if (fiorrudda_preflight(&client, &request, room, sizeof room, &len) == FIORRUDDA_OK)
+//         printf("%.*s", (int)len, (char *)room); // OPTIONS /cart HTTP/1.1, and so on
+//     fiorrudda_headers(&headers); // of the server's answer
+//     fiorrudda_append(&headers, T("Access-Control-Allow-Origin"), T("*"));
+//     if (fiorrudda_verdict(&client, &request, &headers, 204, &error, &age) == FIORRUDDA_NO)
+//         puts(error == FIORRUDDA_ERROR_PREFLIGHT_METHOD ? "it allows no PUT" : "it is refused");
 
 // Writes all bytes of the CORS-preflight request of a client's request at the beginning of `room`, and tells in `len`
 // how many they are (Fetch, section 4.1, "main fetch", step 12, and section 4.8, "CORS-preflight fetch"; RFC 9112,
@@ -750,8 +786,8 @@ uint32_t fiorrudda_preflight(fiorrudda_handle *client, fiorrudda_handle *request
 
 // Tells the verdict on an answer to the preflight of a client's request, of a status and a header list (Fetch,
 // section 4.8, "CORS-preflight fetch", steps 7 and 8): for a pass, in `age`, for how many seconds the preflight cache
-// learns it; for a refusal, in `error`, the number of the network error, from 7 to 11. It also answers where the
-// request asks for no preflight.
+// learns it; for a refusal, in `error`, the network error, one of the numbers FIORRUDDA_ERROR_PREFLIGHT_... It also
+// answers where the request asks for no preflight.
 //
 // FIORRUDDA_OK where it passes; FIORRUDDA_NO where it is refused; FIORRUDDA_WRONG_HANDLE; FIORRUDDA_NO_REQUEST where
 // none can be made of what is asked for; FIORRUDDA_OUT_OF_MEMORY. But for FIORRUDDA_OK nothing is written to `age`,
@@ -760,7 +796,7 @@ uint32_t fiorrudda_verdict(fiorrudda_handle *client, fiorrudda_handle *request, 
 
 // Writes the name of the header, in lower case, for which an answer to the preflight of a client's request is
 // refused, at the beginning of `room`, with no NUL after it, and tells in `len` how many bytes it is (Fetch, section
-// 4.8, "CORS-preflight fetch", steps 7.6 and 7.7): where `fiorrudda_verdict` tells 11.
+// 4.8, "CORS-preflight fetch", steps 7.6 and 7.7): where `fiorrudda_verdict` tells FIORRUDDA_ERROR_PREFLIGHT_HEADER.
 //
 // FIORRUDDA_OK; FIORRUDDA_NO where it is not refused for a header; FIORRUDDA_TOO_SHORT where `room` has less than
 // `len` bytes; FIORRUDDA_WRONG_HANDLE; FIORRUDDA_NO_REQUEST where none can be made of what is asked for;
@@ -768,11 +804,75 @@ uint32_t fiorrudda_verdict(fiorrudda_handle *client, fiorrudda_handle *request, 
 // FIORRUDDA_TOO_SHORT nothing to `len`.
 uint32_t fiorrudda_refused_name(fiorrudda_handle *client, fiorrudda_handle *request, fiorrudda_handle *headers, uint16_t status, uint8_t *room, size_t room_len, size_t *len);
 
+// ---- What a page sees of an answer
+//
+//     fiorrudda_client(&client, T("https://app.example/"), T("https://app.example/"), FIORRUDDA_REFERRER_DEFAULT);
+//     fiorrudda_request(&request, T("GET"), T("https://api.example/"));
+//     fiorrudda_headers(&headers);
+//     fiorrudda_append(&headers, T("X-Total"), T("40"));
+//     fiorrudda_append(&headers, T("Access-Control-Expose-Headers"), T("X-Total"));
+//     fiorrudda_filtered(&found, &client, &request, &headers, 200, FIORRUDDA_TAINTING_CORS, &status);
+//     if (fiorrudda_get(&found, T("X-Total"), room, sizeof room, &len) == FIORRUDDA_OK)
+//         printf("%u, X-Total: %.*s\n", (unsigned)status, (int)len, (char *)room); // 200, X-Total: 40
+
+// Makes in a handle the header list that a page sees of an answer to its request, and tells in `seen` the status that
+// it sees: those of the filtered response by one of the numbers FIORRUDDA_TAINTING_.. (Fetch, section 2.2.6). Basic
+// hides Set-Cookie; of CORS the safelisted and the exposed headers are seen, by the request's credentials mode; of
+// opaque nothing, and its status is 0, as that of an opaque-redirect filtered response. What the handle held is freed
+// first.
+//
+// FIORRUDDA_OK; FIORRUDDA_NO_SUCH_NUMBER; FIORRUDDA_WRONG_HANDLE, of the client, the request or the header list;
+// FIORRUDDA_NO_REQUEST where none can be made of what is asked for; FIORRUDDA_OUT_OF_MEMORY. The handle is empty but
+// for FIORRUDDA_OK, and but for FIORRUDDA_OK nothing is written.
+uint32_t fiorrudda_filtered(fiorrudda_handle *filtered, fiorrudda_handle *client, fiorrudda_handle *request, fiorrudda_handle *headers, uint16_t status, uint32_t tainting, uint32_t *seen);
+
+// ---- Books: the known hosts and the preflight cache
+//
+//     fiorrudda_book(&book);
+//     if (fiorrudda_sts(T("max-age=600; includeSubDomains"), &age, &subdomains) == FIORRUDDA_OK)
+//         fiorrudda_note_host(&book, T("api.example"), T("max-age=600; includeSubDomains"), now);
+//     if (fiorrudda_known_host(&book, T("eu.api.example"), now + 599) == FIORRUDDA_OK) puts("https is asked");
+//     if (fiorrudda_book_text(&book, room, sizeof room, &len) == FIORRUDDA_OK) fwrite(room, 1, len, stdout);
+//     uint64_t line; // of a file, next time
+//     if (fiorrudda_book_of_text(&book, T("fiorrudda book 2\n"), &line, &error) == FIORRUDDA_NO)
+//         printf("line %u, reason %u\n", (unsigned)line, (unsigned)error); // line 1, FIORRUDDA_REASON_OTHER_FORMAT
+
+// Makes an empty book in a handle: no known HSTS hosts (RFC 6797, section 8), and an empty CORS-preflight cache
+// (Fetch, section 4.9). What the handle held is freed first, also where memory is refused. Threads that share a book
+// hold a lock of their own around each call that is given it, this one too.
+//
+// FIORRUDDA_OK or FIORRUDDA_OUT_OF_MEMORY.
+uint32_t fiorrudda_book(fiorrudda_handle *book);
+
+// What the value of a Strict-Transport-Security field says (RFC 6797, section 6.1): for how many seconds the host is
+// known, at most 4,294,967,295, and whether the names under it are too, 1 or 0.
+//
+// FIORRUDDA_OK; FIORRUDDA_NO where the field is to be ignored; FIORRUDDA_OUT_OF_MEMORY. But for FIORRUDDA_OK nothing
+// is written.
+uint32_t fiorrudda_sts(const uint8_t *field, size_t field_len, uint64_t *age, uint32_t *subdomains);
+
+// Has a book note what the value of a Strict-Transport-Security field of a host says (RFC 6797, section 8.1), at a
+// time in seconds since any fixed moment. The host is the domain of a URL, in lower case: no IP address and no
+// localhost name, which is not looked at. The field came over https. Threads that share the book hold a lock of their
+// own around the call, as around each that is given the book.
+//
+// FIORRUDDA_OK where the field says something; FIORRUDDA_NO where it is to be ignored; FIORRUDDA_WRONG_HANDLE;
+// FIORRUDDA_TOO_LATE; FIORRUDDA_OUT_OF_MEMORY. The book is as it was but for FIORRUDDA_OK.
+uint32_t fiorrudda_note_host(fiorrudda_handle *book, const uint8_t *host, size_t host_len, const uint8_t *field, size_t field_len, uint64_t now);
+
+// Whether a host is a known HSTS host of a book at a time in seconds (RFC 6797, section 8.2): http URLs of it are to
+// be asked by https. The host is the domain of a URL, in lower case: no IP address and no localhost name. Threads
+// that share the book hold a lock of their own around the call, as around each that is given the book.
+//
+// FIORRUDDA_OK where it is; FIORRUDDA_NO; FIORRUDDA_WRONG_HANDLE; FIORRUDDA_TOO_LATE; FIORRUDDA_OUT_OF_MEMORY.
+uint32_t fiorrudda_known_host(fiorrudda_handle *book, const uint8_t *host, size_t host_len, uint64_t now);
+
 // Writes the text of a book, which `fiorrudda_book_of_text` reads back as the same book, so that what it knows lasts
 // over restarts: a line with its name and the number of its format, the known hosts, and the entries of the preflight
 // cache. Its times are in seconds since the moment that the calls counted from, which is 1970 for a book that lasts.
 // It has bytes of any kind, tells which servers were asked, and is not signed: who can change it can change what the
-// book knows. Threads that share a book ask for its length and for its text under one lock of their own.
+// book knows. Threads that share the book hold a lock of their own around the call, as around each that is given the
+// book: one lock around both calls, where the first asks for the length.
 //
 // FIORRUDDA_OK; FIORRUDDA_TOO_SHORT where `room` has less than `len` bytes; FIORRUDDA_WRONG_HANDLE;
 // FIORRUDDA_OUT_OF_MEMORY. But for FIORRUDDA_OK nothing is written to `room`, and but for FIORRUDDA_OK and
@@ -783,10 +883,97 @@ uint32_t fiorrudda_book_text(fiorrudda_handle *book, uint8_t *room, size_t room_
 // first, also where the text is refused. Nothing is read of a text that is not that of a book: `line` tells its first
 // line that is not as such a text has it, counted from 1, and `reason` why, by FIORRUDDA_REASON_NO_BOOK to
 // FIORRUDDA_REASON_TOO_LONG. A line ends behind its last field, so that an LF within a name or a URL ends no line.
+// Where threads share the book that the handle held, they hold a lock of their own around the call, as around each
+// that is given the book.
 //
 // FIORRUDDA_OK; FIORRUDDA_NO, where the text is refused; FIORRUDDA_OUT_OF_MEMORY. The handle is empty but for
 // FIORRUDDA_OK. `line` and `reason` are told with FIORRUDDA_NO alone.
 uint32_t fiorrudda_book_of_text(fiorrudda_handle *book, const uint8_t *text, size_t text_len, uint64_t *line, uint32_t *reason);
+
+// ---- A whole fetch, by its acts
+//
+//     code = fiorrudda_fetch(&fetch, &client, &request, now, 1048576, &fault, &header);
+//     while (!code && !fiorrudda_act(&fetch, &act) && act != FIORRUDDA_ACT_OVER)
+//         switch (act) {
+//         case FIORRUDDA_ACT_ASK: code = fiorrudda_ask(&fetch, &book, &reply); break;
+//         case FIORRUDDA_ACT_SEND: // over a connection to the server of FIORRUDDA_TEXT_ORIGIN
+//             code = fiorrudda_input(&fetch, sent(&fetch) ? FIORRUDDA_INPUT_SENT : FIORRUDDA_INPUT_FAILED); break;
+//         case FIORRUDDA_ACT_TELL: code = fiorrudda_input(&fetch, FIORRUDDA_INPUT_TOLD); break;
+//         default: code = received(&fetch);
+//         }
+//     if (!code && !fiorrudda_text(&fetch, FIORRUDDA_TEXT_BODY, 0, room, sizeof room, &len)) fwrite(room, 1, len, stdout);
+
+// Begins in a handle the fetch of a request for a client, at a time in seconds since any fixed moment, with bodies of
+// at most `limit` bytes (Fetch, section 4.1, "main fetch"). Nothing is kept of the client and the request: each may
+// be used again. What the handle held is freed first. The fetch is then done by a loop over its acts: `fiorrudda_act`
+// says what is to be done, and a call tells what came of it, until it is FIORRUDDA_ACT_OVER.
+//
+// FIORRUDDA_OK; FIORRUDDA_WRONG_HANDLE; FIORRUDDA_NO_REQUEST where no request can be made of it: `fault` is then the
+// reason, one of the numbers FIORRUDDA_FAULT_.., and `header` the index of a header that is none (Fetch, sections 5.4
+// and 5.6); FIORRUDDA_TOO_LATE; FIORRUDDA_OUT_OF_MEMORY. The handle is empty but for FIORRUDDA_OK, and but for
+// FIORRUDDA_NO_REQUEST nothing is written.
+uint32_t fiorrudda_fetch(fiorrudda_handle *fetch, fiorrudda_handle *client, fiorrudda_handle *request, uint64_t now, uint32_t limit, uint32_t *fault, uint32_t *header);
+
+// Tells in `act` what a fetch does next (Fetch, section 4), by one of the numbers FIORRUDDA_ACT_... `fiorrudda_text`
+// and `fiorrudda_number` have the act's parts, or those of the outcome of a fetch that is over.
+//
+// FIORRUDDA_OK; FIORRUDDA_WRONG_HANDLE, and then nothing is written.
+uint32_t fiorrudda_act(fiorrudda_handle *fetch, uint32_t *act);
+
+// Has a fetch ask a book what its act asks for, or tell it that, and goes on from what the book replies, which is
+// told in `reply`: FIORRUDDA_INPUT_YES, FIORRUDDA_INPUT_NO or FIORRUDDA_INPUT_DONE (Fetch, section 4.9; RFC 6797,
+// section 8). Threads that share the book hold a lock of their own around the call, as around each that is given the
+// book.
+//
+// FIORRUDDA_OK; FIORRUDDA_NOT_AWAITED where the act asks no book, and then the fetch stands where it stood and the
+// book is as it was; FIORRUDDA_WRONG_HANDLE; FIORRUDDA_OUT_OF_MEMORY, and then the fetch is gone: its act is
+// FIORRUDDA_ACT_GONE. The book is then as it was, or as it is after the call. But for FIORRUDDA_OK nothing is written
+// to `reply`.
+uint32_t fiorrudda_ask(fiorrudda_handle *fetch, fiorrudda_handle *book, uint32_t *reply);
+
+// Writes all bytes of the request that a fetch sends (RFC 9112, section 3) at the beginning of `room`, and tells in
+// `len` how many they are. They are for the server of FIORRUDDA_TEXT_ORIGIN, over a connection of their own.
+//
+// FIORRUDDA_OK; FIORRUDDA_NO where nothing is sent; FIORRUDDA_TOO_SHORT where `room` has less than `len` bytes;
+// FIORRUDDA_WRONG_HANDLE; FIORRUDDA_OUT_OF_MEMORY. But for FIORRUDDA_OK nothing is written to `room`, and but for
+// FIORRUDDA_OK and FIORRUDDA_TOO_SHORT nothing to `len`.
+uint32_t fiorrudda_to_send(fiorrudda_handle *fetch, uint8_t *room, size_t room_len, size_t *len);
+
+// Tells a fetch what came of its act (Fetch, section 4), by one of the numbers FIORRUDDA_INPUT_...
+// FIORRUDDA_INPUT_SENT follows FIORRUDDA_ACT_SEND; FIORRUDDA_INPUT_TOLD follows FIORRUDDA_ACT_TELL;
+// FIORRUDDA_INPUT_ENDED follows FIORRUDDA_ACT_READ_HEAD and FIORRUDDA_ACT_READ_BODY; FIORRUDDA_INPUT_FAILED follows
+// these three; FIORRUDDA_INPUT_YES and FIORRUDDA_INPUT_NO follow FIORRUDDA_ACT_ASK where it is a question, and
+// FIORRUDDA_INPUT_DONE where not.
+//
+// FIORRUDDA_OK; FIORRUDDA_NOT_AWAITED where it does not follow, and then the fetch stands where it stood;
+// FIORRUDDA_WRONG_HANDLE; FIORRUDDA_NO_SUCH_NUMBER; FIORRUDDA_OUT_OF_MEMORY, and then the fetch is gone: its act is
+// FIORRUDDA_ACT_GONE.
+uint32_t fiorrudda_input(fiorrudda_handle *fetch, uint32_t input);
+
+// Hands a fetch the next bytes of the answer, in any piece, be it empty, and tells in `used` how many of them were
+// read (RFC 9112, sections 4, 6 and 7). Where a head ends in the piece, the bytes behind it are not read: they are
+// the first of the body, and are handed in again where the next act is FIORRUDDA_ACT_READ_BODY, also where there are
+// none. What follows a body is of no use, and the connection is to be closed.
+//
+// FIORRUDDA_OK; FIORRUDDA_NOT_AWAITED where no bytes are read now, and then the fetch stands where it stood;
+// FIORRUDDA_WRONG_HANDLE; FIORRUDDA_OUT_OF_MEMORY, and then the fetch is gone: its act is FIORRUDDA_ACT_GONE. But for
+// FIORRUDDA_OK none are read; for FIORRUDDA_WRONG_HANDLE nothing is written.
+uint32_t fiorrudda_feed(fiorrudda_handle *fetch, const uint8_t *bytes, size_t bytes_len, size_t *used);
+
+// Writes a text that the act of a fetch has, or its outcome, at the beginning of `room`, with no NUL after it, and
+// tells in `len` how many bytes it is. The text is one of the numbers FIORRUDDA_TEXT_..; of a list it is that at the
+// index `at`.
+//
+// FIORRUDDA_OK; FIORRUDDA_NO where there is none; FIORRUDDA_TOO_SHORT where `room` has less than `len` bytes;
+// FIORRUDDA_WRONG_HANDLE; FIORRUDDA_NO_SUCH_NUMBER. But for FIORRUDDA_OK nothing is written to `room`, and but for
+// FIORRUDDA_OK and FIORRUDDA_TOO_SHORT nothing to `len`.
+uint32_t fiorrudda_text(fiorrudda_handle *fetch, uint32_t which, size_t at, uint8_t *room, size_t room_len, size_t *len);
+
+// Tells a number that the act of a fetch has, or its outcome: one of the numbers FIORRUDDA_NUMBER_...
+//
+// FIORRUDDA_OK; FIORRUDDA_NO where there is none; FIORRUDDA_WRONG_HANDLE; FIORRUDDA_NO_SUCH_NUMBER. But for
+// FIORRUDDA_OK nothing is written.
+uint32_t fiorrudda_number(fiorrudda_handle *fetch, uint32_t which, uint64_t *number);
 
 #ifdef __cplusplus
 }

@@ -143,7 +143,7 @@ static void print_text(fiorrudda_handle *fetch, uint32_t which, size_t at, const
 
 // Prints the outcome, and gives the exit status.
 static int told(fiorrudda_handle *fetch) {
-    if (number(fetch, FIORRUDDA_NUMBER_OUTCOME) == 2) {
+    if (number(fetch, FIORRUDDA_NUMBER_OUTCOME) == FIORRUDDA_OUTCOME_ERROR) {
         printf("refused: ");
         print_text(fetch, FIORRUDDA_TEXT_WORD, 0, "\n");
         return REFUSED;

@@ -8,7 +8,7 @@ import ctypes
 import enum
 import os
 import pathlib
-from typing import NamedTuple, Optional, Union
+from typing import Any, Callable, Iterable, List, NamedTuple, Optional, Sequence, Tuple, TypeVar, Union
 
 __all__ = [
     "Ask",
@@ -68,6 +68,7 @@ __all__ = [
 ]
 
 Text = Union[str, bytes]
+Thing = TypeVar("Thing")
 
 _OK, _NO, _TOO_SHORT = 0, 1, 4
 
@@ -245,7 +246,7 @@ for _name, _types in _CALLS.items():
 _lib.fiorrudda_free.argtypes, _lib.fiorrudda_free.restype = _HELD, None
 
 
-def _lent(text: Text) -> tuple:
+def _lent(text: Text) -> Tuple[bytes, int]:
     """A text as a pointer and a length."""
     said = text.encode() if isinstance(text, str) else bytes(text)
     return said, len(said)
@@ -261,7 +262,7 @@ def _told(code: int) -> bool:
     raise kind(" ".join((kind.__doc__ or f"code {code}").split()))
 
 
-def _written(call, *given) -> Optional[bytes]:
+def _written(call: Callable[..., Any], *given: Any) -> Optional[bytes]:
     """The text that a call writes, if it writes one, asked first for its length."""
     length = ctypes.c_size_t(0)
     code = call(*given, b"", 0, length)
@@ -270,6 +271,19 @@ def _written(call, *given) -> Optional[bytes]:
         code = call(*given, room, length.value, length)
         return room.raw if _told(code) else None
     return b"" if _told(code) else None
+
+
+def _number_of(word: Optional[str], words: Sequence[Optional[str]], kind: str) -> int:
+    """The number of a word among those that may stand there."""
+    if word not in words:
+        raise ValueError(f"{word!r} is no {kind}: it is one of {', '.join(map(repr, words))}")
+    return words.index(word)
+
+
+def _known(found: Optional[Thing]) -> Thing:
+    """What an act or an outcome of this kind always has."""
+    assert found is not None
+    return found
 
 
 def _time(now: int) -> int:
@@ -281,7 +295,7 @@ def _time(now: int) -> int:
 class _Thing:
     """What a handle of the library holds. It is used by one thread at a time."""
 
-    def __init__(self, make) -> None:
+    def __init__(self, make: Callable[[_Handle], Any]) -> None:
         self._handle = _Handle()
         _told(make(self._handle))
 
@@ -293,7 +307,7 @@ class _Thing:
 class Headers(_Thing):
     """A header list (Fetch, section 2.2.2), made of pairs of a name and a value."""
 
-    def __init__(self, pairs=()) -> None:
+    def __init__(self, pairs: Iterable[Tuple[Text, Text]] = ()) -> None:
         super().__init__(_lib.fiorrudda_headers)
         for name, value in pairs:
             self.append(name, value)
@@ -306,11 +320,11 @@ class Headers(_Thing):
         """ "get": the values of a name, joined by a comma and a space, or None."""
         return _written(_lib.fiorrudda_get, self._handle, *_lent(name))
 
-    def pairs(self) -> list:
+    def pairs(self) -> List[Tuple[bytes, bytes]]:
         """The headers in order, as pairs of a name and a value."""
-        found = []
+        found: List[Tuple[bytes, bytes]] = []
         while (name := _written(_lib.fiorrudda_name_at, self._handle, len(found))) is not None:
-            found.append((name, _written(_lib.fiorrudda_value_at, self._handle, len(found))))
+            found.append((name, _known(_written(_lib.fiorrudda_value_at, self._handle, len(found)))))
         return found
 
     def passes_cors_check(self, origin: Text, credentials: bool = False) -> bool:

@@ -10,9 +10,9 @@ A list of headers is a `Headers`, or pairs of a name and a value. `NoRequest` wh
 asked for: `Fetch` says why.
 """
 import ctypes
-from typing import List, NamedTuple, Optional, Tuple, Union
+from typing import Any, Callable, Iterable, List, NamedTuple, Optional, Tuple, Union
 
-from . import Headers, Text, _Handle, _lent, _lib, _told, _written
+from . import Headers, Text, _Handle, _lent, _lib, _number_of, _told, _written
 from .whole import Client, Load, Policies, Request
 
 __all__ = [
@@ -22,6 +22,7 @@ __all__ = [
 ]
 
 Asked = Union[Request, Load]
+Listed = Union[Headers, Iterable[Tuple[Text, Text]]]
 _CHECKS = ["enforced", "report-only", "response"]
 _TAINTINGS = ["basic", "cors", "opaque"]
 _ERRORS = {7: "PreflightCors", 8: "PreflightStatus", 9: "PreflightList", 10: "PreflightMethod", 11: "PreflightHeader"}
@@ -59,11 +60,11 @@ class Seen(NamedTuple):
     headers: Headers
 
 
-def _list(headers) -> Headers:
+def _list(headers: Listed) -> Headers:
     return headers if isinstance(headers, Headers) else Headers(headers)
 
 
-def _each(call, *given) -> Tuple[bytes, ...]:
+def _each(call: Callable[..., Any], *given: Any) -> Tuple[bytes, ...]:
     """The texts that a call writes by their index, until there is none."""
     found: List[bytes] = []
     while (text := _written(call, *given, len(found))) is not None:
@@ -71,13 +72,13 @@ def _each(call, *given) -> Tuple[bytes, ...]:
     return tuple(found)
 
 
-def unsafe_names(headers) -> Tuple[str, ...]:
+def unsafe_names(headers: Listed) -> Tuple[str, ...]:
     """The CORS-unsafe request-header names of a list, in lower case and in order (Fetch, section 2.2.2)."""
     asked = _list(headers)
     return tuple(name.decode("latin-1") for name in _each(_lib.fiorrudda_unsafe_name, asked._handle))
 
 
-def exposed_names(headers, credentials: bool = False) -> Tuple[str, ...]:
+def exposed_names(headers: Listed, credentials: bool = False) -> Tuple[str, ...]:
     """The names that an answer's list exposes; `credentials` where the mode is include (Fetch, section 2.2.6)."""
     answer = _list(headers)
     found = _each(_lib.fiorrudda_exposed_name, answer._handle, credentials)
@@ -109,7 +110,7 @@ def violations(policies: Policies, client: Client, request: Asked, of: str = "en
     """The violations of the `enforced` or the `report-only` policies by a request, or of all by its `response`, redirected
     to a URL if one is given (CSP 3, section 4.1)."""
     found = _Handle()
-    given = policies.compiled()._handle, client._handle, request._handle, *_lent(redirect), _CHECKS.index(of)
+    given = policies.compiled()._handle, client._handle, request._handle, *_lent(redirect), _number_of(of, _CHECKS, "check")
     try:
         _told(_lib.fiorrudda_check(found, *given))
         return _violations(found)
@@ -139,7 +140,7 @@ def _status(status: int) -> int:
     return status
 
 
-def preflight_verdict(client: Client, request: Asked, status: int, headers) -> Verdict:
+def preflight_verdict(client: Client, request: Asked, status: int, headers: Listed) -> Verdict:
     """The verdict on an answer to the preflight of a request (Fetch, section 4.8, steps 7 and 8)."""
     error, age, answer = ctypes.c_uint32(0), ctypes.c_uint64(0), _list(headers)
     given = client._handle, request._handle, answer._handle, _status(status)
@@ -149,21 +150,21 @@ def preflight_verdict(client: Client, request: Asked, status: int, headers) -> V
     return Verdict(None, error.value, _ERRORS[error.value], None if header is None else header.decode("latin-1"))
 
 
-def seen(client: Client, request: Asked, status: int, headers, tainting: str = "cors") -> Seen:
+def seen(client: Client, request: Asked, status: int, headers: Listed, tainting: str = "cors") -> Seen:
     """What a page sees of an answer: the `basic`, `cors` or `opaque` filtered response (Fetch, section 2.2.6)."""
     shown, status_seen, answer = Headers(), ctypes.c_uint32(0), _list(headers)
     _told(_lib.fiorrudda_filtered(shown._handle, client._handle, request._handle, answer._handle, _status(status),
-                                  _TAINTINGS.index(tainting), status_seen))
+                                  _number_of(tainting, _TAINTINGS, "tainting"), status_seen))
     return Seen(status_seen.value, shown)
 
 
-def is_type_blocked(request: Asked, headers) -> bool:
+def is_type_blocked(request: Asked, headers: Listed) -> bool:
     """Whether an answer to a request is blocked for its MIME type (Fetch)."""
     answer = _list(headers)
     return _told(_lib.fiorrudda_type_blocked(request._handle, answer._handle))
 
 
-def is_nosniff_blocked(request: Asked, headers) -> bool:
+def is_nosniff_blocked(request: Asked, headers: Listed) -> bool:
     """Whether an answer to a request is blocked since it says nosniff (Fetch)."""
     answer = _list(headers)
     return _told(_lib.fiorrudda_nosniff_blocked(request._handle, answer._handle))

@@ -1,5 +1,5 @@
 """Acts and outcomes as the lines that `fetchplay play` prints of them (docs/rules/printed-text.md)."""
-from typing import List, Optional, Union
+from typing import Callable, Dict, Iterable, List, Optional, Union
 
 from . import NoRequest
 from .whole import Call, Loaded, NetworkError, Outcome, Pairs, Send, Tell
@@ -11,20 +11,21 @@ def escaped(data: Union[bytes, str]) -> str:
     return "".join(chr(it) if 0x20 <= it < 0x7F and it != 0x5C else f"\\x{it:02x}" for it in data)
 
 
-def _listed(texts) -> str:
+def _listed(texts: Iterable[str]) -> str:
     return ",".join(texts) or "()"
 
 
 def call_line(call: Call, reply: Optional[bool]) -> str:
     """A call of the book, and its reply."""
     include = "include" if call.include else "other"
-    words = {
+    made: Dict[str, Callable[[], List[object]]] = {
         "match": lambda: [call.host],
         "note": lambda: [call.host, call.age, "sub" if call.include_subdomains else "exact"],
         "covers": lambda: [call.key, call.origin, include, call.method or "()", _listed(call.names), call.url],
         "learn": lambda: [call.key, call.origin, include, call.age, _listed(call.methods), _listed(call.names), call.url],
         "clear": lambda: [call.key, call.origin, call.url],
-    }[call.name]()
+    }
+    words = made[call.name]()
     said = {True: "yes", False: "no", None: "done"}[reply]
     return f"{call.name} {' '.join(map(str, words))} at {call.time}: {said}"
 

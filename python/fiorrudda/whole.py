@@ -17,17 +17,26 @@
     print(fetch.outcome)
 """
 import ctypes
-from typing import Iterator, List, NamedTuple, Optional, Tuple, Union
+from typing import TYPE_CHECKING, Callable, Dict, Iterable, Iterator, List, NamedTuple, Optional, Tuple, Union
 
-from . import Book, Headers, NoRequest, ReferrerPolicy, Text, _lent, _lib, _Handle, _Thing, _time, _told, _written
+from . import (
+    Book, Headers, NoRequest, ReferrerPolicy, Text, _Handle, _known, _lent, _lib, _number_of, _Thing, _time, _told, _written,
+)
+
+if TYPE_CHECKING:
+    from .checks import Violation
 
 _MODES = ["same-origin", "no-cors", "cors", "navigate"]
 _CREDENTIALS = ["omit", "same-origin", "include"]
 _REDIRECTS = ["follow", "error", "manual"]
 _CROSSORIGINS = [None, "anonymous", "use-credentials"]
 _KINDS = ["image", "audio", "video", "style", "script", "font", "manifest"]
+_BOOK_CALLS = ["match", "note", "covers", "learn", "clear"]
+_ENDS = ["null", "whole", "cut", "fault", "toobig"]
+_A_RESPONSE, _A_LOAD, _AN_ERROR = range(3)
 _MODE, _CREDENTIAL, _REDIRECT, _REFERRER, _REFERRER_POLICY, _UPLOAD, _CROSSORIGIN, _PARSER = range(8)
 _BODY, _INTEGRITY, _NONCE = range(3)
+_OVER, _ASK, _SEND, _READ_HEAD, _READ_BODY, _TELL, _GONE = range(7)
 _SENT, _TOLD, _ENDED, _FAILED, _YES, _DID_NOT, _DONE = range(7)
 (_ORIGIN, _URL, _METHOD, _TEXT_BODY, _NAME_OF, _VALUE_OF, _HOST, _KEY, _NAME, _LEARNT, _WORD, _REFUSED) = range(12)
 (_CALL, _TIME, _AGE, _SUBDOMAINS, _INCLUDE, _PREFLIGHT, _POLICY, _ENFORCED, _OUTCOME, _STATUS, _ERROR, _END,
@@ -96,7 +105,7 @@ class Response(NamedTuple):
     url: Optional[str]
     headers: Pairs
     end: str
-    count: Optional[int]
+    count: Optional[int]  # type: ignore[assignment]  # a tuple has a method of that name
     body: Optional[bytes]
 
 
@@ -122,7 +131,7 @@ class Policies:
 
     NAMES = {"content-security-policy": True, "content-security-policy-report-only": False}
 
-    def __init__(self, enforced=(), report_only=()) -> None:
+    def __init__(self, enforced: Iterable[Text] = (), report_only: Iterable[Text] = ()) -> None:
         for given in (enforced, report_only):
             if isinstance(given, (str, bytes)):
                 raise TypeError("policies are a list of header values, not one text")
@@ -130,10 +139,10 @@ class Policies:
         self._compiled: Optional[Tuple[int, _Thing]] = None
 
     @classmethod
-    def of_headers(cls, headers) -> "Policies":
+    def of_headers(cls, headers: Union[Headers, Iterable[Tuple[Text, Text]]]) -> "Policies":
         """Those among the pairs of an answer's header list, or in a `Headers`: the enforced ones first, in which order the
         violations number them."""
-        pairs = headers.pairs() if isinstance(headers, Headers) else headers
+        pairs: Iterable[Tuple[Text, Text]] = headers.pairs() if isinstance(headers, Headers) else headers
         named = [(name.decode("latin-1") if isinstance(name, bytes) else name, value) for name, value in pairs]
         given = [(value, cls.NAMES[name.lower()]) for name, value in named if name.lower() in cls.NAMES]
         found = cls()
@@ -150,7 +159,7 @@ class Policies:
         return self._compiled[1]
 
     def violations(self, client: "Client", request: "Union[Request, Load]", of: str = "enforced",
-                   redirect: Text = "") -> list:
+                   redirect: Text = "") -> "List[Violation]":
         """The violations by a request, or by its response: `fiorrudda.violations`."""
         from .checks import violations
         return violations(self, client, request, of, redirect)
@@ -161,7 +170,7 @@ class Client(_Thing):
     values of headers that are enforced), and pairs of a URL's origin and the value of the Cookie header."""
 
     def __init__(self, url: Text, top: Optional[Text] = None, policy: ReferrerPolicy = ReferrerPolicy.DEFAULT,
-                 policies=(), cookies=()) -> None:
+                 policies: Union[Policies, Iterable[Text]] = (), cookies: Iterable[Tuple[Text, Text]] = ()) -> None:
         given = (*_lent(url), *_lent(url if top is None else top), ReferrerPolicy(policy))
         super().__init__(lambda handle: _lib.fiorrudda_client(handle, *given))
         for value, enforced in (policies if isinstance(policies, Policies) else Policies(policies)).values:
@@ -190,14 +199,14 @@ class Request(_Asked):
     """What a script asks of `fetch` (Fetch, sections 5.4 and 5.6)."""
 
     def __init__(self, url: Text, method: Text = "GET", *, mode: str = "cors", credentials: str = "same-origin",
-                 redirect: str = "follow", headers=(), body: Optional[Text] = None, referrer: bool = True,
+                 redirect: str = "follow", headers: Iterable[Tuple[Text, Text]] = (), body: Optional[Text] = None, referrer: bool = True,
                  referrer_policy: ReferrerPolicy = ReferrerPolicy.DEFAULT, integrity: Text = "",
                  upload: bool = False) -> None:
         given = (*_lent(method), *_lent(url))
         super().__init__(lambda handle: _lib.fiorrudda_request(handle, *given))
-        self._choose(_MODE, _MODES.index(mode))
-        self._choose(_CREDENTIAL, _CREDENTIALS.index(credentials))
-        self._choose(_REDIRECT, _REDIRECTS.index(redirect))
+        self._choose(_MODE, _number_of(mode, _MODES, "mode"))
+        self._choose(_CREDENTIAL, _number_of(credentials, _CREDENTIALS, "credentials mode"))
+        self._choose(_REDIRECT, _number_of(redirect, _REDIRECTS, "redirect mode"))
         self._choose(_REFERRER, int(referrer))
         self._choose(_REFERRER_POLICY, ReferrerPolicy(referrer_policy))
         self._choose(_UPLOAD, int(upload))
@@ -214,9 +223,9 @@ class Load(_Asked):
     def __init__(self, kind: str, url: Text, *, crossorigin: Optional[str] = None, nonce: Text = "",
                  integrity: Text = "", parser: bool = False,
                  referrer_policy: ReferrerPolicy = ReferrerPolicy.DEFAULT) -> None:
-        number, given = _KINDS.index(kind) + 1, _lent(url)
+        number, given = _number_of(kind, _KINDS, "kind of a load") + 1, _lent(url)
         super().__init__(lambda handle: _lib.fiorrudda_load(handle, number, *given))
-        self._choose(_CROSSORIGIN, _CROSSORIGINS.index(crossorigin))
+        self._choose(_CROSSORIGIN, _number_of(crossorigin, _CROSSORIGINS, "crossorigin attribute"))
         self._choose(_PARSER, int(parser))
         self._choose(_REFERRER_POLICY, ReferrerPolicy(referrer_policy))
         self._write(_NONCE, nonce)
@@ -239,7 +248,7 @@ class Fetch(_Thing):
             code = _lib.fiorrudda_fetch(handle, client._handle, request._handle, _time(now), limit, fault, header)
             if code == NoRequest.code:
                 raise NoRequest(fault.value, header.value)
-            return code
+            return int(code)
 
         super().__init__(make)
 
@@ -248,9 +257,11 @@ class Fetch(_Thing):
 
     def __next__(self) -> Act:
         act = self._act()
-        if act in (0, 6):
+        if act in (_OVER, _GONE):
             raise StopIteration
-        return [self._asked, self._sends, ReadHead, ReadBody, self._tells][act - 1]()
+        made: Dict[int, Callable[[], Act]] = {_ASK: self._asked, _SEND: self._sends, _READ_HEAD: ReadHead,
+                                              _READ_BODY: ReadBody, _TELL: self._tells}
+        return made[act]()
 
     # ---- what came of an act
 
@@ -291,16 +302,17 @@ class Fetch(_Thing):
     @property
     def outcome(self) -> Optional[Outcome]:
         """What the fetch came to, once it is over."""
-        if self._act() != 0:
+        if self._act() != _OVER:
             return None
         what = self._number(_OUTCOME)
-        if what == 0:
+        if what == _A_RESPONSE:
             return self._response()
-        return Loaded() if what == 1 else NetworkError(self._number(_ERROR), self._word(_WORD), self._word(_REFUSED))
+        return Loaded() if what == _A_LOAD else NetworkError(
+            _known(self._number(_ERROR)), _known(self._word(_WORD)), self._word(_REFUSED))
 
     def _response(self) -> Response:
-        end = ["null", "whole", "cut", "fault", "toobig"][self._number(_END)]
-        return Response(self._word(_WORD), self._number(_STATUS), self._word(_URL), self._headers(), end,
+        end = _ENDS[_known(self._number(_END))]
+        return Response(_known(self._word(_WORD)), _known(self._number(_STATUS)), self._word(_URL), self._headers(), end,
                         self._number(_COUNT), self._text(_TEXT_BODY))
 
     def _act(self) -> int:
@@ -323,7 +335,7 @@ class Fetch(_Thing):
         return None if text is None else text.decode("latin-1")
 
     def _texts(self, which: int) -> Tuple[bytes, ...]:
-        found = []
+        found: List[bytes] = []
         while (text := self._text(which, len(found))) is not None:
             found.append(text)
         return tuple(found)
@@ -339,15 +351,16 @@ class Fetch(_Thing):
         return None if number is None else bool(number)
 
     def _asked(self) -> Ask:
-        name = ["match", "note", "covers", "learn", "clear"][self._number(_CALL)]
-        return Ask(Call(name, self._number(_TIME), self._word(_HOST), self._number(_AGE), self._flag(_SUBDOMAINS),
+        name = _BOOK_CALLS[_known(self._number(_CALL))]
+        return Ask(Call(name, _known(self._number(_TIME)), self._word(_HOST), self._number(_AGE), self._flag(_SUBDOMAINS),
                         self._word(_KEY), self._word(_ORIGIN), self._word(_URL), self._flag(_INCLUDE),
                         self._word(_METHOD), self._words(_NAME), self._words(_LEARNT)))
 
     def _sends(self) -> Send:
         request = _written(_lib.fiorrudda_to_send, self._handle)
-        return Send(self._word(_ORIGIN), request, self._flag(_PREFLIGHT), self._word(_METHOD), self._word(_URL),
-                    self._headers(), self._text(_TEXT_BODY))
+        return Send(_known(self._word(_ORIGIN)), _known(request), _known(self._flag(_PREFLIGHT)), _known(self._word(_METHOD)),
+                    _known(self._word(_URL)), self._headers(), self._text(_TEXT_BODY))
 
     def _tells(self) -> Tell:
-        return Tell(self._number(_POLICY), self._flag(_ENFORCED), self._word(_WORD), self._word(_URL))
+        return Tell(_known(self._number(_POLICY)), _known(self._flag(_ENFORCED)), _known(self._word(_WORD)),
+                    _known(self._word(_URL)))

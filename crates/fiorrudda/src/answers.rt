@@ -18,7 +18,8 @@ fn sniffless(thing: &Thing) -> u32
     }
 }
 
-/// "determine nosniff" of an answer's header list (Fetch): scripts and styles of another MIME type are blocked then.
+/// "determine nosniff" of an answer's header list (Fetch, section 3.6): scripts and styles of another MIME type are
+/// blocked then.
 ///
 /// `OK` where the answer says nosniff; `NO`; `WRONG_HANDLE`.
 #[unsafe(no_mangle)]
@@ -46,7 +47,7 @@ fn essence(alloc: Global, thing: &Thing, room: &mut [u8], len: &mut usize) -> u3
 }
 
 /// Writes the essence of the MIME type of an answer, in lower case, at the beginning of `room`, with no NUL after it,
-/// and tells in `len` how many bytes it is (Fetch, "extract a MIME type").
+/// and tells in `len` how many bytes it is (Fetch, section 3.5, "extract a MIME type").
 ///
 /// `OK`; `NO` where the list gives no MIME type; `TOO_SHORT` where `room` has less than `len` bytes; `WRONG_HANDLE`;
 /// `OUT_OF_MEMORY`. But for `OK` nothing is written to `room`, and but for `OK` and `TOO_SHORT` nothing to `len`.
@@ -70,7 +71,7 @@ pub extern "C" fn fiorrudda_essence(
 }
 
 /// Whether a word of a content security policy, as a source expression, matches a URL, for a page and a number of
-/// redirects (CSP 3, "does url match expression in origin with redirect count").
+/// redirects (CSP 3, section 6.7.2, "does url match expression in origin with redirect count").
 ///
 /// `OK` where it matches; `NO`; `NOT_A_URL`, of the URL or of the page; `NOT_HTTP`, of the page; `OUT_OF_MEMORY`.
 #[unsafe(no_mangle)]

@@ -107,7 +107,8 @@ fn with_text(alloc: Global, thing: &mut Thing, words: Option<Words>, text: &[u8]
     }
 }
 
-/// Sets a text of a request: its body, its integrity metadata or its nonce, by one of the numbers `REQUEST_..`.
+/// Sets a text of a request: its body, its integrity metadata or its nonce (Fetch, section 2.2.5), by one of the
+/// numbers `REQUEST_..`.
 ///
 /// `OK`; `NO` where it has none, as a `fetch` has no nonce and a load no body; `WRONG_HANDLE`; `NO_SUCH_NUMBER`;
 /// `OUT_OF_MEMORY`. The request is as it was but for `OK`.
@@ -143,7 +144,8 @@ fn chosen(thing: &mut Thing, choice: Option<Choice>) -> u32
     }
 }
 
-/// Makes a choice of a request: one of the numbers `CHOOSE_..`, and the number that it is set to.
+/// Makes a choice of a request (Fetch, section 2.2.5; HTML, section 2.5.1): one of the numbers `CHOOSE_..`, and the
+/// number that it is set to.
 ///
 /// `OK`; `NO` where the request has no such choice, as a load has no mode; `WRONG_HANDLE`; `NO_SUCH_NUMBER`. The
 /// request is as it was but for `OK`.

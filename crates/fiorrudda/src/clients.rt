@@ -88,7 +88,8 @@ fn with_cookie(alloc: Global, thing: &mut Thing, url: &[u8], value: &[u8]) -> u3
 }
 
 /// Gives a client the value of the Cookie header for requests to the origin of a URL. The first of an origin counts.
-/// Which cookies a request has is for the caller to say: it is sent with each request that includes credentials.
+/// Which cookies a request has is for the caller to say: it is sent with each request that includes credentials (Fetch,
+/// section 4.6).
 ///
 /// `OK`; `WRONG_HANDLE`; `NOT_A_URL`; `NOT_HTTP`; `NOT_A_HEADER`; `OUT_OF_MEMORY`. The client is as it was but for
 /// `OK`.

@@ -108,8 +108,8 @@ fn begun_of(
 /// used again. What the handle held is freed first. The fetch is then done by a loop over its acts: `fiorrudda_act`
 /// says what is to be done, and a call tells what came of it, until it is `ACT_OVER`.
 ///
-/// `OK`; `WRONG_HANDLE`; `NO_REQUEST` where no request can be made of it: `fault` is then the number of the reason,
-/// from 1 to 9, and `header` the index of a header that is none (Fetch, sections 5.4 and 5.6); `TOO_LATE`;
+/// `OK`; `WRONG_HANDLE`; `NO_REQUEST` where no request can be made of it: `fault` is then the reason, one of the
+/// numbers `FAULT_..`, and `header` the index of a header that is none (Fetch, sections 5.4 and 5.6); `TOO_LATE`;
 /// `OUT_OF_MEMORY`. The handle is empty but for `OK`, and but for `NO_REQUEST` nothing is written.
 #[unsafe(no_mangle)]
 pub extern "C" fn fiorrudda_fetch(
@@ -171,8 +171,8 @@ fn act_in(thing: &Thing, act: &mut u32) -> u32
     OK
 }
 
-/// Tells in `act` what a fetch does next, by one of the numbers `ACT_..`. `fiorrudda_text` and `fiorrudda_number` have
-/// the act's parts, or those of the outcome of a fetch that is over.
+/// Tells in `act` what a fetch does next (Fetch, section 4), by one of the numbers `ACT_..`. `fiorrudda_text` and
+/// `fiorrudda_number` have the act's parts, or those of the outcome of a fetch that is over.
 ///
 /// `OK`; `WRONG_HANDLE`, and then nothing is written.
 #[unsafe(no_mangle)]

@@ -12,8 +12,9 @@ use std::alloc::Global;
 use wf_book::Book;
 use wf_hsts::parse_sts;
 
-/// Makes an empty book in a handle: no known HSTS hosts, and an empty CORS-preflight cache. What the handle held is
-/// freed first, also where memory is refused. Threads that share a book call it under a lock of their own.
+/// Makes an empty book in a handle: no known HSTS hosts (RFC 6797, section 8), and an empty CORS-preflight cache
+/// (Fetch, section 4.9). What the handle held is freed first, also where memory is refused. Threads that share a book
+/// hold a lock of their own around each call that is given it, this one too.
 ///
 /// `OK` or `OUT_OF_MEMORY`.
 #[unsafe(no_mangle)]
@@ -40,7 +41,8 @@ fn noted(alloc: Global, thing: &mut Thing, host: &[u8], field: &[u8], now: u64) 
 
 /// Has a book note what the value of a Strict-Transport-Security field of a host says (RFC 6797, section 8.1), at a
 /// time in seconds since any fixed moment. The host is the domain of a URL, in lower case: no IP address and no
-/// localhost name, which is not looked at. The field came over https.
+/// localhost name, which is not looked at. The field came over https. Threads that share the book hold a lock of their
+/// own around the call, as around each that is given the book.
 ///
 /// `OK` where the field says something; `NO` where it is to be ignored; `WRONG_HANDLE`; `TOO_LATE`; `OUT_OF_MEMORY`.
 /// The book is as it was but for `OK`.
@@ -75,7 +77,8 @@ fn known(alloc: Global, thing: &mut Thing, host: &[u8], now: u64) -> u32
 }
 
 /// Whether a host is a known HSTS host of a book at a time in seconds (RFC 6797, section 8.2): http URLs of it are to
-/// be asked by https. The host is the domain of a URL, in lower case: no IP address and no localhost name.
+/// be asked by https. The host is the domain of a URL, in lower case: no IP address and no localhost name. Threads that
+/// share the book hold a lock of their own around the call, as around each that is given the book.
 ///
 /// `OK` where it is; `NO`; `WRONG_HANDLE`; `TOO_LATE`; `OUT_OF_MEMORY`.
 #[unsafe(no_mangle)]

@@ -96,9 +96,10 @@ fn said_to(alloc: Global, thing: &mut Thing, said: Option<Said>) -> u32
     }
 }
 
-/// Tells a fetch what came of its act, by one of the numbers `INPUT_..`. `INPUT_SENT` follows `ACT_SEND`; `INPUT_TOLD`
-/// follows `ACT_TELL`; `INPUT_ENDED` follows `ACT_READ_HEAD` and `ACT_READ_BODY`; `INPUT_FAILED` follows these three;
-/// `INPUT_YES` and `INPUT_NO` follow `ACT_ASK` where it is a question, and `INPUT_DONE` where not.
+/// Tells a fetch what came of its act (Fetch, section 4), by one of the numbers `INPUT_..`. `INPUT_SENT` follows
+/// `ACT_SEND`; `INPUT_TOLD` follows `ACT_TELL`; `INPUT_ENDED` follows `ACT_READ_HEAD` and `ACT_READ_BODY`;
+/// `INPUT_FAILED` follows these three; `INPUT_YES` and `INPUT_NO` follow `ACT_ASK` where it is a question, and
+/// `INPUT_DONE` where not.
 ///
 /// `OK`; `NOT_AWAITED` where it does not follow, and then the fetch stands where it stood; `WRONG_HANDLE`;
 /// `NO_SUCH_NUMBER`; `OUT_OF_MEMORY`, and then the fetch is gone: its act is `ACT_GONE`.
@@ -187,7 +188,8 @@ fn asked(alloc: Global, fetch: &mut Thing, book: &mut Thing, reply: &mut u32) ->
 }
 
 /// Has a fetch ask a book what its act asks for, or tell it that, and goes on from what the book replies, which is told
-/// in `reply`: `INPUT_YES`, `INPUT_NO` or `INPUT_DONE`. Threads that share a book call it under a lock of their own.
+/// in `reply`: `INPUT_YES`, `INPUT_NO` or `INPUT_DONE` (Fetch, section 4.9; RFC 6797, section 8). Threads that share
+/// the book hold a lock of their own around the call, as around each that is given the book.
 ///
 /// `OK`; `NOT_AWAITED` where the act asks no book, and then the fetch stands where it stood and the book is as it was;
 /// `WRONG_HANDLE`; `OUT_OF_MEMORY`, and then the fetch is gone: its act is `ACT_GONE`. The book is then as it was, or

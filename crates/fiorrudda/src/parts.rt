@@ -42,8 +42,7 @@ pub const TEXT_WORD: u32 = 10;
 /// The name of the header that a preflight did not allow.
 pub const TEXT_REFUSED: u32 = 11;
 
-/// What the book is asked: 0 match a host, 1 note a host, 2 does the preflight cache cover a request, 3 it learns,
-/// 4 it forgets.
+/// What the book is asked or told: one of the numbers `CALL_..`.
 pub const NUMBER_CALL: u32 = 0;
 
 /// The time of that, in seconds.
@@ -67,16 +66,16 @@ pub const NUMBER_POLICY: u32 = 6;
 /// 1 where that is enforced.
 pub const NUMBER_ENFORCED: u32 = 7;
 
-/// What the fetch came to: 0 a response, 1 a load that succeeded, 2 a network error.
+/// What the fetch came to: one of the numbers `OUTCOME_..`.
 pub const NUMBER_OUTCOME: u32 = 8;
 
 /// The response's status.
 pub const NUMBER_STATUS: u32 = 9;
 
-/// The number of the network error.
+/// The number of the network error: one of the numbers `ERROR_..`.
 pub const NUMBER_ERROR: u32 = 10;
 
-/// How the body ended: 0 it is null, 1 whole, 2 cut, 3 the connection failed, 4 too big.
+/// How the body ended: one of the numbers `END_..`.
 pub const NUMBER_END: u32 = 11;
 
 /// How many bytes of the body came.

@@ -56,8 +56,8 @@ fn kept(alloc: Global, thing: &Thing, page: &[u8], url: &[u8]) -> u32
     }
 }
 
-/// Whether the answer of a URL is kept from a page's requests in mode no-cors (Fetch, "cross-origin resource policy
-/// check", of the page's origin and the URL's).
+/// Whether the answer of a URL is kept from a page's requests in mode no-cors (Fetch, section 3.7, "cross-origin
+/// resource policy check", of the page's origin and the URL's).
 ///
 /// `OK` where it is kept from them; `NO`; `WRONG_HANDLE`; `NOT_A_URL` and `NOT_HTTP`, of the page or of the URL;
 /// `OUT_OF_MEMORY`. Test for `NO`: then no error is taken for leave.

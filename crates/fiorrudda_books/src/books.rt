@@ -45,7 +45,8 @@ fn text(alloc: Global, thing: &Thing, room: &mut [u8], len: &mut usize) -> u32
 /// over restarts: a line with its name and the number of its format, the known hosts, and the entries of the preflight
 /// cache. Its times are in seconds since the moment that the calls counted from, which is 1970 for a book that lasts.
 /// It has bytes of any kind, tells which servers were asked, and is not signed: who can change it can change what the
-/// book knows. Threads that share a book ask for its length and for its text under one lock of their own.
+/// book knows. Threads that share the book hold a lock of their own around the call, as around each that is given the
+/// book: one lock around both calls, where the first asks for the length.
 ///
 /// `OK`; `TOO_SHORT` where `room` has less than `len` bytes; `WRONG_HANDLE`; `OUT_OF_MEMORY`. But for `OK` nothing is
 /// written to `room`, and but for `OK` and `TOO_SHORT` nothing to `len`. The book is as it was.
@@ -86,7 +87,8 @@ fn reason_number(reason: Reason) -> u32
 /// Makes in a handle the book whose text this is, as `fiorrudda_book_text` writes it. What the handle held is freed
 /// first, also where the text is refused. Nothing is read of a text that is not that of a book: `line` tells its first
 /// line that is not as such a text has it, counted from 1, and `reason` why, by `REASON_NO_BOOK` to `REASON_TOO_LONG`.
-/// A line ends behind its last field, so that an LF within a name or a URL ends no line.
+/// A line ends behind its last field, so that an LF within a name or a URL ends no line. Where threads share the book
+/// that the handle held, they hold a lock of their own around the call, as around each that is given the book.
 ///
 /// `OK`; `NO`, where the text is refused; `OUT_OF_MEMORY`. The handle is empty but for `OK`. `line` and `reason` are
 /// told with `NO` alone.

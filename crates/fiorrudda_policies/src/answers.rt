@@ -133,7 +133,7 @@ fn type_blocked(alloc: Global, request: &Thing, headers: &Thing) -> u32
 }
 
 /// Whether an answer to a request is blocked for its MIME type, by its header list: one of a script that is audio,
-/// image, video or CSV (Fetch, "should response to request be blocked due to its MIME type").
+/// image, video or CSV (Fetch, section 2.10, "should response to request be blocked due to its MIME type").
 ///
 /// `OK` where it is blocked; `NO`; `WRONG_HANDLE`; `OUT_OF_MEMORY`. Test for `NO`: then no error is taken for leave.
 #[unsafe(no_mangle)]
@@ -173,7 +173,8 @@ fn nosniff_blocked(alloc: Global, request: &Thing, headers: &Thing) -> u32
 }
 
 /// Whether an answer to a request is blocked since it says nosniff, by its header list: one of a script that is no
-/// JavaScript, or of a style that is not `text/css` (Fetch, "should response to request be blocked due to nosniff").
+/// JavaScript, or of a style that is not `text/css` (Fetch, section 3.6.1, "should response to request be blocked due
+/// to nosniff").
 ///
 /// `OK` where it is blocked; `NO`; `WRONG_HANDLE`; `OUT_OF_MEMORY`. Test for `NO`: then no error is taken for leave.
 #[unsafe(no_mangle)]

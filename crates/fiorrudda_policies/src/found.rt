@@ -22,8 +22,8 @@ fn violation_in(thing: &Thing, at: usize, policy: &mut u32, enforced: &mut u32) 
     }
 }
 
-/// Tells of the violation at an index, from 0 on, the number of the policy in `policy`, and 1 in `enforced` where that
-/// is enforced, or 0.
+/// Tells of the violation (CSP 3, section 2.4) at an index, from 0 on, the number of the policy in `policy`, and 1 in
+/// `enforced` where that is enforced, or 0.
 ///
 /// `OK`; `NO` behind the last; `WRONG_HANDLE`. But for `OK` nothing is written.
 #[unsafe(no_mangle)]

@@ -21,8 +21,8 @@ fn name_in(thing: &Thing, at: usize, room: &mut [u8], len: &mut usize) -> u32
     }
 }
 
-/// Writes the name of the header at an index of a list, from 0 on, at the beginning of `room`, with no NUL after it,
-/// and tells in `len` how many bytes it is.
+/// Writes the name of the header at an index of a list (Fetch, section 2.2.2), from 0 on, at the beginning of `room`,
+/// with no NUL after it, and tells in `len` how many bytes it is.
 ///
 /// `OK`; `NO` behind the last; `TOO_SHORT` where `room` has less than `len` bytes; `WRONG_HANDLE`. But for `OK` nothing
 /// is written to `room`, and but for `OK` and `TOO_SHORT` nothing to `len`.
@@ -58,7 +58,7 @@ fn value_in(thing: &Thing, at: usize, room: &mut [u8], len: &mut usize) -> u32
     }
 }
 
-/// Writes the value of the header at an index of a list, as `fiorrudda_name_at` its name.
+/// Writes the value of the header at an index of a list (Fetch, section 2.2.2), as `fiorrudda_name_at` its name.
 ///
 /// The codes are the same.
 #[unsafe(no_mangle)]

@@ -56,7 +56,8 @@ fn upgrade(thing: &Thing) -> u32
 }
 
 /// Whether an enforced policy has `upgrade-insecure-requests`: the page's requests for http URLs are then made for
-/// https ones (Upgrade Insecure Requests, "upgrade request to a potentially trustworthy URL, if appropriate").
+/// https ones (Upgrade Insecure Requests, section 4.1, "upgrade request to a potentially trustworthy URL, if
+/// appropriate").
 ///
 /// `OK` where one has; `NO`; `WRONG_HANDLE`.
 #[unsafe(no_mangle)]

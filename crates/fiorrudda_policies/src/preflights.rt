@@ -120,8 +120,8 @@ fn verdict_in(
 
 /// Tells the verdict on an answer to the preflight of a client's request, of a status and a header list (Fetch, section
 /// 4.8, "CORS-preflight fetch", steps 7 and 8): for a pass, in `age`, for how many seconds the preflight cache learns
-/// it; for a refusal, in `error`, the number of the network error, from 7 to 11. It also answers where the request asks
-/// for no preflight.
+/// it; for a refusal, in `error`, the network error, one of the numbers `ERROR_PREFLIGHT_..`. It also answers where the
+/// request asks for no preflight.
 ///
 /// `OK` where it passes; `NO` where it is refused; `WRONG_HANDLE`; `NO_REQUEST` where none can be made of what is asked
 /// for; `OUT_OF_MEMORY`. But for `OK` nothing is written to `age`, and but for `NO` nothing to `error`.
@@ -193,7 +193,7 @@ fn refused_in(
 
 /// Writes the name of the header, in lower case, for which an answer to the preflight of a client's request is refused,
 /// at the beginning of `room`, with no NUL after it, and tells in `len` how many bytes it is (Fetch, section 4.8,
-/// "CORS-preflight fetch", steps 7.6 and 7.7): where `fiorrudda_verdict` tells 11.
+/// "CORS-preflight fetch", steps 7.6 and 7.7): where `fiorrudda_verdict` tells `ERROR_PREFLIGHT_HEADER`.
 ///
 /// `OK`; `NO` where it is not refused for a header; `TOO_SHORT` where `room` has less than `len` bytes; `WRONG_HANDLE`;
 /// `NO_REQUEST` where none can be made of what is asked for; `OUT_OF_MEMORY`. But for `OK` nothing is written to
