@@ -1,1 +1,3 @@
+-- What the crate's private contracts alone cite.
+pub mod Lasts
 pub mod Squeezes
