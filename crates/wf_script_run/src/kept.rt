@@ -90,5 +90,6 @@ pub(crate) fn kept(alloc: Global, text: Vec<u8>) -> Result<Vec<u8>, OutOfMemory>
     if text.len() <= MOST_GROWN {
         return Ok(text);
     }
-    squeezed(alloc, text.as_slice())
+    let made = squeezed(alloc, text.as_slice())?;
+    Ok(made)
 }
