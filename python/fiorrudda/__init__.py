@@ -1,8 +1,9 @@
 """The rules of a browser's fetch, one call each, and whole fetches (`fiorrudda.whole`), over the C library of Fiorrudda.
 
 Texts are `str`, which is encoded as UTF-8, or `bytes`. A rule that cannot answer raises a `FiorruddaError`: the class says
-what was wrong with what was given. The library is `libfiorrudda.so`: that of FIORRUDDA_LIBRARY, or that beside this file, or
-that which bin/lib has left in out/lib.
+what was wrong with what was given. A `Headers`, `Book`, `Client`, `Request`, `Load`, `Policies` or `Fetch` is used by one
+thread at a time; others may be used meanwhile, since the interpreter's lock is let go in each call. The library is
+`libfiorrudda.so`: that of FIORRUDDA_LIBRARY, or that beside this file, or that which bin/lib has left in out/lib.
 """
 import ctypes
 import enum

@@ -199,8 +199,8 @@ class Request(_Asked):
     """What a script asks of `fetch` (Fetch, sections 5.4 and 5.6)."""
 
     def __init__(self, url: Text, method: Text = "GET", *, mode: str = "cors", credentials: str = "same-origin",
-                 redirect: str = "follow", headers: Iterable[Tuple[Text, Text]] = (), body: Optional[Text] = None, referrer: bool = True,
-                 referrer_policy: ReferrerPolicy = ReferrerPolicy.DEFAULT, integrity: Text = "",
+                 redirect: str = "follow", headers: Iterable[Tuple[Text, Text]] = (), body: Optional[Text] = None,
+                 referrer: bool = True, referrer_policy: ReferrerPolicy = ReferrerPolicy.DEFAULT, integrity: Text = "",
                  upload: bool = False) -> None:
         given = (*_lent(method), *_lent(url))
         super().__init__(lambda handle: _lib.fiorrudda_request(handle, *given))
@@ -266,7 +266,8 @@ class Fetch(_Thing):
     # ---- what came of an act
 
     def ask(self, book: Book) -> Optional[bool]:
-        """Asks a book what the act asks; its reply is a bool, or None where it was told something."""
+        """Asks a book what the act asks; its reply is a bool, or None where it was told something. Threads that share the book
+        hold a lock of their own around the call, as around each of the book's."""
         reply = ctypes.c_uint32(0)
         _told(_lib.fiorrudda_ask(self._handle, book._handle, reply))
         return {_YES: True, _DID_NOT: False}.get(reply.value)
