@@ -1,11 +1,11 @@
 -- Header values that are squeezed while they are filled: whatever follows, they are cut to the same.
 use Rattle.std.proofs.Common.{◌≡◌, ℕ, zero, suc, ◌<◌, Bool, true, false, cond, ◌&&◌, not, List, [], ◌∷◌, ◌++◌, length}
 use Rattle.std.proofs.Common.{take, drop, refl, ap, sym, subst, ◌∙◌, arith, append_assoc, take_all, true≢false}
-use Rattle.std.proofs.lemmas.List.{append-nil, length-append, length-take, reverse-append, take-append-drop}
+use Rattle.std.proofs.lemmas.List.{length-append, length-take, reverse-append, take-append-drop}
 use Rattle.std.proofs.lemmas.List.{take-append-le}
 use Rattle.std.proofs.lemmas.Slice.Eq.{bytes_eq-Decides}
-use Rattle.std.specs.Prelude.{◌==◌, ◌||◌, bytes_eq, nat_lt, reverse}
-use Rattle.std.specs.List.{list_all, list_any}
+use Rattle.std.specs.Prelude.{◌==◌, ◌||◌, nat_lt, reverse}
+use Rattle.std.specs.List.{list_any}
 use Rattle.wf_text.specs.Trims.{http_whitespace, tab_or_space, trimmed, trimmed_end, trimmed_start}
 use Rattle.wf_text.specs.Values.{is_header_value, is_nul_or_newline}
 use Rattle.wf_script_run.specs.Filling.{cut_value, mark}
