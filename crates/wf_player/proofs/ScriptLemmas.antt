@@ -100,8 +100,8 @@ module _ {State : Type 0} {by : Answering State} where
           → RulePlayed by (λ lent. command_started lent (step_of one)) now ending later
           → IsAt by items (index + 1) old later
       script-next {later = later} goes x = record {
-        played = subst
-            (λ (t : Terms). PartReached by (λ (next : Next). script_run old.terms.setting (steps_of items) next old.progress)
+        played = subst (λ (t : Terms). PartReached by
+            (λ (next : Next). script_run old.terms.setting (steps_of items) next old.progress)
             old (λ next. script_run t.setting (steps_of (drop (index + 1) items)) next later.progress) later)
             (sym x.played.same) (played-then at-free (played-inside others (rw (no-ending goes) at x.played)));
       }
