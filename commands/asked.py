@@ -173,7 +173,7 @@ class Answered:
         own, page = self.question.origin, self.question.page
         requests = [request for case in self.told.cases for request, _ in case.exchanges if not play_text.is_preflight(request)]
         if not requests:
-            return "no cookie was sent, since only a preflight was, or nothing"
+            return "no cookie was sent, since only a preflight was sent, or nothing"
         if any(play_text.header_of(request, "Cookie") for request in requests):
             is_same = fiorrudda.same_site(page, own) and urlsplit(page).scheme == urlsplit(own).scheme
             return None if is_same else (

@@ -3,6 +3,7 @@
 Each network error, each fault and each result that lets a script see less than was sent has its ways, and each way the
 condition that failed, the header that decided, what to change, and the rule's page. In the texts `c` is the case
 (case.py). `commands/check` shows that each way is reached and that no result of any stored play is without one."""
+import difflib
 import re
 from collections import namedtuple
 
@@ -382,6 +383,7 @@ class Explanation:
         self.rule = "docs/rules/" + rule if not rule.startswith("../") else "docs/" + rule[3:]
         self.header = way.header.format(c=c)
         self.value = c.get(self.header) if self.header else None
+        self.misspelt = misspelt(c, self.header) if self.header and self.value is None else None
         self.needs = least_headers(c) if key_of(c.result) in ("7", "8", "9", "10", "11") and way not in DIRECT else []
 
     def lines(self):
@@ -389,12 +391,22 @@ class Explanation:
         lines = ["why: " + self.condition]
         if self.header:
             value = "is not there" if self.value is None else ": " + self.value
+            value += "; is `%s` meant for it?" % self.misspelt if self.misspelt else ""
             lines.append("header: %s%s" % (self.header, value if value.startswith(":") else " " + value))
         needs = ["in all: " + line for line in self.needs]
         return lines + ["change: " + self.change, *needs, "rule: %s (%s)" % (self.rule, self.way)]
 
     def data(self):
         return dict(self.__dict__)
+
+
+def misspelt(c, wanted):
+    """The name in the answer that comes near to a CORS header that is not there, or None."""
+    right = {"access-control-" + one for one in ("allow-origin", "allow-credentials", "allow-methods", "allow-headers",
+                                                 "expose-headers", "max-age")}
+    names = {name.lower(): name for name, _ in (c.head.headers if c.head else [])}
+    near = difflib.get_close_matches(wanted.lower(), sorted(set(names) - right), 1, 0.85) if wanted.lower() in right else []
+    return names[near[0]] if near else None
 
 
 def least_headers(c):

@@ -2,8 +2,13 @@
 import os
 import re
 import subprocess
+import sys
+import threading
 
 REFUSED = re.compile(r"^fetchplay: scenario refused at (.*)$", re.M)
+# What bin/proved says before it proves and builds, and where that failed.
+BUILDS = b": proving and building the program, "
+UNBUILT = re.compile(r"^bin/fetchplay: the program was not built; the end of (.*):$", re.M)
 ROOT = os.path.normpath(os.path.join(os.path.dirname(os.path.realpath(__file__)), ".."))
 
 
@@ -26,14 +31,46 @@ def program():
 def played(scenario, word="play"):
     """The text of the play of a scenario's bytes, a character for each byte."""
     try:
-        ran = subprocess.run([program(), word], input=scenario, stdout=subprocess.PIPE, stderr=subprocess.PIPE)
+        status, text, complaints = ran(scenario, word)
     except OSError as error:
         raise Failed("%s: %s" % (program(), error.strerror)) from error
-    complaint = ran.stderr.decode("utf-8", "replace")
+    complaint = complaints.decode("utf-8", "replace")
     refused = REFUSED.search(complaint)
-    if ran.returncode == 2 and refused:
+    if status == 2 and refused:
         raise Refused(refused.group(1))
-    if ran.returncode != 0:
+    unbuilt = UNBUILT.search(complaint)
+    if status == 125 and unbuilt:
+        raise Failed("%s was not built, as the end of %s tells; FETCHPLAY names another program, such as bin/try"
+                     % (program(), unbuilt.group(1)))
+    if status != 0:
         last = (complaint.strip().splitlines() or ["it said nothing"])[-1]
-        raise Failed("%s ended with the status %d: %s" % (program(), ran.returncode, last))
-    return ran.stdout.decode("latin-1")
+        raise Failed("%s ended with the status %d: %s" % (program(), status, last))
+    return text.decode("latin-1")
+
+
+def ran(scenario, word):
+    """The program's status, what it printed, and its complaints. That it builds first, for minutes, is told at once."""
+    with subprocess.Popen([program(), word], stdin=subprocess.PIPE, stdout=subprocess.PIPE, stderr=subprocess.PIPE) as process:
+        heard = []
+        complaints, process.stderr = process.stderr, None
+        listener = threading.Thread(target=listen, args=(complaints, heard))
+        listener.start()
+        text, _ = process.communicate(scenario)
+        listener.join()
+        return process.returncode, text, b"".join(heard)
+
+
+def listen(complaints, heard):
+    with complaints:
+        for line in complaints:
+            heard.append(line)
+            if BUILDS in line:
+                tell(line)
+
+
+def tell(line):
+    try:
+        sys.stderr.buffer.write(line)
+        sys.stderr.flush()
+    except OSError:
+        pass
