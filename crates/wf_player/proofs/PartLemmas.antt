@@ -198,7 +198,7 @@ pub asked-begun : {State : Type 0} {by : Answering State} (kind : Destination) (
     → LeadsTo by (λ lent next begun. asked lent kind made next (started begun)) a (λ lent. fetched lent kind made) b
 asked-begun {by = by} kind made {a = a} {b = b} same still noted =
     subst (λ (t : Terms). PartReached by (λ (next : Next). asked a.terms.setting kind made next (started a.progress)) a
-    (λ next. fetched t.lent kind made next b.progress) b) (sym same)
+    (λ next. fetched t.setting kind made next b.progress) b) (sym same)
     (played-inside (fetched a.terms.setting kind made) (played-event same refl noted
     (subst (λ (w : World _). Settles (start_event kind a.progress.fetches) a.world w) (sym still)
     (settles-start kind a.progress.fetches a.world))))

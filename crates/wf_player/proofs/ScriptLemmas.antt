@@ -102,8 +102,8 @@ module _ {State : Type 0} {by : Answering State} where
       script-next {later = later} goes x = record {
         played = subst
             (λ (t : Terms). PartReached by (λ (next : Next). script_run old.terms.setting (steps_of items) next
-            old.progress) old (λ next. script_run t.lent (steps_of (drop (index + 1) items)) next later.progress) later)
-            (sym x.played.same) (played-then at-free (played-inside others (rw (no-ending goes) at x.played)));
+            old.progress) old (λ next. script_run t.setting (steps_of (drop (index + 1) items)) next later.progress)
+            later) (sym x.played.same) (played-then at-free (played-inside others (rw (no-ending goes) at x.played)));
       }
 
       -- it ended the run
@@ -145,8 +145,8 @@ module _ {State : Type 0} {by : Answering State} where
     round-next {later = later} goes x = record {
       played = subst (λ (t : Terms). PartReached by
           (λ (next : Next). repeated times (script_run old.terms.setting part) next
-          old.progress) old (λ next. repeated (times - (round + 1)) (script_run t.lent part) next later.progress) later)
-          (sym x.played.same) (played-then at-round (played-inside rounds (rw (no-ending goes) at x.played)));
+          old.progress) old (λ next. repeated (times - (round + 1)) (script_run t.setting part) next later.progress)
+          later) (sym x.played.same) (played-then at-round (played-inside rounds (rw (no-ending goes) at x.played)));
     }
 
     pub round-ended : {ending : Option Ending} {later : Standing State} → is_some ending ≡ true
