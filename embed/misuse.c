@@ -177,10 +177,12 @@ static void rooms(void) {
         unwritten();
         IS(TOO_SHORT, writes[at](0));
         size_t needed = len;
-        IS(TOO_SHORT, writes[at](needed - 1));
-        HOLDS(len == needed && needed > 1);
+        for (size_t room_len = 0; room_len < needed; room_len++) {
+            IS(TOO_SHORT, writes[at](room_len));
+            HOLDS(len == needed);
+        }
         len = 77;
-        HOLDS(kept());
+        HOLDS(kept() && needed > 1);
         IS(OK, writes[at](needed));
         HOLDS(len == needed && room[0] != 0xEE && room[needed - 1] != 0xEE && room[needed] == 0xEE);
         unwritten();

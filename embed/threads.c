@@ -6,6 +6,7 @@
 // writes it as a history (docs/rules/printed-text.md), in which the thread's number stands for a document's.
 #define _POSIX_C_SOURCE 200809L
 #include <pthread.h>
+#include <sched.h>
 #include "calls.h"
 #include "holds.h"
 
@@ -24,6 +25,12 @@ typedef struct worker {
     fiorrudda_handle client, request, fetch;
 } worker;
 
+// Lets go of the lock, and lets another thread have it.
+static void unlocked(void) {
+    pthread_mutex_unlock(&lock);
+    sched_yield();
+}
+
 // Asks the shared book what the fetch's act asks for, and writes that down with the reply.
 static uint32_t asked(worker *it) {
     uint32_t reply = 0;
@@ -32,7 +39,7 @@ static uint32_t asked(worker *it) {
     put_call(history, &it->fetch);
     uint32_t code = fiorrudda_ask(&it->fetch, &book, &reply);
     fprintf(history, "%s\n", reply_word(reply));
-    pthread_mutex_unlock(&lock);
+    unlocked();
     return code;
 }
 
@@ -40,7 +47,7 @@ static bool noted(worker *it, const char *host, uint64_t now) {
     pthread_mutex_lock(&lock);
     uint32_t code = fiorrudda_note_host(&book, (const uint8_t *)host, strlen(host), T("max-age=1"), now);
     fprintf(history, "%u %u note %s 1 exact at %u: done\n", turn++, it->number, host, (unsigned)now);
-    pthread_mutex_unlock(&lock);
+    unlocked();
     return code == FIORRUDDA_OK;
 }
 
@@ -48,7 +55,7 @@ static bool looked_up(worker *it, const char *host, uint64_t now) {
     pthread_mutex_lock(&lock);
     uint32_t code = fiorrudda_known_host(&book, (const uint8_t *)host, strlen(host), now);
     fprintf(history, "%u %u match %s at %u: %s\n", turn++, it->number, host, (unsigned)now, code ? "no" : "yes");
-    pthread_mutex_unlock(&lock);
+    unlocked();
     return code == FIORRUDDA_OK || code == FIORRUDDA_NO;
 }
 

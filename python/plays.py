@@ -42,8 +42,11 @@ class Play(scripts.Script):
 
     def begin(self, document, cookies):
         top, headers = document.get("top", document["url"]), document.get("headers", [])
-        self.client = f.Client(document["url"], top, f.ReferrerPolicy(scripts.referrer_policy(headers)),
-                               f.Policies.of_headers(headers), cookies)
+        self.client = f.Client(document["url"], top, f.ReferrerPolicy(scripts.referrer_policy(headers)), cookies=cookies)
+        # A scenario's policies are numbered in the order of its headers, those that only report among the others.
+        for name, value in headers:
+            if name.lower() in f.Policies.NAMES:
+                self.client.add_policy(value, f.Policies.NAMES[name.lower()])
         self.lines.append(f"document 0 {f.origin(top)}")
 
     def last(self):

@@ -179,7 +179,7 @@ class Client(_Thing):
             self.add_cookie(origin, value)
 
     def add_policy(self, value: Text, enforced: bool = True) -> None:
-        """Adds the policies of a header's value (CSP 3, section 2.2)."""
+        """Adds the policies of a header's value (CSP 3, section 2.2), numbered on from those that were given before."""
         _told(_lib.fiorrudda_client_policy(self._handle, *_lent(value), enforced))
 
     def add_cookie(self, url: Text, value: Text) -> None:

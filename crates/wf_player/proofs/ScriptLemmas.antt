@@ -101,9 +101,9 @@ module _ {State : Type 0} {by : Answering State} where
           → IsAt by items (index + 1) old later
       script-next {later = later} goes x = record {
         played = subst
-            (λ (t : Terms). PartReached by (λ (next : Next). script_run old.terms.setting (steps_of items) next
-            old.progress) old (λ next. script_run t.setting (steps_of (drop (index + 1) items)) next later.progress)
-            later) (sym x.played.same) (played-then at-free (played-inside others (rw (no-ending goes) at x.played)));
+            (λ (t : Terms). PartReached by (λ (next : Next). script_run old.terms.setting (steps_of items) next old.progress)
+            old (λ next. script_run t.setting (steps_of (drop (index + 1) items)) next later.progress) later)
+            (sym x.played.same) (played-then at-free (played-inside others (rw (no-ending goes) at x.played)));
       }
 
       -- it ended the run
@@ -144,9 +144,9 @@ module _ {State : Type 0} {by : Answering State} where
         → RulePlayed by (λ lent. script_run lent part) now ending later → IsRound by times part (round + 1) old later
     round-next {later = later} goes x = record {
       played = subst (λ (t : Terms). PartReached by
-          (λ (next : Next). repeated times (script_run old.terms.setting part) next
-          old.progress) old (λ next. repeated (times - (round + 1)) (script_run t.setting part) next later.progress)
-          later) (sym x.played.same) (played-then at-round (played-inside rounds (rw (no-ending goes) at x.played)));
+          (λ (next : Next). repeated times (script_run old.terms.setting part) next old.progress)
+          old (λ next. repeated (times - (round + 1)) (script_run t.setting part) next later.progress) later)
+          (sym x.played.same) (played-then at-round (played-inside rounds (rw (no-ending goes) at x.played)));
     }
 
     pub round-ended : {ending : Option Ending} {later : Standing State} → is_some ending ≡ true
