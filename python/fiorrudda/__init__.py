@@ -43,6 +43,7 @@ __all__ = [
     "Verdict",
     "Violation",
     "WrongHandle",
+    "essence",
     "exposed_names",
     "is_bad_port",
     "is_forbidden_header",
@@ -53,14 +54,17 @@ __all__ = [
     "is_safelisted",
     "is_trustworthy",
     "is_type_blocked",
+    "keeps_from",
     "matches_integrity",
     "origin",
     "parse_sts",
+    "passes_cors_check",
     "preflight",
     "preflight_verdict",
     "referrer",
     "same_origin",
     "same_site",
+    "says_nosniff",
     "seen",
     "source_matches",
     "unsafe_names",
@@ -328,23 +332,6 @@ class Headers(_Thing):
             found.append((name, _known(_written(_lib.fiorrudda_value_at, self._handle, len(found)))))
         return found
 
-    def passes_cors_check(self, origin: Text, credentials: bool = False) -> bool:
-        """ "CORS check" (Fetch, section 4.10), for a serialised origin; `credentials` where the mode is include."""
-        return _told(_lib.fiorrudda_cors_check(*_lent(origin), credentials, self._handle))
-
-    def keeps_from(self, page: Text, url: Text) -> bool:
-        """Whether the answer of a URL is kept from a page in mode no-cors ("cross-origin resource policy check")."""
-        return _told(_lib.fiorrudda_resource_policy(*_lent(page), *_lent(url), self._handle))
-
-    def says_nosniff(self) -> bool:
-        """ "determine nosniff" (Fetch)."""
-        return _told(_lib.fiorrudda_nosniff(self._handle))
-
-    def essence(self) -> Optional[str]:
-        """The essence of the MIME type, in lower case, or None (Fetch, "extract a MIME type")."""
-        text = _written(_lib.fiorrudda_essence, self._handle)
-        return None if text is None else text.decode()
-
 
 class Book(_Thing):
     """Known HSTS hosts, and the CORS-preflight cache. Times are in seconds since any fixed moment, which is 1970 for a book
@@ -438,6 +425,7 @@ from .whole import (  # noqa: E402  the classes there stand on what is above
     Ask, Client, Fetch, Load, Loaded, NetworkError, Policies, ReadBody, ReadHead, Request, Response, Send, Tell,
 )
 from .checks import (  # noqa: E402
-    Seen, Verdict, Violation, exposed_names, is_forbidden_header, is_mixed_blocked, is_mixed_upgraded, is_nosniff_blocked,
-    is_type_blocked, preflight, preflight_verdict, seen, unsafe_names, upgrades, violations,
+    Seen, Verdict, Violation, essence, exposed_names, is_forbidden_header, is_mixed_blocked, is_mixed_upgraded,
+    is_nosniff_blocked, is_type_blocked, keeps_from, passes_cors_check, preflight, preflight_verdict, says_nosniff, seen,
+    unsafe_names, upgrades, violations,
 )

@@ -16,9 +16,9 @@ from . import Headers, Text, _Handle, _lent, _lib, _number_of, _told, _written
 from .whole import Client, Load, Policies, Request
 
 __all__ = [
-    "Seen", "Verdict", "Violation", "exposed_names", "is_forbidden_header", "is_mixed_blocked", "is_mixed_upgraded",
-    "is_nosniff_blocked", "is_type_blocked", "preflight", "preflight_verdict", "seen", "unsafe_names", "upgrades",
-    "violations",
+    "Seen", "Verdict", "Violation", "essence", "exposed_names", "is_forbidden_header", "is_mixed_blocked",
+    "is_mixed_upgraded", "is_nosniff_blocked", "is_type_blocked", "keeps_from", "passes_cors_check", "preflight",
+    "preflight_verdict", "says_nosniff", "seen", "unsafe_names", "upgrades", "violations",
 ]
 
 Asked = Union[Request, Load]
@@ -70,6 +70,32 @@ def _each(call: Callable[..., Any], *given: Any) -> Tuple[bytes, ...]:
     while (text := _written(call, *given, len(found))) is not None:
         found.append(text)
     return tuple(found)
+
+
+def passes_cors_check(origin: Text, headers: Listed, credentials: bool = False) -> bool:
+    """ "CORS check" (Fetch, section 4.10) of an answer's list, for a serialised origin; `credentials` where the mode is
+    include."""
+    answer = _list(headers)
+    return _told(_lib.fiorrudda_cors_check(*_lent(origin), credentials, answer._handle))
+
+
+def keeps_from(page: Text, url: Text, headers: Listed) -> bool:
+    """Whether the answer of a URL is kept from a page in mode no-cors (Fetch, "cross-origin resource policy check")."""
+    answer = _list(headers)
+    return _told(_lib.fiorrudda_resource_policy(*_lent(page), *_lent(url), answer._handle))
+
+
+def says_nosniff(headers: Listed) -> bool:
+    """ "determine nosniff" (Fetch)."""
+    answer = _list(headers)
+    return _told(_lib.fiorrudda_nosniff(answer._handle))
+
+
+def essence(headers: Listed) -> Optional[str]:
+    """The essence of the MIME type of a list, in lower case, or None (Fetch, "extract a MIME type")."""
+    answer = _list(headers)
+    text = _written(_lib.fiorrudda_essence, answer._handle)
+    return None if text is None else text.decode()
 
 
 def unsafe_names(headers: Listed) -> Tuple[str, ...]:
