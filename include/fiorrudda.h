@@ -369,7 +369,7 @@ extern "C" {
 // The preflight cache learns what a preflight allowed.
 #define FIORRUDDA_CALL_LEARN 3u
 
-// It forgets what it knows of a server.
+// It forgets what it has learnt of an origin and a URL.
 #define FIORRUDDA_CALL_CLEAR 4u
 
 // What a fetch came to: a response.

@@ -80,19 +80,20 @@ def passes_cors_check(origin: Text, headers: Listed, credentials: bool = False) 
 
 
 def keeps_from(page: Text, url: Text, headers: Listed) -> bool:
-    """Whether the answer of a URL is kept from a page in mode no-cors (Fetch, "cross-origin resource policy check")."""
+    """Whether the answer of a URL is kept from a page in mode no-cors (Fetch, section 3.7, "cross-origin resource policy
+    check")."""
     answer = _list(headers)
     return _told(_lib.fiorrudda_resource_policy(*_lent(page), *_lent(url), answer._handle))
 
 
 def says_nosniff(headers: Listed) -> bool:
-    """ "determine nosniff" (Fetch)."""
+    """ "determine nosniff" of an answer's list (Fetch, section 3.6)."""
     answer = _list(headers)
     return _told(_lib.fiorrudda_nosniff(answer._handle))
 
 
 def essence(headers: Listed) -> Optional[str]:
-    """The essence of the MIME type of a list, in lower case, or None (Fetch, "extract a MIME type")."""
+    """The essence of the MIME type of a list, in lower case, or None (Fetch, section 3.5, "extract a MIME type")."""
     answer = _list(headers)
     text = _written(_lib.fiorrudda_essence, answer._handle)
     return None if text is None else text.decode()
@@ -185,12 +186,12 @@ def seen(client: Client, request: Asked, status: int, headers: Listed, tainting:
 
 
 def is_type_blocked(request: Asked, headers: Listed) -> bool:
-    """Whether an answer to a request is blocked for its MIME type (Fetch)."""
+    """Whether an answer to a request is blocked for its MIME type (Fetch, section 2.10)."""
     answer = _list(headers)
     return _told(_lib.fiorrudda_type_blocked(request._handle, answer._handle))
 
 
 def is_nosniff_blocked(request: Asked, headers: Listed) -> bool:
-    """Whether an answer to a request is blocked since it says nosniff (Fetch)."""
+    """Whether an answer to a request is blocked since it says nosniff (Fetch, section 3.6.1)."""
     answer = _list(headers)
     return _told(_lib.fiorrudda_nosniff_blocked(request._handle, answer._handle))
