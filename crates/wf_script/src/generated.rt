@@ -97,7 +97,7 @@ fn put_script(alloc: Global) -> Result<Script, OutOfMemory>
     ensures { IfOk result (λ script. script ≡ spec.put_script) }
 {
     let mut inner = Script::new(alloc);
-    inner.push(Command::Fetch(put_request(alloc)?))?;
+    inner.push(Command::fetch(alloc, put_request(alloc)?)?)?;
     inner.push(Command::Wait(1))?;
     let mut script = Script::new(alloc);
     script.push(Command::Repeat(200, inner))?;

@@ -7,7 +7,7 @@ use Rattle.wf_script_commands.specs.declared.command.Script.TheInside.{Inside}
 
 -- the step that a command is
 abbrev pub step_of : Command → Step
-step_of (Fetch init) = fetch init
+step_of (Fetch init) = fetch init.value
 step_of (Load init) = load init
 step_of (Wait seconds) = wait seconds
 step_of (Repeat times script) = repeat times script

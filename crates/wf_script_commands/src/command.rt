@@ -22,8 +22,8 @@ pub enum Test {
 #[derive(Drop)]
 #[cycle(script)]
 pub enum Command {
-    /// A call of `fetch`.
-    Fetch(Init),
+    /// A call of `fetch`, in a place of its own, so that a wait takes less room.
+    Fetch(Box<Init>),
     /// An element loads a resource.
     Load(LoadInit),
     /// This many seconds pass.
@@ -32,6 +32,22 @@ pub enum Command {
     Repeat(u32, Script),
     /// The first script where the condition holds, else the second.
     If(Test, Script, Script),
+}
+
+impl Command {
+    ghost use Rattle.std.specs.Prelude.{◌≡◌, IfOk};
+    ghost use Rattle.wf_script_commands.specs.Commands.{step_of};
+    ghost use Rattle.wf_script_commands.specs.Scripts.{fetch};
+
+    /// A call of `fetch`.
+    pub fn fetch(alloc: Global, init: Init) -> Result<Command, OutOfMemory>
+        ensures { IfOk result (λ command. step_of command ≡ fetch init) }
+    {
+        match Box::new(alloc, init) {
+            Ok(init) => Ok(Command::Fetch(init)),
+            Err(_) => Err(OutOfMemory),
+        }
+    }
 }
 
 /// The commands of a script, in order, seen as its steps.

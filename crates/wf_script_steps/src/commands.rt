@@ -25,7 +25,7 @@ pub(crate) fn fetch_command(alloc: Global, tree: &Tree<'_, '_>) -> Result<Comman
 {
     only_keys(alloc, tree, &["fetch"])?;
     let init = required(alloc, tree, "fetch", &FetchTable)?;
-    Ok(Command::Fetch(init))
+    Ok(Command::fetch(alloc, init)?)
 }
 
 // A load by an element.
