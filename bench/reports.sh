@@ -26,7 +26,7 @@ more() {
 # The peak in KB, and how the reports end, of so many documents.
 peak() {
     made "$@" >"$work/scenario"
-    (ulimit -S -s 1024; MALLOC_ARENA_MAX=4 /usr/bin/time -f %M "$reports" play <"$work/scenario" >"$work/text") 2>"$work/kb"
+    (ulimit -S -s 1024; MALLOC_ARENA_MAX=8 /usr/bin/time -f %M "$reports" play <"$work/scenario" >"$work/text") 2>"$work/kb"
     printf '%s: %s KB, %s\n' "$*" "$(cat "$work/kb")" "$(grep -a ^end "$work/text" | sort | uniq -c | tr -s ' ' | tr '\n' ';')"
 }
 
