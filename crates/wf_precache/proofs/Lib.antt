@@ -3,6 +3,7 @@ pub mod Computed
 pub mod KeyLaws
 pub mod KeyLemmas
 pub mod ListLemmas
+pub mod MarkLemmas
 pub mod PackLemmas
 pub mod TeachLemmas
 pub mod WalkLemmas

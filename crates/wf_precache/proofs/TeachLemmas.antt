@@ -3,24 +3,24 @@ use Rattle.std.proofs.Common.{◌≡◌, ◌++◌, ◌∷◌, [], ℕ, List, Boo
 use Rattle.std.specs.List.{list_any}
 use Rattle.wf_text.specs.declared.memory.OutOfMemory.{OutOfMemory}
 use Rattle.wf_precache.specs.declared.entry.Allowed.{Allowed}
-use Rattle.wf_precache.specs.declared.entry.CacheEntry.{CacheEntry}
+use Rattle.wf_precache.specs.declared.lessons.Mark.{Mark}
 use Rattle.wf_precache.specs.declared.question.Lesson.{Lesson}
-use Rattle.wf_precache.specs.Teaching.{created, is_known, newest, renewed, with_item}
+use Rattle.wf_precache.specs.Private.Marks.{created, is_known, newest, renewed, with_item}
 use Rattle.wf_precache.proofs.ListLemmas.{unmapped}
 
-module _ (lesson : Lesson) (now : ℕ) (item : Allowed) (old new : List CacheEntry) where
-  -- where no entry is known, the renewed entries with the new one after them are those of the definition
+module _ (lesson : Lesson) (now : ℕ) (item : Allowed) (old new : List Mark) where
+  -- where no entry is known, the renewed marks with the new one after them are those of the definition
   created-last : list_any (is_known lesson now item) old ≡ false → new
       ≡ newest (map (renewed lesson now item) old ++ created lesson now item ∷ []) → new ≡ with_item lesson now old item
   created-last none is =
-      let same = unmapped (is_known lesson now item) (λ entry. record entry { made = now; age = lesson.age }) old none
+      let same = unmapped (is_known lesson now item) (λ mark. record mark { made = now; age = lesson.age }) old none
       in
       let choice : (b : Bool) → b ≡ false
       → cond b (map (renewed lesson now item) old) (newest (old ++ created lesson now item ∷ []))
       ≡ newest (old ++ created lesson now item ∷ []) =
       λ b e. ap (λ (b : Bool). cond b (map (renewed lesson now item) old)
       (newest (old ++ created lesson now item ∷ []))) e in
-      is ∙ (ap (λ (entries : List CacheEntry). newest (entries ++ created lesson now item ∷ [])) same
+      is ∙ (ap (λ (marks : List Mark). newest (marks ++ created lesson now item ∷ [])) same
       ∙ sym (choice _ none))
 
   pub learnt-new : (result : Result (Unit {0}) OutOfMemory) → list_any (is_known lesson now item) old ≡ false

@@ -1,4 +1,4 @@
-ghost use Rattle.std.specs.Prelude.{◌≡◌, IfOk};
+ghost use Rattle.std.specs.Prelude.{◌≡◌, ◌+◌, nat_lt, IfOk};
 ghost use Rattle.std.specs.Str.{bytes_eq};
 ghost use Rattle.wf_precache.specs.Entries.{allows, allows_method, allows_name, is_alive, is_entry_match};
 
@@ -70,7 +70,7 @@ impl Allowed {
         }
     }
 
-    fn copy(&self, alloc: Global) -> Result<Allowed, OutOfMemory>
+    pub(crate) fn copy(&self, alloc: Global) -> Result<Allowed, OutOfMemory>
         ensures { IfOk result (λ allowed. allowed ≡ self.now) }
     {
         match self {
@@ -80,12 +80,19 @@ impl Allowed {
     }
 }
 
+// Whether what was made then is younger than its age now.
+pub(crate) fn is_younger(made: u64, age: u64, now: u64) -> bool
+    ensures { result ≡ nat_lt now (made + age) }
+{
+    now < made || now - made < age
+}
+
 impl CacheEntry {
     // Whether the entry is younger than its age.
     pub(crate) fn is_alive(&self, now: u64) -> bool
         ensures { result ≡ is_alive now self.now }
     {
-        now < self.made || now - self.made < self.age
+        is_younger(self.made, self.age, now)
     }
 
     // "cache entry match", the key aside.

@@ -4,6 +4,7 @@
 mod cache;
 mod entry;
 mod laws;
+mod lessons;
 mod names;
 mod packed;
 mod partition;

@@ -1,16 +1,16 @@
 ghost use Rattle.std.specs.Prelude.{◌≡◌, ◌<◌, ◌≤◌, ◌++◌, ◌∷◌, [], length, map, filter, not, IfOk, OnOk, OnErr};
 ghost use Rattle.std.specs.List.{fold, list_all, list_any};
 ghost use Rattle.wf_precache.specs.Entries.{covered, has_match, has_method_match, is_alive, is_of};
-ghost use Rattle.wf_precache.specs.Teaching.{created, is_known, methods_of, names_of, newest, renewed, taught};
-ghost use Rattle.wf_precache.specs.Teaching.{with_item};
+ghost use Rattle.wf_precache.specs.Teaching.{taught};
 ghost use Rattle.wf_precache.specs.declared.entry.Allowed.{Allowed};
 ghost use Rattle.wf_precache.specs.declared.entry.Allowed.TheVariants.{Method, HeaderName};
 
 use crate::entry::{Allowed, CacheEntry};
+use crate::lessons::taught;
 use crate::question::{Lesson, Question};
 use std::alloc::Global;
 use std::marker::Model;
-use wf_text::{Bytes, OutOfMemory};
+use wf_text::OutOfMemory;
 
 /// How many entries a key holds at most.
 pub(crate) const MOST: usize = 64;
@@ -91,79 +91,8 @@ pub(crate) fn covers(entries: &[CacheEntry], question: &Question, now: u64) -> b
     covers_method(entries, question, now) && covers_names(entries, question, now)
 }
 
-// A copy of the entries that are alive.
-fn alive_of(alloc: Global, entries: &[CacheEntry], now: u64) -> Result<Vec<CacheEntry>, OutOfMemory>
-    ensures { IfOk result (λ alive. alive.items ≡ filter (is_alive now) entries.now) }
-{
-    let mut alive = Vec::new(alloc);
-    for entry in entries {
-        if entry.is_alive(now) {
-            alive.push(entry.copy(alloc)?)?;
-        }
-    }
-    Ok(alive)
-}
-
-// Whether the entry is alive and matches the lesson's method or header name.
-fn is_known(entry: &CacheEntry, lesson: &Lesson, item: &Allowed, now: u64) -> bool
-    ensures { result ≡ is_known lesson.now now item.now entry.now }
-{
-    entry.is_alive(now)
-        && entry.is_entry_match(
-            lesson.origin.as_slice(),
-            lesson.url.as_slice(),
-            lesson.include,
-        )
-        && entry.allowed.allows(item)
-}
-
-// Gives the entry the lesson's age from now on, where it is alive and matches, and says whether it does.
-fn renew_one(entry: &mut CacheEntry, lesson: &Lesson, item: &Allowed, now: u64) -> bool
-    ensures known { result ≡ is_known lesson.now now item.now entry.old }
-    ensures entry { entry.new ≡ renewed lesson.now now item.now entry.old }
-{
-    let known = is_known(entry, lesson, item, now);
-    if known {
-        entry.made = now;
-        entry.age = lesson.age;
-    }
-    known
-}
-
-// Renews all entries that are alive and match, and says whether there are any.
-fn renew_all(entries: &mut [CacheEntry], lesson: &Lesson, item: &Allowed, now: u64) -> bool
-    ensures any { result ≡ list_any (is_known lesson.now now item.now) entries.old }
-    ensures all { entries.new ≡ map (renewed lesson.now now item.now) entries.old }
-{
-    let mut found = false;
-    for entry in entries.iter_mut() {
-        let known = renew_one(entry, lesson, item, now);
-        found |= known;
-    }
-    found
-}
-
-// A new entry.
-fn create(
-    alloc: Global,
-    lesson: &Lesson,
-    item: Allowed,
-    now: u64,
-) -> Result<CacheEntry, OutOfMemory>
-    ensures { IfOk result (λ entry. entry ≡ created lesson.now now item) }
-{
-    Ok(CacheEntry {
-        origin: lesson.origin.copy(alloc)?,
-        url: lesson.url.copy(alloc)?,
-        include: lesson.include,
-        made: now,
-        age: lesson.age,
-        allowed: item,
-    })
-}
-
 // Whether the entry is of the origin and the URL.
-fn is_of(entry: &CacheEntry, origin: &[u8], url: &[u8]) -> bool
+pub(crate) fn is_of(entry: &CacheEntry, origin: &[u8], url: &[u8]) -> bool
     ensures { result ≡ is_of origin.now url.now entry.now }
 {
     entry.origin.as_slice() == origin && entry.url.as_slice() == url
@@ -186,64 +115,6 @@ impl Partition {
         self.entries.as_slice()
     }
 
-    // Renews all entries that are alive and match, and says whether there are any.
-    fn renew(&mut self, lesson: &Lesson, item: &Allowed, now: u64) -> bool
-        ensures any { result ≡ list_any (is_known lesson.now now item.now) self.old }
-        ensures all { self.new ≡ map (renewed lesson.now now item.now) self.old }
-    {
-        renew_all(self.entries.as_mut_slice(), lesson, item, now)
-    }
-
-    // Adds an entry. Where there are 65 then, the oldest goes.
-    fn add(&mut self, entry: CacheEntry) -> Result<(), OutOfMemory>
-        ensures { OnOk result (self.new ≡ newest (self.old ++ entry ∷ [])) }
-    {
-        self.entries.push(entry)?;
-        if self.entries.len() > MOST {
-            self.entries.remove(0);
-        }
-        Ok(())
-    }
-
-    // Learns a method or a header name.
-    fn teach(
-        &mut self,
-        alloc: Global,
-        lesson: &Lesson,
-        item: Allowed,
-        now: u64,
-    ) -> Result<(), OutOfMemory>
-        ensures { OnOk result (self.new ≡ with_item lesson.now now self.old item) }
-    {
-        if self.renew(lesson, &item, now) {
-            return Ok(());
-        }
-        let entry = create(alloc, lesson, item, now)?;
-        self.add(entry)
-    }
-
-    // Learns the methods, in order.
-    fn teach_methods(&mut self, alloc: Global, lesson: &Lesson, now: u64) -> Result<(), OutOfMemory>
-        ensures { OnOk result (self.new ≡ fold (with_item lesson.now now) self.old (methods_of lesson.now)) }
-    {
-        for index in 0..lesson.methods.len() {
-            let method = Bytes::of(alloc, lesson.methods.at(index))?;
-            self.teach(alloc, lesson, Allowed::Method(method), now)?;
-        }
-        Ok(())
-    }
-
-    // Learns the header names, in order.
-    fn teach_names(&mut self, alloc: Global, lesson: &Lesson, now: u64) -> Result<(), OutOfMemory>
-        ensures { OnOk result (self.new ≡ fold (with_item lesson.now now) self.old (names_of lesson.now)) }
-    {
-        for index in 0..lesson.names.len() {
-            let name = Bytes::of(alloc, lesson.names.at(index))?;
-            self.teach(alloc, lesson, Allowed::HeaderName(name), now)?;
-        }
-        Ok(())
-    }
-
     // Copies of the entries that are alive, with what the lesson teaches.
     pub(crate) fn taught(
         alloc: Global,
@@ -254,11 +125,8 @@ impl Partition {
         requires { length entries.now ≤ 64 }
         ensures { IfOk result (λ partition. partition ≡ taught lesson.now now entries.now) }
     {
-        let entries = alive_of(alloc, entries, now)?;
-        let mut partition = Partition { entries };
-        partition.teach_methods(alloc, lesson, now)?;
-        partition.teach_names(alloc, lesson, now)?;
-        Ok(partition)
+        let entries = taught(alloc, entries, lesson, now)?;
+        Ok(Partition { entries })
     }
 
     // One entry.

@@ -1,8 +1,9 @@
 use Rattle.std.proofs.Common.{◌≡◌, drop, map}
 use Rattle.std.specs.List.{fold}
-use Rattle.wf_precache.specs.Teaching.{names_of, with_item}
+use Rattle.wf_precache.specs.Private.Marks.{with_item}
+use Rattle.wf_precache.specs.Teaching.{names_of}
 use Rattle.wf_precache.specs.declared.entry.Allowed.TheVariants.{HeaderName}
-use Rattle.wf_precache.proofs.partition.Partition.teach_names.Given as goal
+use Rattle.wf_precache.proofs.lessons.Learning.teach_names.Given as goal
 
 abbrev pub invariant-loop-index : goal.invariant-loop-index
 invariant-loop-index l =

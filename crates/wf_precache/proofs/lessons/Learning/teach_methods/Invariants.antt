@@ -1,8 +1,9 @@
 use Rattle.std.proofs.Common.{◌≡◌, drop, map}
 use Rattle.std.specs.List.{fold}
-use Rattle.wf_precache.specs.Teaching.{methods_of, with_item}
+use Rattle.wf_precache.specs.Private.Marks.{with_item}
+use Rattle.wf_precache.specs.Teaching.{methods_of}
 use Rattle.wf_precache.specs.declared.entry.Allowed.TheVariants.{Method}
-use Rattle.wf_precache.proofs.partition.Partition.teach_methods.Given as goal
+use Rattle.wf_precache.proofs.lessons.Learning.teach_methods.Given as goal
 
 abbrev pub invariant-loop-index : goal.invariant-loop-index
 invariant-loop-index l =

@@ -1,7 +1,7 @@
-use Rattle.wf_precache.specs.Teaching.{with_item}
+use Rattle.wf_precache.specs.Private.Marks.{with_item}
 use Rattle.wf_precache.specs.declared.entry.Allowed.TheVariants.{Method}
 use Rattle.wf_precache.proofs.ListLemmas.{folded-from}
-use Rattle.wf_precache.proofs.partition.Partition.teach_methods.Goals as goal
+use Rattle.wf_precache.proofs.lessons.Learning.teach_methods.Goals as goal
 
 pub loop-index-preserved : goal.loop-index-preserved
 loop-index-preserved c =
