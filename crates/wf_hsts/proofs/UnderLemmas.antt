@@ -8,7 +8,7 @@ use Rattle.std.specs.List.{ends_with, list_any}
 use Rattle.std.specs.Str.{bytes_eq}
 use Rattle.wf_hsts.specs.Hosts.{matches_host}
 use Rattle.wf_hsts.proofs.IndexLemmas.{eq-flip}
-use Rattle.wf_hsts.specs.Private.Terms.{begins_under, covers, is_under}
+use Rattle.wf_hsts.specs.Private.Terms.{begins_under, covers, is_dot_and, is_under}
 use Rattle.wf_hsts.specs.declared.hosts.KnownHost.{KnownHost}
 
 drop-nothing : (n : ℕ) → drop n (let none : List ℕ = [] in none) ≡ []
@@ -127,3 +127,21 @@ under-later hosts name now at within here = under-at hosts name now at within
 pub under-ended : (hosts : List KnownHost) (name : List ℕ) (now at : ℕ) → length name ≤ at
     → is_under hosts (drop at name) now ≡ false
 under-ended hosts name now at past = ap (λ l. is_under hosts l now) (drop_all at name past) ∙ under-nothing hosts now
+
+-- the text is a dot and a host where the two are equal
+dot-and : (host text : List ℕ) → is_dot_and host text ≡ bytes_eq (46 ∷ host) text
+dot-and host [] = refl
+dot-and host (byte ∷ text) = rw (eq-flip 46 byte) refl
+
+-- a name ends in a dot and a host where its last bytes are these
+pub ends_there : (name host : List ℕ) (at : ℕ) → length host < length name → at ≡ length name - length host - 1
+    → is_dot_and host (drop at name) ≡ ends_with nat_eq name (46 ∷ host)
+ends_there name host at longer is =
+    let same : at ≡ length name - length (46 ∷ host) = omega (arith, is) in
+    dot-and host (drop at name) ∙ ap (λ (n : ℕ). bytes_eq (46 ∷ host) (drop n name)) same
+
+-- and a name that is no longer than the host does not
+pub ends_nowhere : (name host : List ℕ) → length name ≤ length host → ends_with nat_eq name (46 ∷ host) ≡ false
+ends_nowhere name host short =
+    let all : length name - length (46 ∷ host) ≡ 0 = omega arith in
+    rw all (unequal nat_eq (46 ∷ host) name (λ e. omega (arith, e)))

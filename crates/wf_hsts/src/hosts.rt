@@ -11,6 +11,9 @@ use wf_text::{Bytes, OutOfMemory};
 /// How many hosts a list holds at most (profile).
 const MOST_HOSTS: usize = 4096;
 
+/// How many bytes the longest name of the DNS has (RFC 1035, section 2.3.4).
+const LONGEST_NAME: usize = 253;
+
 /// A known HSTS host, as contracts see an entry of a list (RFC 6797, section 8.1.1).
 #[derive(Drop)]
 pub struct KnownHost {
@@ -86,8 +89,8 @@ fn begins_under(index: &Index, text: &[u8], now: u64) -> bool
     }
 }
 
-// Whether the name ends in a dot and such a host.
-fn is_under(index: &Index, name: &[u8], now: u64) -> bool
+// Whether the name ends in a dot and such a host: each text after a dot is looked up.
+fn has_known_end(index: &Index, name: &[u8], now: u64) -> bool
     ensures { result ≡ is_under index.now name.now now }
 {
     for start in 0..name.len() {
@@ -96,6 +99,18 @@ fn is_under(index: &Index, name: &[u8], now: u64) -> bool
         }
     }
     false
+}
+
+// Whether the name ends in a dot and such a host. For a name that is longer than any of the DNS each host is compared
+// once, since it may have thousands of dots, and as long a text after each.
+fn is_under(index: &Index, name: &[u8], now: u64) -> bool
+    ensures { result ≡ is_under index.now name.now now }
+{
+    if name.len() > LONGEST_NAME {
+        index.is_above(name, now)
+    } else {
+        has_known_end(index, name, now)
+    }
 }
 
 // Whether fewer than 4,096 other hosts are known.

@@ -3,10 +3,10 @@ ghost use Rattle.std.specs.List.{list_all};
 ghost use Rattle.std.specs.Ordering.{is_lt};
 ghost use Rattle.wf_text.specs.Orders.{text_cmp};
 ghost use Rattle.wf_hsts.specs.Hosts.{AreSorted, known_host, with_host, without};
-ghost use Rattle.wf_hsts.specs.Private.Terms.{IsFirstToEnd, term_in};
+ghost use Rattle.wf_hsts.specs.Private.Terms.{IsFirstToEnd, is_under, term_in};
 
 use crate::hosts::KnownHost;
-use crate::walk::{are_before, copies};
+use crate::walk::{are_before, copies, is_under};
 use std::alloc::Global;
 use std::collections::{BTreeMap, BTreeSet};
 use std::marker::Model;
@@ -84,6 +84,13 @@ impl Index {
         ensures sorted { AreSorted self.now }
     {
         are_before(&self.terms, host)
+    }
+
+    // Whether the name ends in a dot and a host with subdomains whose term has not ended.
+    pub(crate) fn is_above(&self, name: &[u8], now: u64) -> bool
+        ensures { result ≡ is_under self.now name.now now }
+    {
+        is_under(&self.terms, name, now)
     }
 
     // Copies of the hosts, in order.

@@ -1,8 +1,10 @@
-ghost use Rattle.std.specs.Prelude.{◌≡◌, IfOk};
-ghost use Rattle.std.specs.List.{list_all};
+ghost use Rattle.std.specs.Prelude.{◌≡◌, ◌&&◌, ◌∷◌, nat_eq, nat_lt, IfOk};
+ghost use Rattle.std.specs.List.{ends_with, list_all};
 ghost use Rattle.std.specs.Ordering.{is_lt};
+ghost use Rattle.wf_text.specs.Ascii.{dot};
 ghost use Rattle.wf_text.specs.Orders.{text_cmp};
 ghost use Rattle.wf_hsts.specs.Private.Index.{listed};
+ghost use Rattle.wf_hsts.specs.Private.Terms.{is_dot_and, is_under};
 
 use crate::hosts::KnownHost;
 use crate::index::Term;
@@ -38,4 +40,44 @@ pub(crate) fn copies(
         })?;
     }
     Ok(hosts)
+}
+
+// Whether the text is a dot and the host.
+fn is_dot_and(text: &[u8], host: &[u8]) -> bool
+    ensures { result ≡ is_dot_and host.now text.now }
+{
+    match text {
+        [b'.', rest @ ..] => host == rest,
+        _ => false,
+    }
+}
+
+// Whether the name ends in a dot and the host.
+#[tactic(auto, using(crate::proofs::UnderLemmas::ends_nowhere, crate::proofs::UnderLemmas::ends_there))]
+fn ends_under(name: &[u8], host: &[u8]) -> bool
+    ensures { result ≡ ends_with nat_eq name.now (dot ∷ host.now) }
+{
+    if name.len() <= host.len() {
+        return false;
+    }
+    is_dot_and(name.split_at(name.len() - host.len() - 1).1, host)
+}
+
+// Whether the host has subdomains, its term has not ended, and the name ends in a dot and the host.
+fn is_above(host: &[u8], term: Term, name: &[u8], now: u64) -> bool
+    ensures { result ≡ ((term.subdomains && ends_with nat_eq name.now (dot ∷ host.now)) && nat_lt now term.until) }
+{
+    term.subdomains && ends_under(name, host) && now < term.until
+}
+
+// Whether the name ends in a dot and a host with subdomains whose term has not ended. Each host is compared once.
+pub(crate) fn is_under(terms: &BTreeMap<Vec<u8>, Term>, name: &[u8], now: u64) -> bool
+    ensures { result ≡ is_under (listed (λ name. name.items) terms.now.entries) name.now now }
+{
+    for (host, term) in terms {
+        if is_above(host.as_slice(), *term, name, now) {
+            return true;
+        }
+    }
+    false
 }

@@ -46,6 +46,11 @@ abbrev pub begins_under : List KnownHost → List ℕ → ℕ → Bool
 begins_under hosts [] now = false
 begins_under hosts (byte ∷ text) now = byte == dot && covers hosts text now
 
+-- the text is a dot and this host
+abbrev pub is_dot_and : List ℕ → List ℕ → Bool
+is_dot_and host [] = false
+is_dot_and host (byte ∷ text) = byte == dot && bytes_eq host text
+
 -- a name is under a host with subdomains whose term has not ended
 abbrev pub is_under : List KnownHost → List ℕ → ℕ → Bool
 is_under hosts name now =

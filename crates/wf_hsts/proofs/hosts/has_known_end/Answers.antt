@@ -1,7 +1,7 @@
 use Rattle.std.proofs.Common.{ap, sym, ◌∙◌}
 use Rattle.wf_hsts.specs.Private.Terms.{begins_under}
 use Rattle.wf_hsts.proofs.UnderLemmas.{under-ended, under-here, under-later}
-use Rattle.wf_hsts.proofs.hosts.is_under.Goals as goal
+use Rattle.wf_hsts.proofs.hosts.has_known_end.Goals as goal
 
 pub returns-then-begins_under : goal.returns-then-begins_under
 returns-then-begins_under c =
