@@ -5,3 +5,4 @@ pub mod TargetLemmas
 pub mod PolicyLemmas
 pub mod StripLemmas
 pub mod NameLemmas
+pub mod SetLemmas

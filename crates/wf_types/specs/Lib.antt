@@ -13,4 +13,5 @@ pub mod Requests
 pub mod ResourcePolicy
 pub mod Statuses
 pub mod Targets
+pub mod TextSets
 pub mod Urls

@@ -23,6 +23,7 @@ mod response;
 mod status;
 mod stripping;
 mod target;
+mod text_set;
 mod urls;
 
 pub use client::{Client, Cookie, Cookies};
@@ -46,4 +47,5 @@ pub use response::{BodyEnd, Outcome, Response, ResponseKind};
 pub use status::{is_null_body_status, is_ok_status, is_redirect_status};
 pub use stripping::{strip, without_fragment};
 pub use target::{host_value, origin_text, target_of};
+pub use text_set::TextSet;
 pub use urls::{has_credentials, is_short_url, unless_long, url_against, url_alone, utf8_text};
