@@ -1,4 +1,4 @@
-ghost use Rattle.std.specs.Prelude.{◌≡◌, ℕ, List, [], ◌||◌, bytes_eq, IfOk, OnOk};
+ghost use Rattle.std.specs.Prelude.{◌≡◌, ℕ, List, [], ◌||◌, bytes_eq, IfOk, OnErr, OnOk};
 ghost use Rattle.std.specs.List.{list_any};
 ghost use Rattle.std.specs.Str.{str_eq_ignore_ascii_case, str_to_ascii_lowercase};
 ghost use Rattle.wf_types.specs.TextSets.{has_text};
@@ -45,10 +45,11 @@ impl TextSet {
         Ok(set)
     }
 
-    /// Adds a copy of the text, unless it is there. The only error is want of memory.
+    /// Adds a copy of the text, unless it is there. The only error is want of memory, which leaves the set as it was.
     pub fn add(&mut self, alloc: Global, text: &[u8]) -> Result<(), OutOfMemory>
-        ensures { OnOk result ((other : List ℕ) → has_text self.new other
+        ensures added { OnOk result ((other : List ℕ) → has_text self.new other
             ≡ (bytes_eq text.now other || has_text self.old other)) }
+        ensures err { OnErr result (self.new ≡ self.old) }
     {
         self.texts.insert(Vec::from_slice(alloc, text)?)?;
         Ok(())

@@ -3,8 +3,8 @@ use Rattle.wf_types.proofs.SetLemmas.{has-inserted}
 use Rattle.wf_types.specs.TextSets.{has_text}
 use Rattle.wf_types.proofs.text_set.TextSet.add.Goals as goal
 
-pub returns : goal.returns
-returns c = λ other.
+pub returns-clause-added : goal.returns-clause-added
+returns-clause-added c = λ other.
     ap (λ keys. has_text (map (λ text. text.items) keys) other) c.in_ok-insert.ensures.keys
     ∙ (has-inserted (λ text. text.items) other c.in_ok-from_slice.field-0 c.self.inside.texts.keys
     ∙ rw (c.in_ok-from_slice.ensures.items, ← c.self.view_is) refl)
