@@ -5,3 +5,4 @@ pub mod KeepingLemmas
 pub mod ViewLemmas
 pub mod OwnViewLemmas
 pub mod LawLemmas
+pub mod ListedLemmas

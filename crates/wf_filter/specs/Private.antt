@@ -1,3 +1,4 @@
 pub mod Collecting
 pub mod Exposing
 pub mod Keeping
+pub mod Listing

@@ -1,11 +1,11 @@
 ghost use Rattle.std.specs.Prelude.{◌≡◌};
-ghost use Rattle.wf_filter.specs.Private.Exposing.{is_safelisted_in};
+ghost use Rattle.wf_filter.specs.Private.Listing.{is_safelisted_among};
 ghost use Rattle.wf_filter.specs.Private.Keeping as private;
 ghost use Rattle.wf_filter.specs.Views as views;
 ghost use Rattle.wf_types.specs.PermittedNames as permitted;
 
-use crate::exposed::Exposure;
-use crate::names::{is_forbidden, is_safelisted};
+use crate::listed::{Exposed, is_safelisted_among};
+use crate::names::is_forbidden;
 use wf_headers::{Header, HeaderTest};
 use wf_types::{Tainting, has_name_among};
 
@@ -54,21 +54,10 @@ pub enum Keep<'a> {
     /// Those that the check of this tainting rests on, and those with these names.
     Told(Tainting, &'a [&'a [u8]]),
     /// Those with a CORS-safelisted response-header name, of a list that exposes this.
-    Safelisted(&'a Exposure),
+    Safelisted(&'a Exposed),
     /// Those of `Safelisted`, the header by which a host becomes known, and those that the CORS check and the end of
     /// main fetch rest on.
-    ToldCors(&'a Exposure),
-}
-
-// Whether a header of a list that exposes this has a CORS-safelisted response-header name. Where all
-// names are exposed, the header's own is one of them, so it is only asked whether it is forbidden.
-fn is_safelisted_in(exposure: &Exposure, header: &Header) -> bool
-    ensures { result ≡ is_safelisted_in exposure.now header.now }
-{
-    match exposure {
-        Exposure::All => !is_forbidden(header),
-        Exposure::Names(names) => is_safelisted(names.as_slice(), header),
-    }
+    ToldCors(&'a Exposed),
 }
 
 // Whether the check of this tainting rests on the header.
@@ -92,9 +81,9 @@ impl<'a> HeaderTest for Keep<'a> {
             Keep::Told(tainting, names) => {
                 is_checked(*tainting, header) || has_name_among(names, header)
             }
-            Keep::Safelisted(exposure) => is_safelisted_in(exposure, header),
-            Keep::ToldCors(exposure) => {
-                is_safelisted_in(exposure, header)
+            Keep::Safelisted(exposed) => is_safelisted_among(exposed, header),
+            Keep::ToldCors(exposed) => {
+                is_safelisted_among(exposed, header)
                     || is_checked(Tainting::Cors, header)
                     || has_name_among(&RESPONSE_NAMES, header)
             }

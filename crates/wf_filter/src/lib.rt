@@ -5,6 +5,7 @@
 mod exposed;
 mod keep;
 mod laws;
+mod listed;
 mod names;
 mod responses;
 mod views;

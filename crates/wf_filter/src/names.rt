@@ -36,11 +36,17 @@ pub fn is_forbidden(header: &Header) -> bool
     has_name_among(&FORBIDDEN_NAMES, header)
 }
 
+// Whether the header has a name that is CORS-safelisted whatever is exposed.
+pub fn has_safelisted_name(header: &Header) -> bool
+    ensures { result ≡ permitted.has_name_among spec.safelisted_names header.now }
+{
+    has_name_among(&SAFELISTED_NAMES, header)
+}
+
 // Whether the header has a CORS-safelisted response-header name, given a list of exposed names
 // (Fetch, section 2.2.2).
 pub fn is_safelisted(exposed: &[Bytes], header: &Header) -> bool
     ensures { result ≡ spec.is_safelisted exposed.now header.now }
 {
-    has_name_among(&SAFELISTED_NAMES, header)
-        || (has_name_in(exposed, header) && !is_forbidden(header))
+    has_safelisted_name(header) || (has_name_in(exposed, header) && !is_forbidden(header))
 }

@@ -6,6 +6,7 @@ ghost use Rattle.wf_types.specs.Requests.{IsRequest};
 
 use crate::exposed::{Exposure, exposure_of};
 use crate::keep::Keep;
+use crate::listed::exposed_in;
 use std::alloc::Global;
 use wf_headers::HeaderList;
 use wf_text::{Bytes, OutOfMemory};
@@ -55,7 +56,8 @@ fn keep_safelisted(
         ≡ filter (is_safelisted (spec.exposed_to request.now headers.old)) headers.old) }
 {
     let exposure = exposure_to(alloc, request, headers)?;
-    headers.retain(&Keep::Safelisted(&exposure));
+    let exposed = exposed_in(alloc, exposure, headers.as_slice())?;
+    headers.retain(&Keep::Safelisted(&exposed));
     Ok(())
 }
 
@@ -131,7 +133,8 @@ fn redirect_filtered(alloc: Global, request: &Request) -> Result<Response, OutOf
 /// opaque-redirect one where the head is a redirect and the redirect mode is manual, which `manual`
 /// tells, and else a basic, CORS or opaque one by the request's tainting. Headers are in order and as
 /// they are spelled, and are those of the head, not copies. Each header of a CORS response is
-/// compared with the exposed names that are listed. The only error is want of memory.
+/// compared with the exposed names that are listed, or looked up in a set of them where both are more
+/// than eight. The only error is want of memory.
 pub fn filtered(
     alloc: Global,
     request: &Request,

@@ -5,6 +5,7 @@ ghost use Rattle.wf_types.specs.PermittedNames.{preflight_status as status_told,
 ghost use Rattle.wf_types.specs.Requests.{IsRequest};
 
 use crate::keep::Keep;
+use crate::listed::exposed_in;
 use crate::responses::{exposure_to, without_forbidden};
 use std::alloc::Global;
 use wf_headers::HeaderList;
@@ -104,7 +105,8 @@ fn cors_headers(
         ≡ filter (spec.is_told_cors (exposed_to request.now headers.now)) headers.now) }
 {
     let exposure = exposure_to(alloc, request, headers)?;
-    headers.copy_where(alloc, &Keep::ToldCors(&exposure))
+    let exposed = exposed_in(alloc, exposure, headers.as_slice())?;
+    headers.copy_where(alloc, &Keep::ToldCors(&exposed))
 }
 
 // Of a CORS response, its status, what its filtered response keeps and what the end of main fetch
@@ -147,8 +149,8 @@ fn response_view(alloc: Global, request: &Request, head: &Head) -> Result<Head, 
 /// the first case that applies: the answer to a preflight, a response that the CORS check or the
 /// cross-origin resource policy check refuses, a redirect that is not to be followed, one that is
 /// followed, a response by the request's tainting. Each header is compared with the names of its
-/// case, and of a CORS response with the exposed names that are listed. The only error is want of
-/// memory.
+/// case, and of a CORS response with the exposed names that are listed, or looked up in a set of them
+/// where both are more than eight. The only error is want of memory.
 pub fn hide(alloc: Global, request: &Request, hop: &Hop, head: &Head) -> Result<Head, OutOfMemory>
     requires { IsRequest request.now }
     ensures { IfOk result (λ view. view ≡ spec.permitted_view request.now hop.now head.now) }

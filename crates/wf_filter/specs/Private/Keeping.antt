@@ -6,7 +6,7 @@ use Rattle.wf_types.specs.PermittedNames.{has_name_among, preflight_names}
 use Rattle.wf_filter.specs.declared.keep.Keep.{Keep}
 use Rattle.wf_filter.specs.declared.keep.Keep.TheVariants.{Allowed, Preflight, Safelisted, Told, ToldCors}
 use Rattle.wf_filter.specs.Names.{is_forbidden}
-use Rattle.wf_filter.specs.Private.Exposing.{is_safelisted_in}
+use Rattle.wf_filter.specs.Private.Listing.{is_safelisted_among}
 use Rattle.wf_filter.specs.Views.{is_told, response_names}
 
 -- the header is kept
@@ -14,6 +14,6 @@ abbrev pub keeps : Keep → Header → Bool
 keeps Allowed header = not (is_forbidden header)
 keeps Preflight header = has_name_among preflight_names header
 keeps (Told tainting names) header = is_told tainting (map (λ name. name.now) names.now) header
-keeps (Safelisted exposure) header = is_safelisted_in exposure.now header
-keeps (ToldCors exposure) header =
-    is_safelisted_in exposure.now header || is_told tainting.Cors response_names header
+keeps (Safelisted exposed) header = is_safelisted_among exposed.now header
+keeps (ToldCors exposed) header =
+    is_safelisted_among exposed.now header || is_told tainting.Cors response_names header
