@@ -2,12 +2,10 @@ ghost use Rattle.std.specs.Prelude.{◌≡◌, IfOk, option_copied};
 ghost use Rattle.wf_types.specs.Requests.{IsRequest};
 ghost use Rattle.wf_cors.specs.Verdict as spec;
 
+use crate::allowed::{first_unlisted, has_name};
 use std::alloc::Global;
 use wf_headers::{Extracted, HeaderList, Rule};
-use wf_text::{
-    AUTHORIZATION, Bytes, BytesList, OutOfMemory, has_text, has_text_fold, has_wildcard,
-    parse_digits,
-};
+use wf_text::{AUTHORIZATION, Bytes, BytesList, OutOfMemory, has_text, has_wildcard, parse_digits};
 use wf_types::{
     Credentials, Head, NetError, Request, is_ok_status, is_safelisted_method, passes_cors_check,
 };
@@ -101,13 +99,6 @@ fn allows_method(request: &Request, methods: &[Bytes]) -> bool
         || covers_all(request.credentials, methods)
 }
 
-// Whether the list names this header, ASCII case aside.
-fn has_name(name: &[u8], names: &[Bytes]) -> bool
-    ensures { result ≡ spec.has_name name.now names.now }
-{
-    has_text_fold(names, name)
-}
-
 // Whether the request has no Authorization, or it is listed: `*` does not cover it.
 fn allows_authorization(request: &Request, names: &[Bytes]) -> bool
     ensures { result ≡ spec.allows_authorization request.now names.now }
@@ -115,27 +106,21 @@ fn allows_authorization(request: &Request, names: &[Bytes]) -> bool
     !request.headers.contains(AUTHORIZATION) || has_name(AUTHORIZATION, names)
 }
 
-// Whether a header name is listed, or covered by `*`.
-fn allows_name(credentials: Credentials, names: &[Bytes], name: &[u8]) -> bool
-    ensures { result ≡ spec.allows_name credentials names.now name.now }
-{
-    has_name(name, names) || covers_all(credentials, names)
-}
-
-// The first of the request's names that is not allowed.
+// The first of the request's names that is not allowed: it is neither listed nor covered by `*`.
 fn first_refused<'a>(
+    alloc: Global,
     credentials: Credentials,
     names: &[Bytes],
     unsafe_names: &'a [Bytes],
-) -> Option<&'a [u8]>
-    ensures { option_copied result ≡ spec.first_refused credentials names.now unsafe_names.now }
+) -> Result<Option<&'a [u8]>, OutOfMemory>
+    ensures { IfOk result (λ found. option_copied found
+        ≡ spec.first_refused credentials names.now unsafe_names.now) }
 {
-    for name in unsafe_names {
-        if !allows_name(credentials, names, name.as_slice()) {
-            return Some(name.as_slice());
-        }
+    match first_unlisted(alloc, names, unsafe_names)? {
+        None => Ok(None),
+        Some(_) if covers_all(credentials, names) => Ok(None),
+        Some(name) => Ok(Some(name)),
     }
-    None
 }
 
 // The refusal of a header name.
@@ -162,7 +147,7 @@ fn verdict_by(
     if !allows_authorization(request, names.as_slice()) {
         return refused_name(alloc, AUTHORIZATION);
     }
-    match first_refused(request.credentials, names.as_slice(), unsafe_names) {
+    match first_refused(alloc, request.credentials, names.as_slice(), unsafe_names)? {
         Some(name) => refused_name(alloc, name),
         None => Ok(Checked::Pass {
             age,

@@ -1,6 +1,7 @@
 // The CORS protocol, after the Fetch Standard: preflights, and the verdicts on their answers.
 #![tactic(auto)]
 
+mod allowed;
 mod answer;
 mod laws;
 mod preflight;
