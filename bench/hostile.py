@@ -204,6 +204,13 @@ def checked_bodies(documents):
     return answering('a' * MEGABYTE, [{'repeat': 4, 'do': [load]}], documents)
 
 
+def unlike_words(count):
+    letters = 'abcdefghijklmnopqrstuvwxyz0123456789'
+    words = itertools.islice(itertools.product(letters, repeat=4), count)
+    value = 'img-src ' + ' '.join(''.join(word) for word in words)
+    return scenario([document([], [['Content-Security-Policy', value]])])
+
+
 class Case(typing.NamedTuple):
     name: str
     make: typing.Callable  # the input of a size: so many bytes, or so many of what the name says
@@ -235,6 +242,7 @@ CASES = [
     Case('names that are allowed', allowed_names, 15000, 60000),
     Case('documents with loads of 20 redirects', redirects, 32, 128),
     Case('words of a policy', policy_words, 500000, 2000000),
+    Case('words of a policy, no two alike', unlike_words, 200000, 800000),
     Case('headers of one letter', short_headers, 2, 16),
     Case('violations', violations, 2, 16),
     Case('bodies that are compared with a digest', checked_bodies, 32, 128),

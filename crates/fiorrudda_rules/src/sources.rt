@@ -22,6 +22,6 @@ pub fn source_matches(
 {
     let url = read_url(alloc, url)?;
     let page = read_web_url(alloc, page)?;
-    let source = parse_source(alloc, word)?;
+    let source = parse_source(word);
     Ok(matches(&source, &url, &tuple_origin(alloc, &page)?, redirects))
 }

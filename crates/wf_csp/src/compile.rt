@@ -4,17 +4,30 @@ ghost use Rattle.wf_csp.specs.Reading as spec;
 use crate::compiled::{Compiled, CompiledDirective, CompiledPolicy};
 use std::alloc::Global;
 use std::snapshot::Snapshot;
-use wf_csp_match::{Source, parse_source};
-use wf_csp_text::{Directive, Policies, Policy};
-use wf_text::{Bytes, Items, OutOfMemory};
+use wf_csp_match::{SourceList, parse_source};
+use wf_csp_text::{Directive, Policies, Policy, Words, first_word};
+use wf_text::{Items, OutOfMemory};
+
+// For how many source expressions room is made: one for each word. No memory has room for more than a number can say.
+fn room_for(text: &[u8]) -> usize {
+    let mut count: usize = 0;
+    let mut left = text;
+    while let Some((_, rest)) = first_word(left) {
+        count = count.saturating_add(1);
+        left = rest;
+    }
+    count
+}
 
 // What each of the words is.
-fn source_list(alloc: Global, words: &[Bytes]) -> Result<Items<Source>, OutOfMemory>
+fn source_list(alloc: Global, words: &Words) -> Result<SourceList, OutOfMemory>
     ensures { IfOk result (λ sources. sources ≡ spec.source_list words.now) }
 {
-    let mut sources = Items::new(alloc);
-    for word in words {
-        sources.push(parse_source(alloc, word.as_slice())?)?;
+    let mut left = words.as_text();
+    let mut sources = SourceList::with_room(alloc, room_for(left), left.len())?;
+    while let Some((word, rest)) = first_word(left) {
+        sources = sources.with(&parse_source(word))?;
+        left = rest;
     }
     Ok(sources)
 }
@@ -25,7 +38,7 @@ fn read_directive(alloc: Global, directive: &Directive) -> Result<CompiledDirect
 {
     Ok(CompiledDirective {
         name: directive.name.copy(alloc)?,
-        sources: source_list(alloc, directive.words.as_slice())?,
+        sources: source_list(alloc, &directive.words)?,
     })
 }
 

@@ -2,7 +2,7 @@ ghost use Rattle.std.specs.Prelude.{◌≡◌, length};
 
 use std::marker::Model;
 use std::snapshot::Snapshot;
-use wf_csp_match::Source;
+use wf_csp_match::SourceList;
 use wf_csp_text::Policies;
 use wf_text::{Bytes, Items};
 
@@ -10,7 +10,7 @@ use wf_text::{Bytes, Items};
 #[derive(Drop)]
 pub(crate) struct CompiledDirective {
     pub(crate) name: Bytes,
-    pub(crate) sources: Items<Source>,
+    pub(crate) sources: SourceList,
 }
 
 /// A policy with the words of its directives read as source expressions.

@@ -2,7 +2,7 @@ ghost use Rattle.std.specs.Prelude.{◌≡◌, ◌∷◌, [], map, option_map};
 ghost use Rattle.wf_csp.specs.Directives as spec;
 
 use crate::compiled::CompiledDirective;
-use wf_csp_match::Source;
+use wf_csp_match::SourceList;
 use wf_types::{Destination, Directive};
 
 // "get the effective directive for request".
@@ -21,19 +21,19 @@ pub(crate) fn effective_directive(destination: Destination) -> Directive
 }
 
 // The source list of the directive of a name, where there is one.
-fn sources_named<'a>(directives: &'a [CompiledDirective], name: &[u8]) -> Option<&'a [Source]>
+fn sources_named<'a>(directives: &'a [CompiledDirective], name: &[u8]) -> Option<&'a SourceList>
     ensures { option_map (λ sources. sources.now) result ≡ spec.sources_named name.now directives.now }
 {
     for directive in directives {
         if directive.name.as_slice() == name {
-            return Some(directive.sources.as_slice());
+            return Some(&directive.sources);
         }
     }
     None
 }
 
 // The source list of the first of these names that there is a directive of.
-fn first_named<'a>(directives: &'a [CompiledDirective], names: &[&[u8]]) -> Option<&'a [Source]>
+fn first_named<'a>(directives: &'a [CompiledDirective], names: &[&[u8]]) -> Option<&'a SourceList>
     ensures { option_map (λ sources. sources.now) result
         ≡ spec.deciding_sources (map (λ name. name.now) names.now) directives.now }
 {
@@ -50,7 +50,7 @@ fn first_named<'a>(directives: &'a [CompiledDirective], names: &[&[u8]]) -> Opti
 pub(crate) fn deciding_sources<'a>(
     directives: &'a [CompiledDirective],
     directive: Directive,
-) -> Option<&'a [Source]>
+) -> Option<&'a SourceList>
     ensures { option_map (λ sources. sources.now) result
         ≡ spec.deciding_sources (spec.fallback_list directive) directives.now }
 {

@@ -3,14 +3,12 @@ ghost use Rattle.std.specs.List.{list_all, list_any};
 ghost use Rattle.wf_csp.specs.Private.Hashes.{is_in};
 ghost use Rattle.wf_csp.specs.SourceLists as spec;
 ghost use Rattle.wf_integrity.specs.declared.metadata.HashExpression.{HashExpression};
-ghost use Rattle.wf_csp_match.specs.Matching.{matches};
 ghost use Rattle.wf_integrity.specs.Metadata.{metadata_of};
 ghost use Rattle.wf_types.specs.Requests.{IsRequest};
 
 use std::alloc::Global;
 use std::collections::BTreeSet;
-use url::Url;
-use wf_csp_match::{Source, matches};
+use wf_csp_match::{Source, SourceList};
 use wf_integrity::{HashExpression, Metadata};
 use wf_origin::Origin;
 use wf_text::OutOfMemory;
@@ -20,7 +18,7 @@ use wf_types::{Destination, Request};
 const FEW: usize = 8;
 
 // Whether it is a nonce-source of this value.
-fn is_nonce(source: &Source, nonce: &[u8]) -> bool
+fn is_nonce(source: &Source<'_>, nonce: &[u8]) -> bool
     ensures { result ≡ spec.is_nonce nonce.now source.now }
 {
     match source {
@@ -30,21 +28,26 @@ fn is_nonce(source: &Source, nonce: &[u8]) -> bool
 }
 
 // Whether there is a nonce-source of this value.
-fn has_nonce(sources: &[Source], nonce: &[u8]) -> bool
+fn has_nonce(sources: &SourceList, nonce: &[u8]) -> bool
     ensures { result ≡ list_any (spec.is_nonce nonce.now) sources.now }
 {
-    sources.iter().any(|source| is_nonce(source, nonce))
+    for index in 0..sources.len() {
+        if is_nonce(&sources.at(index), nonce) {
+            return true;
+        }
+    }
+    false
 }
 
 // "does nonce match source list".
-fn nonce_matches(nonce: &[u8], sources: &[Source]) -> bool
+fn nonce_matches(nonce: &[u8], sources: &SourceList) -> bool
     ensures { result ≡ spec.nonce_matches nonce.now sources.now }
 {
     !nonce.is_empty() && has_nonce(sources, nonce)
 }
 
 // Whether it is a hash-source of this algorithm and this value.
-fn is_hash(source: &Source, hash: &HashExpression) -> bool
+fn is_hash(source: &Source<'_>, hash: &HashExpression) -> bool
     ensures { result ≡ spec.is_hash hash.now source.now }
 {
     match source {
@@ -56,14 +59,19 @@ fn is_hash(source: &Source, hash: &HashExpression) -> bool
 }
 
 // Whether there is a hash-source for the hash expression.
-fn has_hash(sources: &[Source], hash: &HashExpression) -> bool
+fn has_hash(sources: &SourceList, hash: &HashExpression) -> bool
     ensures { result ≡ list_any (spec.is_hash hash.now) sources.now }
 {
-    sources.iter().any(|source| is_hash(source, hash))
+    for index in 0..sources.len() {
+        if is_hash(&sources.at(index), hash) {
+            return true;
+        }
+    }
+    false
 }
 
 // Whether there is a hash-source for each of a few hash expressions.
-fn few_listed(metadata: &[HashExpression], sources: &[Source]) -> bool
+fn few_listed(metadata: &[HashExpression], sources: &SourceList) -> bool
     ensures { result ≡ list_all (λ hash. list_any (spec.is_hash hash) sources.now) metadata.now }
 {
     metadata.iter().all(|hash| has_hash(sources, hash))
@@ -72,7 +80,7 @@ fn few_listed(metadata: &[HashExpression], sources: &[Source]) -> bool
 // Adds a source to a set of hash-sources, where it is one.
 fn add_hash<'a>(
     hashes: &mut BTreeSet<(u32, &'a [u8])>,
-    source: &'a Source,
+    source: &Source<'a>,
 ) -> Result<(), OutOfMemory>
     ensures { OnOk result ((hash : HashExpression) → is_in hash hashes.new.keys
         ≡ (spec.is_hash hash source.now || is_in hash hashes.old.keys)) }
@@ -89,14 +97,14 @@ fn add_hash<'a>(
 // The hash-sources of a source list.
 fn hashes_in<'a>(
     alloc: Global,
-    sources: &'a [Source],
+    sources: &'a SourceList,
 ) -> Result<BTreeSet<(u32, &'a [u8])>, OutOfMemory>
     ensures { IfOk result (λ hashes. (hash : HashExpression) → is_in hash hashes.keys
         ≡ list_any (spec.is_hash hash) sources.now) }
 {
     let mut hashes = BTreeSet::new(alloc);
-    for source in sources {
-        add_hash(&mut hashes, source)?;
+    for index in 0..sources.len() {
+        add_hash(&mut hashes, &sources.at(index))?;
     }
     Ok(hashes)
 }
@@ -125,7 +133,7 @@ fn all_among<'a>(hashes: &BTreeSet<(u32, &'a [u8])>, metadata: &'a [HashExpressi
 fn all_listed<'a>(
     alloc: Global,
     metadata: &'a [HashExpression],
-    sources: &'a [Source],
+    sources: &'a SourceList,
 ) -> Result<bool, OutOfMemory>
     ensures { IfOk result (λ answer. answer
         ≡ list_all (λ hash. list_any (spec.is_hash hash) sources.now) metadata.now) }
@@ -141,7 +149,7 @@ fn all_listed<'a>(
 fn integrity_matches(
     alloc: Global,
     metadata: &Metadata,
-    sources: &[Source],
+    sources: &SourceList,
 ) -> Result<bool, OutOfMemory>
     ensures { IfOk result (λ answer. answer ≡ spec.integrity_matches metadata.now sources.now) }
 {
@@ -152,45 +160,39 @@ fn integrity_matches(
 }
 
 // Whether `'strict-dynamic'` is among them.
-fn has_strict_dynamic(sources: &[Source]) -> bool
+fn has_strict_dynamic(sources: &SourceList) -> bool
     ensures { result ≡ list_any spec.is_strict_dynamic sources.now }
 {
-    sources
-        .iter()
-        .any(|source| matches!(source, Source::StrictDynamic))
+    for index in 0..sources.len() {
+        if matches!(sources.at(index), Source::StrictDynamic) {
+            return true;
+        }
+    }
+    false
 }
 
 // Whether there is no source, or `'none'` alone.
-fn is_none_list(sources: &[Source]) -> bool
+fn is_none_list(sources: &SourceList) -> bool
     ensures { result ≡ spec.is_none_list sources.now }
 {
-    match sources {
-        [] => true,
-        [only] => matches!(only, Source::NoneWord),
+    match sources.len() {
+        0 => true,
+        1 => matches!(sources.at(0), Source::NoneWord),
         _ => false,
     }
 }
 
-// Whether one of the sources matches a URL.
-fn any_matches(sources: &[Source], url: &Url, document: &Origin, redirects: u32) -> bool
-    ensures { result ≡ list_any (λ source. matches source url.now document.now redirects) sources.now }
-{
-    sources
-        .iter()
-        .any(|source| matches(source, url, document, redirects))
-}
-
 // "does url match source list in origin with redirect count".
-fn url_matches(sources: &[Source], request: &Request, document: &Origin) -> bool
+fn url_matches(sources: &SourceList, request: &Request, document: &Origin) -> bool
     requires { IsRequest request.now }
     ensures { result ≡ spec.url_matches sources.now request.now document.now }
 {
     !is_none_list(sources)
-        && any_matches(sources, request.current_url(), document, request.redirects)
+        && sources.any_matches(request.current_url(), document, request.redirects)
 }
 
 // Whether a source list without a matching nonce lets a script through that its integrity metadata do not.
-fn script_passes_by_url(sources: &[Source], request: &Request, document: &Origin) -> bool
+fn script_passes_by_url(sources: &SourceList, request: &Request, document: &Origin) -> bool
     requires { IsRequest request.now }
     ensures { result ≡ (if list_any spec.is_strict_dynamic sources.now then not request.now.parser
         else spec.url_matches sources.now request.now document.now) }
@@ -205,7 +207,7 @@ fn script_passes_by_url(sources: &[Source], request: &Request, document: &Origin
 // Whether a source list lets a script through. The metadata is that of the request.
 fn script_passes(
     alloc: Global,
-    sources: &[Source],
+    sources: &SourceList,
     metadata: &Metadata,
     request: &Request,
     document: &Origin,
@@ -224,7 +226,7 @@ fn script_passes(
 }
 
 // Whether a source list lets a style through.
-fn style_passes(sources: &[Source], request: &Request, document: &Origin) -> bool
+fn style_passes(sources: &SourceList, request: &Request, document: &Origin) -> bool
     requires { IsRequest request.now }
     ensures { result ≡ spec.style_passes sources.now request.now document.now }
 {
@@ -234,7 +236,7 @@ fn style_passes(sources: &[Source], request: &Request, document: &Origin) -> boo
 // Whether a source list lets the request through. The metadata is that of the request.
 pub(crate) fn passes(
     alloc: Global,
-    sources: &[Source],
+    sources: &SourceList,
     metadata: &Metadata,
     request: &Request,
     document: &Origin,

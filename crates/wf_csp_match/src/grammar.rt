@@ -1,4 +1,4 @@
-ghost use Rattle.std.specs.Prelude.{◌≡◌, ◌==◌};
+ghost use Rattle.std.specs.Prelude.{◌≡◌, ◌==◌, bytes_eq, codes};
 ghost use Rattle.std.specs.List.{list_all};
 ghost use Rattle.url.specs.Scheme.{is_scheme_byte};
 ghost use Rattle.wf_csp_match.specs.Grammar as spec;
@@ -67,7 +67,10 @@ fn are_labels(name: &[u8]) -> bool
 pub(crate) fn has_wildcard(host: &[u8]) -> bool
     ensures { result ≡ spec.has_wildcard host.now }
 {
-    host.starts_with(b"*.")
+    match host {
+        [star, dot, ..] => *star == b'*' && *dot == b'.',
+        _ => false,
+    }
 }
 
 // The host without `*.` in front.
@@ -75,6 +78,16 @@ fn without_wildcard(host: &[u8]) -> &[u8]
     ensures { result.now ≡ spec.without_wildcard host.now }
 {
     host.strip_prefix(b"*.").unwrap_or(host)
+}
+
+// Whether the text is `*`.
+pub(crate) fn is_star(text: &[u8]) -> bool
+    ensures { result ≡ bytes_eq text.now (codes "*") }
+{
+    match text {
+        [byte] => *byte == b'*',
+        _ => false,
+    }
 }
 
 // Whether the text is a host-part: `*`, or an optional `*.`, labels with a dot between each two, and an

@@ -3,12 +3,12 @@ ghost use Rattle.wf_csp_match.specs.Matching as spec;
 ghost use Rattle.wf_origin.specs.Origins as origins;
 ghost use Rattle.wf_text.specs.Digits.{writes};
 
-use crate::grammar::has_wildcard;
+use crate::grammar::{has_wildcard, is_star};
 use crate::paths::path_part_matches;
-use crate::source::{HostSource, Source, SourcePort};
+use crate::source::{HostSource, Part, Source, SourcePort};
 use url::Url;
 use wf_origin::{Origin, is_default_port, is_host_of, is_http_url, is_origin_of, port_of};
-use wf_text::{Bytes, eq_fold, parse_digits};
+use wf_text::{eq_fold, parse_digits};
 
 // "scheme-part matches": the scheme `a` of an expression against the scheme `b` of a URL.
 fn scheme_part_matches(a: &[u8], b: &[u8]) -> bool
@@ -31,13 +31,13 @@ fn ends_in(end: &[u8], text: &[u8]) -> bool
 fn domain_matches(pattern: &[u8], domain: &[u8]) -> bool
     ensures { result ≡ spec.domain_matches pattern.now domain.now }
 {
-    pattern == b"*".as_slice()
+    is_star(pattern)
         || (has_wildcard(pattern) && ends_in(pattern.split_at(1).1, domain))
         || eq_fold(pattern, domain)
 }
 
 // "host-part matches".
-fn host_part_matches(pattern: &[u8], url: &Url) -> bool
+pub(crate) fn host_part_matches(pattern: &[u8], url: &Url) -> bool
     ensures { result ≡ spec.host_part_matches pattern.now url.now }
 {
     match url.domain() {
@@ -54,7 +54,7 @@ fn writes(digits: &[u8], number: u16) -> bool
 }
 
 // "port-part matches".
-fn port_part_matches(port: &Option<SourcePort>, url: &Url) -> bool
+fn port_part_matches(port: &Option<SourcePort<'_>>, url: &Url) -> bool
     ensures { result ≡ spec.port_part_matches port.now url.now }
 {
     match port {
@@ -68,7 +68,7 @@ fn port_part_matches(port: &Option<SourcePort>, url: &Url) -> bool
 }
 
 // Whether the scheme of a URL matches the scheme-part, or the scheme of the document where there is none.
-fn scheme_matches(scheme: &Option<Bytes>, url: &Url, document: &Origin) -> bool
+fn scheme_matches(scheme: &Option<Part<'_>>, url: &Url, document: &Origin) -> bool
     ensures { result ≡ spec.scheme_matches scheme.now url.now document.now }
 {
     match scheme {
@@ -78,7 +78,7 @@ fn scheme_matches(scheme: &Option<Bytes>, url: &Url, document: &Origin) -> bool
 }
 
 // Whether the path of a URL matches the path-part, or there is none, or there was a redirect.
-fn path_matches(path: &Option<Bytes>, url: &Url, redirects: u32) -> bool
+fn path_matches(path: &Option<Part<'_>>, url: &Url, redirects: u32) -> bool
     ensures { result ≡ spec.path_matches path.now url.now redirects }
 {
     match path {
@@ -88,7 +88,12 @@ fn path_matches(path: &Option<Bytes>, url: &Url, redirects: u32) -> bool
 }
 
 // Whether a host-source matches a URL. The host is asked first, since it differs most.
-fn host_source_matches(source: &HostSource, url: &Url, document: &Origin, redirects: u32) -> bool
+pub(crate) fn host_source_matches(
+    source: &HostSource<'_>,
+    url: &Url,
+    document: &Origin,
+    redirects: u32,
+) -> bool
     ensures { result ≡ spec.host_source_matches source.now url.now document.now redirects }
 {
     host_part_matches(source.host.as_slice(), url)
@@ -124,7 +129,7 @@ fn self_matches(url: &Url, document: &Origin) -> bool
 /// origin and its https form; any other expression matches none. After a redirect the path doesn't count. A
 /// URL of another scheme than http and https matches a scheme-source or a host-source of its own scheme, and
 /// nothing else. It takes no memory.
-pub fn matches(source: &Source, url: &Url, document: &Origin, redirects: u32) -> bool
+pub fn matches(source: &Source<'_>, url: &Url, document: &Origin, redirects: u32) -> bool
     ensures { result ≡ spec.matches source.now url.now document.now redirects }
 {
     match source {

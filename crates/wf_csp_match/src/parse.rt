@@ -1,32 +1,29 @@
-ghost use Rattle.std.specs.Prelude.{◌≡◌, true, option_copied, option_map, IfOk};
+ghost use Rattle.std.specs.Prelude.{◌≡◌, true, option_copied, option_map};
 ghost use Rattle.std.specs.Option.{option_map_or};
 ghost use Rattle.wf_csp_match.specs.Grammar.{is_path_part, is_port_part};
 ghost use Rattle.wf_csp_match.specs.Sources as spec;
 
 use crate::grammar::{is_host_part, is_path_part, is_port_part, is_scheme_part};
-use crate::source::{HostSource, Source, SourcePort};
-use std::alloc::Global;
-use wf_text::{Bytes, OutOfMemory, after_byte, before_byte, eq_fold, is_base64_value, position_of};
+use crate::source::{HostSource, Part, Source, SourcePort};
+use wf_text::{after_byte, before_byte, eq_fold, is_base64_value, position_of};
 
-// A copy of the text, where there is one.
-fn copied(alloc: Global, text: Option<&[u8]>) -> Result<Option<Bytes>, OutOfMemory>
-    ensures { IfOk result (λ copy. copy ≡ option_copied text.entry) }
+// The text as a part, where there is one.
+fn part_of(text: Option<&[u8]>) -> Option<Part<'_>>
+    ensures { result ≡ option_copied text.entry }
 {
     match text {
-        None => Ok(None),
-        Some(text) => Ok(Some(Bytes::of(alloc, text)?)),
+        None => None,
+        Some(text) => Some(Part::of(text)),
     }
 }
 
 // The word as a scheme-source, if it is one.
-fn scheme_source(alloc: Global, word: &[u8]) -> Result<Option<Source>, OutOfMemory>
-    ensures { IfOk result (λ source. source ≡ spec.scheme_source word.now) }
+fn scheme_source(word: &[u8]) -> Option<Source<'_>>
+    ensures { result ≡ spec.scheme_source word.now }
 {
     match word.strip_suffix(b":") {
-        Some(scheme) if is_scheme_part(scheme) => Ok(Some(Source::Scheme(Bytes::of(
-            alloc, scheme,
-        )?))),
-        _ => Ok(None),
+        Some(scheme) if is_scheme_part(scheme) => Some(Source::Scheme(Part::of(scheme))),
+        _ => None,
     }
 }
 
@@ -46,40 +43,40 @@ fn algorithm_named(name: &[u8]) -> Option<u32>
 }
 
 // The nonce-source or hash-source of a name and a value.
-fn valued_source(alloc: Global, name: &[u8], value: &[u8]) -> Result<Option<Source>, OutOfMemory>
-    ensures { IfOk result (λ source. source ≡ spec.valued_source name.now value.now) }
+fn valued_source<'a>(name: &[u8], value: &'a [u8]) -> Option<Source<'a>>
+    ensures { result ≡ spec.valued_source name.now value.now }
 {
     if eq_fold(name, b"nonce") {
-        return Ok(Some(Source::Nonce(Bytes::of(alloc, value)?)));
+        return Some(Source::Nonce(Part::of(value)));
     }
     match algorithm_named(name) {
-        None => Ok(None),
-        Some(bits) => Ok(Some(Source::Hash(bits, Bytes::of(alloc, value)?))),
+        None => None,
+        Some(bits) => Some(Source::Hash(bits, Part::of(value))),
     }
 }
 
 // The nonce-source or hash-source of a name, a hyphen and a value, where the value is a base64-value.
-fn dashed_source(alloc: Global, text: &[u8]) -> Result<Option<Source>, OutOfMemory>
-    ensures { IfOk result (λ source. source ≡ spec.dashed_source text.now) }
+fn dashed_source(text: &[u8]) -> Option<Source<'_>>
+    ensures { result ≡ spec.dashed_source text.now }
 {
     if !is_base64_value(after_byte(text, b'-')) {
-        return Ok(None);
+        return None;
     }
-    valued_source(alloc, before_byte(text, b'-'), after_byte(text, b'-'))
+    valued_source(before_byte(text, b'-'), after_byte(text, b'-'))
 }
 
 // The source expression of a text between quotes, where it has one.
-fn inner_source(alloc: Global, text: &[u8]) -> Result<Option<Source>, OutOfMemory>
-    ensures { IfOk result (λ source. source ≡ spec.inner_source text.now) }
+fn inner_source(text: &[u8]) -> Option<Source<'_>>
+    ensures { result ≡ spec.inner_source text.now }
 {
     if eq_fold(text, b"self") {
-        Ok(Some(Source::SelfOrigin))
+        Some(Source::SelfOrigin)
     } else if eq_fold(text, b"none") {
-        Ok(Some(Source::NoneWord))
+        Some(Source::NoneWord)
     } else if eq_fold(text, b"strict-dynamic") {
-        Ok(Some(Source::StrictDynamic))
+        Some(Source::StrictDynamic)
     } else {
-        dashed_source(alloc, text)
+        dashed_source(text)
     }
 }
 
@@ -91,12 +88,12 @@ fn unquoted(word: &[u8]) -> Option<&[u8]>
 }
 
 // The word as a keyword-source, nonce-source or hash-source, if it is one.
-fn quoted_source(alloc: Global, word: &[u8]) -> Result<Option<Source>, OutOfMemory>
-    ensures { IfOk result (λ source. source ≡ spec.quoted_source word.now) }
+fn quoted_source(word: &[u8]) -> Option<Source<'_>>
+    ensures { result ≡ spec.quoted_source word.now }
 {
     match unquoted(word) {
-        None => Ok(None),
-        Some(text) => inner_source(alloc, text),
+        None => None,
+        Some(text) => inner_source(text),
     }
 }
 
@@ -178,13 +175,13 @@ fn path_of(text: &[u8]) -> Option<&[u8]>
 }
 
 // The port as it is written, where there is one.
-fn source_port(alloc: Global, text: Option<&[u8]>) -> Result<Option<SourcePort>, OutOfMemory>
-    ensures { IfOk result (λ port. port ≡ option_map spec.source_port (option_copied text.entry)) }
+fn source_port(text: Option<&[u8]>) -> Option<SourcePort<'_>>
+    ensures { result ≡ option_map spec.source_port (option_copied text.entry) }
 {
     match text {
-        None => Ok(None),
-        Some(b"*") => Ok(Some(SourcePort::Any)),
-        Some(digits) => Ok(Some(SourcePort::Digits(Bytes::of(alloc, digits)?))),
+        None => None,
+        Some(b"*") => Some(SourcePort::Any),
+        Some(digits) => Some(SourcePort::Digits(Part::of(digits))),
     }
 }
 
@@ -216,42 +213,39 @@ fn are_parts(text: &[u8]) -> bool
 }
 
 // The word as a host-source, if it is one.
-fn host_source(alloc: Global, word: &[u8]) -> Result<Option<HostSource>, OutOfMemory>
-    ensures { IfOk result (λ source. source ≡ spec.host_source word.now) }
+fn host_source(word: &[u8]) -> Option<HostSource<'_>>
+    ensures { result ≡ spec.host_source word.now }
 {
     let rest = behind_scheme(word);
     if !are_parts(rest) {
-        return Ok(None);
+        return None;
     }
-    let scheme = copied(alloc, scheme_of(word))?;
-    let host = Bytes::of(alloc, host_of(rest))?;
-    let port = source_port(alloc, port_of(rest))?;
-    let path = copied(alloc, path_of(rest))?;
-    Ok(Some(HostSource {
-        scheme,
-        host,
-        port,
-        path,
-    }))
+    Some(HostSource {
+        scheme: part_of(scheme_of(word)),
+        host: Part::of(host_of(rest)),
+        port: source_port(port_of(rest)),
+        path: part_of(path_of(rest)),
+    })
 }
 
 /// A word as a source expression (CSP 3, section 2.3.1, "source-expression"): `*`, a scheme and `:`, a
 /// keyword, nonce or hash between quotes, or a host with an optional scheme, port and path. Keywords and
-/// the names of nonces and hashes are known in any ASCII case. Any other word is `Unknown`.
-pub fn parse_source(alloc: Global, word: &[u8]) -> Result<Source, OutOfMemory>
-    ensures { IfOk result (λ source. source ≡ spec.source_of word.now) }
+/// the names of nonces and hashes are known in any ASCII case. Any other word is `Unknown`. It takes no
+/// memory.
+pub fn parse_source(word: &[u8]) -> Source<'_>
+    ensures { result ≡ spec.source_of word.now }
 {
     if word == b"*".as_slice() {
-        return Ok(Source::Any);
+        return Source::Any;
     }
-    if let Some(source) = scheme_source(alloc, word)? {
-        return Ok(source);
+    if let Some(source) = scheme_source(word) {
+        return source;
     }
-    if let Some(source) = quoted_source(alloc, word)? {
-        return Ok(source);
+    if let Some(source) = quoted_source(word) {
+        return source;
     }
-    match host_source(alloc, word)? {
-        Some(host) => Ok(Source::Host(host)),
-        None => Ok(Source::Unknown),
+    match host_source(word) {
+        Some(host) => Source::Host(host),
+        None => Source::Unknown,
     }
 }

@@ -1,2 +1,3 @@
 pub mod CollectingLemmas
 pub mod NameLemmas
+pub mod WordLemmas

@@ -1,2 +1,3 @@
 pub mod Policies
+pub mod Walks
 pub mod Private

@@ -3,6 +3,8 @@
 
 mod parse;
 mod policy;
+mod word_list;
 
 pub use parse::parse_policies;
 pub use policy::{Directive, Directives, Policies, Policy};
+pub use word_list::{Words, first_word};

@@ -4,39 +4,16 @@ ghost use Rattle.wf_csp_text.specs.Policies as spec;
 ghost use Rattle.wf_csp_text.specs.Private.Collecting.{AreNames, with_found, with_new};
 
 use crate::policy::{Directive, Directives, Policies, Policy};
+use crate::word_list::{Words, first_word};
 use std::alloc::Global;
 use std::collections::BTreeSet;
-use wf_text::{Bytes, BytesList, OutOfMemory, in_lower_case, parts_between, words};
+use wf_text::{OutOfMemory, in_lower_case, parts_between};
 
 // Whether all bytes are ASCII.
 fn are_ascii(text: &[u8]) -> bool
     ensures { result ≡ list_all spec.is_ascii text.now }
 {
     text.iter().all(|byte| *byte < 128)
-}
-
-// The texts, copied.
-fn copied(alloc: Global, texts: &[&[u8]]) -> Result<BytesList, OutOfMemory>
-    ensures { IfOk result (λ copies. copies ≡ map (λ text. text.now) texts.now) }
-{
-    let mut copies = BytesList::new(alloc);
-    for text in texts {
-        copies.push(Bytes::of(alloc, text)?)?;
-    }
-    Ok(copies)
-}
-
-// The directive of a name and words, where there is a name.
-fn named(alloc: Global, words: &[&[u8]]) -> Result<Option<Directive>, OutOfMemory>
-    ensures { IfOk result (λ directive. directive ≡ spec.named (map (λ word. word.now) words.now)) }
-{
-    match words.split_first() {
-        None => Ok(None),
-        Some((name, values)) => Ok(Some(Directive {
-            name: in_lower_case(alloc, name)?,
-            words: copied(alloc, values)?,
-        })),
-    }
 }
 
 // The directive of a token, where it is one.
@@ -46,7 +23,13 @@ fn directive_of(alloc: Global, token: &[u8]) -> Result<Option<Directive>, OutOfM
     if !are_ascii(token) {
         return Ok(None);
     }
-    named(alloc, words(alloc, token)?.as_slice())
+    match first_word(token) {
+        None => Ok(None),
+        Some((name, values)) => Ok(Some(Directive {
+            name: in_lower_case(alloc, name)?,
+            words: Words::of(alloc, values)?,
+        })),
+    }
 }
 
 // Adds a directive, unless there is one of its name. The names that there are, are found in a set, so that

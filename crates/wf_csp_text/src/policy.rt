@@ -1,10 +1,11 @@
-use wf_text::{Bytes, BytesList, Items};
+use crate::word_list::Words;
+use wf_text::{Bytes, Items};
 
 /// A directive (CSP 3, section 2.3): its name, in lower case, and the words of its value.
 #[derive(Drop)]
 pub struct Directive {
     pub name: Bytes,
-    pub words: BytesList,
+    pub words: Words,
 }
 
 /// A directive set, in order; no two directives have equal names.

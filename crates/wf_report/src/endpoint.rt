@@ -1,32 +1,33 @@
 // Where the violations of a policy are reported.
 ghost use Rattle.std.specs.Prelude.{◌≡◌, IfOk};
 ghost use Rattle.wf_report.specs.Reports as spec;
+ghost use Rattle.wf_text.specs.Words.{words};
 
 use std::alloc::Global;
 use url::Url;
 use wf_csp_text::{Directive, Policies};
 use wf_origin::is_http_url;
-use wf_text::{Bytes, OutOfMemory};
+use wf_text::OutOfMemory;
 use wf_types::{has_credentials, is_short_url, url_against};
 
 /// The directive whose words say where.
 const REPORT_URI: &[u8] = b"report-uri";
 
-// The words of the directive of a name; none where there is no such directive.
-fn words_named<'a>(directives: &'a [Directive], name: &[u8]) -> &'a [Bytes]
-    ensures { result.now ≡ spec.words_named name.now directives.now }
+// A text with the words of the directive of a name; none where there is no such directive.
+fn words_named<'a>(directives: &'a [Directive], name: &[u8]) -> &'a [u8]
+    ensures { words result.now ≡ spec.words_named name.now directives.now }
 {
     for directive in directives {
         if directive.name.as_slice() == name {
-            return directive.words.as_slice();
+            return directive.words.as_text();
         }
     }
     &[]
 }
 
-// The words of `report-uri` in the policy of this number.
-pub(crate) fn report_words(policies: &Policies, number: u32) -> &[Bytes]
-    ensures { result.now ≡ spec.report_words_of policies.now number }
+// A text with the words of `report-uri` in the policy of this number.
+pub(crate) fn report_words(policies: &Policies, number: u32) -> &[u8]
+    ensures { words result.now ≡ spec.report_words_of policies.now number }
 {
     match policies.as_slice().get(number as usize) {
         Some(policy) => words_named(policy.directives.as_slice(), REPORT_URI),

@@ -8,6 +8,7 @@ use crate::body::report_body;
 use crate::endpoint::{endpoint_of, report_words};
 use std::alloc::Global;
 use url::Url;
+use wf_csp_text::first_word;
 use wf_headers::HeaderList;
 use wf_origin::tuple_origin;
 use wf_script_events::Event;
@@ -69,17 +70,17 @@ fn report_request(
     })
 }
 
-// The first endpoint among words, and the words after it.
+// The first endpoint among the words of a text, and the text behind it.
 fn next_endpoint<'a>(
     alloc: Global,
     base: &Url,
-    words: &'a [Bytes],
-) -> Result<Option<(Url, &'a [Bytes])>, OutOfMemory>
-    ensures { IfOk result (λ found. IsNextEndpoint base.now words.now found) }
+    text: &'a [u8],
+) -> Result<Option<(Url, &'a [u8])>, OutOfMemory>
+    ensures { IfOk result (λ found. IsNextEndpoint base.now text.now found) }
 {
-    let mut left = words;
-    while let Some((word, rest)) = left.split_first() {
-        if let Some(endpoint) = endpoint_of(alloc, base, word.as_slice())? {
+    let mut left = text;
+    while let Some((word, rest)) = first_word(left) {
+        if let Some(endpoint) = endpoint_of(alloc, base, word)? {
             return Ok(Some((endpoint, rest)));
         }
         left = rest;
@@ -108,7 +109,8 @@ fn next_violation(events: &[Event]) -> Option<(&Violation, &[Event])>
 pub(crate) struct Queue<'a> {
     document: &'a Document,
     violation: Option<&'a Violation>,
-    words: &'a [Bytes],
+    // A text with the words that are left.
+    words: &'a [u8],
     events: &'a [Event],
 }
 

@@ -4,9 +4,8 @@
 //     matches WORD URL DOCUMENT REDIRECTS     whether it matches the URL in the document's origin after so many
 //                                             redirects; `http://a.test/` and 0 where they are left out
 use std::alloc::Global;
-use wf_csp_match::{HostSource, Source, SourcePort, matches, parse_source};
+use wf_csp_match::{HostSource, Part, Source, SourcePort, matches, parse_source};
 use wf_origin::Origin;
-use wf_text::Bytes;
 use worked_rows::{Failed, Held, Row, Shown, origin_written, url_written};
 
 // The answer to a row of these kinds, and whether the row is one.
@@ -17,18 +16,11 @@ pub(crate) fn answer(
     shown: &mut Shown,
 ) -> Result<bool, Failed> {
     match kind {
-        "source" => show_source(&source_in(alloc, row)?.value, shown),
+        "source" => show_source(&parse_source(row.text(0)), shown),
         "matches" => matched(alloc, row, shown)?,
         _ => return Ok(false),
     }
     Ok(true)
-}
-
-// The source expression that the row's word is.
-fn source_in(alloc: Global, row: &Row) -> Result<Held<Source>, Failed> {
-    Ok(Held {
-        value: parse_source(alloc, row.text(0))?,
-    })
 }
 
 // Whether the row's word matches its URL.
@@ -40,8 +32,8 @@ fn matched(alloc: Global, row: &Row, shown: &mut Shown) -> Result<(), Failed> {
     let url = Held {
         value: url_written(alloc, row.text(1))?,
     };
-    let source = source_in(alloc, row)?;
-    shown.add_yes_or_no(matches(&source.value, &url.value, &document.value, redirects));
+    let source = parse_source(row.text(0));
+    shown.add_yes_or_no(matches(&source, &url.value, &document.value, redirects));
     Ok(())
 }
 
@@ -54,7 +46,7 @@ fn document_of(alloc: Global, written: &[u8]) -> Result<Origin, Failed> {
 }
 
 // The kind of a source expression and its parts.
-fn show_source(source: &Source, shown: &mut Shown) {
+fn show_source(source: &Source<'_>, shown: &mut Shown) {
     match source {
         Source::Any => shown.add(b"any"),
         Source::Scheme(scheme) => {
@@ -80,7 +72,7 @@ fn show_source(source: &Source, shown: &mut Shown) {
 }
 
 // The parts that a host-source has.
-fn show_host(host: &HostSource, shown: &mut Shown) {
+fn show_host(host: &HostSource<'_>, shown: &mut Shown) {
     shown.add(b"host");
     show_part(b"scheme", &host.scheme, shown);
     shown.add_part(b"host", host.host.as_slice());
@@ -89,7 +81,7 @@ fn show_host(host: &HostSource, shown: &mut Shown) {
 }
 
 // A part that there may be.
-fn show_part(name: &[u8], part: &Option<Bytes>, shown: &mut Shown) {
+fn show_part(name: &[u8], part: &Option<Part<'_>>, shown: &mut Shown) {
     match part {
         Some(part) => shown.add_part(name, part.as_slice()),
         None => (),
@@ -97,7 +89,7 @@ fn show_part(name: &[u8], part: &Option<Bytes>, shown: &mut Shown) {
 }
 
 // A port that there may be.
-fn show_port(port: &Option<SourcePort>, shown: &mut Shown) {
+fn show_port(port: &Option<SourcePort<'_>>, shown: &mut Shown) {
     match port {
         Some(SourcePort::Any) => shown.add(b" port *"),
         Some(SourcePort::Digits(digits)) => shown.add_part(b"port", digits.as_slice()),

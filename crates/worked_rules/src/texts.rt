@@ -21,7 +21,7 @@
 //     metadata TEXT                              the hash expressions of an integrity text
 //     body TEXT BODY                             whether the body matches them
 use std::alloc::Global;
-use wf_csp_text::{Directive, Policies, parse_policies};
+use wf_csp_text::{Directive, Policies, first_word, parse_policies};
 use wf_headers::split_value;
 use wf_hsts::{Sts, parse_sts};
 use wf_integrity::{matches, parse_metadata};
@@ -165,11 +165,18 @@ fn show_policies(policies: &Policies, shown: &mut Shown) {
 fn show_directives(directives: &[Directive], shown: &mut Shown) {
     for directive in directives {
         shown.add_escaped(directive.name.as_slice());
-        for word in directive.words.as_slice() {
-            shown.add(b" ");
-            shown.add_escaped(word.as_slice());
-        }
+        show_words(directive.words.as_text(), shown);
         shown.add(b";");
+    }
+}
+
+// The words of a text, with a space before each.
+fn show_words(text: &[u8], shown: &mut Shown) {
+    let mut left = text;
+    while let Some((word, rest)) = first_word(left) {
+        shown.add(b" ");
+        shown.add_escaped(word);
+        left = rest;
     }
 }
 

@@ -7,14 +7,15 @@ use Rattle.wf_script_events.specs.declared.events.Event.{Event}
 use Rattle.wf_script_values.specs.declared.document.Document.{Document}
 use Rattle.wf_types.specs.declared.policy.Violation.{Violation}
 use Rattle.wf_types.specs.declared.request.Request.{Request}
+use Rattle.wf_text.specs.Words.{words}
 use Rattle.wf_report.specs.declared.queue.Queue.{Queue}
 use Rattle.wf_report.specs.Reports.{endpoint_of, report_requests, reports_to, violations_told}
 
--- the first endpoint among words, and the words after it, or nothing where there is none
-abbrev pub IsNextEndpoint : Parts → List (List ℕ) → Option (Parts × Bor (List (List ℕ))) → Type 0
-IsNextEndpoint base words None = filter_map (endpoint_of base) words ≡ []
-IsNextEndpoint base words (Some found) =
-    filter_map (endpoint_of base) words ≡ found.0 ∷ filter_map (endpoint_of base) found.1.now
+-- the first endpoint among the words of a text, and the text behind it, or nothing where there is none
+abbrev pub IsNextEndpoint : Parts → List ℕ → Option (Parts × Bor (List ℕ)) → Type 0
+IsNextEndpoint base text None = filter_map (endpoint_of base) (words text) ≡ []
+IsNextEndpoint base text (Some found) =
+    filter_map (endpoint_of base) (words text) ≡ found.0 ∷ filter_map (endpoint_of base) (words found.1.now)
 
 -- the first violation among events, and the events after it, or nothing where there is none
 abbrev pub IsNextViolation : List Event → Option (Bor Violation × Bor (List Event)) → Type 0
@@ -23,12 +24,12 @@ IsNextViolation events (Some found) = violations_told events ≡ found.0.now ∷
 
 -- the reports of a violation to the words that are left, where there is a violation
 abbrev pub reports_begun : Document → Option (Bor Violation) → List (List ℕ) → List Request
-reports_begun document None words = []
-reports_begun document (Some violation) words = reports_to document violation.now words
+reports_begun document None left = []
+reports_begun document (Some violation) left = reports_to document violation.now left
 
 -- those of a queue
 abbrev pub begun_left : Queue → List Request
-begun_left queue = reports_begun queue.document.now queue.violation queue.words.now
+begun_left queue = reports_begun queue.document.now queue.violation (words queue.words.now)
 
 -- those, and then the reports of the events that are left
 abbrev pub reports_left : Queue → List Request

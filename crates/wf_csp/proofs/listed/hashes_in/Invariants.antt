@@ -6,7 +6,7 @@ use Rattle.wf_integrity.specs.declared.metadata.HashExpression.{HashExpression}
 use Rattle.wf_csp.proofs.listed.hashes_in.Given as goal
 
 -- the hash-sources so far, and those of the sources that are left
-abbrev pub invariant-loop-source : goal.invariant-loop-source
-invariant-loop-source l = (hash : HashExpression)
-    → (is_in hash l.hashes.keys || list_any (is_hash hash) (drop l.source-index l.sources))
+abbrev pub invariant-loop-index : goal.invariant-loop-index
+invariant-loop-index l = (hash : HashExpression)
+    → (is_in hash l.hashes.keys || list_any (is_hash hash) (drop l.index l.sources))
     ≡ list_any (is_hash hash) l.sources

@@ -1,10 +1,12 @@
 use Rattle.std.proofs.Common.{◌≡◌, length}
 use Rattle.std.specs.List.{filter_map}
 use Rattle.wf_report.specs.Reports.{endpoint_of}
+use Rattle.wf_text.specs.Words.{words}
 use Rattle.wf_report.proofs.queue.next_endpoint.Given as goal
 
 abbrev pub invariant-loop-word : goal.invariant-loop-word
-invariant-loop-word l = filter_map (endpoint_of l.base) l.words ≡ filter_map (endpoint_of l.base) l.left
+invariant-loop-word l =
+    filter_map (endpoint_of l.base) (words l.text) ≡ filter_map (endpoint_of l.base) (words l.left)
 
 abbrev pub decreases-loop-word : goal.decreases-loop-word
 decreases-loop-word l = length l.left
