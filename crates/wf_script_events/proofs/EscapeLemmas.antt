@@ -1,8 +1,8 @@
 -- How long an escaped text is, and texts of bytes that are written as they are.
-use Rattle.std.proofs.Common.{◌≡◌, ◌∙◌, ap, ℕ, ◌+◌, ◌*◌, ◌&&◌, Bool, true}
-use Rattle.std.proofs.Common.{false, List, [], ◌∷◌, ◌++◌, cond, drop, length}
+use Rattle.std.proofs.Common.{◌≡◌, ◌∙◌, ◌≤◌, ap, sym, ℕ, ◌+◌, ◌*◌, ◌&&◌, Bool, true}
+use Rattle.std.proofs.Common.{false, List, [], ◌∷◌, ◌++◌, cond, drop, take, length}
 use Rattle.std.proofs.Common.{refl, arith, zero, suc}
-use Rattle.std.proofs.Math.Bool.{and-true}
+use Rattle.std.proofs.lemmas.List.{take-append-drop}
 use Rattle.std.proofs.lemmas.List.Folds.{list_all-append}
 use Rattle.std.specs.Prelude.{not, filter}
 use Rattle.std.specs.List.{list_all}
@@ -34,19 +34,27 @@ escaped_length (byte ∷ text) = split (is_plain byte) (escaped_length text)
     split true more = omega (arith, more)
     split false more = omega (arith, more)
 
--- of plain bytes those from a place on are plain
-pub plain-dropped : (n : ℕ) (text : List ℕ) → list_all is_plain text ≡ true → list_all is_plain (drop n text) ≡ true
-plain-dropped zero text all = all
-plain-dropped (suc n) [] all = refl
-plain-dropped (suc n) (byte ∷ text) all = plain-dropped n text (others-plain (is_plain byte) all)
-  where
-    others-plain : (v : Bool) → (v && list_all is_plain text) ≡ true → list_all is_plain text ≡ true
-    others-plain true both = both
-    others-plain false both = cc
+-- a test of a front and of what follows it is one of both, and the front may be tested twice
+front-twice : (front rest : Bool) → (front && (front && rest)) ≡ (front && rest)
+front-twice true rest = refl
+front-twice false rest = refl
 
--- plain bytes after a text change nothing
-pub plain-behind : (text more : List ℕ) → list_all is_plain more ≡ true
-    → list_all is_plain (text ++ more) ≡ list_all is_plain text
-plain-behind text more all =
-    list_all-append is_plain text more ∙ ap (λ (v : Bool). list_all is_plain text && v) all
-    ∙ and-true (list_all is_plain text)
+-- a text is plain if its front is, and what is from a place on that the front reaches
+pub plain-ends : (from front : ℕ) (text : List ℕ) → from ≤ front
+    → (list_all is_plain (take front text) && list_all is_plain (drop from text)) ≡ list_all is_plain text
+plain-ends zero front text reaches =
+    let parts = sym (list_all-append is_plain (take front text) (drop front text))
+    ∙ ap (λ (t : List ℕ). list_all is_plain t) (take-append-drop front text) in
+    ap (λ (v : Bool). list_all is_plain (take front text) && v) (sym parts)
+    ∙ front-twice (list_all is_plain (take front text)) (list_all is_plain (drop front text)) ∙ parts
+plain-ends (suc from) zero text reaches = absurd (omega (arith, reaches))
+plain-ends (suc from) (suc front) [] reaches = refl
+plain-ends (suc from) (suc front) (byte ∷ text) reaches =
+    split (is_plain byte) (plain-ends from front text (omega (arith, reaches)))
+  where
+    split : (v : Bool)
+        → (list_all is_plain (take front text) && list_all is_plain (drop from text)) ≡ list_all is_plain text
+        → ((v && list_all is_plain (take front text)) && list_all is_plain (drop from text))
+        ≡ (v && list_all is_plain text)
+    split true more = more
+    split false more = refl

@@ -1,5 +1,5 @@
 // Which bytes are written as they are in an escaped text.
-ghost use Rattle.std.specs.Prelude.{◌≡◌, ◌<◌, not, length, filter};
+ghost use Rattle.std.specs.Prelude.{◌≡◌, ◌≤◌, ◌+◌, not, length, filter};
 ghost use Rattle.std.specs.List.{list_all};
 ghost use Rattle.wf_script_events.specs.Escapes as spec;
 
@@ -25,22 +25,36 @@ fn all_plain(bytes: &[u8]) -> bool
     plain
 }
 
-// Whether each byte of less than a block is written as it is: each of a block that spaces fill up is.
-fn part_is_plain(part: &[u8]) -> bool
-    requires { length part.now < 16 }
-    ensures { result ≡ list_all spec.is_plain part.now }
+// Whether each byte is written as it is, of bytes that are so many at the front and so many at the back: these may
+// overlap. Both are looked at, so that two small ones are compiled to steps on one block.
+#[inline(always)]
+fn ends_are_plain(bytes: &[u8], front: usize, back: usize) -> bool
+    requires front { front ≤ length bytes.now }
+    requires back { back ≤ length bytes.now }
+    requires all { length bytes.now ≤ front + back }
+    ensures { result ≡ list_all spec.is_plain bytes.now }
 {
-    let mut block = [b' '; BLOCK];
-    block[..part.len()].copy_from_slice(part);
-    all_plain(&block)
+    let first = bytes.split_at(front).0;
+    let last = bytes.split_at(bytes.len() - back).1;
+    all_plain(first) & all_plain(last)
 }
 
 /// Whether each byte is written as it is.
 pub fn are_plain(bytes: &[u8]) -> bool
     ensures { result ≡ list_all spec.is_plain bytes.now }
 {
-    let (blocks, part) = bytes.split_at(bytes.len() - bytes.len() % BLOCK);
-    all_plain(blocks) && part_is_plain(part)
+    let count = bytes.len();
+    if count > 2 * BLOCK {
+        ends_are_plain(bytes, count - count % BLOCK, BLOCK)
+    } else if count >= BLOCK {
+        ends_are_plain(bytes, BLOCK, BLOCK)
+    } else if count >= BLOCK / 2 {
+        ends_are_plain(bytes, BLOCK / 2, BLOCK / 2)
+    } else if count >= BLOCK / 4 {
+        ends_are_plain(bytes, BLOCK / 4, BLOCK / 4)
+    } else {
+        all_plain(bytes)
+    }
 }
 
 // How many of the bytes are not written as they are.
