@@ -58,8 +58,8 @@ def in_body(text):
 
 
 def filled(asked, documents, times):
-    """Documents that put 1,000 bodies of 16,000 bytes, as much as is filled, into one part of a fetch so many times."""
-    fetches = [{'fetch': {'url': '/'}}, {'fetch': asked('${body}' * 1000)}]
+    """Documents that put as many bodies of 16,000 bytes as there is room for into one part of a fetch so many times."""
+    fetches = [{'fetch': {'url': '/'}}, {'fetch': asked('${body}' * (12582912 // min(documents, 16) // 16000))}]
     return answering('<' * 16000, [{'repeat': times, 'do': fetches}], documents)
 
 
@@ -223,10 +223,10 @@ CASES = [
     Case('templates in a URL, refused', lambda size: templates(size, in_url), 25000, 4100000),
     Case('templates in a header value, too many', lambda size: templates(size, in_header), 25000, 4100000),
     Case('templates in a body', lambda size: templates(size, in_body), 25000, 4100000),
-    Case('a URL of 16 MB, filled in each of n documents', lambda count: filled(in_url, count, 1), 1, 16),
-    Case('a URL of 16 MB, filled n times', lambda count: filled(in_url, 1, count), 2, 20),
-    Case('a header value of 16 MB, filled in each of n documents', lambda count: filled(in_header, count, 1), 4, 128),
-    Case('a header value of 16 MB, filled n times', lambda count: filled(in_header, 1, count), 4, 128),
+    Case('a URL as long as is filled, in each of n documents', lambda count: filled(in_url, count, 1), 1, 128),
+    Case('a URL as long as is filled, n times', lambda count: filled(in_url, 1, count), 2, 20),
+    Case('a header value as long as is filled, in each of n documents', lambda count: filled(in_header, count, 1), 4, 128),
+    Case('a header value as long as is filled, n times', lambda count: filled(in_header, 1, count), 4, 128),
     Case('header lines of a document', header_lines, 12500, 283000),
     Case('directive names of a policy', directive_names, 20000, 500000),
     Case('integrity tokens against hash sources', integrity_tokens, 8000, 120000),

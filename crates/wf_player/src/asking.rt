@@ -38,7 +38,7 @@ fn requested<R, S>(
     if is_plain(init) {
         return new_request(*lent.alloc, init, lent.client);
     }
-    let filled = filled_init(*lent.alloc, last, init)?;
+    let filled = filled_init(*lent.alloc, lent.documents, last, init)?;
     new_request(*lent.alloc, &filled, lent.client)
 }
 
@@ -54,7 +54,7 @@ fn requested_load<R, S>(
         ≡ load_of lent.now.client.now (load_filled (lent_result last.entry) init.now)) }
     ensures valid { IfOk result (λ made. IfOk made IsRequest) }
 {
-    let filled = filled_load(*lent.alloc, last, init)?;
+    let filled = filled_load(*lent.alloc, lent.documents, last, init)?;
     new_load(*lent.alloc, &filled, lent.client)
 }
 

@@ -46,13 +46,14 @@ fn play_row<R: Threads + Wait + Sync, S: Share, L: Link>(
     );
 }
 
-// The documents in their rows, each in a thread of its own where one can be made.
+// The documents in their rows, on at most so many threads, of which there is one at least.
 fn play_rows<R: Threads + Wait + Sync, S: Share + Sync, L: Link + Send>(
     rt: &R,
     alloc: Global,
     scenario: &Scenario,
     base: u64,
     share: &S,
+    threads: usize,
     rows: &mut [Row<L, S::Pass>],
 )
 where
@@ -65,15 +66,11 @@ where
         → RowCameTo (S.belongs share.now) (seat_of S.account L.told) (over_link L.serves) scenario.entry.now base i
         (slice_index_or rows.old i d) (slice_index_or rows.new i d) }
 {
-    let threads = rows.len();
-    if threads == 0 {
-        return;
-    }
     law_scenario_is_shared(scenario);
     thread::for_each_mut(
         rt,
         rows,
-        threads,
+        threads.max(1),
         &|number: usize, row: &mut Row<L, S::Pass>|
             requires { IsValid scenario.now × (base ≤ 2 ^ 40) × CanPlay (S.belongs share.now)
                 (seat_of S.account L.told) scenario.now number row.now }
@@ -140,6 +137,7 @@ fn listed(alloc: Global, transcripts: Vec<Transcript>) -> Result<Transcripts, Ou
 
 /// Plays the documents of a scenario, each on its own seat, from a time in seconds on, which is at most 2^40. There is
 /// one seat for each document, in their order, whose pass is for the document of that number with 129,024 calls left.
+/// At most so many threads play them, where these can be made: each plays some documents, one after the other.
 ///
 /// The transcripts come in the order of the documents. Each, with its document's seat before and after the play, is
 /// that of a run as `drive` makes one, but that bytes may be left over its link. `OutOfMemory` where memory was refused
@@ -151,6 +149,7 @@ pub fn play_all<R: Threads + Wait + Sync, S: Share + Sync, L: Link + Send + Drop
     scenario: &Scenario,
     base: u64,
     share: &S,
+    threads: usize,
     seats: &mut Vec<Seating<L, S::Pass>>,
 ) -> Result<Transcripts, OutOfMemory>
 where
@@ -170,7 +169,15 @@ where
 {
     let mut transcripts = Vec::with_capacity(alloc, seats.len())?;
     let mut rows = to_rows(alloc, seats)?;
-    play_rows(rt, alloc, scenario, base, share, rows.as_mut_slice());
+    play_rows(
+        rt,
+        alloc,
+        scenario,
+        base,
+        share,
+        threads,
+        rows.as_mut_slice(),
+    );
     from_rows(rows, seats, &mut transcripts);
     listed(alloc, transcripts)
 }

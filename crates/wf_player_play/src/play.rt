@@ -36,6 +36,7 @@ fn play_seated<R: Threads + Wait + Sync, N: Links>(
     alloc: Global,
     scenario: &Scenario,
     base: u64,
+    threads: usize,
     book: TurnBook,
     mut seats: Vec<Seating<N::Link, TurnPass>>,
     mut passes: Vec<TurnPass>,
@@ -53,7 +54,7 @@ fn play_seated<R: Threads + Wait + Sync, N: Links>(
         (NoneOrAllPlayed (over_link N.Link.serves) scenario.entry.now base)) }
     ensures has_text { IfOk result (λ played. HasText played.transcripts) }
 {
-    let played = play_all(rt, alloc, scenario, base, &book, &mut seats);
+    let played = play_all(rt, alloc, scenario, base, &book, threads, &mut seats);
     unseat(seats, links, &mut passes);
     let Closed { book: _, history } = book.close(passes);
     let transcripts = played?;
@@ -67,9 +68,9 @@ fn play_seated<R: Threads + Wait + Sync, N: Links>(
     }
 }
 
-/// Plays a scenario over links, from a time in seconds on, which is at most 2^40: each document on a
-/// thread of its own where one can be made, over the link that is made for it and over one book, which
-/// opens with the scenario's hosts. The links are made in order of documents, and taken back in the same
+/// Plays a scenario over links, from a time in seconds on, which is at most 2^40, on at most so many threads, where
+/// these can be made: each document over the link that is made for it and over one book, which opens with the
+/// scenario's hosts. The links are made in order of documents, and taken back in the same
 /// order, also where memory was refused.
 ///
 /// `OutOfMemory` where memory was refused, to a document or to what surrounds them, or where a link could not
@@ -81,6 +82,7 @@ pub fn play_over<R: Threads + Wait + Sync, N: Links>(
     alloc: Global,
     scenario: &Scenario,
     base: u64,
+    threads: usize,
     links: &mut N,
 ) -> Result<Played, OutOfMemory>
     requires valid { IsValid scenario.now }
@@ -103,13 +105,17 @@ pub fn play_over<R: Threads + Wait + Sync, N: Links>(
     let mut back = Vec::with_capacity(alloc, count + 1)?;
     back.push_reserved(first);
     match seat_all(alloc, &scenario.routes, passes, links, &mut seats) {
-        Ok(()) => play_seated(rt, alloc, scenario, base, book, seats, back, links),
+        Ok(()) => play_seated(rt, alloc, scenario, base, threads, book, seats, back, links),
         Err(OutOfMemory) => {
             unseat(seats, links, &mut back);
             Err(OutOfMemory)
         }
     }
 }
+
+/// On how many threads at most documents are played over their scenario's own servers. These answer at once, so more
+/// threads than processors gain nothing, and what a document holds while it runs is held that many times at most.
+pub const SCRIPTED_THREADS: usize = 16;
 
 /// Plays a scenario over its own servers, from its own time on.
 pub fn play_scripted<R: Threads + Wait + Sync>(
@@ -122,5 +128,12 @@ pub fn play_scripted<R: Threads + Wait + Sync>(
     ensures has_text { IfOk result (λ played. HasText played.transcripts) }
 {
     let mut links = SimLinks::new(scenario);
-    play_over(rt, alloc, scenario, scenario.now, &mut links)
+    play_over(
+        rt,
+        alloc,
+        scenario,
+        scenario.now,
+        SCRIPTED_THREADS,
+        &mut links,
+    )
 }

@@ -14,6 +14,7 @@ use std::thread::Threads;
 use wf_book::History;
 use wf_link::Link;
 use wf_player::{Seating, play_all};
+use wf_player_play::SCRIPTED_THREADS;
 use wf_player_seats::{opened, passes_of, seat_all};
 use wf_report::Delivered;
 use wf_script_events::{Transcripts, has_text};
@@ -65,7 +66,15 @@ fn play_seated<R: Threads + Wait + Sync, L: Link + Send + Drop>(
     ensures { IfOk result (λ reported. WasReported (over_link L.serves) L.told scenario.entry.now seats.items
         reported.transcripts reported.reports reported.history) }
 {
-    let transcripts = play_all(rt, alloc, scenario, scenario.now, &book, &mut seats)?;
+    let transcripts = play_all(
+        rt,
+        alloc,
+        scenario,
+        scenario.now,
+        &book,
+        SCRIPTED_THREADS,
+        &mut seats,
+    )?;
     if !has_text(&transcripts) {
         return Err(OutOfMemory);
     }
@@ -79,8 +88,7 @@ fn play_seated<R: Threads + Wait + Sync, L: Link + Send + Drop>(
     })
 }
 
-/// Plays a scenario over its own servers, from its own time on, each document on a thread of its own where one can be
-/// made. Once all scripts have ended it delivers the reports of each document, in order of documents, over the
+/// Plays a scenario over its own servers, from its own time on. Once all scripts have ended it delivers the reports of each document, in order of documents, over the
 /// document's own link and the book as it is then. The one history is that of the scripts, and then that of the
 /// reports.
 ///

@@ -16,9 +16,18 @@ use wf_types::{Init, LoadInit, Pair, Pairs};
 /// How many bytes of a body are handed on at most: one more than a request's body may have.
 const MOST_BODY: usize = 65_537;
 
-/// How many bytes a text has at most once its placeholders were replaced. Memory is refused for a longer one, of
-/// which a URL may lose many again, and a header value those at its ends.
-const MOST_FILLED: usize = 16_777_216;
+/// How many bytes the texts that documents fill at once have together, at most: each document has an even part, and a
+/// sixteenth at least. Memory is refused for a longer one, of which a URL may lose many again, and a header value those
+/// at its ends. Reading a URL takes three times its length besides.
+const MOST_FILLED: usize = 12_582_912;
+
+/// Among how many documents that room is divided at most.
+const MOST_PARTS: usize = 16;
+
+// How many bytes a text has at most once its placeholders were replaced, where so many documents are played.
+fn room_of(documents: usize) -> usize {
+    MOST_FILLED / documents.clamp(1, MOST_PARTS)
+}
 
 // Adds what a piece after a `${` comes to: the value of its name, and what follows the `}`.
 fn add_placed(
@@ -34,21 +43,27 @@ fn add_placed(
     Ok(())
 }
 
-// A text with its placeholders replaced by the parts of the last result. Where it gets longer than that it is
+// A URL with its placeholders replaced by the parts of the last result. Where it gets longer than there is room it is
 // want of memory.
-fn fill(alloc: Global, last: Option<&Event>, template: &[u8]) -> Result<Bytes, OutOfMemory>
+fn fill_url(
+    alloc: Global,
+    documents: usize,
+    last: Option<&Event>,
+    template: &[u8],
+) -> Result<Bytes, OutOfMemory>
     ensures { IfOk result (λ text. text ≡ filled (value_of (lent_result last.entry)) template.now) }
 {
     let (first, mut rest) = next_piece(template);
     if rest.is_none() {
         return Bytes::of(alloc, first);
     }
+    let room = room_of(documents);
     let mut text = Vec::with_capacity(alloc, template.len())?;
     text.extend_from_slice(first)?;
     while let Some(behind) = rest {
         let (piece, more) = next_piece(behind);
         add_placed(&mut text, alloc, last, piece)?;
-        if text.len() > MOST_FILLED {
+        if text.len() > room {
             return Err(OutOfMemory);
         }
         rest = more;
@@ -76,8 +91,13 @@ fn fill_body(alloc: Global, last: Option<&Event>, template: &[u8]) -> Result<Byt
 }
 
 // A header value with its placeholders replaced, of which no more is kept than is needed to normalise and to cut it.
-// Where the whole would get longer than `MOST_FILLED` it is want of memory.
-fn fill_value(alloc: Global, last: Option<&Event>, template: &[u8]) -> Result<Bytes, OutOfMemory>
+// Where the whole would get longer than there is room it is want of memory.
+fn fill_value(
+    alloc: Global,
+    documents: usize,
+    last: Option<&Event>,
+    template: &[u8],
+) -> Result<Bytes, OutOfMemory>
     ensures { IfOk result (λ text. short.cut_value (trimmed http_whitespace text)
         ≡ short.cut_value (trimmed http_whitespace (filled (value_of (lent_result last.entry)) template.now))) }
 {
@@ -85,6 +105,7 @@ fn fill_value(alloc: Global, last: Option<&Event>, template: &[u8]) -> Result<By
     if rest.is_none() {
         return Bytes::of(alloc, first);
     }
+    let room = room_of(documents);
     let mut text = Vec::from_slice(alloc, first)?;
     let mut length = text.len();
     while let Some(behind) = rest {
@@ -92,7 +113,7 @@ fn fill_value(alloc: Global, last: Option<&Event>, template: &[u8]) -> Result<By
         let before = text.len();
         add_placed(&mut text, alloc, last, piece)?;
         length = length.saturating_add(text.len().saturating_sub(before));
-        if length > MOST_FILLED {
+        if length > room {
             return Err(OutOfMemory);
         }
         text = kept(alloc, text)?;
@@ -133,10 +154,15 @@ fn cut(alloc: Global, value: Bytes) -> Result<Bytes, OutOfMemory>
 }
 
 // A header, its value filled, normalised and then cut.
-fn filled_pair(alloc: Global, last: Option<&Event>, pair: &Pair) -> Result<Pair, OutOfMemory>
+fn filled_pair(
+    alloc: Global,
+    documents: usize,
+    last: Option<&Event>,
+    pair: &Pair,
+) -> Result<Pair, OutOfMemory>
     ensures { IfOk result (λ filled. filled ≡ short.cut_pair (spec.filled_pair (lent_result last.entry) pair.now)) }
 {
-    let value = fill_value(alloc, last, pair.value.as_slice())?;
+    let value = fill_value(alloc, documents, last, pair.value.as_slice())?;
     let value = normalized(alloc, value)?;
     Ok(Pair {
         name: pair.name.copy(alloc)?,
@@ -145,13 +171,18 @@ fn filled_pair(alloc: Global, last: Option<&Event>, pair: &Pair) -> Result<Pair,
 }
 
 // Headers, each with its value filled, normalised and then cut.
-fn filled_pairs(alloc: Global, last: Option<&Event>, pairs: &[Pair]) -> Result<Pairs, OutOfMemory>
+fn filled_pairs(
+    alloc: Global,
+    documents: usize,
+    last: Option<&Event>,
+    pairs: &[Pair],
+) -> Result<Pairs, OutOfMemory>
     ensures { IfOk result
         (λ filled. filled ≡ map short.cut_pair (map (spec.filled_pair (lent_result last.entry)) pairs.now)) }
 {
     let mut filled = Pairs::new(alloc);
     for pair in pairs {
-        filled.push(filled_pair(alloc, last, pair)?)?;
+        filled.push(filled_pair(alloc, documents, last, pair)?)?;
     }
     Ok(filled)
 }
@@ -177,19 +208,24 @@ fn filled_body(
 /// that is longer than 16,384 bytes, which no request has, the first 16,384 are handed on, and behind them a
 /// letter, or NUL where the value has a byte that no header value has: so it is refused for what the whole
 /// one would be. Its rest is looked at as it comes, and not kept. A body that gets longer than 65,536 bytes,
-/// which no request has either, stops growing there, and its first 65,537 are handed on. A URL or a value that
-/// gets longer than 16,777,216 bytes is want of memory.
-pub fn filled_init(alloc: Global, last: Option<&Event>, init: &Init) -> Result<Init, OutOfMemory>
+/// which no request has either, stops growing there, and its first 65,537 are handed on. A URL or a value
+/// that gets longer than 12,582,912 bytes, divided by the number of documents or by 16, is want of memory.
+pub fn filled_init(
+    alloc: Global,
+    documents: usize,
+    last: Option<&Event>,
+    init: &Init,
+) -> Result<Init, OutOfMemory>
     ensures { IfOk result
         (λ filled. filled ≡ short.with_cuts (spec.filled_init (lent_result last.entry) init.now)) }
 {
     Ok(Init {
-        url: fill(alloc, last, init.url.as_slice())?,
+        url: fill_url(alloc, documents, last, init.url.as_slice())?,
         method: init.method.copy(alloc)?,
         mode: init.mode,
         credentials: init.credentials,
         redirect: init.redirect,
-        headers: filled_pairs(alloc, last, init.headers.as_slice())?,
+        headers: filled_pairs(alloc, documents, last, init.headers.as_slice())?,
         body: filled_body(alloc, last, &init.body)?,
         client_referrer: init.client_referrer,
         referrer_policy: init.referrer_policy,
@@ -199,9 +235,10 @@ pub fn filled_init(alloc: Global, last: Option<&Event>, init: &Init) -> Result<I
 }
 
 /// What a script asks of a load, with the parts of the last result in the place of the placeholders in
-/// its URL. One that gets longer than 16,777,216 bytes is want of memory.
+/// its URL. One that gets longer than 12,582,912 bytes, divided by the number of documents or by 16, is want of memory.
 pub fn filled_load(
     alloc: Global,
+    documents: usize,
     last: Option<&Event>,
     init: &LoadInit,
 ) -> Result<LoadInit, OutOfMemory>
@@ -209,7 +246,7 @@ pub fn filled_load(
 {
     Ok(LoadInit {
         kind: init.kind,
-        url: fill(alloc, last, init.url.as_slice())?,
+        url: fill_url(alloc, documents, last, init.url.as_slice())?,
         crossorigin: init.crossorigin,
         nonce: init.nonce.copy(alloc)?,
         integrity: init.integrity.copy(alloc)?,

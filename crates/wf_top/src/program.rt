@@ -157,7 +157,9 @@ fn play_linked<R: Threads + Wait + Sync, S: Source, K: Sink, N: Links, C: Clock>
         Ok(scenario) => scenario,
     };
     let base = base_of(clock);
-    match play_over(rt, alloc, &scenario, base, links) {
+    // a document that waits for its server keeps no other from its work
+    let threads = scenario.documents.len();
+    match play_over(rt, alloc, &scenario, base, threads, links) {
         Err(OutOfMemory) => Status::OutOfMemory,
         Ok(played) => write_text(alloc, &played, output),
     }

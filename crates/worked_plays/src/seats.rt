@@ -72,7 +72,7 @@ fn play_on<'a, R: Threads + Wait + Sync>(
     requires left { All (λ s. left_of s.pass ≡ 4294967295) seats.old.items }
     requires belong { All (λ s. s.pass.seat.table_id ≡ book.now.table.shared.table_id) seats.old.items }
 {
-    let transcripts = play_all(rt, alloc, scenario, 0, book, seats)?;
+    let transcripts = play_all(rt, alloc, scenario, 0, book, 2, seats)?;
     for transcript in transcripts.as_slice() {
         show(transcript, shown);
     }

@@ -5,7 +5,7 @@ use Rattle.wf_script_commands.specs.Pieces.{pieces_behind}
 use Rattle.wf_script_commands.specs.Templates.{filled, placed}
 use Rattle.wf_script_run.specs.Results.{lent_result, value_of}
 use Rattle.wf_script_run.proofs.FillingLemmas.{size_of}
-use Rattle.wf_script_run.proofs.filling.fill.Given as goal
+use Rattle.wf_script_run.proofs.filling.fill_url.Given as goal
 
 -- what was filled, and the pieces that are left
 abbrev pub invariant-loop-rest : goal.invariant-loop-rest
