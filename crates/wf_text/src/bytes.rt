@@ -63,6 +63,22 @@ impl Bytes {
         }
     }
 
+    /// A copy of two pieces, one behind the other, with no more room than it needs.
+    #[tactic(auto, unfolding(crate::specs::Private::Stores::whole, crate::specs::Private::Stores::IsInOnePlace))]
+    pub fn joined(alloc: Global, front: &[u8], back: &[u8]) -> Result<Bytes, OutOfMemory>
+        ensures { IfOk result (λ text. text ≡ front.now ++ back.now) }
+    {
+        if front.len() > SHORT || back.len() > SHORT - front.len() {
+            return Ok(Bytes::from_vec(joined(alloc, front, back)?));
+        }
+        let mut short = Short::of(front);
+        short.append(back);
+        Ok(Bytes {
+            short,
+            long: Vec::new(alloc),
+        })
+    }
+
     /// The bytes of a vector, which is not copied.
     #[tactic(auto, unfolding(crate::specs::Private::Stores::whole, crate::specs::Private::Stores::IsInOnePlace))]
     pub fn from_vec(items: Vec<u8>) -> Bytes
