@@ -6,7 +6,7 @@ ghost use Rattle.wf_types.specs.PermittedNames as permitted;
 
 use crate::exposed::Exposure;
 use crate::names::{is_forbidden, is_safelisted};
-use wf_headers::{Header, HeaderTest};
+use wf_headers::{Field, HeaderTest};
 use wf_types::{Tainting, has_name_among};
 
 // The headers that a verdict on the answer to a preflight rests on.
@@ -62,7 +62,7 @@ pub enum Keep<'a> {
 
 // Whether a header of a list that exposes this has a CORS-safelisted response-header name. Where all
 // names are exposed, the header's own is one of them, so it is only asked whether it is forbidden.
-fn is_safelisted_in(exposure: &Exposure, header: &Header) -> bool
+fn is_safelisted_in(exposure: &Exposure, header: &Field) -> bool
     ensures { result ≡ is_safelisted_in exposure.now header.now }
 {
     match exposure {
@@ -72,7 +72,7 @@ fn is_safelisted_in(exposure: &Exposure, header: &Header) -> bool
 }
 
 // Whether the check of this tainting rests on the header.
-fn is_checked(tainting: Tainting, header: &Header) -> bool
+fn is_checked(tainting: Tainting, header: &Field) -> bool
     ensures { result ≡ permitted.has_name_among (views.checked_names tainting) header.now }
 {
     match tainting {
@@ -85,7 +85,7 @@ fn is_checked(tainting: Tainting, header: &Header) -> bool
 impl<'a> HeaderTest for Keep<'a> {
     ghost passing = { private.keeps };
 
-    fn passes(&self, header: &Header) -> bool {
+    fn passes(&self, header: &Field) -> bool {
         match self {
             Keep::Allowed => !is_forbidden(header),
             Keep::Preflight => has_name_among(&PREFLIGHT_NAMES, header),
