@@ -74,8 +74,8 @@ fn header_text(headers: &HeaderList, part: Part, at: usize) -> Option<&[u8]>
     match headers.as_slice().get(at) {
         None => None,
         Some(header) => match part {
-            Part::HeaderName => Some(header.name.as_slice()),
-            Part::HeaderValue => Some(header.value.as_slice()),
+            Part::HeaderName => Some(header.name()),
+            Part::HeaderValue => Some(header.value()),
             _ => None,
         },
     }

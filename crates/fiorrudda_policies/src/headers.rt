@@ -17,7 +17,7 @@ fn name_in(thing: &Thing, at: usize, room: &mut [u8], len: &mut usize) -> u32
     };
     match list.as_slice().get(at) {
         None => NO,
-        Some(header) => write(header.name.as_slice(), room, len),
+        Some(header) => write(header.name(), room, len),
     }
 }
 
@@ -54,7 +54,7 @@ fn value_in(thing: &Thing, at: usize, room: &mut [u8], len: &mut usize) -> u32
     };
     match list.as_slice().get(at) {
         None => NO,
-        Some(header) => write(header.value.as_slice(), room, len),
+        Some(header) => write(header.value(), room, len),
     }
 }
 

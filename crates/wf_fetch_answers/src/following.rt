@@ -5,7 +5,7 @@ ghost use Rattle.wf_fetch_answers.specs.Following as spec;
 
 use std::alloc::Global;
 use url::Url;
-use wf_headers::{Header, HeaderList, HeaderTest};
+use wf_headers::{Field, HeaderList, HeaderTest};
 use wf_origin::have_same_origin;
 use wf_text::{AUTHORIZATION, Bytes, OutOfMemory};
 use wf_types::{Head, Request, has_name_among, is_get_or_head, policy_of_header, policy_or};
@@ -33,7 +33,7 @@ struct NotOfBody;
 impl HeaderTest for NotOfBody {
     ghost passing = { λ _ header. not (permitted.has_name_among spec.body_header_names header) };
 
-    fn passes(&self, header: &Header) -> bool {
+    fn passes(&self, header: &Field) -> bool {
         !has_name_among(&BODY_HEADER_NAMES, header)
     }
 }

@@ -9,7 +9,7 @@ ghost use Rattle.wf_types.specs.Requests.{IsRequest};
 use std::alloc::Global;
 use url::{Host, Url};
 use wf_book::Op;
-use wf_headers::Header;
+use wf_headers::Field;
 use wf_hsts::{Sts, parse_sts};
 use wf_origin::is_local_name;
 use wf_text::{Bytes, OutOfMemory, eq_fold};
@@ -53,19 +53,17 @@ fn host_to_note(request: &Request) -> Option<&str>
 }
 
 // The first header of a name.
-fn first_named<'a>(name: &[u8], headers: &'a [Header]) -> Option<&'a Header>
+fn first_named<'a>(name: &[u8], headers: &'a [Field]) -> Option<&'a Field>
     ensures { option_copied result ≡ find (is_named name.now) headers.now }
 {
-    headers
-        .iter()
-        .find(|header| eq_fold(header.name.as_slice(), name))
+    headers.iter().find(|header| eq_fold(header.name(), name))
 }
 
 // The value of the first header of a name.
-fn first_value<'a>(name: &[u8], headers: &'a [Header]) -> Option<&'a [u8]>
+fn first_value<'a>(name: &[u8], headers: &'a [Field]) -> Option<&'a [u8]>
     ensures { option_copied result ≡ spec.first_value name.now headers.now }
 {
-    Some(first_named(name, headers)?.value.as_slice())
+    Some(first_named(name, headers)?.value())
 }
 
 // What the Strict-Transport-Security field of a head says.

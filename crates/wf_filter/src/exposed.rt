@@ -4,7 +4,7 @@ ghost use Rattle.wf_filter.specs.Private.Collecting.{with_new};
 ghost use Rattle.wf_filter.specs.Private.Exposing as private;
 
 use std::alloc::Global;
-use wf_headers::{Extracted, Header, HeaderList, Rule};
+use wf_headers::{Extracted, Field, HeaderList, Rule};
 use wf_text::{Bytes, BytesList, OutOfMemory, has_text_fold, has_wildcard};
 
 /// The names of response headers that a CORS response exposes.
@@ -28,12 +28,12 @@ fn add_name(alloc: Global, names: &mut BytesList, name: &[u8]) -> Result<(), Out
 
 // The names of headers, each once, in order.
 #[tactic(auto, using(crate::proofs::CollectingLemmas::new_all))]
-fn header_names(alloc: Global, headers: &[Header]) -> Result<BytesList, OutOfMemory>
+fn header_names(alloc: Global, headers: &[Field]) -> Result<BytesList, OutOfMemory>
     ensures { IfOk result (λ names. names ≡ spec.header_names headers.now) }
 {
     let mut names = BytesList::new(alloc);
     for header in headers {
-        add_name(alloc, &mut names, header.name.as_slice())?;
+        add_name(alloc, &mut names, header.name())?;
     }
     Ok(names)
 }

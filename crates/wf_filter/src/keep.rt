@@ -6,7 +6,7 @@ ghost use Rattle.wf_types.specs.PermittedNames as permitted;
 
 use crate::listed::{Exposed, is_safelisted_among};
 use crate::names::is_forbidden;
-use wf_headers::{Header, HeaderTest};
+use wf_headers::{Field, HeaderTest};
 use wf_types::{Tainting, has_name_among};
 
 // The headers that a verdict on the answer to a preflight rests on.
@@ -61,7 +61,7 @@ pub enum Keep<'a> {
 }
 
 // Whether the check of this tainting rests on the header.
-fn is_checked(tainting: Tainting, header: &Header) -> bool
+fn is_checked(tainting: Tainting, header: &Field) -> bool
     ensures { result ≡ permitted.has_name_among (views.checked_names tainting) header.now }
 {
     match tainting {
@@ -74,7 +74,7 @@ fn is_checked(tainting: Tainting, header: &Header) -> bool
 impl<'a> HeaderTest for Keep<'a> {
     ghost passing = { private.keeps };
 
-    fn passes(&self, header: &Header) -> bool {
+    fn passes(&self, header: &Field) -> bool {
         match self {
             Keep::Allowed => !is_forbidden(header),
             Keep::Preflight => has_name_among(&PREFLIGHT_NAMES, header),

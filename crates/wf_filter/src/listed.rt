@@ -8,7 +8,7 @@ ghost use Rattle.wf_types.specs.TextSets.{has_text};
 use crate::exposed::Exposure;
 use crate::names::{has_safelisted_name, is_forbidden, is_safelisted};
 use std::alloc::Global;
-use wf_headers::Header;
+use wf_headers::Field;
 use wf_text::{Bytes, BytesList, OutOfMemory};
 use wf_types::TextSet;
 
@@ -31,12 +31,12 @@ fn add_name(
     alloc: Global,
     found: &mut TextSet,
     lower: &TextSet,
-    header: &Header,
+    header: &Field,
 ) -> Result<(), OutOfMemory>
     ensures { OnOk result ((name : List ℕ) → has_text found.new name
         ≡ (is_found lower.now name header.now || has_text found.old name)) }
 {
-    let name = header.name.as_slice();
+    let name = header.name();
     if lower.has_in_lower_case(alloc, name)? {
         found.add(alloc, name)?;
     }
@@ -44,7 +44,7 @@ fn add_name(
 }
 
 // The names of headers, as they are spelled, that are in the set in lower case.
-fn found_in(alloc: Global, lower: &TextSet, headers: &[Header]) -> Result<TextSet, OutOfMemory>
+fn found_in(alloc: Global, lower: &TextSet, headers: &[Field]) -> Result<TextSet, OutOfMemory>
     ensures { IfOk result (λ found. (name : List ℕ) → has_text found name
         ≡ list_any (is_found lower.now name) headers.now) }
 {
@@ -56,7 +56,7 @@ fn found_in(alloc: Global, lower: &TextSet, headers: &[Header]) -> Result<TextSe
 }
 
 // The names of those headers that have one of many names.
-fn exposed_among(alloc: Global, names: &[Bytes], headers: &[Header]) -> Result<TextSet, OutOfMemory>
+fn exposed_among(alloc: Global, names: &[Bytes], headers: &[Field]) -> Result<TextSet, OutOfMemory>
     ensures { IfOk result (λ found. (header : Header) → is_there headers.now header.name ≡ true
         → has_text found header.name ≡ has_name_among names.now header) }
 {
@@ -69,7 +69,7 @@ fn exposed_among(alloc: Global, names: &[Bytes], headers: &[Header]) -> Result<T
 pub fn exposed_in(
     alloc: Global,
     exposure: Exposure,
-    headers: &[Header],
+    headers: &[Field],
 ) -> Result<Exposed, OutOfMemory>
     ensures { IfOk result (λ exposed. Agree headers.now exposed exposure) }
 {
@@ -86,7 +86,7 @@ pub fn exposed_in(
 
 // Whether a header of the list has a CORS-safelisted response-header name. Where all names are exposed, the header's
 // own is one of them, so it is only asked whether it is forbidden.
-pub fn is_safelisted_among(exposed: &Exposed, header: &Header) -> bool
+pub fn is_safelisted_among(exposed: &Exposed, header: &Field) -> bool
     ensures { result ≡ is_safelisted_among exposed.now header.now }
 {
     match exposed {
@@ -94,7 +94,7 @@ pub fn is_safelisted_among(exposed: &Exposed, header: &Header) -> bool
         Exposed::Few(names) => is_safelisted(names.as_slice(), header),
         Exposed::Many(found) => {
             has_safelisted_name(header)
-                || (found.has(header.name.as_slice()) && !is_forbidden(header))
+                || (found.has(header.name()) && !is_forbidden(header))
         }
     }
 }

@@ -2,7 +2,7 @@ ghost use Rattle.std.specs.Prelude.{◌≡◌};
 ghost use Rattle.wf_filter.specs.Names as spec;
 ghost use Rattle.wf_types.specs.PermittedNames as permitted;
 
-use wf_headers::Header;
+use wf_headers::Field;
 use wf_text::{Bytes, eq_fold};
 use wf_types::has_name_among;
 
@@ -21,23 +21,23 @@ const SAFELISTED_NAMES: [&[u8]; 7] = [
 ];
 
 // Whether the header has one of these names.
-fn has_name_in(names: &[Bytes], header: &Header) -> bool
+fn has_name_in(names: &[Bytes], header: &Field) -> bool
     ensures { result ≡ permitted.has_name_among names.now header.now }
 {
     names
         .iter()
-        .any(|name| eq_fold(header.name.as_slice(), name.as_slice()))
+        .any(|name| eq_fold(header.name(), name.as_slice()))
 }
 
 // Whether the header has a forbidden response-header name (Fetch, section 2.2.2).
-pub fn is_forbidden(header: &Header) -> bool
+pub fn is_forbidden(header: &Field) -> bool
     ensures { result ≡ spec.is_forbidden header.now }
 {
     has_name_among(&FORBIDDEN_NAMES, header)
 }
 
 // Whether the header has a name that is CORS-safelisted whatever is exposed.
-pub fn has_safelisted_name(header: &Header) -> bool
+pub fn has_safelisted_name(header: &Field) -> bool
     ensures { result ≡ permitted.has_name_among spec.safelisted_names header.now }
 {
     has_name_among(&SAFELISTED_NAMES, header)
@@ -45,7 +45,7 @@ pub fn has_safelisted_name(header: &Header) -> bool
 
 // Whether the header has a CORS-safelisted response-header name, given a list of exposed names
 // (Fetch, section 2.2.2).
-pub fn is_safelisted(exposed: &[Bytes], header: &Header) -> bool
+pub fn is_safelisted(exposed: &[Bytes], header: &Field) -> bool
     ensures { result ≡ spec.is_safelisted exposed.now header.now }
 {
     has_safelisted_name(header) || (has_name_in(exposed, header) && !is_forbidden(header))

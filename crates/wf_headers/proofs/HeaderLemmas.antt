@@ -1,6 +1,6 @@
 -- What the loops over header lists come to.
 use Rattle.std.proofs.Common.{arith, ◌≡◌, ◌<◌, ◌≤◌, ◌++◌, ◌∷◌, [], ℕ, zero, suc, Bool, true, false, List, length}
-use Rattle.std.proofs.Common.{slice_index_or, ap, cond, refl, Option, Some, codes, append_assoc}
+use Rattle.std.proofs.Common.{option_map, slice_get, ap, cond, refl, Option, Some, codes, append_assoc}
 use Rattle.std.specs.List.{insert, remove}
 use Rattle.std.proofs.lemmas.Grind.{common_steps}
 use Rattle.wf_headers.specs.Headers.{joined, after_comma, without, with_only}
@@ -28,15 +28,14 @@ without-room name [] at e lt = omega (arith, lt)
 without-room name (header ∷ headers) zero e lt = grind (arith, common_steps)
 without-room name (header ∷ headers) (suc at) e lt = grind (arith, common_steps, without-room name headers at)
 
--- the first header with its new value, among what deleting the name leaves of the others
-pub with_only-found : (name value : List ℕ) (headers : List Header) (at : ℕ) (first : Header) → at
-    ≡ first_of name headers → at < length headers → first ≡ slice_index_or headers at first
-    → insert (without name (remove headers at)) at (record { name = first.name; value = value })
-    ≡ with_only name value headers
-with_only-found name value [] at first e lt is = grind arith
-with_only-found name value (header ∷ headers) zero first e lt is = grind (arith, common_steps)
-with_only-found name value (header ∷ headers) (suc at) first e lt is =
-    grind (arith, common_steps, with_only-found name value headers at first)
+-- a header in the place of the first of its name, among what deleting the name leaves of the others
+pub with_only-found : (name : List ℕ) (headers : List Header) (at : ℕ) (field : Header) → at ≡ first_of name headers → at
+    < length headers → option_map (λ (header : Header). header.name) (slice_get headers at) ≡ Some field.name
+    → insert (without name (remove headers at)) at field ≡ with_only name field.value headers
+with_only-found name [] at field e lt is = grind arith
+with_only-found name (header ∷ headers) zero field e lt is = grind (arith, common_steps)
+with_only-found name (header ∷ headers) (suc at) field e lt is =
+    grind (arith, common_steps, with_only-found name headers at field)
 
 pub with_only-missing : (name value : List ℕ) (headers : List Header) → length headers ≤ first_of name headers
     → with_only name value headers ≡ headers ++ record { name = name; value = value } ∷ []

@@ -8,7 +8,8 @@ ghost use Rattle.wf_text.specs.Words.{is_filled};
 ghost use Rattle.wf_headers.specs.Private.Finding.{WasFound};
 ghost use Rattle.wf_headers.specs.declared.extract.Rule.TheVariants.{Tokens, Digits, Single};
 
-use crate::headers::{Header, HeaderList};
+use crate::field::Field;
+use crate::headers::HeaderList;
 use std::alloc::Global;
 use wf_text::{
     Bytes, BytesList, OutOfMemory, eq_fold, is_digits, is_token, position_of, trim_tab_or_space,
@@ -82,14 +83,14 @@ fn are_tokens(texts: &BytesList) -> bool
 }
 
 // The tokens in the values of a name.
-fn tokens_in(alloc: Global, headers: &[Header], name: &[u8]) -> Result<Extracted, OutOfMemory>
+fn tokens_in(alloc: Global, headers: &[Field], name: &[u8]) -> Result<Extracted, OutOfMemory>
     ensures { IfOk result (λ found. found ≡ extracted Tokens name.now headers.now) }
 {
     let mut tokens = BytesList::new(alloc);
     let mut found = false;
     for header in headers {
-        if eq_fold(header.name.as_slice(), name) {
-            add_items(alloc, &mut tokens, header.value.as_slice())?;
+        if eq_fold(header.name(), name) {
+            add_items(alloc, &mut tokens, header.value())?;
             found = true;
         }
     }
@@ -103,14 +104,14 @@ fn tokens_in(alloc: Global, headers: &[Header], name: &[u8]) -> Result<Extracted
 }
 
 // What there is of the values of a name: none, one, or at least two.
-fn find<'a>(headers: &'a [Header], name: &[u8]) -> Found<'a>
+fn find<'a>(headers: &'a [Field], name: &[u8]) -> Found<'a>
     ensures { WasFound result (values_of name.now headers.now) }
 {
     let mut found = Found::Nothing;
     for header in headers {
-        if eq_fold(header.name.as_slice(), name) {
+        if eq_fold(header.name(), name) {
             match found {
-                Found::Nothing => found = Found::Once(header.value.as_slice()),
+                Found::Nothing => found = Found::Once(header.value()),
                 Found::Once(_) | Found::Repeated => return Found::Repeated,
             }
         }

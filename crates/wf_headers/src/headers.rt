@@ -9,32 +9,22 @@ ghost use Rattle.wf_headers.specs.Private.Places.{first_of};
 ghost use Rattle.wf_headers.specs.Spelling.{HaveOneSpelling};
 ghost use Rattle.wf_headers.specs.declared.headers.Header.{Header};
 
+use crate::field::Field;
 use std::alloc::Global;
 use std::marker::Model;
 use wf_text::{Bytes, OutOfMemory, eq_fold};
 
-/// A header: a name and a value.
+/// A header: a name and a value. Contracts speak of it, and see each `Field` as one.
 #[derive(Drop)]
 pub struct Header {
     pub name: Bytes,
     pub value: Bytes,
 }
 
-impl Header {
-    /// An equal header.
-    pub fn copy(&self, alloc: Global) -> Result<Header, OutOfMemory>
-        ensures { IfOk result (λ header. header ≡ self.now) }
-    {
-        let name = self.name.copy(alloc)?;
-        let value = self.value.copy(alloc)?;
-        Ok(Header { name, value })
-    }
-}
-
 /// A header list, seen as the list of its headers (Fetch, section 2.2.2).
 #[derive(Drop)]
 pub struct HeaderList {
-    headers: Vec<Header>,
+    headers: Vec<Field>,
 }
 
 impl Model for HeaderList {
@@ -56,7 +46,7 @@ pub trait HeaderTest {
     ghost passing: { Self → Header → Bool };
 
     /// Whether a header passes.
-    fn passes(&self, header: &Header) -> bool
+    fn passes(&self, header: &Field) -> bool
         ensures { result ≡ passing self.now header.now };
 }
 
@@ -69,29 +59,29 @@ struct Others<'a> {
 impl<'a> HeaderTest for Others<'a> {
     ghost passing = { λ others header. not (is_named others.name.now header) };
 
-    fn passes(&self, header: &Header) -> bool {
-        !eq_fold(header.name.as_slice(), self.name)
+    fn passes(&self, header: &Field) -> bool {
+        !eq_fold(header.name(), self.name)
     }
 }
 
 // The spelling of a name that the headers have already.
-fn spelling_in<'a>(headers: &'a [Header], name: &'a [u8]) -> &'a [u8]
+fn spelling_in<'a>(headers: &'a [Field], name: &'a [u8]) -> &'a [u8]
     ensures { result.now ≡ spelling name.now headers.now }
 {
     for header in headers {
-        if eq_fold(header.name.as_slice(), name) {
-            return header.name.as_slice();
+        if eq_fold(header.name(), name) {
+            return header.name();
         }
     }
     name
 }
 
 // Where the first header of that name is, or the number of headers where there is none.
-fn first_named(headers: &[Header], name: &[u8]) -> usize
+fn first_named(headers: &[Field], name: &[u8]) -> usize
     ensures { result ≡ first_of name.now headers.now }
 {
     for (index, header) in headers.iter().enumerate() {
-        if eq_fold(header.name.as_slice(), name) {
+        if eq_fold(header.name(), name) {
             return index;
         }
     }
@@ -99,7 +89,7 @@ fn first_named(headers: &[Header], name: &[u8]) -> usize
 }
 
 // Keeps the headers that pass.
-fn keep_in<T: HeaderTest>(headers: &mut Vec<Header>, test: &T)
+fn keep_in<T: HeaderTest>(headers: &mut Vec<Field>, test: &T)
     ensures items { headers.new.items ≡ filter (T.passing test.now) headers.old.items }
     ensures len { vec_len headers.new ≤ vec_len headers.old }
     ensures capacity { vec_capacity headers.new ≡ vec_capacity headers.old }
@@ -107,16 +97,16 @@ fn keep_in<T: HeaderTest>(headers: &mut Vec<Header>, test: &T)
     headers.retain(|header| test.passes(header));
 }
 
-// Gives the first header of the name this value and takes out the others of that name.
-fn replace(headers: &mut Vec<Header>, at: usize, name: &[u8], value: Bytes)
+// Puts a header in the place of the first of its name and takes out the others of that name.
+fn replace(headers: &mut Vec<Field>, at: usize, name: &[u8], field: Field)
     requires first { at ≡ first_of name.now headers.old.items }
     requires within { at < vec_len headers.old }
-    ensures { headers.new.items ≡ with_only name.now value headers.old.items }
+    requires spelled { option_map (λ header. header.name) (slice_get headers.old.items at) ≡ Some field.name }
+    ensures { headers.new.items ≡ with_only name.now field.value headers.old.items }
 {
-    let first = headers.remove(at);
+    let _first = headers.remove(at);
     keep_in(headers, &Others { name });
-    let name = first.name;
-    let Ok(()) = headers.insert(at, Header { name, value }) else {
+    let Ok(()) = headers.insert(at, field) else {
         // One header was taken out, so there is room.
         unreachable!();
     };
@@ -125,26 +115,26 @@ fn replace(headers: &mut Vec<Header>, at: usize, name: &[u8], value: Bytes)
 // Gives a name this one value, where its first header is or at the end.
 fn set_in(
     alloc: Global,
-    headers: &mut Vec<Header>,
+    headers: &mut Vec<Field>,
     name: &[u8],
-    value: Bytes,
+    value: &[u8],
 ) -> Result<(), OutOfMemory>
-    ensures ok { OnOk result (headers.new.items ≡ with_only name.now value headers.old.items) }
+    ensures ok { OnOk result (headers.new.items ≡ with_only name.now value.now headers.old.items) }
     ensures err { OnErr result (headers.new.items ≡ headers.old.items) }
 {
     let at = first_named(headers.as_slice(), name);
     if at < headers.len() {
-        replace(headers, at, name, value);
+        let field = Field::of(alloc, headers[at].name(), value)?;
+        replace(headers, at, name, field);
         Ok(())
     } else {
-        let name = Bytes::of(alloc, name)?;
-        headers.push(Header { name, value })?;
+        headers.push(Field::of(alloc, name, value)?)?;
         Ok(())
     }
 }
 
 // A copy of each header.
-fn copy_of(alloc: Global, headers: &[Header]) -> Result<Vec<Header>, OutOfMemory>
+fn copy_of(alloc: Global, headers: &[Field]) -> Result<Vec<Field>, OutOfMemory>
     ensures { IfOk result (λ copy. copy.items ≡ headers.now) }
 {
     let mut copy = Vec::with_capacity(alloc, headers.len())?;
@@ -157,9 +147,9 @@ fn copy_of(alloc: Global, headers: &[Header]) -> Result<Vec<Header>, OutOfMemory
 // A copy of each header that passes.
 fn copy_of_some<T: HeaderTest>(
     alloc: Global,
-    headers: &[Header],
+    headers: &[Field],
     test: &T,
-) -> Result<Vec<Header>, OutOfMemory>
+) -> Result<Vec<Field>, OutOfMemory>
     ensures { IfOk result (λ copy. copy.items ≡ filter (T.passing test.now) headers.now) }
 {
     let mut copy = Vec::new(alloc);
@@ -184,14 +174,14 @@ fn add_value(text: &mut Vec<u8>, found: bool, value: &[u8]) -> Result<(), OutOfM
 }
 
 // All values of a name, joined.
-fn combined_in(alloc: Global, headers: &[Header], name: &[u8]) -> Result<Option<Bytes>, OutOfMemory>
+fn combined_in(alloc: Global, headers: &[Field], name: &[u8]) -> Result<Option<Bytes>, OutOfMemory>
     ensures { IfOk result (λ text. text ≡ combined name.now headers.now) }
 {
     let mut text = Vec::new(alloc);
     let mut found = false;
     for header in headers {
-        if eq_fold(header.name.as_slice(), name) {
-            add_value(&mut text, found, header.value.as_slice())?;
+        if eq_fold(header.name(), name) {
+            add_value(&mut text, found, header.value())?;
             found = true;
         }
     }
@@ -223,14 +213,14 @@ fn after_value<'a>(text: &'a [u8], found: bool, value: &[u8]) -> Option<&'a [u8]
 }
 
 // Whether the values of a name, joined, are this text.
-fn are_joined(headers: &[Header], name: &[u8], text: &[u8]) -> bool
+fn are_joined(headers: &[Field], name: &[u8], text: &[u8]) -> bool
     ensures { result ≡ has_value name.now text.now headers.now }
 {
     let mut rest = text;
     let mut found = false;
     for header in headers {
-        if eq_fold(header.name.as_slice(), name) {
-            let Some(after) = after_value(rest, found, header.value.as_slice()) else {
+        if eq_fold(header.name(), name) {
+            let Some(after) = after_value(rest, found, header.value()) else {
                 return false;
             };
             rest = after;
@@ -260,7 +250,7 @@ impl HeaderList {
     }
 
     /// The headers, in order.
-    pub fn as_slice(&self) -> &[Header]
+    pub fn as_slice(&self) -> &[Field]
         ensures { result.now ≡ self.now }
     {
         self.headers.as_slice()
@@ -278,7 +268,7 @@ impl HeaderList {
         requires { index < length self.now }
         ensures { option_map (λ header. header.name) (slice_get self.now index) ≡ Some result.now }
     {
-        self.headers[index].name.as_slice()
+        self.headers[index].name()
     }
 
     /// The value of the header at an index below the length.
@@ -286,7 +276,7 @@ impl HeaderList {
         requires { index < length self.now }
         ensures { option_map (λ header. header.value) (slice_get self.now index) ≡ Some result.now }
     {
-        self.headers[index].value.as_slice()
+        self.headers[index].value()
     }
 
     /// A law for those who call: equal names have one spelling in each list. The call does nothing.
@@ -302,7 +292,7 @@ impl HeaderList {
     {
         self.headers
             .iter()
-            .any(|header| eq_fold(header.name.as_slice(), name))
+            .any(|header| eq_fold(header.name(), name))
     }
 
     /// "append": adds a header, its name in the spelling that the list has already
@@ -312,9 +302,9 @@ impl HeaderList {
         ensures err { OnErr result (self.new ≡ self.old) }
     {
         let alloc = *self.headers.allocator();
-        let name = Bytes::of(alloc, spelling_in(self.headers.as_slice(), name))?;
-        let value = Bytes::of(alloc, value)?;
-        self.headers.push(Header { name, value })?;
+        let name = spelling_in(self.headers.as_slice(), name);
+        let field = Field::of(alloc, name, value)?;
+        self.headers.push(field)?;
         Ok(())
     }
 
@@ -325,7 +315,6 @@ impl HeaderList {
         ensures err { OnErr result (self.new ≡ self.old) }
     {
         let alloc = *self.headers.allocator();
-        let value = Bytes::of(alloc, value)?;
         set_in(alloc, &mut self.headers, name, value)
     }
 
@@ -344,18 +333,18 @@ impl HeaderList {
     }
 
     // Appends each of these headers, in order. Where memory is refused for one, those before it are appended.
-    fn append_each(&mut self, more: &[Header]) -> Result<(), OutOfMemory>
+    fn append_each(&mut self, more: &[Field]) -> Result<(), OutOfMemory>
         ensures ok { OnOk result (self.new ≡ all_appended more.now self.old) }
         ensures err { OnErr result (take (length self.old) self.new ≡ self.old) }
     {
         for header in more {
-            self.append(header.name.as_slice(), header.value.as_slice())?;
+            self.append(header.name(), header.value())?;
         }
         Ok(())
     }
 
     /// Appends each of these headers, in order, or none of them where memory is refused.
-    pub fn append_all(&mut self, more: &[Header]) -> Result<(), OutOfMemory>
+    pub fn append_all(&mut self, more: &[Field]) -> Result<(), OutOfMemory>
         ensures ok { OnOk result (self.new ≡ all_appended more.now self.old) }
         ensures err { OnErr result (self.new ≡ self.old) }
     {

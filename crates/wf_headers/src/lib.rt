@@ -2,9 +2,11 @@
 #![tactic(auto)]
 
 mod extract;
+mod field;
 mod headers;
 mod split;
 
 pub use extract::{Extracted, Rule};
+pub use field::Field;
 pub use headers::{Header, HeaderList, HeaderTest};
 pub use split::split_value;

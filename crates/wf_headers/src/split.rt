@@ -3,7 +3,8 @@ ghost use Rattle.wf_text.specs.Trims.{tab_or_space, trimmed};
 ghost use Rattle.wf_headers.specs.Split.{split, split_values};
 ghost use Rattle.wf_headers.specs.Private.Splitting.{pieces_at, pieces_behind, split_with};
 
-use crate::headers::{Header, HeaderList};
+use crate::field::Field;
+use crate::headers::HeaderList;
 use std::alloc::Global;
 use wf_text::{Bytes, BytesList, OutOfMemory, eq_fold, trim_tab_or_space};
 
@@ -128,18 +129,14 @@ pub fn split_value(alloc: Global, value: &[u8]) -> Result<BytesList, OutOfMemory
 }
 
 // The values of a name, split as if they were joined: the joined text is not built.
-fn split_in(
-    alloc: Global,
-    headers: &[Header],
-    name: &[u8],
-) -> Result<Option<BytesList>, OutOfMemory>
+fn split_in(alloc: Global, headers: &[Field], name: &[u8]) -> Result<Option<BytesList>, OutOfMemory>
     ensures { IfOk result (λ pieces. pieces ≡ split_values name.now headers.now) }
 {
     let mut splitter = Splitter::new(alloc);
     let mut found = false;
     for header in headers {
-        if eq_fold(header.name.as_slice(), name) {
-            splitter.take_value(found, header.value.as_slice())?;
+        if eq_fold(header.name(), name) {
+            splitter.take_value(found, header.value())?;
             found = true;
         }
     }

@@ -6,7 +6,7 @@ ghost use Rattle.wf_http1.specs.Framings as spec;
 ghost use Rattle.wf_http1.specs.Private.Lengths.{first_value, shortened};
 
 use std::alloc::Global;
-use wf_headers::{Header, HeaderList};
+use wf_headers::{Field, HeaderList};
 use wf_text::{BytesList, OutOfMemory, digits_at_most, eq_fold, parse_digits, trim_tab_or_space};
 use wf_types::Head;
 
@@ -58,12 +58,12 @@ fn of_coding(coding: &[u8]) -> Framing
 }
 
 // The value of the first header of that name.
-fn first_value<'a>(headers: &'a [Header], name: &[u8]) -> Option<&'a [u8]>
+fn first_value<'a>(headers: &'a [Field], name: &[u8]) -> Option<&'a [u8]>
     ensures { option_copied result ≡ first_value name.now headers.now }
 {
     for header in headers {
-        if eq_fold(header.name.as_slice(), name) {
-            return Some(header.value.as_slice());
+        if eq_fold(header.name(), name) {
+            return Some(header.value());
         }
     }
     None

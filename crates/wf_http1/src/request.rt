@@ -3,7 +3,7 @@ ghost use Rattle.std.specs.List.{flat_map};
 ghost use Rattle.wf_http1.specs.Requests.{header_line, request_bytes, request_line};
 
 use std::alloc::Global;
-use wf_headers::Header;
+use wf_headers::Field;
 use wf_text::{Bytes, OutOfMemory};
 use wf_types::Hop;
 
@@ -22,18 +22,18 @@ fn add_request_line(text: &mut Vec<u8>, hop: &Hop) -> Result<(), OutOfMemory>
 }
 
 // Adds a header on its line.
-fn add_header_line(text: &mut Vec<u8>, header: &Header) -> Result<(), OutOfMemory>
+fn add_header_line(text: &mut Vec<u8>, header: &Field) -> Result<(), OutOfMemory>
     ensures { OnOk result (text.new.items ≡ text.old.items ++ header_line header.now) }
 {
-    text.extend_from_slice(header.name.as_slice())?;
+    text.extend_from_slice(header.name())?;
     text.extend_from_slice(b": ")?;
-    text.extend_from_slice(header.value.as_slice())?;
+    text.extend_from_slice(header.value())?;
     text.extend_from_slice(b"\r\n")?;
     Ok(())
 }
 
 // Adds each header on a line.
-fn add_header_lines(text: &mut Vec<u8>, headers: &[Header]) -> Result<(), OutOfMemory>
+fn add_header_lines(text: &mut Vec<u8>, headers: &[Field]) -> Result<(), OutOfMemory>
     ensures { OnOk result (text.new.items ≡ text.old.items ++ flat_map header_line headers.now) }
 {
     for header in headers {

@@ -6,27 +6,27 @@ ghost use Rattle.wf_safelist.specs.UnsafeNames as spec;
 use crate::safelisted::is_safelisted;
 use crate::sets::{listed, sort_and_dedup};
 use std::alloc::Global;
-use wf_headers::{Header, HeaderList};
+use wf_headers::{Field, HeaderList};
 use wf_text::{BytesList, OutOfMemory, in_lower_case};
 
 // How many bytes the values of the safelisted headers may have together.
 const LONGEST_TOTAL: usize = 1024;
 
 // Whether the header is safelisted.
-fn is_safelisted_header(header: &Header) -> bool
+fn is_safelisted_header(header: &Field) -> bool
     ensures { result ≡ spec.is_safelisted_header header.now }
 {
-    is_safelisted(header.name.as_slice(), header.value.as_slice())
+    is_safelisted(header.name(), header.value())
 }
 
 // Whether the values of the safelisted headers are too long together.
-fn are_too_long(headers: &[Header]) -> bool
+fn are_too_long(headers: &[Field]) -> bool
     ensures { result ≡ nat_lt 1024 (spec.safelisted_size headers.now) }
 {
     let mut size = 0usize;
     for header in headers {
         if is_safelisted_header(header) {
-            size = size.saturating_add(header.value.len());
+            size = size.saturating_add(header.value().len());
         }
     }
     size > LONGEST_TOTAL
@@ -36,7 +36,7 @@ fn are_too_long(headers: &[Header]) -> bool
 fn lowered_names(
     alloc: Global,
     too_long: bool,
-    headers: &[Header],
+    headers: &[Field],
 ) -> Result<Vec<Vec<u8>>, OutOfMemory>
     ensures { IfOk result (λ names. map (λ name. name.items) names.items
         ≡ map str_to_ascii_lowercase (map (λ header. header.name) (spec.unsafe_headers too_long headers.now))) }
@@ -44,7 +44,7 @@ fn lowered_names(
     let mut names = Vec::new(alloc);
     for header in headers {
         if too_long || !is_safelisted_header(header) {
-            names.push(in_lower_case(alloc, header.name.as_slice())?.into_vec()?)?;
+            names.push(in_lower_case(alloc, header.name())?.into_vec()?)?;
         }
     }
     Ok(names)

@@ -12,22 +12,22 @@ use crate::calls::call_length;
 use crate::events::Event;
 use crate::length::{Length, escaped, number, text};
 use wf_book::{Op, Reply};
-use wf_headers::Header;
+use wf_headers::Field;
 use wf_text::Bytes;
 use wf_types::{BodyEnd, Destination, Hop, NetError, Outcome, Response, TypeFault, Violation};
 
 // The length of a header as a line.
-fn header_length(header: &Header) -> Length
+fn header_length(header: &Field) -> Length
     ensures { result ≡ length_of (spec.escaped_line (spec.header_line header.now)) }
 {
-    let field = escaped(header.name.as_slice())
+    let field = escaped(header.name())
         .plus(text(b": "))
-        .plus(escaped(header.value.as_slice()));
+        .plus(escaped(header.value()));
     text(b"  ").plus(field).plus(text(b"\n"))
 }
 
 // The length of the lines of headers.
-fn headers_length(headers: &[Header]) -> Length
+fn headers_length(headers: &[Field]) -> Length
     ensures { result ≡ length_of (spec.header_lines headers.now) }
 {
     let mut length = text(b"");

@@ -1,12 +1,12 @@
 ghost use Rattle.std.specs.Prelude.{◌≡◌, map};
 ghost use Rattle.wf_types.specs.PermittedNames as spec;
 
-use wf_headers::Header;
+use wf_headers::Field;
 use wf_text::is_among_fold;
 
 /// Whether the header has one of these names, ASCII case aside. It takes no memory.
-pub fn has_name_among(names: &[&[u8]], header: &Header) -> bool
+pub fn has_name_among(names: &[&[u8]], header: &Field) -> bool
     ensures { result ≡ spec.has_name_among (map (λ name. name.now) names.now) header.now }
 {
-    is_among_fold(names, header.name.as_slice())
+    is_among_fold(names, header.name())
 }

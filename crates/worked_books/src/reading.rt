@@ -105,9 +105,9 @@ fn show_head(head: &Head, end: usize, shown: &mut Shown) {
     }
     for header in head.headers.as_slice() {
         shown.add(b", ");
-        shown.add(header.name.as_slice());
+        shown.add(header.name());
         shown.add(b": ");
-        shown.add(header.value.as_slice());
+        shown.add(header.value());
     }
 }
 

@@ -138,9 +138,9 @@ impl Shown {
     /// Adds the headers of a list with a bar after each.
     pub fn add_headers(&mut self, list: &HeaderList) {
         for header in list.as_slice() {
-            self.add_escaped(header.name.as_slice());
+            self.add_escaped(header.name());
             self.add(b": ");
-            self.add_escaped(header.value.as_slice());
+            self.add_escaped(header.value());
             self.add(b"|");
         }
     }

@@ -12,8 +12,8 @@ insert-requires c =
 pub returns : goal.returns
 returns c =
     let within : c.args.at < length c.args.headers.now.items = grind (arith, c.requires.within) in
-    let found = with_only-found c.args.name.now c.args.value c.args.headers.now.items c.args.at c.remove-first.result
-    c.requires.first within c.remove-first.ensures.value in
+    let found = with_only-found c.args.name.now c.args.headers.now.items c.args.at c.args.field c.requires.first within
+    c.requires.spelled in
     let room : vec_len c.keep_in.new.headers < vec_capacity c.keep_in.new.headers =
     grind (
       arith,

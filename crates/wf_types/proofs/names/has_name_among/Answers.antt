@@ -3,4 +3,4 @@ use Rattle.wf_types.proofs.NameLemmas.{among_now}
 use Rattle.wf_types.proofs.names.has_name_among.Goals as goal
 
 pub returns : goal.returns
-returns c = rw c.as_slice.ensures at c.is_among_fold.ensures ∙ among_now c.args.names.now c.args.header.now
+returns c = rw c.name.ensures at c.is_among_fold.ensures ∙ among_now c.args.names.now c.args.header.now

@@ -13,9 +13,8 @@ invariant_of-self-2 c =
       arith,
       common_steps,
       c.in_ok-push.ensures.items,
-      c.in_ok-name.ensures,
-      c.in_ok-value.ensures,
-      c.spelling_in.ensures,
+      c.in_ok-field.ensures,
+      c.spelling_in-name.ensures,
       c.as_slice.ensures.value,
     ) in
     subst HaveOneSpelling (sym added) (one_spelling-appended c.args.name.now c.args.value.now old c.self.invariant)

@@ -15,5 +15,5 @@ one_spelling-set (Err e) name value old new set same one = subst HaveOneSpelling
 
 pub invariant_of-self : goal.invariant_of-self
 invariant_of-self c =
-    one_spelling-set c.set_in.result c.args.name.now c.in_ok-value.value c.self.inside.headers.items
+    one_spelling-set c.set_in.result c.args.name.now c.args.value.now c.self.inside.headers.items
     c.set_in.new.headers.items c.set_in.ensures.ok c.set_in.ensures.err c.self.invariant
