@@ -3,7 +3,7 @@ ghost use Rattle.wf_types.specs.Requests.{IsRequest};
 use crate::words::{count_in, numbered};
 use std::alloc::Global;
 use wf_filter::{filtered, hide};
-use wf_headers::HeaderList;
+use wf_headers::{HeaderList, PackedHeaders};
 use wf_text::Bytes;
 use wf_types::{Head, Hop, Request};
 use worked_rows::{Failed, Row, named, request_of};
@@ -40,7 +40,7 @@ fn hop(alloc: Global) -> Hop {
         origin: Bytes::new(alloc),
         url: Bytes::new(alloc),
         method: Bytes::new(alloc),
-        headers: HeaderList::new(alloc),
+        headers: PackedHeaders::new(alloc),
         body: None,
     }
 }

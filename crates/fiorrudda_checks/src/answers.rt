@@ -1,8 +1,9 @@
 // What a page sees of an answer.
-ghost use Rattle.std.specs.Prelude.{◌≡◌};
+ghost use Rattle.std.specs.Prelude.{◌≡◌, IfOk};
 ghost use Rattle.fiorrudda_checks.specs.Answers as spec;
 ghost use Rattle.fiorrudda_rules.specs.Answers.{IsUnlessMemory};
 ghost use Rattle.wf_filter.specs.Blocks as blocks;
+ghost use Rattle.wf_headers.specs.Spelling.{HaveOneSpelling};
 
 use crate::requested::request_of;
 use fiorrudda_fetch::{Asked, Settings};
@@ -24,8 +25,9 @@ pub fn seen_response(
     status: u16,
     list: &HeaderList,
 ) -> Result<Response, Refusal>
-    ensures { IsUnlessMemory result (spec.seen_response settings.now asked.now tainting
+    ensures value { IsUnlessMemory result (spec.seen_response settings.now asked.now tainting
         (record { status = status; headers = list.now })) }
+    ensures spelled { IfOk result (λ response. HaveOneSpelling response.headers) }
 {
     let mut request = request_of(alloc, settings, asked)?;
     set_tainting(&mut request, tainting);

@@ -7,7 +7,7 @@ use std::alloc::Global;
 use wf_book::Op;
 use wf_fetch_acts::Act;
 use wf_fetch_session::Session;
-use wf_headers::HeaderList;
+use wf_headers::PackedHeaders;
 use wf_http1::write_request;
 use wf_precache::{Lesson, Names, Question};
 use wf_text::{Bytes, OutOfMemory};
@@ -68,16 +68,17 @@ fn text_in(text: &Option<Bytes>) -> Option<&[u8]>
 }
 
 // The name, or the value, of a header at an index.
-fn header_text(headers: &HeaderList, part: Part, at: usize) -> Option<&[u8]>
+fn header_text(headers: &PackedHeaders, part: Part, at: usize) -> Option<&[u8]>
     ensures { option_map (λ text. text.now) result ≡ spec.header_text headers.now part at }
 {
-    match headers.as_slice().get(at) {
-        None => None,
-        Some(header) => match part {
-            Part::HeaderName => Some(header.name()),
-            Part::HeaderValue => Some(header.value()),
-            _ => None,
-        },
+    if at >= headers.len() {
+        return None;
+    }
+    let (name, value) = headers.at(at);
+    match part {
+        Part::HeaderName => Some(name),
+        Part::HeaderValue => Some(value),
+        _ => None,
     }
 }
 

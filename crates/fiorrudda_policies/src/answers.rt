@@ -59,7 +59,10 @@ fn shown(
     match seen_response(alloc, settings, asked, tainting, status, list) {
         Err(refusal) => code_of(refusal),
         Ok(response) => {
-            let code = filtered.fill(alloc, Thing::Headers(response.headers));
+            let Ok(list) = response.headers.unpacked(alloc) else {
+                return OUT_OF_MEMORY;
+            };
+            let code = filtered.fill(alloc, Thing::Headers(list));
             if code == OK {
                 *seen = u32::from(response.status);
             }

@@ -8,12 +8,18 @@ ghost use Rattle.wf_cors.specs.Preflight as spec;
 
 use std::alloc::Global;
 use url::Url;
-use wf_headers::HeaderList;
+use wf_headers::PackedHeaders;
 use wf_text::{Bytes, BytesList, OutOfMemory};
 use wf_types::{
     ACCEPT_ENCODING, CONNECTION, Hop, Request, USER_AGENT, append_where, host_value, origin_text,
     referrer_value, serialized_origin, slice_of, target_of,
 };
+
+// How many lines a preflight has at most.
+const MOST_LINES: usize = 9;
+
+// For how many bytes of them room is made at first.
+const SOME_BYTES: usize = 512;
 
 // The names in a row, with a comma between each two.
 #[tactic(auto, using(crate::proofs::JoinLemmas::joined_first))]
@@ -44,14 +50,14 @@ fn preflight_lines(
     request: &Request,
     names: &[Bytes],
     url: &Url,
-) -> Result<HeaderList, OutOfMemory>
+) -> Result<PackedHeaders, OutOfMemory>
     ensures { IfOk result (λ headers. headers
         ≡ all_appended_where (spec.preflight_lines request.now names.now url.now) []) }
 {
     let method = request.method.as_slice();
     let asked = names_value(alloc, names)?;
     let origin = serialized_origin(alloc, request)?;
-    let mut headers = HeaderList::new(alloc);
+    let mut headers = PackedHeaders::with_room(alloc, MOST_LINES, SOME_BYTES)?;
     append_where(&mut headers, b"Host", Some(host_value(url).as_bytes()))?;
     append_where(&mut headers, b"Accept", Some(b"*/*"))?;
     append_where(&mut headers, b"Access-Control-Request-Method", Some(method))?;

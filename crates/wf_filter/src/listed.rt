@@ -93,8 +93,7 @@ pub fn is_safelisted_among(exposed: &Exposed, header: &Field) -> bool
         Exposed::All => !is_forbidden(header),
         Exposed::Few(names) => is_safelisted(names.as_slice(), header),
         Exposed::Many(found) => {
-            has_safelisted_name(header)
-                || (found.has(header.name()) && !is_forbidden(header))
+            has_safelisted_name(header) || (found.has(header.name()) && !is_forbidden(header))
         }
     }
 }

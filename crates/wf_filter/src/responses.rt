@@ -2,13 +2,14 @@ ghost use Rattle.std.specs.Prelude.{◌≡◌, filter, IfOk, OnOk};
 ghost use Rattle.wf_filter.specs.Filtered as spec;
 ghost use Rattle.wf_filter.specs.Names.{is_safelisted};
 ghost use Rattle.wf_filter.specs.Private.Exposing as private;
+ghost use Rattle.wf_headers.specs.Spelling.{HaveOneSpelling};
 ghost use Rattle.wf_types.specs.Requests.{IsRequest};
 
 use crate::exposed::{Exposure, exposure_of};
 use crate::keep::Keep;
 use crate::listed::exposed_in;
 use std::alloc::Global;
-use wf_headers::HeaderList;
+use wf_headers::{HeaderList, PackedHeaders};
 use wf_text::{Bytes, OutOfMemory};
 use wf_types::{BodyEnd, Head, Request, Response, ResponseKind, Tainting, without_fragment};
 
@@ -64,7 +65,8 @@ fn keep_safelisted(
 // "basic filtered response"
 fn basic_filtered(alloc: Global, request: &Request, head: Head) -> Result<Response, OutOfMemory>
     requires { IsRequest request.now }
-    ensures { IfOk result (λ response. response ≡ spec.basic_filtered request.now head) }
+    ensures value { IfOk result (λ response. response ≡ spec.basic_filtered request.now head) }
+    ensures spelled { IfOk result (λ response. HaveOneSpelling response.headers) }
 {
     let url = response_url(alloc, request)?;
     let Head {
@@ -72,11 +74,12 @@ fn basic_filtered(alloc: Global, request: &Request, head: Head) -> Result<Respon
         mut headers,
     } = head;
     take_out_forbidden(&mut headers);
+    headers.law_one_spelling();
     Ok(Response {
         kind: ResponseKind::Basic,
         status,
         url: Some(url),
-        headers,
+        headers: PackedHeaders::of(alloc, &headers)?,
         body: BodyEnd::Null,
     })
 }
@@ -84,7 +87,8 @@ fn basic_filtered(alloc: Global, request: &Request, head: Head) -> Result<Respon
 // "CORS filtered response"
 fn cors_filtered(alloc: Global, request: &Request, head: Head) -> Result<Response, OutOfMemory>
     requires { IsRequest request.now }
-    ensures { IfOk result (λ response. response ≡ spec.cors_filtered request.now head) }
+    ensures value { IfOk result (λ response. response ≡ spec.cors_filtered request.now head) }
+    ensures spelled { IfOk result (λ response. HaveOneSpelling response.headers) }
 {
     let url = response_url(alloc, request)?;
     let Head {
@@ -92,24 +96,26 @@ fn cors_filtered(alloc: Global, request: &Request, head: Head) -> Result<Respons
         mut headers,
     } = head;
     keep_safelisted(alloc, request, &mut headers)?;
+    headers.law_one_spelling();
     Ok(Response {
         kind: ResponseKind::Cors,
         status,
         url: Some(url),
-        headers,
+        headers: PackedHeaders::of(alloc, &headers)?,
         body: BodyEnd::Null,
     })
 }
 
 // "opaque filtered response"
 fn opaque_filtered(alloc: Global) -> Response
-    ensures { result ≡ spec.opaque_filtered }
+    ensures value { result ≡ spec.opaque_filtered }
+    ensures spelled { HaveOneSpelling result.headers }
 {
     Response {
         kind: ResponseKind::Opaque,
         status: 0,
         url: None,
-        headers: HeaderList::new(alloc),
+        headers: PackedHeaders::new(alloc),
         body: BodyEnd::Null,
     }
 }
@@ -117,14 +123,15 @@ fn opaque_filtered(alloc: Global) -> Response
 // "opaque-redirect filtered response"
 fn redirect_filtered(alloc: Global, request: &Request) -> Result<Response, OutOfMemory>
     requires { IsRequest request.now }
-    ensures { IfOk result (λ response. response ≡ spec.redirect_filtered request.now) }
+    ensures value { IfOk result (λ response. response ≡ spec.redirect_filtered request.now) }
+    ensures spelled { IfOk result (λ response. HaveOneSpelling response.headers) }
 {
     let url = response_url(alloc, request)?;
     Ok(Response {
         kind: ResponseKind::OpaqueRedirect,
         status: 0,
         url: Some(url),
-        headers: HeaderList::new(alloc),
+        headers: PackedHeaders::new(alloc),
         body: BodyEnd::Null,
     })
 }
@@ -132,9 +139,9 @@ fn redirect_filtered(alloc: Global, request: &Request) -> Result<Response, OutOf
 /// The filtered response of a head (Fetch, section 2.2.6), whose body is null until it is read: an
 /// opaque-redirect one where the head is a redirect and the redirect mode is manual, which `manual`
 /// tells, and else a basic, CORS or opaque one by the request's tainting. Headers are in order and as
-/// they are spelled, and are those of the head, not copies. Each header of a CORS response is
-/// compared with the exposed names that are listed, or looked up in a set of them where both are more
-/// than eight. The only error is want of memory.
+/// they are spelled, equal names in one spelling. Each header of a CORS response is compared with the
+/// exposed names that are listed, or looked up in a set of them where both are more than eight. The
+/// only error is want of memory.
 pub fn filtered(
     alloc: Global,
     request: &Request,
@@ -142,7 +149,8 @@ pub fn filtered(
     manual: bool,
 ) -> Result<Response, OutOfMemory>
     requires { IsRequest request.now }
-    ensures { IfOk result (λ response. response ≡ spec.filtered request.now head manual) }
+    ensures value { IfOk result (λ response. response ≡ spec.filtered request.now head manual) }
+    ensures spelled { IfOk result (λ response. HaveOneSpelling response.headers) }
 {
     if manual {
         return redirect_filtered(alloc, request);

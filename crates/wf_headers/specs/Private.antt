@@ -1,4 +1,5 @@
 pub mod Finding
 pub mod Joining
+pub mod Packs
 pub mod Places
 pub mod Splitting

@@ -162,7 +162,7 @@ fn copy_of_some<T: HeaderTest>(
 }
 
 // Adds a value, with a comma and a space before it where it is not the first.
-fn add_value(text: &mut Vec<u8>, found: bool, value: &[u8]) -> Result<(), OutOfMemory>
+pub(crate) fn add_value(text: &mut Vec<u8>, found: bool, value: &[u8]) -> Result<(), OutOfMemory>
     ensures { OnOk result (text.new.items
         ≡ (if found then text.old.items ++ (codes ", " ++ value.now) else text.old.items ++ value.now)) }
 {
@@ -247,6 +247,14 @@ impl HeaderList {
         Ok(HeaderList {
             headers: Vec::with_capacity(alloc, count)?,
         })
+    }
+
+    /// The list of these headers, of which equal names have one spelling.
+    pub(crate) fn of_fields(headers: Vec<Field>) -> HeaderList
+        requires { HaveOneSpelling headers.items }
+        ensures { result ≡ headers.items }
+    {
+        HeaderList { headers }
     }
 
     /// The headers, in order.

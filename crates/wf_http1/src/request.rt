@@ -3,7 +3,7 @@ ghost use Rattle.std.specs.List.{flat_map};
 ghost use Rattle.wf_http1.specs.Requests.{header_line, request_bytes, request_line};
 
 use std::alloc::Global;
-use wf_headers::Field;
+use wf_headers::PackedHeaders;
 use wf_text::{Bytes, OutOfMemory};
 use wf_types::Hop;
 
@@ -22,22 +22,24 @@ fn add_request_line(text: &mut Vec<u8>, hop: &Hop) -> Result<(), OutOfMemory>
 }
 
 // Adds a header on its line.
-fn add_header_line(text: &mut Vec<u8>, header: &Field) -> Result<(), OutOfMemory>
-    ensures { OnOk result (text.new.items ≡ text.old.items ++ header_line header.now) }
+fn add_header_line(text: &mut Vec<u8>, name: &[u8], value: &[u8]) -> Result<(), OutOfMemory>
+    ensures { OnOk result (text.new.items
+        ≡ text.old.items ++ header_line (record { name = name.now; value = value.now })) }
 {
-    text.extend_from_slice(header.name())?;
+    text.extend_from_slice(name)?;
     text.extend_from_slice(b": ")?;
-    text.extend_from_slice(header.value())?;
+    text.extend_from_slice(value)?;
     text.extend_from_slice(b"\r\n")?;
     Ok(())
 }
 
 // Adds each header on a line.
-fn add_header_lines(text: &mut Vec<u8>, headers: &[Field]) -> Result<(), OutOfMemory>
+fn add_header_lines(text: &mut Vec<u8>, headers: &PackedHeaders) -> Result<(), OutOfMemory>
     ensures { OnOk result (text.new.items ≡ text.old.items ++ flat_map header_line headers.now) }
 {
-    for header in headers {
-        add_header_line(text, header)?;
+    for index in 0..headers.len() {
+        let (name, value) = headers.at(index);
+        add_header_line(text, name, value)?;
     }
     Ok(())
 }
@@ -59,7 +61,7 @@ pub fn write_request(alloc: Global, hop: &Hop) -> Result<Bytes, OutOfMemory>
 {
     let mut text = Vec::with_capacity(alloc, FEW_BYTES)?;
     add_request_line(&mut text, hop)?;
-    add_header_lines(&mut text, hop.headers.as_slice())?;
+    add_header_lines(&mut text, &hop.headers)?;
     text.extend_from_slice(b"\r\n")?;
     add_body(&mut text, &hop.body)?;
     Ok(Bytes::from_vec(text))

@@ -8,7 +8,7 @@ use crate::escape::add_escaped;
 use crate::page::Page;
 use itoa::{Buffer, Integer};
 use wf_book::{Op, Reply};
-use wf_headers::{Header, HeaderList};
+use wf_headers::PackedHeaders;
 use wf_script_events::Event;
 use wf_text::{Bytes, OutOfMemory};
 use wf_types::{BodyEnd, Destination, Hop, NetError, Outcome, Response, TypeFault, Violation};
@@ -42,7 +42,7 @@ fn add_header(text: &mut Page, name: &[u8], value: &[u8]) -> Result<(), OutOfMem
 }
 
 // Adds the lines of a header list.
-fn add_headers(text: &mut Page, headers: &HeaderList) -> Result<(), OutOfMemory>
+fn add_headers(text: &mut Page, headers: &PackedHeaders) -> Result<(), OutOfMemory>
     ensures { OnOk result (text.new ≡ text.old ++ spec.header_lines headers.now) }
 {
     for index in 0..headers.len() {

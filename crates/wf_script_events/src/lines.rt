@@ -12,27 +12,26 @@ use crate::calls::call_length;
 use crate::events::Event;
 use crate::length::{Length, escaped, number, text};
 use wf_book::{Op, Reply};
-use wf_headers::Field;
+use wf_headers::PackedHeaders;
 use wf_text::Bytes;
 use wf_types::{BodyEnd, Destination, Hop, NetError, Outcome, Response, TypeFault, Violation};
 
 // The length of a header as a line.
-fn header_length(header: &Field) -> Length
-    ensures { result ≡ length_of (spec.escaped_line (spec.header_line header.now)) }
+fn header_length(name: &[u8], value: &[u8]) -> Length
+    ensures { result ≡ length_of (spec.escaped_line (spec.header_line (record { name = name.now; value = value.now }))) }
 {
-    let field = escaped(header.name())
-        .plus(text(b": "))
-        .plus(escaped(header.value()));
+    let field = escaped(name).plus(text(b": ")).plus(escaped(value));
     text(b"  ").plus(field).plus(text(b"\n"))
 }
 
 // The length of the lines of headers.
-fn headers_length(headers: &[Field]) -> Length
+fn headers_length(headers: &PackedHeaders) -> Length
     ensures { result ≡ length_of (spec.header_lines headers.now) }
 {
     let mut length = text(b"");
-    for header in headers {
-        length = length.plus(header_length(header));
+    for index in 0..headers.len() {
+        let (name, value) = headers.at(index);
+        length = length.plus(header_length(name, value));
     }
     length
 }
@@ -89,7 +88,7 @@ fn hop_length(hop: &Hop) -> Length
         .plus(text(hop.origin.as_slice()))
         .plus(text(b"\n"))
         .plus(request_line_length(hop))
-        .plus(headers_length(hop.headers.as_slice()))
+        .plus(headers_length(&hop.headers))
         .plus(request_body_length(&hop.body))
 }
 
@@ -153,7 +152,7 @@ fn response_length(response: &Response) -> Length
         .plus(text(b" "))
         .plus(url_length(&response.url))
         .plus(text(b"\n"))
-        .plus(headers_length(response.headers.as_slice()))
+        .plus(headers_length(&response.headers))
         .plus(body_end_length(&response.body))
 }
 

@@ -7,7 +7,7 @@ ghost use Rattle.wf_types.specs.Targets.{origin_text};
 
 use std::alloc::Global;
 use url::Url;
-use wf_headers::HeaderList;
+use wf_headers::{HeaderList, PackedHeaders};
 use wf_text::{Bytes, OutOfMemory};
 use wf_types::{
     ACCEPT_ENCODING, CONNECTION, Cookie, Credentials, Request, Tainting, USER_AGENT, append_where,
@@ -16,6 +16,9 @@ use wf_types::{
 
 // How many lines are sent beside the request's own at most: Host, and those of `append_added`.
 const MOST_ADDED: usize = 8;
+
+// For how many bytes of a header room is made at first.
+const SOME_BYTES: usize = 20;
 
 /// Whether credentials are included: in mode include, and in mode same-origin while the tainting is
 /// basic (Fetch, section 4.6, step 8.3). It takes no memory.
@@ -86,7 +89,7 @@ fn length_value(
 // Appends Origin, where the request gives its origin.
 fn append_origin(
     alloc: Global,
-    headers: &mut HeaderList,
+    headers: &mut PackedHeaders,
     request: &Request,
     url: &Url,
 ) -> Result<(), OutOfMemory>
@@ -100,7 +103,7 @@ fn append_origin(
 // Appends Content-Length, where it is sent.
 fn append_length(
     alloc: Global,
-    headers: &mut HeaderList,
+    headers: &mut PackedHeaders,
     method: &[u8],
     body: &Option<Bytes>,
 ) -> Result<(), OutOfMemory>
@@ -114,7 +117,7 @@ fn append_length(
 // Appends the lines that are sent after the request's own headers.
 fn append_added(
     alloc: Global,
-    headers: &mut HeaderList,
+    headers: &mut PackedHeaders,
     cookies: &[Cookie],
     request: &Request,
     url: &Url,
@@ -141,14 +144,12 @@ pub(crate) fn head_lines(
     request: &Request,
     url: &Url,
     origin: &[u8],
-) -> Result<HeaderList, OutOfMemory>
+) -> Result<PackedHeaders, OutOfMemory>
     requires { origin.now ≡ origin_text (origins.origin_of url.now) }
     ensures { IfOk result (λ headers. headers ≡ spec.head_lines cookies.now request.now url.now) }
 {
-    let mut headers = HeaderList::with_room(
-        alloc,
-        request.headers.len().saturating_add(MOST_ADDED),
-    )?;
+    let count = request.headers.len().saturating_add(MOST_ADDED);
+    let mut headers = PackedHeaders::with_room(alloc, count, count.saturating_mul(SOME_BYTES))?;
     headers.append(b"Host", host_value(url).as_bytes())?;
     headers.append_all(request.headers.as_slice())?;
     append_added(alloc, &mut headers, cookies, request, url, origin)?;

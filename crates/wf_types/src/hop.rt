@@ -1,4 +1,4 @@
-use wf_headers::HeaderList;
+use wf_headers::{HeaderList, PackedHeaders};
 use wf_text::Bytes;
 
 /// One request as it is sent: to `origin`, the serialised origin of the target, its request line
@@ -10,7 +10,7 @@ pub struct Hop {
     pub origin: Bytes,
     pub url: Bytes,
     pub method: Bytes,
-    pub headers: HeaderList,
+    pub headers: PackedHeaders,
     pub body: Option<Bytes>,
 }
 

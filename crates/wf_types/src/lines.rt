@@ -1,7 +1,7 @@
 ghost use Rattle.std.specs.Prelude.{◌≡◌, option_copied, OnOk, OnErr};
 ghost use Rattle.wf_types.specs.Lines.{appended_where};
 
-use wf_headers::HeaderList;
+use wf_headers::PackedHeaders;
 use wf_text::{Bytes, OutOfMemory};
 
 /// The user agent's name, as the value of User-Agent.
@@ -23,10 +23,10 @@ pub fn slice_of(text: &Option<Bytes>) -> Option<&[u8]>
     }
 }
 
-/// Appends a header to a list, where there is a value. Where memory is refused the list is as it was.
+/// Appends a header to packed ones, where there is a value. Where memory is refused the list is as it was.
 #[tactic(auto, unfolding(crate::specs::Lines::appended_where))]
 pub fn append_where(
-    headers: &mut HeaderList,
+    headers: &mut PackedHeaders,
     name: &[u8],
     value: Option<&[u8]>,
 ) -> Result<(), OutOfMemory>

@@ -2,7 +2,7 @@ ghost use Rattle.std.specs.Prelude.{◌≡◌};
 ghost use Rattle.wf_types.specs.Names.{kind_name};
 
 use crate::error::NetError;
-use wf_headers::HeaderList;
+use wf_headers::PackedHeaders;
 use wf_text::Bytes;
 
 /// How a body came to its end.
@@ -49,7 +49,7 @@ pub struct Response {
     pub kind: ResponseKind,
     pub status: u16,
     pub url: Option<Bytes>,
-    pub headers: HeaderList,
+    pub headers: PackedHeaders,
     pub body: BodyEnd,
 }
 

@@ -1,14 +1,14 @@
 // Rows of requests as they are written.
 use std::alloc::Global;
-use wf_headers::HeaderList;
+use wf_headers::PackedHeaders;
 use wf_http1::write_request;
 use wf_text::{Bytes, after_byte, before_byte};
 use wf_types::Hop;
 use worked_rows::{Failed, Shown, texts_between};
 
 // The headers of a text: each its name, a colon, a space and its value, with `|` between.
-fn headers_in(alloc: Global, text: &[u8]) -> Result<HeaderList, Failed> {
-    let mut headers = HeaderList::new(alloc);
+fn headers_in(alloc: Global, text: &[u8]) -> Result<PackedHeaders, Failed> {
+    let mut headers = PackedHeaders::new(alloc);
     for header in texts_between(alloc, text, b'|')?.as_slice() {
         let header = header.as_slice();
         let value = after_byte(after_byte(header, b':'), b' ');

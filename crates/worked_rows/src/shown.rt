@@ -1,7 +1,7 @@
 // Answers as they are printed.
 use crate::failed::Failed;
 use std::alloc::Global;
-use wf_headers::HeaderList;
+use wf_headers::{HeaderList, PackedHeaders};
 use wf_text::{Bytes, BytesList};
 
 /// A text that an answer is written into. Where it is refused memory, or is told of a failure, it has failed from then
@@ -141,6 +141,17 @@ impl Shown {
             self.add_escaped(header.name());
             self.add(b": ");
             self.add_escaped(header.value());
+            self.add(b"|");
+        }
+    }
+
+    /// The same of packed headers.
+    pub fn add_packed(&mut self, headers: &PackedHeaders) {
+        for index in 0..headers.len() {
+            let (name, value) = headers.at(index);
+            self.add_escaped(name);
+            self.add(b": ");
+            self.add_escaped(value);
             self.add(b"|");
         }
     }

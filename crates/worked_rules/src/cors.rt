@@ -72,7 +72,7 @@ fn show_hop(hop: &Hop, shown: &mut Shown) {
     shown.add(b" ");
     shown.add(hop.url.as_slice());
     shown.add(b" ");
-    shown.add_headers(&hop.headers);
+    shown.add_packed(&hop.headers);
 }
 
 // The verdict on the row's head, for its request and names.

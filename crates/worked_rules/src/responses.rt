@@ -8,7 +8,7 @@ ghost use Rattle.wf_types.specs.Requests.{IsRequest};
 
 use std::alloc::Global;
 use wf_filter::{filtered, hide};
-use wf_headers::HeaderList;
+use wf_headers::PackedHeaders;
 use wf_text::Bytes;
 use wf_types::{Head, Hop, Request, Response};
 use worked_rows::{Failed, Held, Row, Shown, list_of, number};
@@ -82,7 +82,7 @@ fn show_response(response: &Response, shown: &mut Shown) {
     shown.add(b" ");
     show_url(&response.url, shown);
     shown.add(b" ");
-    shown.add_headers(&response.headers);
+    shown.add_packed(&response.headers);
 }
 
 // The URL of a response, or `()`.
@@ -107,7 +107,7 @@ fn hop(alloc: Global, preflight: bool) -> Hop {
         origin: Bytes::new(alloc),
         url: Bytes::new(alloc),
         method: Bytes::new(alloc),
-        headers: HeaderList::new(alloc),
+        headers: PackedHeaders::new(alloc),
         body: None,
     }
 }

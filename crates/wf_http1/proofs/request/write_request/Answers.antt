@@ -1,7 +1,6 @@
 use Rattle.std.proofs.Common.{◌≡◌, ℕ, List, [], ◌++◌, ap, ◌∙◌, append_assoc}
 use Rattle.std.specs.List.{flat_map}
 use Rattle.std.specs.Prelude.{codes, unwrap_or}
-use Rattle.wf_headers.specs.declared.headers.Header.{Header}
 use Rattle.wf_http1.specs.Requests.{header_line, request_line}
 use Rattle.wf_http1.proofs.request.write_request.Goals as goal
 
@@ -19,6 +18,5 @@ returns c =
     c.add_request_line.new.text.items c.add_header_lines.new.text.items c.extend_from_slice.new.self.items
     c.add_body.new.text.items
     (c.in_ok-add_request_line.ensures ∙ ap (λ (l : List ℕ). l ++ request_line hop) c.in_ok-text.ensures.items)
-    (c.in_ok-add_header_lines.ensures
-    ∙ ap (λ (l : List Header). c.add_request_line.new.text.items ++ flat_map header_line l) c.as_slice.ensures)
+    c.in_ok-add_header_lines.ensures
     c.in_ok-extend_from_slice.ensures.items c.in_ok-add_body.ensures

@@ -1,10 +1,14 @@
+use Rattle.std.proofs.Common.{sym}
+use Rattle.std.proofs.lemmas.Option.{get_or_from_slice_get}
 use Rattle.wf_headers.specs.declared.headers.Header.{Header}
 use Rattle.wf_script_events.specs.Lines.{escaped_line, header_line}
 use Rattle.wf_script_events.proofs.SumLemmas.{one_more}
 use Rattle.wf_script_events.proofs.lines.headers_length.Goals as goal
 
-pub loop-header-preserved : goal.loop-header-preserved
-loop-header-preserved c =
-    one_more (λ (header : Header). escaped_line (header_line header)) c.args.headers.now c.loop-header.header-index
-    c.header-item.result c.loop-header.length _ _ c.loop-header-test.true c.header-item.is c.loop-header.invariant
-    c.header_length.ensures c.plus-length.ensures
+pub loop-index-preserved : goal.loop-index-preserved
+loop-index-preserved c =
+    let header : Header = record { name = c.at.result.0.now; value = c.at.result.1.now } in
+    one_more (λ (header : Header). escaped_line (header_line header)) c.args.headers.now c.loop-index.index header
+    c.loop-index.length _ _ c.loop-index-test.true
+    (sym (get_or_from_slice_get c.args.headers.now c.loop-index.index header header c.at.ensures))
+    c.loop-index.invariant c.header_length.ensures c.plus-length.ensures
