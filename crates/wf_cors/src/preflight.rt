@@ -15,12 +15,6 @@ use wf_types::{
     referrer_value, serialized_origin, slice_of, target_of,
 };
 
-// How many lines a preflight has at most.
-const MOST_LINES: usize = 9;
-
-// For how many bytes of them room is made at first.
-const SOME_BYTES: usize = 512;
-
 // The names in a row, with a comma between each two.
 #[tactic(auto, using(crate::proofs::JoinLemmas::joined_first))]
 fn comma_joined(alloc: Global, first: &Bytes, names: &[Bytes]) -> Result<Bytes, OutOfMemory>
@@ -57,7 +51,7 @@ fn preflight_lines(
     let method = request.method.as_slice();
     let asked = names_value(alloc, names)?;
     let origin = serialized_origin(alloc, request)?;
-    let mut headers = PackedHeaders::with_room(alloc, MOST_LINES, SOME_BYTES)?;
+    let mut headers = PackedHeaders::new(alloc);
     append_where(&mut headers, b"Host", Some(host_value(url).as_bytes()))?;
     append_where(&mut headers, b"Accept", Some(b"*/*"))?;
     append_where(&mut headers, b"Access-Control-Request-Method", Some(method))?;
