@@ -8,7 +8,7 @@ use std::alloc::Global;
 use wf_text::{Bytes, OutOfMemory, has_text_fold};
 use wf_types::TextSet;
 
-/// For how many names of a request at most the allowed ones are looked through for each.
+/// Where a request has so many names at most, or so many are allowed, each is compared with each.
 const FEW: usize = 8;
 
 // Whether the list names this header, ASCII case aside.

@@ -12,7 +12,7 @@ use wf_headers::Field;
 use wf_text::{Bytes, BytesList, OutOfMemory};
 use wf_types::TextSet;
 
-/// For how many headers at most the exposed names are looked through for each.
+/// Where there are so many headers or exposed names at most, each header is compared with each name.
 const FEW: usize = 8;
 
 /// The names that a header list exposes, as its headers are looked up in them.
