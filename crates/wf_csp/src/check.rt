@@ -3,6 +3,7 @@ ghost use Rattle.std.specs.List.{list_any};
 ghost use Rattle.wf_csp.specs.Violations as spec;
 ghost use Rattle.wf_integrity.specs.Metadata.{metadata_of};
 ghost use Rattle.wf_types.specs.Requests.{IsRequest};
+ghost use Rattle.wf_types.specs.declared.policy.Destination.TheVariants.{Script};
 
 use crate::compiled::{Compiled, CompiledDirective, CompiledPolicy};
 use crate::directives::{deciding_sources, effective_directive};
@@ -12,12 +13,12 @@ use url::Url;
 use wf_integrity::{Metadata, parse_metadata};
 use wf_origin::{Origin, is_http_url};
 use wf_text::{Bytes, Items, OutOfMemory};
-use wf_types::{Request, Violation, strip};
+use wf_types::{Destination, Request, Violation, strip};
 
 /// Violations, in the order of the policies.
 pub type Violations = Items<Violation>;
 
-// "does request violate policy?". The metadata is that of the request.
+// "does request violate policy?". The metadata is that of the request, where it is for a script.
 fn is_violated(
     alloc: Global,
     policy: &CompiledPolicy,
@@ -26,7 +27,7 @@ fn is_violated(
     document: &Origin,
 ) -> Result<bool, OutOfMemory>
     requires request { IsRequest request.now }
-    requires metadata { metadata.now ≡ metadata_of request.now.integrity }
+    requires metadata { request.now.destination ≡ Script → metadata.now ≡ metadata_of request.now.integrity }
     ensures { IfOk result (λ answer. answer ≡ spec.is_violated policy.now request.now document.now) }
 {
     let directive = effective_directive(request.destination);
@@ -84,7 +85,26 @@ fn is_asked(asked: Option<bool>, policy: &CompiledPolicy) -> bool
     }
 }
 
+// Whether one of the policies is asked.
+fn any_asked(asked: Option<bool>, policies: &[CompiledPolicy]) -> bool
+    ensures { result ≡ list_any (spec.is_asked asked) policies.now }
+{
+    policies.iter().any(|policy| is_asked(asked, policy))
+}
+
+// The integrity metadata of a request for a script. Of another request none is read, since no source list asks for it.
+fn script_metadata(alloc: Global, request: &Request) -> Result<Metadata, OutOfMemory>
+    ensures { IfOk result (λ metadata. request.now.destination ≡ Script
+        → metadata ≡ metadata_of request.now.integrity) }
+{
+    match request.destination {
+        Destination::Script => parse_metadata(alloc, request.integrity.as_slice()),
+        _ => parse_metadata(alloc, b""),
+    }
+}
+
 // The violations of those of the policies that are asked.
+#[tactic(auto, using(crate::proofs::AskedLemmas::none_asked))]
 fn violations(
     alloc: Global,
     asked: Option<bool>,
@@ -97,11 +117,11 @@ fn violations(
     ensures { IfOk result (λ found. found
         ≡ spec.violations_from 0 asked policies.now request.now document.now) }
 {
-    // most documents have no policy, and then nothing need be read
-    if policies.is_empty() {
+    // most documents have no policy, or none of this disposition, and then nothing need be read
+    if !any_asked(asked, policies) {
         return Ok(Violations::new(alloc));
     }
-    let metadata = parse_metadata(alloc, request.integrity.as_slice())?;
+    let metadata = script_metadata(alloc, request)?;
     let mut found = Violations::new(alloc);
     for (index, policy) in policies.iter().enumerate() {
         if is_asked(asked, policy) && is_violated(alloc, policy, &metadata, request, document)? {

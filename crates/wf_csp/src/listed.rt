@@ -5,6 +5,7 @@ ghost use Rattle.wf_csp.specs.SourceLists as spec;
 ghost use Rattle.wf_integrity.specs.declared.metadata.HashExpression.{HashExpression};
 ghost use Rattle.wf_integrity.specs.Metadata.{metadata_of};
 ghost use Rattle.wf_types.specs.Requests.{IsRequest};
+ghost use Rattle.wf_types.specs.declared.policy.Destination.TheVariants.{Script};
 
 use std::alloc::Global;
 use std::collections::BTreeSet;
@@ -233,7 +234,7 @@ fn style_passes(sources: &SourceList, request: &Request, document: &Origin) -> b
     nonce_matches(request.nonce.as_slice(), sources) || url_matches(sources, request, document)
 }
 
-// Whether a source list lets the request through. The metadata is that of the request.
+// Whether a source list lets the request through. The metadata is that of the request, where it is for a script.
 pub(crate) fn passes(
     alloc: Global,
     sources: &SourceList,
@@ -242,7 +243,7 @@ pub(crate) fn passes(
     document: &Origin,
 ) -> Result<bool, OutOfMemory>
     requires request { IsRequest request.now }
-    requires metadata { metadata.now ≡ metadata_of request.now.integrity }
+    requires metadata { request.now.destination ≡ Script → metadata.now ≡ metadata_of request.now.integrity }
     ensures { IfOk result (λ answer. answer
         ≡ spec.passes sources.now request.now document.now request.now.destination) }
 {
