@@ -11,15 +11,30 @@ ghost use Rattle.wf_player.specs.Worlds.{outside_of};
 
 use crate::lent::Lent;
 use crate::player::Player;
+use std::alloc::Global;
 use std::sync::Wait;
 use std::thread::Threads;
 use wf_book::Share;
+use wf_boxed::Boxed;
 use wf_link::Link;
 use wf_script_events::{Ending, Event};
-use wf_script_run::{fault_event, filled_init, filled_load, is_plain, outcome_event};
+use wf_script_run::{fault_event, filled_init, filled_load, is_plain, is_plain_load, outcome_event};
 use wf_send::{new_load, new_request};
 use wf_text::OutOfMemory;
 use wf_types::{Destination, Init, LoadInit, Request, TypeFault};
+
+// A request in a place of its own, so that it is moved at little cost.
+fn in_place(
+    alloc: Global,
+    made: Result<Request, TypeFault>,
+) -> Result<Result<Boxed<Request>, TypeFault>, OutOfMemory>
+    ensures { IfOk result (λ placed. placed ≡ made) }
+{
+    match made {
+        Ok(request) => Ok(Ok(Boxed::new(alloc, request)?)),
+        Err(fault) => Ok(Err(fault)),
+    }
+}
 
 // The request of what a script asks of `fetch`, with the parts of the last result in the place of its placeholders, or
 // why there is none (Fetch, sections 5.4 and 5.6).
@@ -27,7 +42,7 @@ fn requested<R, S>(
     lent: &Lent<'_, R, S>,
     last: Option<&Event>,
     init: &Init,
-) -> Result<Result<Request, TypeFault>, OutOfMemory>
+) -> Result<Result<Boxed<Request>, TypeFault>, OutOfMemory>
     requires client { IsClient lent.now.client.now }
     requires valid { IsValidInit init.now }
     ensures value { IfOk result (λ made. made
@@ -36,10 +51,12 @@ fn requested<R, S>(
 {
     // where there is nothing to fill and to normalise no copy is wanted
     if is_plain(init) {
-        return new_request(*lent.alloc, init, lent.client);
+        let made = new_request(*lent.alloc, init, lent.client)?;
+        return in_place(*lent.alloc, made);
     }
     let filled = filled_init(*lent.alloc, last, init)?;
-    new_request(*lent.alloc, &filled, lent.client)
+    let made = new_request(*lent.alloc, &filled, lent.client)?;
+    in_place(*lent.alloc, made)
 }
 
 // The request of what an element loads, the same in its URL (HTML, section 2.5.1).
@@ -47,15 +64,20 @@ fn requested_load<R, S>(
     lent: &Lent<'_, R, S>,
     last: Option<&Event>,
     init: &LoadInit,
-) -> Result<Result<Request, TypeFault>, OutOfMemory>
+) -> Result<Result<Boxed<Request>, TypeFault>, OutOfMemory>
     requires client { IsClient lent.now.client.now }
     requires valid { IsValidLoad init.now }
     ensures value { IfOk result (λ made. made
         ≡ load_of lent.now.client.now (load_filled (lent_result last.entry) init.now)) }
     ensures valid { IfOk result (λ made. IfOk made IsRequest) }
 {
+    if is_plain_load(init) {
+        let made = new_load(*lent.alloc, init, lent.client)?;
+        return in_place(*lent.alloc, made);
+    }
     let filled = filled_load(*lent.alloc, last, init)?;
-    new_load(*lent.alloc, &filled, lent.client)
+    let made = new_load(*lent.alloc, &filled, lent.client)?;
+    in_place(*lent.alloc, made)
 }
 
 impl<R: Threads + Wait + Sync, S: Share, L: Link> Player<'_, '_, '_, '_, '_, R, S, L> {
@@ -77,7 +99,7 @@ impl<R: Threads + Wait + Sync, S: Share, L: Link> Player<'_, '_, '_, '_, '_, R, 
     fn request(
         &mut self,
         kind: Destination,
-        made: Result<Request, TypeFault>,
+        made: Result<Boxed<Request>, TypeFault>,
     ) -> Result<Option<Ending>, OutOfMemory>
         requires ready { IsReady S.belongs self.old }
         requires made { IfOk made IsRequest }
@@ -107,7 +129,7 @@ impl<R: Threads + Wait + Sync, S: Share, L: Link> Player<'_, '_, '_, '_, '_, R, 
     fn asked(
         &mut self,
         kind: Destination,
-        made: Result<Request, TypeFault>,
+        made: Result<Boxed<Request>, TypeFault>,
     ) -> Result<Option<Ending>, OutOfMemory>
         requires ready { IsReady S.belongs self.old }
         requires made { IfOk made IsRequest }
