@@ -18,7 +18,9 @@ use wf_book::Share;
 use wf_boxed::Boxed;
 use wf_link::Link;
 use wf_script_events::{Ending, Event};
-use wf_script_run::{fault_event, filled_init, filled_load, is_plain, is_plain_load, outcome_event};
+use wf_script_run::{
+    fault_event, filled_init, filled_load, is_plain, is_plain_load, outcome_event,
+};
 use wf_send::{new_load, new_request};
 use wf_text::OutOfMemory;
 use wf_types::{Destination, Init, LoadInit, Request, TypeFault};
@@ -42,7 +44,7 @@ fn requested<R, S>(
     lent: &Lent<'_, R, S>,
     last: Option<&Event>,
     init: &Init,
-) -> Result<Result<Boxed<Request>, TypeFault>, OutOfMemory>
+) -> Result<Result<Request, TypeFault>, OutOfMemory>
     requires client { IsClient lent.now.client.now }
     requires valid { IsValidInit init.now }
     ensures value { IfOk result (λ made. made
@@ -51,12 +53,10 @@ fn requested<R, S>(
 {
     // where there is nothing to fill and to normalise no copy is wanted
     if is_plain(init) {
-        let made = new_request(*lent.alloc, init, lent.client)?;
-        return in_place(*lent.alloc, made);
+        return new_request(*lent.alloc, init, lent.client);
     }
     let filled = filled_init(*lent.alloc, last, init)?;
-    let made = new_request(*lent.alloc, &filled, lent.client)?;
-    in_place(*lent.alloc, made)
+    new_request(*lent.alloc, &filled, lent.client)
 }
 
 // The request of what an element loads, the same in its URL (HTML, section 2.5.1).
@@ -64,7 +64,7 @@ fn requested_load<R, S>(
     lent: &Lent<'_, R, S>,
     last: Option<&Event>,
     init: &LoadInit,
-) -> Result<Result<Boxed<Request>, TypeFault>, OutOfMemory>
+) -> Result<Result<Request, TypeFault>, OutOfMemory>
     requires client { IsClient lent.now.client.now }
     requires valid { IsValidLoad init.now }
     ensures value { IfOk result (λ made. made
@@ -72,12 +72,10 @@ fn requested_load<R, S>(
     ensures valid { IfOk result (λ made. IfOk made IsRequest) }
 {
     if is_plain_load(init) {
-        let made = new_load(*lent.alloc, init, lent.client)?;
-        return in_place(*lent.alloc, made);
+        return new_load(*lent.alloc, init, lent.client);
     }
     let filled = filled_load(*lent.alloc, last, init)?;
-    let made = new_load(*lent.alloc, &filled, lent.client)?;
-    in_place(*lent.alloc, made)
+    new_load(*lent.alloc, &filled, lent.client)
 }
 
 impl<R: Threads + Wait + Sync, S: Share, L: Link> Player<'_, '_, '_, '_, '_, R, S, L> {
@@ -157,7 +155,8 @@ impl<R: Threads + Wait + Sync, S: Share, L: Link> Player<'_, '_, '_, '_, '_, R, 
         ensures kept { Keeps S.account S.belongs self.old self.new }
     {
         let made = requested(self.lent, self.running.last(), init)?;
-        self.asked(Destination::Fetch, made)
+        let placed = in_place(*self.lent.alloc, made)?;
+        self.asked(Destination::Fetch, placed)
     }
 
     // Plays a load by an element, the same (HTML, section 2.5.1).
@@ -172,6 +171,7 @@ impl<R: Threads + Wait + Sync, S: Share, L: Link> Player<'_, '_, '_, '_, '_, R, 
         ensures kept { Keeps S.account S.belongs self.old self.new }
     {
         let made = requested_load(self.lent, self.running.last(), init)?;
-        self.asked(init.kind, made)
+        let placed = in_place(*self.lent.alloc, made)?;
+        self.asked(init.kind, placed)
     }
 }
