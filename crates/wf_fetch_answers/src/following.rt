@@ -1,4 +1,4 @@
-ghost use Rattle.std.specs.Prelude.{◌≡◌, ◌<◌, length, not, IfOk};
+ghost use Rattle.std.specs.Prelude.{◌≡◌, ◌<◌, length, not, IfOk, OnOk};
 ghost use Rattle.wf_types.specs.PermittedNames as permitted;
 ghost use Rattle.wf_types.specs.Requests.{IsAtHttp, IsRequest, most_redirects};
 ghost use Rattle.wf_fetch_answers.specs.Following as spec;
@@ -38,94 +38,90 @@ impl HeaderTest for NotOfBody {
     }
 }
 
-// The headers without those that have a request-body-header name.
-fn without_body_headers(headers: HeaderList) -> HeaderList
-    ensures { result ≡ spec.without_body_headers headers }
+// Gives the request the method GET, and takes its body and the headers that speak of it.
+fn turn_to_get(alloc: Global, request: &mut Request) -> Result<(), OutOfMemory>
+    ensures { OnOk result (request.new ≡ spec.turned_to_get request.old) }
 {
-    let mut kept = headers;
-    kept.retain(&NotOfBody);
-    kept
-}
-
-// The request with the method GET, without a body and without the headers that speak of it.
-fn turned_to_get(alloc: Global, request: Request) -> Result<Request, OutOfMemory>
-    ensures { IfOk result (λ turned. turned ≡ spec.turned_to_get request) }
-{
-    let method = Bytes::of(alloc, b"GET")?;
-    Ok(Request {
-        method,
-        headers: without_body_headers(request.headers),
-        body: None,
-        ..request
-    })
+    request.method = Bytes::of(alloc, b"GET")?;
+    request.headers.retain(&NotOfBody);
+    request.body = None;
+    Ok(())
 }
 
 // So it is where a redirect of this status turns its method.
-fn with_method_after(alloc: Global, status: u16, request: Request) -> Result<Request, OutOfMemory>
-    ensures { IfOk result (λ after. after ≡ spec.with_method_after status request) }
+fn set_method_after(
+    alloc: Global,
+    status: u16,
+    request: &mut Request,
+) -> Result<(), OutOfMemory>
+    ensures { OnOk result (request.new ≡ spec.with_method_after status request.old) }
 {
     if turns_to_get(request.method.as_slice(), status) {
-        turned_to_get(alloc, request)
+        turn_to_get(alloc, request)
     } else {
-        Ok(request)
+        Ok(())
     }
 }
 
-// The request without Authorization (step 13).
-fn without_authorization(request: Request) -> Request
-    ensures { result ≡ spec.without_authorization request }
+// Takes Authorization from the request where the URL has another origin than the current URL (step 13).
+fn set_authorization_at(url: &Url, request: &mut Request)
+    requires { 0 < length request.old.urls }
+    ensures { request.new ≡ spec.with_authorization_at url.now request.old }
 {
-    let mut headers = request.headers;
-    headers.delete(AUTHORIZATION);
-    Request { headers, ..request }
-}
-
-// The request, without Authorization where the URL has another origin than the current URL.
-fn with_authorization_at(url: &Url, request: Request) -> Request
-    requires { 0 < length request.urls }
-    ensures { result ≡ spec.with_authorization_at url.now request }
-{
-    if have_same_origin(request.current_url(), url) {
-        request
-    } else {
-        without_authorization(request)
+    if !have_same_origin(request.current_url(), url) {
+        request.headers.delete(AUTHORIZATION);
     }
 }
 
-// The request with the referrer policy that the headers of the answer name, where they do (step 19).
-fn with_policy_of(
+// Gives the request the referrer policy that the headers of the answer name, where they do (step 19).
+fn set_policy_of(
     alloc: Global,
     headers: &HeaderList,
-    request: Request,
-) -> Result<Request, OutOfMemory>
-    ensures { IfOk result (λ with. with ≡ spec.with_policy_of headers.now request) }
+    request: &mut Request,
+) -> Result<(), OutOfMemory>
+    ensures { OnOk result (request.new ≡ spec.with_policy_of headers.now request.old) }
 {
     let named = policy_of_header(alloc, headers)?;
-    let policy = policy_or(named, request.policy);
-    Ok(Request { policy, ..request })
+    request.policy = policy_or(named, request.policy);
+    Ok(())
 }
 
-// The request at one URL more, and redirected once more (steps 18 and 8).
-fn at_next(url: Url, request: Request) -> Result<Request, OutOfMemory>
-    requires { request.redirects < most_redirects }
-    ensures { IfOk result (λ next. next ≡ spec.at_next url request) }
+// Gives the request one URL more, and counts a redirect (steps 18 and 8).
+fn go_to(url: Url, request: &mut Request) -> Result<(), OutOfMemory>
+    requires { request.old.redirects < most_redirects }
+    ensures { OnOk result (request.new ≡ spec.at_next url request.old) }
 {
-    let mut urls = request.urls;
-    urls.push(url)?;
-    let redirects = request.redirects + 1;
-    Ok(Request {
-        urls,
-        redirects,
-        ..request
-    })
+    request.urls.push(url)?;
+    request.redirects += 1;
+    Ok(())
 }
 
-/// The request after the redirect of a head to a URL (Fetch, "HTTP-redirect fetch", steps 8 to 19). A redirect of
-/// status 301 or 302 turns POST to GET, and one of 303 any method but GET and HEAD: the request then has
+/// Makes of a request the one after the redirect of a head to a URL (Fetch, "HTTP-redirect fetch", steps 8 to 19). A
+/// redirect of status 301 or 302 turns POST to GET, and one of 303 any method but GET and HEAD: the request then has
 /// no body and no request-body headers. Where the URL has another origin than the current URL,
 /// Authorization is deleted. A policy that Referrer-Policy names replaces the request's ("set request's
 /// referrer policy on redirect", Referrer Policy, section 8.2). The URL is appended to the URL list, and
-/// the redirect count rises by one. The only error is want of memory, with which the request is gone.
+/// the redirect count rises by one. The only error is want of memory, after which the request may be changed in part.
+pub fn redirect_request(
+    alloc: Global,
+    request: &mut Request,
+    head: &Head,
+    url: Url,
+) -> Result<(), OutOfMemory>
+    requires request { IsRequest request.old }
+    requires few { request.old.redirects < most_redirects }
+    requires at_http { IsAtHttp request.old }
+    ensures value { OnOk result (request.new ≡ spec.redirected_request request.old head.now url) }
+    ensures request { OnOk result (IsRequest request.new) }
+{
+    set_method_after(alloc, head.status, request)?;
+    set_authorization_at(&url, request);
+    set_policy_of(alloc, &head.headers, request)?;
+    go_to(url, request)
+}
+
+/// The request after the redirect of a head to a URL, as `redirect_request` makes it of the one that it is given. The
+/// only error is want of memory, with which the request is gone.
 pub fn redirected(
     alloc: Global,
     request: Request,
@@ -138,8 +134,7 @@ pub fn redirected(
     ensures value { IfOk result (λ next. next ≡ spec.redirected_request request head.now url) }
     ensures request { IfOk result IsRequest }
 {
-    let request = with_method_after(alloc, head.status, request)?;
-    let request = with_authorization_at(&url, request);
-    let request = with_policy_of(alloc, &head.headers, request)?;
-    at_next(url, request)
+    let mut next = request;
+    redirect_request(alloc, &mut next, head, url)?;
+    Ok(next)
 }
