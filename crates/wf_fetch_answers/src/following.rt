@@ -49,11 +49,7 @@ fn turn_to_get(alloc: Global, request: &mut Request) -> Result<(), OutOfMemory>
 }
 
 // So it is where a redirect of this status turns its method.
-fn set_method_after(
-    alloc: Global,
-    status: u16,
-    request: &mut Request,
-) -> Result<(), OutOfMemory>
+fn set_method_after(alloc: Global, status: u16, request: &mut Request) -> Result<(), OutOfMemory>
     ensures { OnOk result (request.new ≡ spec.with_method_after status request.old) }
 {
     if turns_to_get(request.method.as_slice(), status) {
