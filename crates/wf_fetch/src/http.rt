@@ -11,12 +11,12 @@ ghost use Rattle.wf_fetch.specs.Then as shared;
 
 use crate::context::Context;
 use crate::main_fetch::begin;
-use crate::place::{Level, Place, Step, boxed};
+use crate::place::{Level, Place, Step};
 use crate::steps::{asking, finish, going, refused, sending};
 use std::alloc::Global;
 use url::Url;
 use wf_fetch_acts::Act;
-use wf_fetch_answers::{Redirection, redirected, redirection, refusal_after};
+use wf_fetch_answers::{Redirection, redirect_request, redirection, refusal_after};
 use wf_fetch_rules::note_of;
 use wf_send::hop_of;
 use wf_text::OutOfMemory;
@@ -144,9 +144,10 @@ pub(crate) fn follow(
         owed,
         owes,
     } = level;
-    let request = redirected(alloc, Box::into_inner(request), &head, url)?;
+    let mut request = request;
+    redirect_request(alloc, &mut request, &head, url)?;
     let level = Level {
-        request: boxed(alloc, request)?,
+        request,
         owed: total_owed(owed, owes),
         owes: false,
     };
