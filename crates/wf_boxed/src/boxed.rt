@@ -35,6 +35,14 @@ impl<T> Boxed<T> {
         &self.inner
     }
 
+    /// The value in its place, as a box of std.
+    pub fn into_box(self) -> Box<T>
+        ensures { result.value ≡ self }
+    {
+        let Boxed { inner } = self;
+        inner
+    }
+
     /// The value, out of its place.
     pub fn into_inner(self) -> T
         ensures { result ≡ self }

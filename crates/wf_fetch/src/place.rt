@@ -1,15 +1,13 @@
-ghost use Rattle.std.specs.Prelude.{◌≡◌, ◌≤◌, ◌<◌, ◌^◌, false, IfOk, IsTrue};
+ghost use Rattle.std.specs.Prelude.{◌≡◌, ◌≤◌, ◌<◌, ◌^◌, false, IsTrue};
 ghost use Rattle.wf_types.specs.Requests.{IsRequest};
 ghost use Rattle.wf_fetch.specs.Ready.{is_ready_at, owes_early};
 
-use std::alloc::Global;
 use std::snapshot::Snapshot;
 use wf_boxed::Boxed;
 use wf_cors::Checked;
 use wf_csp::Violations;
 use wf_fetch_acts::Act;
 use wf_fetch_answers::Ended;
-use wf_text::OutOfMemory;
 use wf_types::{Head, NetError, Outcome, Request, Response};
 
 /// The request as it is now, how many outer levels owe a clear, and whether this one does.
@@ -20,16 +18,6 @@ pub struct Level {
     pub(crate) owes: bool,
     pub ghost valid: { IsRequest request.value },
     pub ghost few: { owed ≤ request.value.redirects },
-}
-
-// A request in a place of its own, so that a level is moved at little cost.
-pub(crate) fn boxed(alloc: Global, request: Request) -> Result<Box<Request>, OutOfMemory>
-    ensures { IfOk result (λ boxed. boxed.value ≡ request) }
-{
-    match Box::new(alloc, request) {
-        Ok(boxed) => Ok(boxed),
-        Err(_) => Err(OutOfMemory),
-    }
 }
 
 /// What a fetch waits for.
@@ -48,7 +36,7 @@ pub enum Place {
     /// The head of its answer is read.
     PreflightReading,
     /// A known host was noted by that head, on which this is the verdict.
-    PreflightNoting(Checked),
+    PreflightNoting(Boxed<Checked>),
     /// What the preflight allows was learned.
     Learning,
     /// The request was sent.

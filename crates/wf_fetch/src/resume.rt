@@ -9,11 +9,12 @@ ghost use Rattle.wf_types.specs.Requests.{IsClient, IsRequest};
 use crate::context::Context;
 use crate::http::{answered, judge, read_head, send};
 use crate::main_fetch::{begin, matched, tell_blocks, tell_reports};
-use crate::place::{Fetching, Level, Place, Step, boxed};
+use crate::place::{Fetching, Level, Place, Step};
 use crate::preflight::{covered, judge_preflight, preflight_answered, read_preflight_head};
 use crate::steps::{body_read, refused, tell_at_end};
 use std::alloc::Global;
 use wf_book::Reply;
+use wf_boxed::Boxed;
 use wf_csp::Compiled;
 use wf_fetch_acts::Input;
 use wf_text::OutOfMemory;
@@ -75,6 +76,27 @@ impl Fetching {
         ensures runs { IfOk result (λ step. RunsAs (context_of client.now policies.now cookies.now now) step
             (run (fetch (context_of client.now policies.now cookies.now now) request))) }
     {
+        let request = Boxed::new(alloc, request)?;
+        Fetching::start_boxed(alloc, request, client, policies, cookies, now)
+    }
+
+    /// The same with a request in a place of its own, where it stays.
+    pub fn start_boxed(
+        alloc: Global,
+        request: Boxed<Request>,
+        client: &Client,
+        policies: &Compiled,
+        cookies: &Cookies,
+        now: u64,
+    ) -> Result<Step, OutOfMemory>
+        requires request { IsRequest request }
+        requires client { IsClient client.now }
+        requires timely { now < 2 ^ 48 }
+        ensures process { Leads (context_of client.now policies.now cookies.now now) result
+            (fetch (context_of client.now policies.now cookies.now now) request) }
+        ensures runs { IfOk result (λ step. RunsAs (context_of client.now policies.now cookies.now now) step
+            (run (fetch (context_of client.now policies.now cookies.now now) request))) }
+    {
         let context = Context {
             client,
             policies,
@@ -82,7 +104,7 @@ impl Fetching {
             time: now,
         };
         let level = Level {
-            request: boxed(alloc, request)?,
+            request: request.into_box(),
             owed: 0,
             owes: false,
         };
@@ -136,7 +158,9 @@ impl Fetching {
             Place::Covering => covered(alloc, context, level, said_yes(&input)),
             Place::PreflightSending => read_preflight_head(alloc, context, level, was_sent(&input)),
             Place::PreflightReading => preflight_answered(alloc, context, level, head_of(input)),
-            Place::PreflightNoting(checked) => judge_preflight(alloc, context, level, checked),
+            Place::PreflightNoting(checked) => {
+                judge_preflight(alloc, context, level, checked.into_inner())
+            },
             Place::Learning => send(alloc, context, level),
             Place::Sending => read_head(alloc, context, level, was_sent(&input)),
             Place::HeadReading => answered(alloc, context, level, head_of(input)),

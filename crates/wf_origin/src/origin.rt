@@ -160,16 +160,23 @@ fn have_same_host(url: &Url, other: &Url) -> bool
     }
 }
 
+// Whether two URLs of one scheme have the same port. Mostly they say, or leave out, the same.
+fn have_same_port(url: &Url, other: &Url) -> bool
+    requires { url.now.scheme ≡ other.now.scheme }
+    ensures { result ≡ ((spec.tuple_origin url.now).port == (spec.tuple_origin other.now).port) }
+{
+    url.port() == other.port() || port_of(url) == port_of(other)
+}
+
 /// Whether two URLs are http or https and have the same origin: their schemes, hosts and ports are
 /// identical, a port that is left out being the default one of the scheme. It takes no memory.
 pub fn have_same_origin(url: &Url, other: &Url) -> bool
     ensures { result ≡ spec.have_same_origin url.now other.now }
 {
     is_http_url(url)
-        && is_http_url(other)
         && url.scheme() == other.scheme()
         && have_same_host(url, other)
-        && port_of(url) == port_of(other)
+        && have_same_port(url, other)
 }
 
 /// Whether the port is the default port of this scheme, which is http or https (URL, section 4.2, "special

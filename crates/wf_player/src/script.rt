@@ -73,7 +73,7 @@ impl<R: Threads + Wait + Sync, S: Share, L: Link> Player<'_, '_, '_, '_, '_, R, 
         ensures kept { Keeps S.account S.belongs self.old self.new }
     {
         match command {
-            Command::Fetch(init) => self.fetch_command(init),
+            Command::Fetch(init) => self.fetch_command(init.get()),
             Command::Load(init) => self.load_command(init),
             Command::Wait(seconds) => {
                 self.running.wait(*seconds);

@@ -7,6 +7,7 @@ ghost use Rattle.wf_script_values.specs.Valid.{IsValid};
 use crate::answers::answer_bytes;
 use std::alloc::Global;
 use url::Url;
+use wf_boxed::Boxed;
 use wf_csp_text::Policies;
 use wf_link::Routes;
 use wf_script_commands::{Command, Script};
@@ -97,7 +98,8 @@ fn put_script(alloc: Global) -> Result<Script, OutOfMemory>
     ensures { IfOk result (λ script. script ≡ spec.put_script) }
 {
     let mut inner = Script::new(alloc);
-    inner.push(Command::Fetch(put_request(alloc)?))?;
+    let request = Boxed::new(alloc, put_request(alloc)?)?;
+    inner.push(Command::Fetch(request))?;
     inner.push(Command::Wait(1))?;
     let mut script = Script::new(alloc);
     script.push(Command::Repeat(200, inner))?;

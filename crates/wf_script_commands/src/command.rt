@@ -1,5 +1,6 @@
 use std::alloc::Global;
 use std::marker::Model;
+use wf_boxed::Boxed;
 use wf_text::{Bytes, OutOfMemory};
 use wf_types::{Init, LoadInit};
 
@@ -22,8 +23,8 @@ pub enum Test {
 #[derive(Drop)]
 #[cycle(script)]
 pub enum Command {
-    /// A call of `fetch`.
-    Fetch(Init),
+    /// A call of `fetch`, in a place of its own, so that a wait takes less room.
+    Fetch(Boxed<Init>),
     /// An element loads a resource.
     Load(LoadInit),
     /// This many seconds pass.

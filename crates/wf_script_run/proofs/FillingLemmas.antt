@@ -10,6 +10,7 @@ use Rattle.wf_types.specs.declared.fault.TypeFault.{TypeFault}
 use Rattle.wf_types.specs.declared.fault.TypeFault.TheVariants.{UrlCredentials, BadMethod, ForbiddenMethod, BodyWithGet}
 use Rattle.wf_types.specs.declared.fault.TypeFault.TheVariants.{NoCorsMethod, BadHeader, NavigateMode, TooLong}
 use Rattle.wf_types.specs.declared.init.Init.{Init}
+use Rattle.wf_types.specs.declared.init.LoadInit.{LoadInit}
 use Rattle.wf_types.specs.declared.init.Pair.{Pair}
 use Rattle.wf_types.specs.declared.request.Request.{Request}
 use Rattle.wf_types.specs.Methods.{is_safelisted_method, is_get_or_head, normalized}
@@ -27,7 +28,7 @@ use Rattle.wf_script_events.specs.declared.events.Event.{Event}
 use Rattle.wf_script_run.proofs.CutLemmas.{cut-length, cut-value, uncut-value}
 use Rattle.wf_script_run.specs.Filling.{cut_body, cut_pair, is_plain, lacks_dollar, lacks_dollar_in, with_cuts}
 use Rattle.wf_script_run.specs.Results.{value_of}
-use Rattle.wf_script_run.specs.Runs.{filled_init, filled_pair}
+use Rattle.wf_script_run.specs.Runs.{filled_init, filled_load, filled_pair}
 
 -- how long what is left is, with one byte more where there is some
 abbrev pub size_of : Option (List ℕ) → ℕ
@@ -74,6 +75,11 @@ plain-filled last init plain =
     let headers : map (filled_pair last) init.headers ≡ init.headers =
     ap (λ (l : List Pair). map (filled_pair last) l) none ∙ sym none in
     rw (filled-same (value_of last) init.url all.1.0, headers, body-same (value_of last) init.body all.1.1) refl
+
+-- a load stays as it is, the same
+pub plain-load-filled : (last : Option Event) (init : LoadInit) → lacks_dollar init.url ≡ true
+    → filled_load last init ≡ init
+plain-load-filled last init plain = rw (filled-same (value_of last) init.url plain) refl
 
 -- ---- headers and a body that are cut
 

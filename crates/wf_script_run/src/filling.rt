@@ -277,6 +277,13 @@ fn lacks_dollar_in(text: &Option<Bytes>) -> bool
     }
 }
 
+/// Whether the URL of what a script asks of a load has no `$`, so that there is nothing to replace. It takes no memory.
+pub fn is_plain_load(init: &LoadInit) -> bool
+    ensures { result ≡ short.lacks_dollar init.now.url }
+{
+    lacks_dollar(init.url.as_slice())
+}
+
 /// Whether what a script asks of `fetch` has no headers and no `$` in its URL and its body, so that
 /// there is nothing to replace and nothing to normalise. It takes no memory.
 pub fn is_plain(init: &Init) -> bool

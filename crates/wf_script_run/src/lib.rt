@@ -7,6 +7,6 @@ mod results;
 mod running;
 mod shown;
 
-pub use filling::{filled_init, filled_load, is_plain};
+pub use filling::{filled_init, filled_load, is_plain, is_plain_load};
 pub use results::{holds, is_result};
 pub use running::{Running, fault_event, outcome_event};

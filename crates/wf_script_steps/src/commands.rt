@@ -9,6 +9,7 @@ ghost use Rattle.wf_script_steps.specs.Scripts as spec;
 use crate::fetches::FetchTable;
 use crate::loads::LoadTable;
 use std::alloc::Global;
+use wf_boxed::Boxed;
 use wf_script_commands::Command;
 use wf_script_tables::{Number, Refused, only_keys, refused_under, required};
 use wf_script_tree::Tree;
@@ -25,7 +26,7 @@ pub(crate) fn fetch_command(alloc: Global, tree: &Tree<'_, '_>) -> Result<Comman
 {
     only_keys(alloc, tree, &["fetch"])?;
     let init = required(alloc, tree, "fetch", &FetchTable)?;
-    Ok(Command::Fetch(init))
+    Ok(Command::Fetch(Boxed::new(alloc, init)?))
 }
 
 // A load by an element.

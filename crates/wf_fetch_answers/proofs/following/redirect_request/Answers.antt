@@ -1,26 +1,15 @@
-use Rattle.std.proofs.Common.{arith, subst, sym}
-use Rattle.std.proofs.lemmas.Result.{IfOk-weaker}
+use Rattle.std.proofs.Common.{subst, sym}
+use Rattle.std.proofs.lemmas.Result.{on_ok_weaker}
 use Rattle.wf_types.specs.Requests.{IsRequest}
-use Rattle.wf_fetch_answers.proofs.FollowingLemmas.{all_stay, first_step, next_is}
-use Rattle.wf_fetch_answers.proofs.following.redirected.Goals as goal
-
-pub with_authorization_at-request-requires : goal.with_authorization_at-request-requires
-with_authorization_at-request-requires c =
-    first_step c.args.head.now.status c.args.request _ c.requires.request c.in_ok-request.ensures
-
-pub at_next-requires : goal.at_next-requires
-at_next-requires c =
-    let stays =
-    all_stay c.args.head.now c.args.url c.args.request _ _ _ c.requires.request c.in_ok-request.ensures
-    c.with_authorization_at-request.ensures c.in_ok-request-2.ensures in
-    omega (arith, stays.redirects)
+use Rattle.wf_fetch_answers.proofs.FollowingLemmas.{all_stay, next_is}
+use Rattle.wf_fetch_answers.proofs.following.redirect_request.Goals as goal
 
 pub returns-clause-request : goal.returns-clause-request
 returns-clause-request c =
     let stays =
-    all_stay c.args.head.now c.args.url c.args.request _ _ _ c.requires.request c.in_ok-request.ensures
-    c.with_authorization_at-request.ensures c.in_ok-request-2.ensures in
-    IfOk-weaker c.at_next.result _ _
-    (λ next is. subst IsRequest (sym is)
-    (next_is c.args.url c.args.request _ c.requires.request c.requires.few c.requires.at_http stays))
-    c.at_next.ensures
+    all_stay c.args.head.now c.args.url c.args.request.now _ _ _ c.requires.request c.in_ok-set_method_after.ensures
+    c.set_authorization_at.ensures c.in_ok-set_policy_of.ensures in
+    on_ok_weaker c.go_to.result
+    (λ is. subst IsRequest (sym is)
+    (next_is c.args.url c.args.request.now _ c.requires.request c.requires.few c.requires.at_http stays))
+    c.go_to.ensures
