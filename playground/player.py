@@ -13,7 +13,7 @@ import time
 MOST_SCENARIO = 4194304  # bytes: what fetchplay reads
 MOST_TEXT = 4194304  # bytes of a play that a page draws
 MOST_COMPLAINT = 4096  # bytes
-MOST_MEMORY = 4 << 30  # bytes of addresses: 128 documents have each a thread and its stack
+MOST_MEMORY = 4 << 30  # bytes of addresses: each of up to 16 threads has its stack and its arena
 PIECE = 65536
 
 REFUSED = re.compile(r"fetchplay: scenario refused at (\S+)")

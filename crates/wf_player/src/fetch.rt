@@ -155,6 +155,7 @@ pub fn drive_fetch<R: Threads + Wait + Sync, S: Share, L: Link>(
         policies,
         cookies,
         limit: body_limit,
+        // a fetch by itself shares the room for filled texts with none
         documents: 1,
     };
     let mut player = Player {

@@ -25,8 +25,8 @@ use wf_text::{Bytes, OutOfMemory};
 const MOST_DOCUMENTS: usize = 16;
 
 /// The program, from its words to its status. The words are tested first: `play` alone is accepted. The input is then
-/// read whole, read as a scenario, and played over the scenario's own servers, each document on a thread of its own
-/// where one can be made. Once all scripts have ended the reports of each document are delivered, in order of
+/// read whole, read as a scenario, and played over the scenario's own servers, on threads where these can be made.
+/// Once all scripts have ended the reports of each document are delivered, in order of
 /// documents, over its own link and its own pass of the shared book, and the text of the reports is written to the
 /// output. A status other than `Ok` is told by one line on the complaints; where that line cannot be written the answer
 /// is `WriteFault`.

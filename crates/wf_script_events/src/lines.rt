@@ -18,7 +18,8 @@ use wf_types::{BodyEnd, Destination, Hop, NetError, Outcome, Response, TypeFault
 
 // The length of a header as a line.
 fn header_length(name: &[u8], value: &[u8]) -> Length
-    ensures { result ≡ length_of (spec.escaped_line (spec.header_line (record { name = name.now; value = value.now }))) }
+    ensures { result
+        ≡ length_of (spec.escaped_line (spec.header_line (record { name = name.now; value = value.now }))) }
 {
     let field = escaped(name).plus(text(b": ")).plus(escaped(value));
     text(b"  ").plus(field).plus(text(b"\n"))

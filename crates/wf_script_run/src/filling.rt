@@ -209,7 +209,7 @@ fn filled_body(
 /// letter, or NUL where the value has a byte that no header value has: so it is refused for what the whole
 /// one would be. Its rest is looked at as it comes, and not kept. A body that gets longer than 65,536 bytes,
 /// which no request has either, stops growing there, and its first 65,537 are handed on. A URL or a value
-/// that gets longer than 12,582,912 bytes, divided by the number of documents or by 16, is want of memory.
+/// that gets longer than 12,582,912 bytes, divided by the number of documents, at most by 16, is want of memory.
 pub fn filled_init(
     alloc: Global,
     documents: usize,
@@ -235,7 +235,7 @@ pub fn filled_init(
 }
 
 /// What a script asks of a load, with the parts of the last result in the place of the placeholders in
-/// its URL. One that gets longer than 12,582,912 bytes, divided by the number of documents or by 16, is want of memory.
+/// its URL. One that gets longer than 12,582,912 bytes, divided by the number of documents, at most by 16, is want of memory.
 pub fn filled_load(
     alloc: Global,
     documents: usize,

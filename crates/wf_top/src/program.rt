@@ -31,9 +31,9 @@ use wf_text::OutOfMemory;
 const MOST_BASE: u64 = 1_099_511_627_776;
 
 /// The program, from its words to its status. The words are tested first. With `play` the input is then
-/// read whole, read as a scenario, and played over the scenario's own servers, each document on a thread
-/// of its own where one can be made, and the text of the play is written to the output. `net` does the
-/// same over the links that are made for the documents, by the scenario's routes, from the clock's time
+/// read whole, read as a scenario, and played over the scenario's own servers, on at most 16 threads, and
+/// the text of the play is written to the output. `net` does the same over the links that are made for the
+/// documents, by the scenario's routes, with a thread for each where one can be made, from the clock's time
 /// on, or from 1,099,511,627,776 seconds on, if that is earlier. With `gen` and a
 /// number of documents, from 1 to 64, the input is left unread, the generated scenario of so many
 /// documents is played, and the summary of the play is written. A status other than `Ok` is told by one
