@@ -36,7 +36,7 @@ pub enum Place {
     /// The head of its answer is read.
     PreflightReading,
     /// A known host was noted by that head, on which this is the verdict.
-    PreflightNoting(Boxed<Checked>),
+    PreflightNoting(Checked),
     /// What the preflight allows was learned.
     Learning,
     /// The request was sent.

@@ -10,7 +10,6 @@ use crate::http::send;
 use crate::place::{Level, Place, Step};
 use crate::steps::{asking, going, refused, sending};
 use std::alloc::Global;
-use wf_boxed::Boxed;
 use wf_cors::{Checked, preflight_of, verdict};
 use wf_fetch_acts::Act;
 use wf_fetch_rules::{covers_of, learn_of, note_of};
@@ -118,10 +117,7 @@ pub(crate) fn preflight_answered(
     let checked = verdict_on(alloc, &level.request, &head)?;
     match note_of(alloc, &level.request, &head, context.time)? {
         None => judge_preflight(alloc, context, level, checked),
-        Some(op) => {
-            let place = Place::PreflightNoting(Boxed::new(alloc, checked)?);
-            asking(alloc, context, level, place, op)
-        }
+        Some(op) => asking(alloc, context, level, Place::PreflightNoting(checked), op),
     }
 }
 

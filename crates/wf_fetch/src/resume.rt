@@ -158,9 +158,7 @@ impl Fetching {
             Place::Covering => covered(alloc, context, level, said_yes(&input)),
             Place::PreflightSending => read_preflight_head(alloc, context, level, was_sent(&input)),
             Place::PreflightReading => preflight_answered(alloc, context, level, head_of(input)),
-            Place::PreflightNoting(checked) => {
-                judge_preflight(alloc, context, level, checked.into_inner())
-            },
+            Place::PreflightNoting(checked) => judge_preflight(alloc, context, level, checked),
             Place::Learning => send(alloc, context, level),
             Place::Sending => read_head(alloc, context, level, was_sent(&input)),
             Place::HeadReading => answered(alloc, context, level, head_of(input)),
