@@ -11,11 +11,9 @@ ghost use Rattle.wf_player.specs.Worlds.{outside_of};
 
 use crate::lent::Lent;
 use crate::player::Player;
-use std::alloc::Global;
 use std::sync::Wait;
 use std::thread::Threads;
 use wf_book::Share;
-use wf_boxed::Boxed;
 use wf_link::Link;
 use wf_script_events::{Ending, Event};
 use wf_script_run::{
@@ -24,19 +22,6 @@ use wf_script_run::{
 use wf_send::{new_load, new_request};
 use wf_text::OutOfMemory;
 use wf_types::{Destination, Init, LoadInit, Request, TypeFault};
-
-// A request in a place of its own, so that it is moved at little cost.
-fn in_place(
-    alloc: Global,
-    made: Result<Request, TypeFault>,
-) -> Result<Result<Boxed<Request>, TypeFault>, OutOfMemory>
-    ensures { IfOk result (λ placed. placed ≡ made) }
-{
-    match made {
-        Ok(request) => Ok(Ok(Boxed::new(alloc, request)?)),
-        Err(fault) => Ok(Err(fault)),
-    }
-}
 
 // The request of what a script asks of `fetch`, with the parts of the last result in the place of its placeholders, or
 // why there is none (Fetch, sections 5.4 and 5.6).
@@ -71,6 +56,7 @@ fn requested_load<R, S>(
         ≡ load_of lent.now.client.now (load_filled (lent_result last.entry) init.now)) }
     ensures valid { IfOk result (λ made. IfOk made IsRequest) }
 {
+    // where there is nothing to fill no copy is wanted
     if is_plain_load(init) {
         return new_load(*lent.alloc, init, lent.client);
     }
@@ -97,7 +83,7 @@ impl<R: Threads + Wait + Sync, S: Share, L: Link> Player<'_, '_, '_, '_, '_, R, 
     fn request(
         &mut self,
         kind: Destination,
-        made: Result<Boxed<Request>, TypeFault>,
+        made: Result<Request, TypeFault>,
     ) -> Result<Option<Ending>, OutOfMemory>
         requires ready { IsReady S.belongs self.old }
         requires made { IfOk made IsRequest }
@@ -127,7 +113,7 @@ impl<R: Threads + Wait + Sync, S: Share, L: Link> Player<'_, '_, '_, '_, '_, R, 
     fn asked(
         &mut self,
         kind: Destination,
-        made: Result<Boxed<Request>, TypeFault>,
+        made: Result<Request, TypeFault>,
     ) -> Result<Option<Ending>, OutOfMemory>
         requires ready { IsReady S.belongs self.old }
         requires made { IfOk made IsRequest }
@@ -155,8 +141,7 @@ impl<R: Threads + Wait + Sync, S: Share, L: Link> Player<'_, '_, '_, '_, '_, R, 
         ensures kept { Keeps S.account S.belongs self.old self.new }
     {
         let made = requested(self.lent, self.running.last(), init)?;
-        let placed = in_place(*self.lent.alloc, made)?;
-        self.asked(Destination::Fetch, placed)
+        self.asked(Destination::Fetch, made)
     }
 
     // Plays a load by an element, the same (HTML, section 2.5.1).
@@ -171,7 +156,6 @@ impl<R: Threads + Wait + Sync, S: Share, L: Link> Player<'_, '_, '_, '_, '_, R, 
         ensures kept { Keeps S.account S.belongs self.old self.new }
     {
         let made = requested_load(self.lent, self.running.last(), init)?;
-        let placed = in_place(*self.lent.alloc, made)?;
-        self.asked(init.kind, placed)
+        self.asked(init.kind, made)
     }
 }

@@ -79,7 +79,7 @@ impl<R: Threads + Wait + Sync, S: Share, L: Link> Player<'_, '_, '_, '_, '_, R, 
     // which the caller hangs up. It makes 126 calls of the book at most.
     pub(crate) fn fetch(
         &mut self,
-        request: Boxed<Request>,
+        request: Request,
         now: u64,
     ) -> Result<Boxed<Outcome>, OutOfMemory>
         requires ready { IsReady S.belongs self.old }
@@ -95,7 +95,7 @@ impl<R: Threads + Wait + Sync, S: Share, L: Link> Player<'_, '_, '_, '_, '_, R, 
         let mut acts: u128 = 0;
         let lent = self.lent;
         let _policies = lent.policies.len();
-        let mut step = Fetching::start_boxed(
+        let mut step = Fetching::start(
             *lent.alloc,
             request,
             lent.client,
@@ -165,7 +165,7 @@ pub fn drive_fetch<R: Threads + Wait + Sync, S: Share, L: Link>(
         wire: &mut wire,
         running: &mut running,
     };
-    let outcome = player.fetch(Boxed::new(alloc, request)?, now)?;
+    let outcome = player.fetch(request, now)?;
     wire.close(link);
     Ok(FetchRun {
         events: running.into_events(),

@@ -16,7 +16,7 @@ choice-returns-else-holds-clause-came g t c =
     plays-after _ _ _ c.script-else-holds.result (rw chose played-none) c.script-else-holds.ensures.came
 
 pub command-returns-in-Fetch-clause-came : goal.command-returns-in-Fetch-clause-came
-command-returns-in-Fetch-clause-came g t c = rw c.in-Fetch.is c.fetch_command.ensures.came
+command-returns-in-Fetch-clause-came g t c = rw (c.in-Fetch.is, ← c.get.ensures) c.fetch_command.ensures.came
 
 pub command-returns-in-Load-clause-came : goal.command-returns-in-Load-clause-came
 command-returns-in-Load-clause-came g t c = rw c.in-Load.is c.load_command.ensures.came
