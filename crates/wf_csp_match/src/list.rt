@@ -1,5 +1,7 @@
-ghost use Rattle.std.specs.Prelude.{◌≡◌, ◌<◌, ◌+◌, ◌++◌, ◌∷◌, [], drop, length, take, IfOk, OnOk};
+ghost use Rattle.std.specs.Prelude.{◌≡◌, ◌<◌, ◌+◌, ◌++◌, ◌∷◌, [], drop, length, take, option_and_then, option_copied, IfOk, OnOk};
 ghost use Rattle.std.specs.List.{list_any};
+ghost use Rattle.url.specs.Host.{domain_of};
+ghost use Rattle.url.specs.Parts.{nonempty_host};
 ghost use Rattle.wf_csp_match.specs.Matching as spec;
 ghost use Rattle.wf_csp_match.specs.Private.Places as places;
 
@@ -277,33 +279,37 @@ fn source_in<'a>(text: &'a [u8], place: &Place) -> Source<'a>
 
 // ---- matching
 
-// Whether the host-source in front of a text matches a URL. Most differ in the host, so it is asked before the other
-// parts are cut out.
+// Whether the host-source in front of a text matches a URL of this domain, or of none. Most differ in the host, so it
+// is asked before the other parts are cut out.
 fn host_in_matches(
     text: &[u8],
     place: &HostPlace,
+    domain: Option<&str>,
     url: &Url,
     document: &Origin,
     redirects: u32,
 ) -> bool
+    requires { option_copied domain ≡ option_and_then domain_of (nonempty_host url.now) }
     ensures { result ≡ spec.host_source_matches (places.host_in text.now place.now) url.now document.now redirects }
 {
-    host_part_matches(front(text, place.host), url)
+    host_part_matches(front(text, place.host), domain)
         && host_source_matches(&host_in(text, place), url, document, redirects)
 }
 
-// Whether the source expression in front of a text matches a URL.
+// Whether the source expression in front of a text matches a URL of this domain, or of none.
 fn source_in_matches(
     text: &[u8],
     place: &Place,
+    domain: Option<&str>,
     url: &Url,
     document: &Origin,
     redirects: u32,
 ) -> bool
+    requires { option_copied domain ≡ option_and_then domain_of (nonempty_host url.now) }
     ensures { result ≡ spec.matches (places.source_in text.now place.now) url.now document.now redirects }
 {
     match place {
-        Place::Host(host) => host_in_matches(text, host, url, document, redirects),
+        Place::Host(host) => host_in_matches(text, host, domain, url, document, redirects),
         _ => matches(&source_in(text, place), url, document, redirects),
     }
 }
@@ -319,10 +325,12 @@ fn any_in_matches(
     ensures { result ≡ list_any (λ source. spec.matches source url.now document.now redirects)
         (places.sources_in text.now stored.now) }
 {
+    let domain = url.domain();
     for one in stored {
         if source_in_matches(
             behind(text, one.start),
             &one.place,
+            domain,
             url,
             document,
             redirects,

@@ -1,4 +1,5 @@
-ghost use Rattle.std.specs.Prelude.{◌≡◌};
+ghost use Rattle.std.specs.Prelude.{◌≡◌, false, option_copied};
+ghost use Rattle.std.specs.Option.{option_map_or};
 ghost use Rattle.wf_csp_match.specs.Matching as spec;
 ghost use Rattle.wf_origin.specs.Origins as origins;
 ghost use Rattle.wf_text.specs.Digits.{writes};
@@ -27,20 +28,20 @@ fn ends_in(end: &[u8], text: &[u8]) -> bool
     eq_fold(text.split_at(text.len().saturating_sub(end.len())).1, end)
 }
 
-// Whether a domain matches a pattern.
+// Whether a domain matches a pattern. Most differ in their length, which is compared first.
 fn domain_matches(pattern: &[u8], domain: &[u8]) -> bool
     ensures { result ≡ spec.domain_matches pattern.now domain.now }
 {
     is_star(pattern)
         || (has_wildcard(pattern) && ends_in(pattern.split_at(1).1, domain))
-        || eq_fold(pattern, domain)
+        || pattern.eq_ignore_ascii_case(domain)
 }
 
-// "host-part matches".
-pub(crate) fn host_part_matches(pattern: &[u8], url: &Url) -> bool
-    ensures { result ≡ spec.host_part_matches pattern.now url.now }
+// "host-part matches", of the domain of a URL, where it has one.
+pub(crate) fn host_part_matches(pattern: &[u8], domain: Option<&str>) -> bool
+    ensures { result ≡ option_map_or (spec.domain_matches pattern.now) (option_copied domain.entry) false }
 {
-    match url.domain() {
+    match domain {
         None => false,
         Some(domain) => domain_matches(pattern, domain.as_bytes()),
     }
@@ -96,7 +97,7 @@ pub(crate) fn host_source_matches(
 ) -> bool
     ensures { result ≡ spec.host_source_matches source.now url.now document.now redirects }
 {
-    host_part_matches(source.host.as_slice(), url)
+    host_part_matches(source.host.as_slice(), url.domain())
         && port_part_matches(&source.port, url)
         && scheme_matches(&source.scheme, url, document)
         && path_matches(&source.path, url, redirects)

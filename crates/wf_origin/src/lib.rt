@@ -11,7 +11,7 @@ pub use laws::law_serialized_as_url;
 pub use names::{is_local_name, without_last_dot};
 pub use origin::{
     HostKind, Origin, have_same_origin, is_default_port, is_host_of, is_http_url, is_origin_of,
-    origin_of, port_of, same_origin, serialize, tuple_origin,
+    origin_of, port_of, same_origin, serialize, serialize_origin_of, tuple_origin,
 };
 pub use site::same_site;
 pub use trust::{is_trustworthy, is_trustworthy_url};

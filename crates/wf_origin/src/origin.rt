@@ -127,10 +127,16 @@ pub fn is_host_of(origin: &Origin, url: &Url) -> bool
 
 /// The port of a URL, or the default one of its scheme where it has none, as its tuple origin has it (URL,
 /// section 4.7, "origin"); 0 where its scheme has none. It takes no memory.
+#[tactic(auto, unfolding(url::specs::Scheme::default_port))]
 pub fn port_of(url: &Url) -> u16
     ensures { result ≡ (spec.tuple_origin url.now).port }
 {
-    url.port_or_known_default().unwrap_or(0)
+    match url.port() {
+        Some(port) => port,
+        None if url.scheme() == "https" => 443,
+        None if url.scheme() == "http" => 80,
+        None => url.port_or_known_default().unwrap_or(0),
+    }
 }
 
 /// Whether a URL is http or https and has this origin: `origin_of` of the URL gives one that is the
@@ -218,6 +224,19 @@ fn add_port(alloc: Global, text: &mut Bytes, scheme: &[u8], port: u16) -> Result
     text.append(port.to_string(alloc)?.as_bytes())
 }
 
+// Adds the host of a URL as it is written in its origin. Most are domains, which are not copied for it.
+fn add_host_of(alloc: Global, text: &mut Bytes, url: &Url) -> Result<(), OutOfMemory>
+    ensures { OnOk result (text.new ≡ text.old ++ spec.host_text (spec.kind_of_host (nonempty_host url.now))) }
+{
+    match url.host() {
+        None => Ok(()),
+        Some(Host::Domain(name)) => text.append(name.as_bytes()),
+        Some(Host::Ipv4(_)) | Some(Host::Ipv6(_)) => {
+            add_host(alloc, text, &kind_of(alloc, url)?)
+        }
+    }
+}
+
 /// The serialization of an origin: scheme, `://`, host, and `:` and the port where it is not the
 /// default port of http or https (HTML, section 7.1.1, "serialization of an origin").
 pub fn serialize(alloc: Global, origin: &Origin) -> Result<Bytes, OutOfMemory>
@@ -227,5 +246,17 @@ pub fn serialize(alloc: Global, origin: &Origin) -> Result<Bytes, OutOfMemory>
     text.append(b"://")?;
     add_host(alloc, &mut text, &origin.host)?;
     add_port(alloc, &mut text, origin.scheme.as_slice(), origin.port)?;
+    Ok(text)
+}
+
+/// The serialization of the tuple origin of an http or https URL, as `serialize` gives it (HTML, section 7.1.1,
+/// "serialization of an origin").
+pub fn serialize_origin_of(alloc: Global, url: &Url) -> Result<Bytes, OutOfMemory>
+    ensures { IfOk result (λ text. text ≡ spec.serialized (spec.tuple_origin url.now)) }
+{
+    let mut text = Bytes::of(alloc, url.scheme().as_bytes())?;
+    text.append(b"://")?;
+    add_host_of(alloc, &mut text, url)?;
+    add_port(alloc, &mut text, url.scheme().as_bytes(), port_of(url))?;
     Ok(text)
 }

@@ -7,7 +7,7 @@ ghost use Rattle.wf_types.specs.Targets as spec;
 
 use std::alloc::Global;
 use url::{Position, Url};
-use wf_origin::{origin_of, serialize};
+use wf_origin::{is_http_url, serialize_origin_of};
 use wf_text::{Bytes, OutOfMemory};
 
 // The path, and the query where there is one; every URL is valid.
@@ -39,8 +39,9 @@ pub fn host_value(url: &Url) -> &str
 pub fn origin_text(alloc: Global, url: &Url) -> Result<Bytes, OutOfMemory>
     ensures { IfOk result (λ text. text ≡ spec.origin_text (origins.origin_of url.now)) }
 {
-    match origin_of(alloc, url)? {
-        None => Bytes::of(alloc, b"null"),
-        Some(origin) => serialize(alloc, &origin),
+    if is_http_url(url) {
+        serialize_origin_of(alloc, url)
+    } else {
+        Bytes::of(alloc, b"null")
     }
 }
