@@ -1,3 +1,4 @@
 pub mod Computed
 pub mod PieceLemmas
 pub mod PlaceLemmas
+pub mod PartLemmas

@@ -1,9 +1,8 @@
 -- Source expressions that stand one behind the other in one text: what is stored is found again.
-use Rattle.std.proofs.Common.{◌≡◌, ◌∙◌, ◌∷◌, ◌++◌, [], ◌<◌, ◌+◌, ℕ, Bool, List, length, map, take, drop, get_or}
+use Rattle.std.proofs.Common.{◌≡◌, ◌∙◌, ◌∷◌, ◌++◌, [], ◌<◌, ◌+◌, ℕ, List, length, drop, get_or}
 use Rattle.std.proofs.Common.{Option, Some, None, refl, ap, sym, arith, suc, zero, add-one, append_assoc}
 use Rattle.std.proofs.Math.Seq.{drop-append_seam, take-append_seam}
 use Rattle.std.proofs.lemmas.List.{append-nil}
-use Rattle.wf_csp_match.specs.declared.list.Place.{Place}
 use Rattle.wf_csp_match.specs.declared.list.Stored.{Stored}
 use Rattle.wf_csp_match.specs.declared.source.HostSource.{HostSource}
 use Rattle.wf_csp_match.specs.declared.source.Source.{Source}

@@ -5,7 +5,7 @@ ghost use Rattle.url.specs.Parts.{nonempty_host};
 ghost use Rattle.wf_csp_match.specs.Matching as spec;
 ghost use Rattle.wf_csp_match.specs.Private.Places as places;
 
-use crate::matching::{host_part_matches, host_source_matches, matches};
+use crate::matching::{host_part_matches, matches, other_parts_match};
 use crate::source::{HostSource, Part, Source, SourcePort};
 use std::alloc::Global;
 use std::marker::Model;
@@ -293,7 +293,7 @@ fn host_in_matches(
     ensures { result ≡ spec.host_source_matches (places.host_in text.now place.now) url.now document.now redirects }
 {
     host_part_matches(front(text, place.host), domain)
-        && host_source_matches(&host_in(text, place), url, document, redirects)
+        && other_parts_match(&host_in(text, place), url, document, redirects)
 }
 
 // Whether the source expression in front of a text matches a URL of this domain, or of none.

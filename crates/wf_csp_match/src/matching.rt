@@ -1,4 +1,4 @@
-ghost use Rattle.std.specs.Prelude.{◌≡◌, false, option_copied};
+ghost use Rattle.std.specs.Prelude.{◌≡◌, ◌&&◌, false, option_copied};
 ghost use Rattle.std.specs.Option.{option_map_or};
 ghost use Rattle.wf_csp_match.specs.Matching as spec;
 ghost use Rattle.wf_origin.specs.Origins as origins;
@@ -28,13 +28,16 @@ fn ends_in(end: &[u8], text: &[u8]) -> bool
     eq_fold(text.split_at(text.len().saturating_sub(end.len())).1, end)
 }
 
-// Whether a domain matches a pattern. Most differ in their length, which is compared first.
+// Whether a domain matches a pattern. Most have no star and another length, which is compared first.
 fn domain_matches(pattern: &[u8], domain: &[u8]) -> bool
     ensures { result ≡ spec.domain_matches pattern.now domain.now }
 {
-    is_star(pattern)
-        || (has_wildcard(pattern) && ends_in(pattern.split_at(1).1, domain))
-        || pattern.eq_ignore_ascii_case(domain)
+    if let [b'*', ..] = pattern {
+        if is_star(pattern) || (has_wildcard(pattern) && ends_in(pattern.split_at(1).1, domain)) {
+            return true;
+        }
+    }
+    pattern.eq_ignore_ascii_case(domain)
 }
 
 // "host-part matches", of the domain of a URL, where it has one.
@@ -88,8 +91,24 @@ fn path_matches(path: &Option<Part<'_>>, url: &Url, redirects: u32) -> bool
     }
 }
 
+// Whether the parts of a host-source beside its host match a URL.
+pub(crate) fn other_parts_match(
+    source: &HostSource<'_>,
+    url: &Url,
+    document: &Origin,
+    redirects: u32,
+) -> bool
+    ensures { result ≡ (spec.scheme_matches source.now.scheme url.now document.now
+        && spec.port_part_matches source.now.port url.now
+        && spec.path_matches source.now.path url.now redirects) }
+{
+    scheme_matches(&source.scheme, url, document)
+        && port_part_matches(&source.port, url)
+        && path_matches(&source.path, url, redirects)
+}
+
 // Whether a host-source matches a URL. The host is asked first, since it differs most.
-pub(crate) fn host_source_matches(
+fn host_source_matches(
     source: &HostSource<'_>,
     url: &Url,
     document: &Origin,
@@ -98,9 +117,7 @@ pub(crate) fn host_source_matches(
     ensures { result ≡ spec.host_source_matches source.now url.now document.now redirects }
 {
     host_part_matches(source.host.as_slice(), url.domain())
-        && port_part_matches(&source.port, url)
-        && scheme_matches(&source.scheme, url, document)
-        && path_matches(&source.path, url, redirects)
+        && other_parts_match(source, url, document, redirects)
 }
 
 // Whether the port of the document's origin is that of the URL, or each is the default one of its own
