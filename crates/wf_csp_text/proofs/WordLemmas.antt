@@ -6,7 +6,7 @@ use Rattle.std.proofs.lemmas.List.Splits.{slice_split-cons_no}
 use Rattle.std.specs.Char.{is_ascii_whitespace}
 use Rattle.std.specs.List.{onto_first, position, position_or_len, slice_split}
 use Rattle.wf_text.specs.Words.{is_filled, words}
-use Rattle.wf_csp_text.specs.Private.Blanks.{behind_blanks}
+use Rattle.wf_csp_text.specs.Walks.{behind_blanks}
 
 -- the first word does not end behind the text
 pub within : (text : List ℕ) → position_or_len is_ascii_whitespace text ≤ length text

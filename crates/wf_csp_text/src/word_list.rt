@@ -1,8 +1,7 @@
 ghost use Rattle.std.specs.Prelude.{◌≡◌, ◌<◌, length, IfOk, IfSome};
 ghost use Rattle.std.specs.Char.{is_ascii_whitespace};
 ghost use Rattle.std.specs.List.{position, position_or_len};
-ghost use Rattle.wf_csp_text.specs.Private.Blanks as blanks;
-ghost use Rattle.wf_csp_text.specs.Walks.{IsFirstWord};
+ghost use Rattle.wf_csp_text.specs.Walks.{IsFirstWord, behind_blanks, behind_first_word};
 ghost use Rattle.wf_text.specs.Words.{words};
 
 use std::alloc::Global;
@@ -45,7 +44,7 @@ impl Words {
 
 // The text without the ASCII whitespace in front.
 fn behind_blanks(text: &[u8]) -> &[u8]
-    ensures { result.now ≡ blanks.behind_blanks text.now }
+    ensures { result.now ≡ behind_blanks text.now }
 {
     let mut rest = text;
     while let [first, after @ ..] = rest {
@@ -78,6 +77,7 @@ fn first_length(text: &[u8]) -> usize
 /// (Infra, "split on ASCII whitespace"). It takes no memory.
 pub fn first_word(text: &[u8]) -> Option<(&[u8], &[u8])>
     ensures word { IsFirstWord text.now result }
+    ensures rest { IfSome result (λ found. found.1.now ≡ behind_first_word text.now) }
     ensures shorter { IfSome result (λ found. length found.1.now < length text.now) }
 {
     let filled = behind_blanks(text);

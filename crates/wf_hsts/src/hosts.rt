@@ -11,7 +11,8 @@ use wf_text::{Bytes, OutOfMemory};
 /// How many hosts a list holds at most (profile).
 const MOST_HOSTS: usize = 4096;
 
-/// How many bytes the longest name of the DNS has (RFC 1035, section 2.3.4).
+/// How many bytes the longest name of the DNS has as text: 255 with the lengths of its labels, that of the root among
+/// them (RFC 1035, section 2.3.4).
 const LONGEST_NAME: usize = 253;
 
 /// A known HSTS host, as contracts see an entry of a list (RFC 6797, section 8.1.1).

@@ -1,6 +1,6 @@
 ghost use Rattle.std.specs.Prelude.{◌≡◌, ℕ, List, [], ◌||◌, bytes_eq, IfOk, OnErr, OnOk};
 ghost use Rattle.std.specs.List.{list_any};
-ghost use Rattle.std.specs.Str.{str_eq_ignore_ascii_case, str_to_ascii_lowercase};
+ghost use Rattle.std.specs.Str.{str_to_ascii_lowercase};
 ghost use Rattle.wf_types.specs.TextSets.{has_text};
 
 use std::alloc::Global;
@@ -34,8 +34,8 @@ impl TextSet {
 
     /// The texts with their ASCII letters in lower case. The only error is want of memory.
     pub fn in_lower_case(alloc: Global, texts: &[Bytes]) -> Result<TextSet, OutOfMemory>
-        ensures { IfOk result (λ set. (text : List ℕ) → has_text set (str_to_ascii_lowercase text)
-            ≡ list_any (λ item. str_eq_ignore_ascii_case item text) texts.now) }
+        ensures { IfOk result (λ set. (text : List ℕ) → has_text set text
+            ≡ list_any (λ item. bytes_eq (str_to_ascii_lowercase item) text) texts.now) }
     {
         let mut set = TextSet::new(alloc);
         for text in texts {

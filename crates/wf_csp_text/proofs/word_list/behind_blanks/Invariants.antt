@@ -1,5 +1,5 @@
 use Rattle.std.proofs.Common.{◌≡◌, length}
-use Rattle.wf_csp_text.specs.Private.Blanks.{behind_blanks}
+use Rattle.wf_csp_text.specs.Walks.{behind_blanks}
 use Rattle.wf_csp_text.proofs.word_list.behind_blanks.Given as goal
 
 abbrev pub invariant-loop-rest : goal.invariant-loop-rest
