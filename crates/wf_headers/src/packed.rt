@@ -1,6 +1,7 @@
 ghost use Rattle.std.specs.Prelude.{◌≡◌, ◌<◌, ◌≤◌, ◌++◌, ◌∷◌, [], length, map, option_map, slice_get, Some};
 ghost use Rattle.std.specs.Prelude.{IfOk, OnOk, OnErr, MatchOption};
 ghost use Rattle.std.specs.List.{All};
+ghost use Rattle.std.specs.Str.{str_eq_ignore_ascii_case};
 ghost use Rattle.wf_headers.specs.Headers.{all_appended, appended, combined, is_named, spelling};
 ghost use Rattle.wf_headers.specs.Private.Packs.{IsWithin, header_at};
 ghost use Rattle.wf_headers.specs.Spelling.{HaveOneSpelling};
@@ -10,6 +11,14 @@ use crate::headers::{HeaderList, add_value};
 use std::alloc::Global;
 use std::marker::Model;
 use wf_text::{Bytes, OutOfMemory, eq_fold};
+
+// Whether two names are equal. It stands apart, so that a walk over places stays small: most are told by their length.
+#[inline(never)]
+fn are_equal(a: &[u8], b: &[u8]) -> bool
+    ensures { result ≡ str_eq_ignore_ascii_case a.now b.now }
+{
+    eq_fold(a, b)
+}
 
 /// Where a header is: its name from the start on, and its value from the middle on.
 #[derive(Clone, Copy)]
@@ -63,7 +72,8 @@ impl Place {
         Field::of_both(alloc, both, (self.middle - self.start) as usize)
     }
 
-    // Whether the header that is there has that name. Most names differ in their length.
+    // Whether the header that is there has that name.
+    #[inline(always)]
     #[tactic(auto, using(crate::proofs::PackLemmas::other_length))]
     fn is_named(self, bytes: &[u8], name: &[u8]) -> bool
         requires { IsWithin (length bytes.now) self }
@@ -72,7 +82,7 @@ impl Place {
         if (self.middle - self.start) as usize != name.len() {
             return false;
         }
-        eq_fold(self.name_in(bytes), name)
+        are_equal(self.name_in(bytes), name)
     }
 }
 
@@ -137,8 +147,9 @@ fn add_field(bytes: &mut Vec<u8>, places: &mut Vec<Place>, field: &Field) -> Res
     Ok(())
 }
 
-// Adds a header at the end whose name is spelled as the one at a place is.
+// Adds a header at the end whose name is spelled as the one at a place is, which is rare.
 #[tactic(auto, using(crate::proofs::PackLemmas::headers_stay, crate::proofs::PackLemmas::headers_stay_twice))]
+#[inline(never)]
 fn add_spelled(
     bytes: &mut Vec<u8>,
     places: &mut Vec<Place>,
@@ -163,6 +174,7 @@ fn add_spelled(
 }
 
 // Where the first header of that name is.
+#[inline(always)]
 fn place_of(bytes: &[u8], places: &[Place], name: &[u8]) -> Option<Place>
     requires { All (IsWithin (length bytes.now)) places.now }
     ensures { MatchOption result (spelling name.now (map (header_at bytes.now) places.now) ≡ name.now)
