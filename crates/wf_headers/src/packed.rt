@@ -249,6 +249,20 @@ impl PackedHeaders {
         })
     }
 
+    /// No headers, with room for those of a list and for so many more of so many bytes together.
+    pub fn with_room_beside(
+        alloc: Global,
+        headers: &HeaderList,
+        count: usize,
+        bytes: usize,
+    ) -> Result<PackedHeaders, OutOfMemory>
+        ensures { IfOk result (λ packed. packed ≡ []) }
+    {
+        let count = headers.len().saturating_add(count);
+        let bytes = room_for(headers).saturating_add(bytes);
+        PackedHeaders::with_room(alloc, count, bytes)
+    }
+
     /// Copies of the headers of a list, with no more room than they need.
     pub fn of(alloc: Global, headers: &HeaderList) -> Result<PackedHeaders, OutOfMemory>
         ensures { IfOk result (λ packed. packed ≡ headers.now) }
