@@ -15,6 +15,13 @@ use wf_types::{
     referrer_value, serialized_origin, slice_of, target_of,
 };
 
+// How many lines a preflight has at most.
+const MOST_LINES: usize = 9;
+
+// How many bytes the lines that each preflight has are beside its host, its method and its origin: 80 of names, and 27
+// of values that are always the same.
+const SAME_BYTES: usize = 107;
+
 // The names in a row, with a comma between each two.
 #[tactic(auto, using(crate::proofs::JoinLemmas::joined_first))]
 fn comma_joined(alloc: Global, first: &Bytes, names: &[Bytes]) -> Result<Bytes, OutOfMemory>
@@ -38,6 +45,30 @@ fn names_value(alloc: Global, names: &[Bytes]) -> Result<Option<Bytes>, OutOfMem
     }
 }
 
+// How many bytes a line has, where there is a value.
+fn line_length(name: &[u8], value: Option<&[u8]>) -> usize {
+    value.map_or(0, |value| name.len().saturating_add(value.len()))
+}
+
+// No headers, with room for those of a preflight. The first value is that of Access-Control-Request-Headers, and the
+// others are those that each preflight has.
+fn with_room(
+    alloc: Global,
+    request: &Request,
+    asked: Option<&[u8]>,
+    always: &[&[u8]],
+) -> Result<PackedHeaders, OutOfMemory>
+    ensures { IfOk result (λ headers. headers ≡ []) }
+{
+    let mut bytes = SAME_BYTES
+        .saturating_add(line_length(b"Access-Control-Request-Headers", asked))
+        .saturating_add(line_length(b"Referer", referrer_value(&request.referrer)));
+    for value in always {
+        bytes = bytes.saturating_add(value.len());
+    }
+    PackedHeaders::with_room(alloc, MOST_LINES, bytes)
+}
+
 // The header list of the preflight as it is sent to a URL, from Host on.
 fn preflight_lines(
     alloc: Global,
@@ -49,21 +80,20 @@ fn preflight_lines(
         ≡ all_appended_where (spec.preflight_lines request.now names.now url.now) []) }
 {
     let method = request.method.as_slice();
-    let asked = names_value(alloc, names)?;
-    let origin = serialized_origin(alloc, request)?;
-    let mut headers = PackedHeaders::new(alloc);
-    append_where(&mut headers, b"Host", Some(host_value(url).as_bytes()))?;
+    let host = host_value(url).as_bytes();
+    let given = names_value(alloc, names)?;
+    let asked = slice_of(&given);
+    let client = serialized_origin(alloc, request)?;
+    let origin = client.as_slice();
+    let mut headers = with_room(alloc, request, asked, &[host, method, origin])?;
+    append_where(&mut headers, b"Host", Some(host))?;
     append_where(&mut headers, b"Accept", Some(b"*/*"))?;
     append_where(&mut headers, b"Access-Control-Request-Method", Some(method))?;
-    append_where(
-        &mut headers,
-        b"Access-Control-Request-Headers",
-        slice_of(&asked),
-    )?;
+    append_where(&mut headers, b"Access-Control-Request-Headers", asked)?;
     append_where(&mut headers, b"User-Agent", Some(USER_AGENT))?;
     append_where(&mut headers, b"Accept-Encoding", Some(ACCEPT_ENCODING))?;
     append_where(&mut headers, b"Referer", referrer_value(&request.referrer))?;
-    append_where(&mut headers, b"Origin", Some(origin.as_slice()))?;
+    append_where(&mut headers, b"Origin", Some(origin))?;
     append_where(&mut headers, b"Connection", Some(CONNECTION))?;
     Ok(headers)
 }

@@ -29,8 +29,9 @@ without-room name (header ∷ headers) zero e lt = grind (arith, common_steps)
 without-room name (header ∷ headers) (suc at) e lt = grind (arith, common_steps, without-room name headers at)
 
 -- a header in the place of the first of its name, among what deleting the name leaves of the others
-pub with_only-found : (name : List ℕ) (headers : List Header) (at : ℕ) (field : Header) → at ≡ first_of name headers → at
-    < length headers → option_map (λ (header : Header). header.name) (slice_get headers at) ≡ Some field.name
+pub with_only-found : (name : List ℕ) (headers : List Header) (at : ℕ) (field : Header)
+    → at ≡ first_of name headers → at < length headers
+    → option_map (λ (header : Header). header.name) (slice_get headers at) ≡ Some field.name
     → insert (without name (remove headers at)) at field ≡ with_only name field.value headers
 with_only-found name [] at field e lt is = grind arith
 with_only-found name (header ∷ headers) zero field e lt is = grind (arith, common_steps)

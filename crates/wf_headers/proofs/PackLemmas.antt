@@ -1,16 +1,14 @@
 -- Headers that stand one behind the other: what stays of them, and what one more makes of them.
 use Rattle.std.proofs.Common.{◌≡◌, ℕ, ◌≤◌, ◌+◌, ◌-◌, List, [], ◌∷◌, ◌++◌, length, take, drop, map, refl, ap, ◌∙◌, arith}
-use Rattle.std.proofs.Common.{All, Bool, length-append, suc, zero, Some, option_map, slice_get, true, false}
-use Rattle.std.proofs.Common.{true≢false, ◌||◌}
+use Rattle.std.proofs.Common.{All, length-append, suc, zero, true, false}
 use Rattle.std.proofs.Common.{◌≢◌, ◌<◌, nat_eq, slice_index_or, sym}
 use Rattle.std.specs.Char.{to_ascii_lowercase}
 use Rattle.std.specs.Cmp.Lexicographic.{unequal}
 use Rattle.std.specs.Str.{str_eq_ignore_ascii_case, str_to_ascii_lowercase}
-use Rattle.std.proofs.lemmas.Option.{slice_get-get_or, slice_get-map}
 use Rattle.std.proofs.Math.Seq.{drop-append_seam, take-length}
-use Rattle.std.proofs.lemmas.List.{drop-append-le, length-drop, length-map, length-take-le, take-append-le}
+use Rattle.std.proofs.lemmas.List.{at_drop_more, drop-append-le, drop-drop, drop-take, length-drop, length-map, length-take-le, take-append-le, take-take}
 use Rattle.std.proofs.lemmas.List.Elements.{All-append, All-cons, All-head, All-nil, All-tail}
-use Rattle.wf_headers.specs.Headers.{appended, contains, is_named, spelling, values_of}
+use Rattle.wf_headers.specs.Headers.{is_named, values_of}
 use Rattle.wf_headers.specs.Private.Packs.{IsWithin, header_at}
 use Rattle.wf_headers.specs.declared.headers.Header.{Header}
 use Rattle.wf_headers.specs.declared.packed.Place.{Place}
@@ -110,44 +108,47 @@ one_more_within bytes name value places place within starts turns ends =
     (omega (arith, length-append bytes name), (omega (arith, length-append (bytes ++ name) value), omega arith))
     (All-nil (IsWithin count)))
 
--- the values from an index on, where the header there has the name
-pub values-named : (name : List ℕ) (headers : List Header) (i : ℕ) (spelled value : List ℕ)
-    → option_map (λ (header : Header). header.name) (slice_get headers i) ≡ Some spelled
-    → option_map (λ (header : Header). header.value) (slice_get headers i) ≡ Some value
-    → str_eq_ignore_ascii_case spelled name ≡ true
-    → values_of name (drop i headers) ≡ value ∷ values_of name (drop (suc i) headers)
-values-named name [] i spelled value n v is = cc
-values-named name (header ∷ headers) zero spelled value n v is =
-    let a : header.name ≡ spelled = cc in
-    let b : header.value ≡ value = cc in
-    let named : is_named name header ≡ true = ap (λ (l : List ℕ). str_eq_ignore_ascii_case l name) a ∙ is in
-    rw (named, b) refl
-values-named name (header ∷ headers) (suc i) spelled value n v is = values-named name headers i spelled value n v is
+-- the values from a place on, where the header there has the name
+pub values_named : (name bytes : List ℕ) (places : List Place) (i : ℕ) (d : Place) → i < length places
+    → is_named name (header_at bytes (slice_index_or places i d)) ≡ true
+    → values_of name (map (header_at bytes) (drop i places))
+    ≡ (header_at bytes (slice_index_or places i d)).value ∷ values_of name (map (header_at bytes) (drop (i + 1) places))
+values_named name bytes places i d less is =
+    at_drop_more (λ (l : List Place). values_of name (map (header_at bytes) l)) places i d less ∙ rw is refl
 
 -- and where it has another
-pub values-other : (name : List ℕ) (headers : List Header) (i : ℕ) (spelled : List ℕ)
-    → option_map (λ (header : Header). header.name) (slice_get headers i) ≡ Some spelled
-    → str_eq_ignore_ascii_case spelled name ≡ false
-    → values_of name (drop i headers) ≡ values_of name (drop (suc i) headers)
-values-other name [] i spelled n is = cc
-values-other name (header ∷ headers) zero spelled n is =
-    let a : header.name ≡ spelled = cc in
-    let other : is_named name header ≡ false = ap (λ (l : List ℕ). str_eq_ignore_ascii_case l name) a ∙ is in
-    rw other refl
-values-other name (header ∷ headers) (suc i) spelled n is = values-other name headers i spelled n is
+pub values_other : (name bytes : List ℕ) (places : List Place) (i : ℕ) (d : Place) → i < length places
+    → is_named name (header_at bytes (slice_index_or places i d)) ≡ false
+    → values_of name (map (header_at bytes) (drop i places)) ≡ values_of name (map (header_at bytes) (drop (i + 1) places))
+values_other name bytes places i d less is =
+    at_drop_more (λ (l : List Place). values_of name (map (header_at bytes) l)) places i d less ∙ rw is refl
 
--- the headers before an index, and the one there
-pub take-more : (headers : List Header) (i : ℕ) (name value : List ℕ)
-    → option_map (λ (header : Header). header.name) (slice_get headers i) ≡ Some name
-    → option_map (λ (header : Header). header.value) (slice_get headers i) ≡ Some value
-    → take i headers ++ record { name = name; value = value } ∷ [] ≡ take (suc i) headers
-take-more [] i name value n v = cc
-take-more (header ∷ headers) zero name value n v =
-    let a : header.name ≡ name = cc in
-    let b : header.value ≡ value = cc in
-    rw (← a, ← b) refl
-take-more (header ∷ headers) (suc i) name value n v =
-    ap (λ (l : List Header). header ∷ l) (take-more headers i name value n v)
+-- the headers before a place, and the one there
+pub taken : (bytes : List ℕ) (places : List Place) (i : ℕ) (d : Place) → i < length places
+    → take i (map (header_at bytes) places) ++ header_at bytes (slice_index_or places i d) ∷ []
+    ≡ take (suc i) (map (header_at bytes) places)
+taken bytes [] i d less = grind (arith, less)
+taken bytes (place ∷ places) zero d less = refl
+taken bytes (place ∷ places) (suc i) d less =
+    ap (λ (l : List Header). header_at bytes place ∷ l) (taken bytes places i d (omega (arith, less)))
+
+-- the header at a place, by its name and its value in one piece
+pub of_both : (bytes : List ℕ) (place : Place) → IsWithin (length bytes) place
+    → (let both : List ℕ = take (place.end - place.start) (drop place.start bytes) in
+    let header : Header = record {
+      name = take (place.middle - place.start) both;
+      value = drop (place.middle - place.start) both;
+    } in header ≡ header_at bytes place)
+of_both bytes place within =
+    let start = place.start in
+    let named = place.middle - start in
+    let long = place.end - place.middle in
+    let whole : place.end - start ≡ named + long = omega (arith, within.0, within.1.0) in
+    let middle : start + named ≡ place.middle = omega (arith, within.0) in
+    let front = take-take named (place.end - start) (drop start bytes) (omega (arith, within.0, within.1.0)) in
+    let behind = ap (λ (n : ℕ). drop named (take n (drop start bytes))) whole ∙ drop-take named long (drop start bytes)
+    ∙ ap (take long) (drop-drop named start bytes ∙ ap (λ (n : ℕ). drop n bytes) middle) in
+    rw (front, behind) refl
 
 -- names of different lengths are not equal
 unequal-lengths : (a b : List ℕ) → length a ≢ length b → str_eq_ignore_ascii_case a b ≡ false
@@ -155,73 +156,10 @@ unequal-lengths a b differ =
     unequal nat_eq (str_to_ascii_lowercase a) (str_to_ascii_lowercase b)
     (λ same. differ (sym (length-map a to_ascii_lowercase) ∙ same ∙ length-map b to_ascii_lowercase))
 
--- whether the header at an index has a name, by its own
-pub named_here : (name : List ℕ) (headers : List Header) (i : ℕ) (spelled : List ℕ)
-    → option_map (λ (header : Header). header.name) (slice_get headers i) ≡ Some spelled
-    → option_map (is_named name) (slice_get headers i) ≡ Some (str_eq_ignore_ascii_case spelled name)
-named_here name [] i spelled n = cc
-named_here name (header ∷ headers) zero spelled n =
-    let a : header.name ≡ spelled = cc in
-    ap (λ (l : List ℕ). Some (str_eq_ignore_ascii_case l name)) a
-named_here name (header ∷ headers) (suc i) spelled n = named_here name headers i spelled n
-
--- and by the length of its place
-pub other_length : (name bytes : List ℕ) (places : List Place) (i : ℕ) (d : Place)
-    → All (IsWithin (length bytes)) places → i < length places
-    → ((slice_index_or places i d).middle - (slice_index_or places i d).start ≢ length name)
-    → option_map (is_named name) (slice_get (map (header_at bytes) places) i) ≡ Some false
-other_length name bytes places i d within less differ =
-    let place = slice_index_or places i d in
-    let here = within i d less in
-    let long : length (take (place.middle - place.start) (drop place.start bytes)) ≡ place.middle - place.start =
-    length-take-le (place.middle - place.start) (drop place.start bytes)
-    (omega (arith, here.0, here.1.0, here.1.1, length-drop place.start bytes)) in
-    rw (slice_get-map (header_at bytes) places i, slice_get-get_or places i d less)
-    (ap Some (unequal-lengths _ name (λ same. differ (sym long ∙ same))))
-
--- whether a name is there from an index on
-pub contains-here : (name : List ℕ) (headers : List Header) (i : ℕ) (is : Bool)
-    → option_map (is_named name) (slice_get headers i) ≡ Some is
-    → contains name (drop i headers) ≡ (is || contains name (drop (suc i) headers))
-contains-here name [] i is n = cc
-contains-here name (header ∷ headers) zero is n =
-    let a : is_named name header ≡ is = cc in
-    rw (← a) refl
-contains-here name (header ∷ headers) (suc i) is n = contains-here name headers i is n
-
--- the spelling of a name that is there, and of one that is not
-pub spelling-named : (name : List ℕ) (headers : List Header) (i : ℕ) (spelled : List ℕ)
-    → option_map (λ (header : Header). header.name) (slice_get headers i) ≡ Some spelled
-    → str_eq_ignore_ascii_case spelled name ≡ true → spelling name (drop i headers) ≡ spelled
-spelling-named name [] i spelled n is = cc
-spelling-named name (header ∷ headers) zero spelled n is =
-    let a : header.name ≡ spelled = cc in
-    let named : is_named name header ≡ true = ap (λ (l : List ℕ). str_eq_ignore_ascii_case l name) a ∙ is in
-    rw named a
-spelling-named name (header ∷ headers) (suc i) spelled n is = spelling-named name headers i spelled n is
-
-pub spelling-other : (name : List ℕ) (headers : List Header) (i : ℕ) (spelled : List ℕ)
-    → option_map (λ (header : Header). header.name) (slice_get headers i) ≡ Some spelled
-    → str_eq_ignore_ascii_case spelled name ≡ false
-    → spelling name (drop i headers) ≡ spelling name (drop (suc i) headers)
-spelling-other name [] i spelled n is = cc
-spelling-other name (header ∷ headers) zero spelled n is =
-    let a : header.name ≡ spelled = cc in
-    let other : is_named name header ≡ false = ap (λ (l : List ℕ). str_eq_ignore_ascii_case l name) a ∙ is in
-    rw other refl
-spelling-other name (header ∷ headers) (suc i) spelled n is = spelling-other name headers i spelled n is
-
-or-none : (a b : Bool) → (a || b) ≡ false → (a ≡ false) × (b ≡ false)
-or-none true b none = absurd (true≢false none)
-or-none false b none = (refl, none)
-
-spelling-new : (name : List ℕ) (headers : List Header) → contains name headers ≡ false → spelling name headers ≡ name
-spelling-new name [] none = refl
-spelling-new name (header ∷ headers) none =
-    let each = or-none (is_named name header) (contains name headers) none in
-    rw each.0 (spelling-new name headers each.1)
-
--- a name that is not there is appended as it is
-pub appended_new : (name value : List ℕ) (headers : List Header) → contains name headers ≡ false
-    → appended name value headers ≡ headers ++ record { name = name; value = value } ∷ []
-appended_new name value headers none = rw (spelling-new name headers none) refl
+-- a header does not have a name of another length than its own
+pub other_length : (name bytes : List ℕ) (place : Place) → IsWithin (length bytes) place
+    → place.middle - place.start ≢ length name → is_named name (header_at bytes place) ≡ false
+other_length name bytes place within differ =
+    let long = length-take-le (place.middle - place.start) (drop place.start bytes)
+    (omega (arith, within.0, within.1.0, within.1.1, length-drop place.start bytes)) in
+    unequal-lengths (header_at bytes place).name name (λ same. differ (sym long ∙ same))

@@ -1,4 +1,4 @@
-ghost use Rattle.std.specs.Prelude.{◌≡◌, IfOk};
+ghost use Rattle.std.specs.Prelude.{◌≡◌, ◌≤◌, ◌++◌, IfOk, drop, length, take};
 ghost use Rattle.wf_headers.specs.declared.headers.Header.{Header};
 
 use std::alloc::Global;
@@ -38,6 +38,26 @@ impl Field {
             text: Bytes::joined(alloc, name, value)?,
             named: name.len(),
         })
+    }
+
+    /// A header of the name that is at the front of a text, so many bytes of it, and the value behind.
+    pub(crate) fn of_both(alloc: Global, both: &[u8], named: usize) -> Result<Field, OutOfMemory>
+        requires { named ≤ length both.now }
+        ensures { IfOk result (λ field. field
+            ≡ record { name = take named both.now; value = drop named both.now }) }
+    {
+        Ok(Field {
+            text: Bytes::of(alloc, both)?,
+            named,
+        })
+    }
+
+    /// The name and the value, one behind the other, and how many bytes the name has.
+    pub(crate) fn both(&self) -> (&[u8], usize)
+        ensures both { result.0.now ≡ self.now.name ++ self.now.value }
+        ensures named { result.1 ≡ length self.now.name }
+    {
+        (self.text.as_slice(), self.named)
     }
 
     /// The name, as it is spelled.

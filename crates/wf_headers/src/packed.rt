@@ -1,6 +1,8 @@
-ghost use Rattle.std.specs.Prelude.{◌≡◌, ◌<◌, ◌++◌, ◌∷◌, [], length, map, option_map, slice_get, Some, IfOk, OnOk, OnErr};
+ghost use Rattle.std.specs.Prelude.{◌≡◌, ◌<◌, ◌≤◌, ◌++◌, ◌∷◌, [], length, map, option_map, slice_get, Some};
+ghost use Rattle.std.specs.Prelude.{IfOk, OnOk, OnErr, MatchOption};
 ghost use Rattle.std.specs.List.{All};
-ghost use Rattle.wf_headers.specs.Headers.{all_appended, appended, combined, contains, is_named, spelling};
+ghost use Rattle.std.specs.Str.{str_eq_ignore_ascii_case};
+ghost use Rattle.wf_headers.specs.Headers.{all_appended, appended, combined, is_named, spelling};
 ghost use Rattle.wf_headers.specs.Private.Packs.{IsWithin, header_at};
 ghost use Rattle.wf_headers.specs.Spelling.{HaveOneSpelling};
 
@@ -10,12 +12,78 @@ use std::alloc::Global;
 use std::marker::Model;
 use wf_text::{Bytes, OutOfMemory, eq_fold};
 
+// Whether two names are equal. It stands apart, so that a walk over places stays small: most are told by their length.
+#[inline(never)]
+fn are_equal(a: &[u8], b: &[u8]) -> bool
+    ensures { result ≡ str_eq_ignore_ascii_case a.now b.now }
+{
+    eq_fold(a, b)
+}
+
 /// Where a header is: its name from the start on, and its value from the middle on.
 #[derive(Clone, Copy)]
 pub(crate) struct Place {
     pub(crate) start: u32,
     pub(crate) middle: u32,
     pub(crate) end: u32,
+}
+
+// A header is kept with its place, so the size of one matters.
+const _: () = prove!(size_of::<Place>() == 12);
+
+impl Place {
+    // The place from a start to an end. Places count 2^32 - 1 bytes at most.
+    fn of(start: usize, middle: usize, end: usize) -> Result<Place, OutOfMemory>
+        requires { (start ≤ middle) × (middle ≤ end) }
+        ensures { IfOk result (λ place. place ≡ record { start = start; middle = middle; end = end }) }
+    {
+        let Ok(end) = u32::try_from(end) else {
+            return Err(OutOfMemory);
+        };
+        Ok(Place {
+            start: start as u32,
+            middle: middle as u32,
+            end,
+        })
+    }
+
+    // The name that is there.
+    fn name_in(self, bytes: &[u8]) -> &[u8]
+        requires { IsWithin (length bytes.now) self }
+        ensures { result.now ≡ (header_at bytes.now self).name }
+    {
+        &bytes[self.start as usize..self.middle as usize]
+    }
+
+    // The value that is there.
+    fn value_in(self, bytes: &[u8]) -> &[u8]
+        requires { IsWithin (length bytes.now) self }
+        ensures { result.now ≡ (header_at bytes.now self).value }
+    {
+        &bytes[self.middle as usize..self.end as usize]
+    }
+
+    // The header that is there, as a field.
+    fn field_in(self, alloc: Global, bytes: &[u8]) -> Result<Field, OutOfMemory>
+        requires { IsWithin (length bytes.now) self }
+        ensures { IfOk result (λ field. field ≡ header_at bytes.now self) }
+    {
+        let both = &bytes[self.start as usize..self.end as usize];
+        Field::of_both(alloc, both, (self.middle - self.start) as usize)
+    }
+
+    // Whether the header that is there has that name.
+    #[inline(always)]
+    #[tactic(auto, using(crate::proofs::PackLemmas::other_length))]
+    fn is_named(self, bytes: &[u8], name: &[u8]) -> bool
+        requires { IsWithin (length bytes.now) self }
+        ensures { result ≡ is_named name.now (header_at bytes.now self) }
+    {
+        if (self.middle - self.start) as usize != name.len() {
+            return false;
+        }
+        are_equal(self.name_in(bytes), name)
+    }
 }
 
 /// Headers that are kept for long and stay as they are, seen as the list of them. A header takes its bytes and twelve
@@ -39,16 +107,6 @@ impl Model for PackedHeaders {
     ghost invariant = { λ packed. All (IsWithin (length packed.bytes.items)) packed.places.items };
 }
 
-// How many bytes there are, as a place counts them.
-fn count_of(bytes: &Vec<u8>) -> Result<u32, OutOfMemory>
-    ensures { IfOk result (λ count. count ≡ length bytes.now.items) }
-{
-    match u32::try_from(bytes.len()) {
-        Ok(count) => Ok(count),
-        Err(_) => Err(OutOfMemory),
-    }
-}
-
 // Adds a header at the end.
 #[tactic(auto, using(crate::proofs::PackLemmas::headers_stay, crate::proofs::PackLemmas::headers_stay_twice))]
 fn add(
@@ -64,22 +122,104 @@ fn add(
     ensures err { OnErr result (map (header_at bytes.new.items) places.new.items
         ≡ map (header_at bytes.old.items) places.old.items) }
 {
-    let start = count_of(bytes)?;
+    let start = bytes.len();
     bytes.extend_from_slice(name)?;
-    let middle = count_of(bytes)?;
+    let middle = bytes.len();
     bytes.extend_from_slice(value)?;
-    let end = count_of(bytes)?;
-    places.push(Place { start, middle, end })?;
+    places.push(Place::of(start, middle, bytes.len())?)?;
     Ok(())
+}
+
+// Adds the header of a field at the end.
+#[tactic(auto, using(crate::proofs::PackLemmas::headers_stay))]
+fn add_field(bytes: &mut Vec<u8>, places: &mut Vec<Place>, field: &Field) -> Result<(), OutOfMemory>
+    requires { All (IsWithin (length bytes.old.items)) places.old.items }
+    ensures within { All (IsWithin (length bytes.new.items)) places.new.items }
+    ensures headers { OnOk result (map (header_at bytes.new.items) places.new.items
+        ≡ map (header_at bytes.old.items) places.old.items ++ field.now ∷ []) }
+    ensures err { OnErr result (map (header_at bytes.new.items) places.new.items
+        ≡ map (header_at bytes.old.items) places.old.items) }
+{
+    let start = bytes.len();
+    let (both, named) = field.both();
+    bytes.extend_from_slice(both)?;
+    places.push(Place::of(start, start + named, bytes.len())?)?;
+    Ok(())
+}
+
+// Adds a header at the end whose name is spelled as the one at a place is, which is rare.
+#[tactic(auto, using(crate::proofs::PackLemmas::headers_stay, crate::proofs::PackLemmas::headers_stay_twice))]
+#[inline(never)]
+fn add_spelled(
+    bytes: &mut Vec<u8>,
+    places: &mut Vec<Place>,
+    spelled: Place,
+    value: &[u8],
+) -> Result<(), OutOfMemory>
+    requires within { All (IsWithin (length bytes.old.items)) places.old.items }
+    requires spelled { IsWithin (length bytes.old.items) spelled }
+    ensures within { All (IsWithin (length bytes.new.items)) places.new.items }
+    ensures headers { OnOk result (map (header_at bytes.new.items) places.new.items
+        ≡ map (header_at bytes.old.items) places.old.items
+        ++ record { name = (header_at bytes.old.items spelled).name; value = value.now } ∷ []) }
+    ensures err { OnErr result (map (header_at bytes.new.items) places.new.items
+        ≡ map (header_at bytes.old.items) places.old.items) }
+{
+    let start = bytes.len();
+    bytes.extend_from_within(spelled.start as usize..spelled.middle as usize)?;
+    let middle = bytes.len();
+    bytes.extend_from_slice(value)?;
+    places.push(Place::of(start, middle, bytes.len())?)?;
+    Ok(())
+}
+
+// Where the first header of that name is.
+#[inline(always)]
+fn place_of(bytes: &[u8], places: &[Place], name: &[u8]) -> Option<Place>
+    requires { All (IsWithin (length bytes.now)) places.now }
+    ensures { MatchOption result (spelling name.now (map (header_at bytes.now) places.now) ≡ name.now)
+        (λ place. IsWithin (length bytes.now) place
+        × (spelling name.now (map (header_at bytes.now) places.now) ≡ (header_at bytes.now place).name)) }
+{
+    for place in places {
+        if place.is_named(bytes, name) {
+            return Some(*place);
+        }
+    }
+    None
+}
+
+// The values of the headers of that name, joined.
+fn values_in(
+    alloc: Global,
+    bytes: &[u8],
+    places: &[Place],
+    name: &[u8],
+) -> Result<Option<Bytes>, OutOfMemory>
+    requires { All (IsWithin (length bytes.now)) places.now }
+    ensures { IfOk result (λ text. text ≡ combined name.now (map (header_at bytes.now) places.now)) }
+{
+    let mut text = Vec::new(alloc);
+    let mut found = false;
+    for place in places {
+        if place.is_named(bytes, name) {
+            add_value(&mut text, found, place.value_in(bytes))?;
+            found = true;
+        }
+    }
+    if found {
+        Ok(Some(Bytes::from_vec(text)))
+    } else {
+        Ok(None)
+    }
 }
 
 // For how many bytes room is made. Should they be more than a number can say, no memory has room for them.
 fn room_for(headers: &HeaderList) -> usize {
     let mut room: usize = 0;
     for header in headers.as_slice() {
-        room = room
-            .saturating_add(header.name().len())
-            .saturating_add(header.value().len());
+        let (both, _) = header.both();
+        room = room.saturating_add(both.len());
     }
     room
 }
@@ -109,6 +249,20 @@ impl PackedHeaders {
         })
     }
 
+    /// No headers, with room for those of a list and for so many more of so many bytes together.
+    pub fn with_room_beside(
+        alloc: Global,
+        headers: &HeaderList,
+        count: usize,
+        bytes: usize,
+    ) -> Result<PackedHeaders, OutOfMemory>
+        ensures { IfOk result (λ packed. packed ≡ []) }
+    {
+        let count = headers.len().saturating_add(count);
+        let bytes = room_for(headers).saturating_add(bytes);
+        PackedHeaders::with_room(alloc, count, bytes)
+    }
+
     /// Copies of the headers of a list, with no more room than they need.
     pub fn of(alloc: Global, headers: &HeaderList) -> Result<PackedHeaders, OutOfMemory>
         ensures { IfOk result (λ packed. packed ≡ headers.now) }
@@ -116,7 +270,7 @@ impl PackedHeaders {
         let mut bytes = Vec::with_capacity(alloc, room_for(headers))?;
         let mut places = Vec::with_capacity(alloc, headers.len())?;
         for header in headers.as_slice() {
-            add(&mut bytes, &mut places, header.name(), header.value())?;
+            add_field(&mut bytes, &mut places, header)?;
         }
         Ok(PackedHeaders { bytes, places })
     }
@@ -127,8 +281,8 @@ impl PackedHeaders {
         ensures { IfOk result (λ list. list ≡ self.now) }
     {
         let mut fields = Vec::with_capacity(alloc, self.len())?;
-        for index in 0..self.len() {
-            fields.push(Field::of(alloc, self.name_at(index), self.value_at(index))?)?;
+        for place in self.places.as_slice() {
+            fields.push(place.field_in(alloc, self.bytes.as_slice())?)?;
         }
         Ok(HeaderList::of_fields(fields))
     }
@@ -146,9 +300,8 @@ impl PackedHeaders {
         ensures { slice_get self.now index ≡ Some (record { name = result.0.now; value = result.1.now }) }
     {
         let place = self.places[index];
-        let name = &self.bytes[place.start as usize..place.middle as usize];
-        let value = &self.bytes[place.middle as usize..place.end as usize];
-        (name, value)
+        let bytes = self.bytes.as_slice();
+        (place.name_in(bytes), place.value_in(bytes))
     }
 
     /// The name of the header at an index below the length, as it is spelled.
@@ -156,8 +309,7 @@ impl PackedHeaders {
         requires { index < length self.now }
         ensures { option_map (λ header. header.name) (slice_get self.now index) ≡ Some result.now }
     {
-        let place = self.places[index];
-        &self.bytes[place.start as usize..place.middle as usize]
+        self.places[index].name_in(self.bytes.as_slice())
     }
 
     /// The value of the header at an index below the length.
@@ -165,60 +317,29 @@ impl PackedHeaders {
         requires { index < length self.now }
         ensures { option_map (λ header. header.value) (slice_get self.now index) ≡ Some result.now }
     {
-        let place = self.places[index];
-        &self.bytes[place.middle as usize..place.end as usize]
-    }
-
-    // Whether the header at an index has that name. Most names differ in their length.
-    #[tactic(auto, using(crate::proofs::PackLemmas::named_here))]
-    fn is_named_at(&self, index: usize, name: &[u8]) -> bool
-        requires { index < length self.now }
-        ensures { option_map (is_named name.now) (slice_get self.now index) ≡ Some result }
-    {
-        let place = self.places[index];
-        if (place.middle - place.start) as usize != name.len() {
-            return false;
-        }
-        eq_fold(self.name_at(index), name)
-    }
-
-    // "contains".
-    fn contains(&self, name: &[u8]) -> bool
-        ensures { result ≡ contains name.now self.now }
-    {
-        for index in 0..self.len() {
-            if self.is_named_at(index, name) {
-                return true;
-            }
-        }
-        false
-    }
-
-    // The spelling of a name that the headers have already.
-    fn spelling_of<'a>(&'a self, name: &'a [u8]) -> &'a [u8]
-        ensures { result.now ≡ spelling name.now self.now }
-    {
-        for index in 0..self.len() {
-            let spelled = self.name_at(index);
-            if eq_fold(spelled, name) {
-                return spelled;
-            }
-        }
-        name
+        self.places[index].value_in(self.bytes.as_slice())
     }
 
     /// "append": adds a header, its name in the spelling that the list has already
     /// (Fetch, section 2.2.2).
-    #[tactic(auto, using(crate::proofs::PackLemmas::appended_new))]
     pub fn append(&mut self, name: &[u8], value: &[u8]) -> Result<(), OutOfMemory>
         ensures ok { OnOk result (self.new ≡ appended name.now value.now self.old) }
         ensures err { OnErr result (self.new ≡ self.old) }
     {
-        if !self.contains(name) {
-            return add(&mut self.bytes, &mut self.places, name, value);
+        match place_of(self.bytes.as_slice(), self.places.as_slice(), name) {
+            None => add(&mut self.bytes, &mut self.places, name, value),
+            Some(place) => add_spelled(&mut self.bytes, &mut self.places, place, value),
         }
-        let name = Bytes::of(*self.bytes.allocator(), self.spelling_of(name))?;
-        add(&mut self.bytes, &mut self.places, name.as_slice(), value)
+    }
+
+    // Appends the header of a field.
+    fn append_field(&mut self, field: &Field) -> Result<(), OutOfMemory>
+        ensures { OnOk result (self.new ≡ appended field.now.name field.now.value self.old) }
+    {
+        match place_of(self.bytes.as_slice(), self.places.as_slice(), field.name()) {
+            None => add_field(&mut self.bytes, &mut self.places, field),
+            Some(place) => { add_spelled(&mut self.bytes, &mut self.places, place, field.value()) }
+        }
     }
 
     /// Appends each of these headers, in order. Where memory is refused for one, those before it are appended.
@@ -226,7 +347,7 @@ impl PackedHeaders {
         ensures { OnOk result (self.new ≡ all_appended more.now self.old) }
     {
         for header in more {
-            self.append(header.name(), header.value())?;
+            self.append_field(header)?;
         }
         Ok(())
     }
@@ -236,18 +357,6 @@ impl PackedHeaders {
     pub fn get(&self, alloc: Global, name: &[u8]) -> Result<Option<Bytes>, OutOfMemory>
         ensures { IfOk result (λ text. text ≡ combined name.now self.now) }
     {
-        let mut text = Vec::new(alloc);
-        let mut found = false;
-        for index in 0..self.len() {
-            if eq_fold(self.name_at(index), name) {
-                add_value(&mut text, found, self.value_at(index))?;
-                found = true;
-            }
-        }
-        if found {
-            Ok(Some(Bytes::from_vec(text)))
-        } else {
-            Ok(None)
-        }
+        values_in(alloc, self.bytes.as_slice(), self.places.as_slice(), name)
     }
 }

@@ -1,4 +1,4 @@
-ghost use Rattle.std.specs.Prelude.{◌≡◌, option_copied, IfOk, OnOk, None, codes, if◌then◌else◌};
+ghost use Rattle.std.specs.Prelude.{◌≡◌, [], option_copied, IfOk, OnOk, None, codes, if◌then◌else◌};
 ghost use Rattle.wf_origin.specs.Origins as origins;
 ghost use Rattle.wf_send.specs.Heads as spec;
 ghost use Rattle.wf_types.specs.Lines.{all_appended_where, appended_where};
@@ -14,11 +14,12 @@ use wf_types::{
     host_value, is_post_or_put, origin_value, referrer_value, slice_of,
 };
 
-// How many lines are sent beside the request's own at most: Host, and those of `append_added`.
-const MOST_ADDED: usize = 8;
+// How many lines are sent beside a request's own: Host, and those of `append_added` but Cookie, which is rare.
+const USUAL_LINES: usize = 7;
 
-// For how many bytes of a header room is made at first.
-const SOME_BYTES: usize = 20;
+// How many bytes those lines have beside a host, a referrer and an origin: 66 of names, 24 of values that are always
+// the same, and one digit.
+const USUAL_BYTES: usize = 91;
 
 /// Whether credentials are included: in mode include, and in mode same-origin while the tainting is
 /// basic (Fetch, section 4.6, step 8.3). It takes no memory.
@@ -137,6 +138,24 @@ fn append_added(
     Ok(())
 }
 
+// No headers, with room for those that are sent to this host. Few clients have a longer origin than the URL, and then
+// there is only less room at first.
+fn with_room(
+    alloc: Global,
+    request: &Request,
+    host: &[u8],
+    origin: &[u8],
+) -> Result<PackedHeaders, OutOfMemory>
+    ensures { IfOk result (λ headers. headers ≡ []) }
+{
+    let referrer = referrer_value(&request.referrer).map_or(0, |value| value.len());
+    let bytes = USUAL_BYTES
+        .saturating_add(host.len())
+        .saturating_add(referrer)
+        .saturating_add(origin.len());
+    PackedHeaders::with_room_beside(alloc, &request.headers, USUAL_LINES, bytes)
+}
+
 // The header list as it is sent to a URL of an origin, from Host on.
 pub(crate) fn head_lines(
     alloc: Global,
@@ -148,9 +167,9 @@ pub(crate) fn head_lines(
     requires { origin.now ≡ origin_text (origins.origin_of url.now) }
     ensures { IfOk result (λ headers. headers ≡ spec.head_lines cookies.now request.now url.now) }
 {
-    let count = request.headers.len().saturating_add(MOST_ADDED);
-    let mut headers = PackedHeaders::with_room(alloc, count, count.saturating_mul(SOME_BYTES))?;
-    headers.append(b"Host", host_value(url).as_bytes())?;
+    let host = host_value(url).as_bytes();
+    let mut headers = with_room(alloc, request, host, origin)?;
+    headers.append(b"Host", host)?;
     headers.append_all(request.headers.as_slice())?;
     append_added(alloc, &mut headers, cookies, request, url, origin)?;
     Ok(headers)

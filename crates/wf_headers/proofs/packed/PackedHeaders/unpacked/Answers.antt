@@ -1,9 +1,18 @@
 use Rattle.std.proofs.Common.{add-one}
-use Rattle.wf_headers.proofs.PackLemmas.{take-more}
+use Rattle.wf_headers.proofs.PackLemmas.{taken}
 use Rattle.wf_headers.proofs.packed.PackedHeaders.unpacked.Goals as goal
 
-pub loop-index-preserved : goal.loop-index-preserved
-loop-index-preserved c =
-    rw (add-one, c.in_ok-push.ensures.items, c.in_ok-of.ensures, c.loop-index.invariant)
-    (take-more c.args.self.now c.loop-index.index c.name_at.result.now c.value_at.result.now c.name_at.ensures
-    c.value_at.ensures)
+pub loop-place-preserved : goal.loop-place-preserved
+loop-place-preserved c =
+    let bytes = c.self.inside.bytes.items in
+    let places = c.self.inside.places.items in
+    rw (
+      add-one,
+      c.in_ok-push.ensures.items,
+      c.in_ok-field_in.ensures,
+      c.loop-place.invariant,
+      c.as_slice.ensures.value,
+      c.as_slice-place-items.ensures.value,
+      ← c.self.view_is,
+    ) (taken bytes places c.loop-place.place-index _
+    (rw (← c.as_slice-place-items.ensures.value) c.loop-place-test.true))
