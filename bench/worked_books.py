@@ -1,8 +1,7 @@
 #!/usr/bin/env python3
-"""Writes the rows of crates/worked_books on the book that are made by a rule, and what a plain list of entries
-and a plain list of hosts come to on all of them: its `stdin` and `stdout`, after the rows of the wire, which
-stay as they are. `bench/worked_books.py` compares what is there with what this script would write; with
-`--write` it writes them.
+"""Writes the rows of crates/worked_books that are made by a rule, and what a plain list of entries and a plain list
+of hosts come to on all of them: its `stdin` and `stdout`, but for the calls of a book, which stay as they are.
+`bench/worked_books.py` compares what is there with what this script would write; with `--write` it writes them.
 
 The rows by hand are in ROWS, each with its answer."""
 import os
@@ -244,16 +243,14 @@ def played():
 
 
 def stored(name):
-    """The lines of a stored file: those of the wire, and those after them."""
+    """The lines of a stored file."""
     with open(os.path.join(CRATE, name)) as file:
-        lines = file.read().splitlines()
-    first = lines.index(ROWS.splitlines()[0])
-    return lines[:first], lines[first:]
+        return file.read().splitlines()
 
 
 def calls():
     """The lines of the stored `stdout` on the calls of a book, which the program makes after its input."""
-    _, lines = stored("stdout")
+    lines = stored("stdout")
     return lines[lines.index("# one book"):]
 
 
@@ -262,12 +259,11 @@ def main():
     answers += calls()
     same = True
     for name, rows in (("stdin", lines), ("stdout", answers)):
-        wire, there = stored(name)
         if sys.argv[1:] == ["--write"]:
             with open(os.path.join(CRATE, name), "w") as file:
-                file.write("".join(row + "\n" for row in wire + rows))
+                file.write("".join(row + "\n" for row in rows))
         else:
-            same = there == rows and same
+            same = stored(name) == rows and same
     print("worked_books: the same" if same else "worked_books: DIFFERENT")
     return 0 if same else 1
 

@@ -12,7 +12,7 @@
 use crate::{answer, device, link, request};
 use std::alloc::Global;
 use wf_text::{after_byte, before_byte};
-use worked_rows::{Failed, Shown, named};
+use worked_rows::{Failed, Lines, Shown, named};
 
 /// The kinds of rows.
 #[derive(Clone, Copy)]
@@ -33,26 +33,17 @@ const KINDS: [(&[u8], Kind); 5] = [
     (b"device", Kind::Device),
 ];
 
-// The kind of a row.
-fn kind_of(line: &str) -> Result<Kind, Failed> {
-    named(&KINDS, before_byte(line.as_bytes(), b' '))
-}
+/// The rows of the wire.
+#[derive(Drop)]
+pub(crate) struct Wire;
 
-// Whether a line is a row of the wire.
-pub(crate) fn is_row(line: &str) -> bool {
-    kind_of(line).is_ok()
-}
-
-// The row, and what it comes to.
-pub(crate) fn answer(alloc: Global, line: &str, shown: &mut Shown) -> Result<(), Failed> {
-    shown.add(line.as_bytes());
-    shown.add(b" => ");
-    play_row(
-        alloc,
-        kind_of(line)?,
-        after_byte(line.as_bytes(), b' '),
-        shown,
-    )
+impl Lines for Wire {
+    fn answer(&mut self, alloc: Global, line: &str, shown: &mut Shown) -> Result<(), Failed> {
+        let kind = named(&KINDS, before_byte(line.as_bytes(), b' '))?;
+        shown.add(line.as_bytes());
+        shown.add(b" => ");
+        play_row(alloc, kind, after_byte(line.as_bytes(), b' '), shown)
+    }
 }
 
 // What a row of this kind comes to.
