@@ -1,3 +1,4 @@
 pub mod AskedLemmas
+pub mod KeptLemmas
 pub mod LawLemmas
 pub mod HashLemmas

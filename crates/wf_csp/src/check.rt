@@ -165,6 +165,7 @@ impl Compiled {
     /// Whether an enforced policy has `upgrade-insecure-requests`: the document's requests for http URLs
     /// are then made for https ones (Fetch, "upgrade request to a potentially trustworthy URL, if
     /// appropriate"). It takes no memory.
+    #[tactic(auto, using(crate::proofs::KeptLemmas::upgrades_kept))]
     pub fn upgrades(&self) -> bool
         ensures { result ≡ spec.upgrades self.now }
     {
@@ -176,6 +177,7 @@ impl Compiled {
     /// report-only ones ("report Content Security Policy violations for request"). Each has the policy's
     /// number, counted over all policies from 0, the effective directive, and the request's URL without
     /// user name, password and fragment. What is checked is the current URL.
+    #[tactic(auto, using(crate::proofs::KeptLemmas::kept_from))]
     pub fn check_request(
         &self,
         alloc: Global,
@@ -199,6 +201,7 @@ impl Compiled {
     /// The violations of the response to a request by all policies, in order, and whether one of these
     /// enforces, so that the response is blocked ("should response to request be blocked by Content
     /// Security Policy?", CSP 3, section 4.1).
+    #[tactic(auto, using(crate::proofs::KeptLemmas::kept_from))]
     pub fn check_response(
         &self,
         alloc: Global,

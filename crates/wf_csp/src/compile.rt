@@ -1,4 +1,5 @@
-ghost use Rattle.std.specs.Prelude.{◌≡◌, ◌<◌, ◌^◌, length, map, IfOk};
+ghost use Rattle.std.specs.Prelude.{◌≡◌, ◌<◌, ◌^◌, filter, length, map, IfOk};
+ghost use Rattle.wf_csp.specs.Private.Kept as kept;
 ghost use Rattle.wf_csp.specs.Reading as spec;
 
 use crate::compiled::{Compiled, CompiledDirective, CompiledPolicy};
@@ -6,7 +7,29 @@ use std::alloc::Global;
 use std::snapshot::Snapshot;
 use wf_csp_match::{SourceList, parse_source};
 use wf_csp_text::{Directive, Policies, Policy, Words, first_word};
-use wf_text::{Items, OutOfMemory};
+use wf_text::{Items, OutOfMemory, is_among};
+
+// The names that are asked for: those of all fallback lists, and that of the directive that upgrades.
+const ASKED_NAMES: [&[u8]; 11] = [
+    b"connect-src",
+    b"img-src",
+    b"media-src",
+    b"font-src",
+    b"manifest-src",
+    b"style-src-elem",
+    b"style-src",
+    b"script-src-elem",
+    b"script-src",
+    b"default-src",
+    b"upgrade-insecure-requests",
+];
+
+// Whether a directive of this name is kept: whether the name is ever asked for.
+fn is_asked_for(name: &[u8]) -> bool
+    ensures { result ≡ kept.is_asked_for name.now }
+{
+    is_among(&ASKED_NAMES, name)
+}
 
 // For how many source expressions room is made: one for each word. No memory has room for more than a number can say.
 fn room_for(text: &[u8]) -> usize {
@@ -42,23 +65,26 @@ fn read_directive(alloc: Global, directive: &Directive) -> Result<CompiledDirect
     })
 }
 
-// The directives with their source lists.
+// The directives that are asked for, with their source lists. A policy may have very many others, which decide nothing
+// and are not kept.
 fn read_directives(
     alloc: Global,
     directives: &[Directive],
 ) -> Result<Items<CompiledDirective>, OutOfMemory>
-    ensures { IfOk result (λ read. read ≡ map spec.read_directive directives.now) }
+    ensures { IfOk result (λ read. read ≡ map spec.read_directive (filter kept.is_kept directives.now)) }
 {
     let mut read = Items::new(alloc);
     for directive in directives {
-        read.push(read_directive(alloc, directive)?)?;
+        if is_asked_for(directive.name.as_slice()) {
+            read.push(read_directive(alloc, directive)?)?;
+        }
     }
     Ok(read)
 }
 
-// A policy whose directives have their source lists.
+// A policy whose directives that are asked for have their source lists.
 fn read_policy(alloc: Global, policy: &Policy) -> Result<CompiledPolicy, OutOfMemory>
-    ensures { IfOk result (λ read. read ≡ spec.read_policy policy.now) }
+    ensures { IfOk result (λ read. read ≡ kept.kept_policy policy.now) }
 {
     Ok(CompiledPolicy {
         enforced: policy.enforced,
@@ -66,9 +92,9 @@ fn read_policy(alloc: Global, policy: &Policy) -> Result<CompiledPolicy, OutOfMe
     })
 }
 
-// The policies whose directives have their source lists.
+// The policies whose directives that are asked for have their source lists.
 fn read_policies(alloc: Global, policies: &[Policy]) -> Result<Items<CompiledPolicy>, OutOfMemory>
-    ensures { IfOk result (λ read. read ≡ map spec.read_policy policies.now) }
+    ensures { IfOk result (λ read. read ≡ map kept.kept_policy policies.now) }
 {
     let mut read = Items::new(alloc);
     for policy in policies {

@@ -13,7 +13,7 @@ pub(crate) struct CompiledDirective {
     pub(crate) sources: SourceList,
 }
 
-/// A policy with the words of its directives read as source expressions.
+/// A policy with the words of its directives read as source expressions: of those that are asked for, at most eleven.
 #[derive(Drop)]
 pub(crate) struct CompiledPolicy {
     pub(crate) enforced: bool,
@@ -30,14 +30,14 @@ pub struct Compiled {
 
 impl Model for Compiled {
     ghost use Rattle.std.specs.Prelude.{◌≡◌, ◌<◌, ◌^◌, List, length, map};
-    ghost use Rattle.wf_csp.specs.Reading.{read_policy};
+    ghost use Rattle.wf_csp.specs.Private.Kept.{kept_policy};
     ghost use Rattle.wf_csp_text.specs.declared.policy.Policy.{Policy};
 
     ghost Value = { List Policy };
 
     ghost view = { λ compiled. compiled.made_of.value };
 
-    ghost invariant = { λ compiled. (compiled.policies ≡ map read_policy compiled.made_of.value)
+    ghost invariant = { λ compiled. (compiled.policies ≡ map kept_policy compiled.made_of.value)
         × (length compiled.policies < 2 ^ 32) };
 }
 
