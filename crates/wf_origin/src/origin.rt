@@ -1,4 +1,4 @@
-ghost use Rattle.std.specs.Prelude.{◌≡◌, ◌==◌, ◌↔◌, ◌++◌, IsTrue, IfOk, OnOk};
+ghost use Rattle.std.specs.Prelude.{◌≡◌, ◌==◌, ◌↔◌, ◌++◌, bytes_eq, codes, IsTrue, IfOk, OnOk};
 ghost use Rattle.wf_origin.specs.Origins as spec;
 ghost use Rattle.url.specs.Parts.{nonempty_host};
 
@@ -48,12 +48,26 @@ impl Origin {
     }
 }
 
+// Whether a scheme is http.
+pub(crate) fn is_http(scheme: &str) -> bool
+    ensures { result ≡ bytes_eq scheme.now (codes "http") }
+{
+    matches!(scheme.as_bytes(), [b'h', b't', b't', b'p'])
+}
+
+// Whether a scheme is https.
+pub(crate) fn is_https(scheme: &str) -> bool
+    ensures { result ≡ bytes_eq scheme.now (codes "https") }
+{
+    matches!(scheme.as_bytes(), [b'h', b't', b't', b'p', b's'])
+}
+
 /// Whether the scheme of a URL is http or https, an HTTP(S) scheme (Fetch, section 2.1). It takes no
 /// memory.
 pub fn is_http_url(url: &Url) -> bool
     ensures { result ≡ spec.is_http url.now.scheme }
 {
-    url.scheme() == "http" || url.scheme() == "https"
+    is_https(url.scheme()) || is_http(url.scheme())
 }
 
 // The host of a URL by its kind; one without a host has the empty domain.
@@ -133,8 +147,8 @@ pub fn port_of(url: &Url) -> u16
 {
     match url.port() {
         Some(port) => port,
-        None if url.scheme() == "https" => 443,
-        None if url.scheme() == "http" => 80,
+        None if is_https(url.scheme()) => 443,
+        None if is_http(url.scheme()) => 80,
         None => url.port_or_known_default().unwrap_or(0),
     }
 }

@@ -4,7 +4,7 @@ ghost use Rattle.wf_origin.specs.Origins.{kind_of_host};
 ghost use Rattle.wf_origin.specs.Trust as spec;
 
 use crate::names::is_local_name;
-use crate::origin::{HostKind, Origin};
+use crate::origin::{HostKind, Origin, is_http, is_https};
 use url::{Host, Url};
 
 // Whether the host is the machine itself: a localhost name, an address of 127.0.0.0/8, or ::1.
@@ -44,5 +44,5 @@ fn has_loopback_host(url: &Url) -> bool
 pub fn is_trustworthy_url(url: &Url) -> bool
     ensures { result ≡ spec.is_trustworthy_url url.now }
 {
-    url.scheme() == "https" || (url.scheme() == "http" && has_loopback_host(url))
+    is_https(url.scheme()) || (is_http(url.scheme()) && has_loopback_host(url))
 }
