@@ -48,25 +48,25 @@ impl Place {
     }
 
     // The name that is there.
-    fn name_in(self, bytes: &[u8]) -> &[u8]
-        requires { IsWithin (length bytes.now) self }
-        ensures { result.now ≡ (header_at bytes.now self).name }
+    fn name_in<'a>(&self, bytes: &'a [u8]) -> &'a [u8]
+        requires { IsWithin (length bytes.now) self.now }
+        ensures { result.now ≡ (header_at bytes.now self.now).name }
     {
         &bytes[self.start as usize..self.middle as usize]
     }
 
     // The value that is there.
-    fn value_in(self, bytes: &[u8]) -> &[u8]
-        requires { IsWithin (length bytes.now) self }
-        ensures { result.now ≡ (header_at bytes.now self).value }
+    fn value_in<'a>(&self, bytes: &'a [u8]) -> &'a [u8]
+        requires { IsWithin (length bytes.now) self.now }
+        ensures { result.now ≡ (header_at bytes.now self.now).value }
     {
         &bytes[self.middle as usize..self.end as usize]
     }
 
     // The header that is there, as a field.
-    fn field_in(self, alloc: Global, bytes: &[u8]) -> Result<Field, OutOfMemory>
-        requires { IsWithin (length bytes.now) self }
-        ensures { IfOk result (λ field. field ≡ header_at bytes.now self) }
+    fn field_in(&self, alloc: Global, bytes: &[u8]) -> Result<Field, OutOfMemory>
+        requires { IsWithin (length bytes.now) self.now }
+        ensures { IfOk result (λ field. field ≡ header_at bytes.now self.now) }
     {
         let both = &bytes[self.start as usize..self.end as usize];
         Field::of_both(alloc, both, (self.middle - self.start) as usize)
@@ -75,9 +75,9 @@ impl Place {
     // Whether the header that is there has that name.
     #[inline(always)]
     #[tactic(auto, using(crate::proofs::PackLemmas::other_length))]
-    fn is_named(self, bytes: &[u8], name: &[u8]) -> bool
-        requires { IsWithin (length bytes.now) self }
-        ensures { result ≡ is_named name.now (header_at bytes.now self) }
+    fn is_named(&self, bytes: &[u8], name: &[u8]) -> bool
+        requires { IsWithin (length bytes.now) self.now }
+        ensures { result ≡ is_named name.now (header_at bytes.now self.now) }
     {
         if (self.middle - self.start) as usize != name.len() {
             return false;

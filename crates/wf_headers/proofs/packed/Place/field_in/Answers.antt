@@ -2,4 +2,4 @@ use Rattle.wf_headers.proofs.PackLemmas.{of_both}
 use Rattle.wf_headers.proofs.packed.Place.field_in.Goals as goal
 
 pub returns : goal.returns
-returns c = rw (← of_both c.args.bytes.now c.args.self c.requires) c.of_both.ensures
+returns c = rw (← of_both c.args.bytes.now c.args.self.now c.requires) c.of_both.ensures
