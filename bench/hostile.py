@@ -71,6 +71,16 @@ def directive_names(count):
     return scenario([document([], [['Content-Security-Policy', ';'.join('d%d' % i for i in range(count))]])])
 
 
+def short_directives(count):
+    letters = 'abcdefghijklmnopqrstuvwxyz0123456789'
+    names = itertools.islice(itertools.product(letters, repeat=4), count)
+    return scenario([document([], [['Content-Security-Policy', ';'.join(''.join(name) for name in names)]])])
+
+
+def short_policies(count):
+    return scenario([document([], [['Content-Security-Policy', ','.join('a' * count)]])])
+
+
 def integrity_tokens(count, times=1):
     sources = ' '.join("'sha256-a%d'" % i for i in range(count))
     tokens = ' '.join('sha256-a%d' % i for i in range(count))
@@ -229,6 +239,8 @@ CASES = [
     Case('a header value as long as is filled, n times', lambda count: filled(in_header, 1, count), 4, 128),
     Case('header lines of a document', header_lines, 12500, 283000),
     Case('directive names of a policy', directive_names, 20000, 500000),
+    Case('directives of four letters', short_directives, 200000, 830000),
+    Case('policies of one letter, refused', short_policies, 500000, 2000000),
     Case('integrity tokens against hash sources', integrity_tokens, 8000, 120000),
     Case('integrity tokens, n times', lambda count: integrity_tokens(2000, count), 10, 1000),
     Case('integrity tokens of images of 20 redirects', lambda count: integrity_hops('image', count), 2000, 120000),

@@ -1,3 +1,4 @@
 pub mod CollectingLemmas
+pub mod CountLemmas
 pub mod NameLemmas
 pub mod WordLemmas

@@ -1,7 +1,7 @@
-ghost use Rattle.std.specs.Prelude.{◌≡◌, filter, map, IfOk, OnOk};
-ghost use Rattle.std.specs.List.{filter_map, list_all};
+ghost use Rattle.std.specs.Prelude.{◌≡◌, filter, map, option_map, IfOk, OnOk};
+ghost use Rattle.std.specs.List.{list_all};
 ghost use Rattle.wf_csp_text.specs.Policies as spec;
-ghost use Rattle.wf_csp_text.specs.Private.Collecting.{AreNames, with_found, with_new};
+ghost use Rattle.wf_csp_text.specs.Private.Collecting.{AreNames, directives_in, with_found};
 
 use crate::policy::{Directive, Directives, Policies, Policy};
 use crate::word_list::{Words, first_word};
@@ -10,13 +10,13 @@ use std::collections::BTreeSet;
 use wf_text::{OutOfMemory, in_lower_case, parts_between};
 
 // Whether all bytes are ASCII.
-fn are_ascii(text: &[u8]) -> bool
+pub(crate) fn are_ascii(text: &[u8]) -> bool
     ensures { result ≡ list_all spec.is_ascii text.now }
 {
     text.iter().all(|byte| *byte < 128)
 }
 
-// The directive of a token, where it is one.
+// The directive of a token, where it is one. The copy of a short name takes no memory of its own.
 fn directive_of(alloc: Global, token: &[u8]) -> Result<Option<Directive>, OutOfMemory>
     ensures { IfOk result (λ directive. directive ≡ spec.directive_of token.now) }
 {
@@ -26,69 +26,92 @@ fn directive_of(alloc: Global, token: &[u8]) -> Result<Option<Directive>, OutOfM
     match first_word(token) {
         None => Ok(None),
         Some((name, values)) => Ok(Some(Directive {
-            name: in_lower_case(alloc, name)?,
+            name: in_lower_case(alloc, name)?.copy(alloc)?,
             words: Words::of(alloc, values)?,
         })),
     }
 }
 
-// Adds a directive, unless there is one of its name. The names that there are, are found in a set, so that
-// many cost no more than they are long.
-fn add(
-    alloc: Global,
-    directives: &mut Directives,
-    names: &mut BTreeSet<Vec<u8>>,
-    directive: Directive,
-) -> Result<(), OutOfMemory>
-    requires { AreNames (λ key. key.items) names.old.keys directives.old }
-    ensures added { OnOk result (directives.new ≡ with_new directive directives.old) }
-    ensures names { OnOk result (AreNames (λ key. key.items) names.new.keys directives.new) }
+// The name of the directive of a token, where it is one.
+fn name_of(alloc: Global, token: &[u8]) -> Result<Option<Vec<u8>>, OutOfMemory>
+    ensures { IfOk result (λ name. option_map (λ bytes. bytes.items) name
+        ≡ option_map (λ directive. directive.name) (spec.directive_of token.now)) }
 {
-    let name = Vec::from_slice(alloc, directive.name.as_slice())?;
+    if !are_ascii(token) {
+        return Ok(None);
+    }
+    match first_word(token) {
+        None => Ok(None),
+        Some((name, _)) => Ok(Some(in_lower_case(alloc, name)?.into_vec()?)),
+    }
+}
+
+// Adds a token with a directive, unless there is one of its name. The names that there are, are found in a set, so that
+// many cost no more than they are long.
+fn add<'a>(
+    alloc: Global,
+    firsts: &mut Vec<&'a [u8]>,
+    names: &mut BTreeSet<Vec<u8>>,
+    token: &'a [u8],
+) -> Result<(), OutOfMemory>
+    requires { AreNames (λ key. key.items) names.old.keys (directives_in (map (λ first. first.now) firsts.old.items)) }
+    ensures added { OnOk result (directives_in (map (λ first. first.now) firsts.new.items)
+        ≡ with_found (spec.directive_of token.now) (directives_in (map (λ first. first.now) firsts.old.items))) }
+    ensures names { OnOk result (AreNames (λ key. key.items) names.new.keys
+        (directives_in (map (λ first. first.now) firsts.new.items))) }
+{
+    let Some(name) = name_of(alloc, token)? else {
+        return Ok(());
+    };
     if names.insert(name)? {
-        directives.push(directive)?;
+        firsts.push(token)?;
     }
     Ok(())
 }
 
-// Adds a directive, where there is one, unless its name is there already.
-fn add_found(
-    alloc: Global,
-    directives: &mut Directives,
-    names: &mut BTreeSet<Vec<u8>>,
-    found: Option<Directive>,
-) -> Result<(), OutOfMemory>
-    requires { AreNames (λ key. key.items) names.old.keys directives.old }
-    ensures added { OnOk result (directives.new ≡ with_found found directives.old) }
-    ensures names { OnOk result (AreNames (λ key. key.items) names.new.keys directives.new) }
-{
-    match found {
-        None => Ok(()),
-        Some(directive) => add(alloc, directives, names, directive),
-    }
-}
-
-// The directives of the tokens, the first of each name.
+// The tokens of the first directive of each name.
 #[tactic(auto, using(crate::proofs::CollectingLemmas::found_step, crate::proofs::CollectingLemmas::new_all))]
-fn collected(alloc: Global, tokens: &[&[u8]]) -> Result<Directives, OutOfMemory>
-    ensures { IfOk result (λ directives. directives
-        ≡ spec.first_of_each (filter_map spec.directive_of (map (λ token. token.now) tokens.now))) }
+fn first_tokens<'a>(alloc: Global, tokens: &[&'a [u8]]) -> Result<Vec<&'a [u8]>, OutOfMemory>
+    ensures { IfOk result (λ firsts. directives_in (map (λ first. first.now) firsts.items)
+        ≡ spec.first_of_each (directives_in (map (λ token. token.now) tokens.now))) }
 {
-    let mut directives = Directives::new(alloc);
+    let mut firsts = Vec::new(alloc);
     let mut names = BTreeSet::new(alloc);
     for token in tokens {
-        let found = directive_of(alloc, token)?;
-        add_found(alloc, &mut directives, &mut names, found)?;
+        add(alloc, &mut firsts, &mut names, *token)?;
+    }
+    Ok(firsts)
+}
+
+// Those of the tokens between the semicolons of a text.
+fn first_between<'a>(alloc: Global, text: &'a [u8]) -> Result<Vec<&'a [u8]>, OutOfMemory>
+    ensures { IfOk result (λ firsts. directives_in (map (λ first. first.now) firsts.items)
+        ≡ spec.directives_of text.now) }
+{
+    let tokens = parts_between(alloc, text, b';')?;
+    first_tokens(alloc, tokens.as_slice())
+}
+
+// The directives of tokens.
+fn directives_in(alloc: Global, tokens: &[&[u8]]) -> Result<Directives, OutOfMemory>
+    ensures { IfOk result (λ directives. directives ≡ directives_in (map (λ token. token.now) tokens.now)) }
+{
+    let mut directives = Directives::new(alloc);
+    for token in tokens {
+        if let Some(directive) = directive_of(alloc, token)? {
+            directives.push(directive)?;
+        }
     }
     Ok(directives)
 }
 
-// "parse a serialized CSP": the directives between the semicolons of a text.
+// "parse a serialized CSP": the directives between the semicolons of a text. The set of their names is gone before the
+// first of them is made, since both take many times what the text is long.
 fn directives_of(alloc: Global, text: &[u8]) -> Result<Directives, OutOfMemory>
     ensures { IfOk result (λ directives. directives ≡ spec.directives_of text.now) }
 {
-    let tokens = parts_between(alloc, text, b';')?;
-    collected(alloc, tokens.as_slice())
+    let firsts = first_between(alloc, text)?;
+    directives_in(alloc, firsts.as_slice())
 }
 
 // The policies of texts, without those that have no directive.

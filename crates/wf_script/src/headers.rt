@@ -1,11 +1,11 @@
 // Headers, and what those of a document say.
-ghost use Rattle.std.specs.Prelude.{◌≡◌, ◌++◌, ◌∷◌, [], map, IfOk, OnOk};
+ghost use Rattle.std.specs.Prelude.{◌≡◌, ◌++◌, ◌∷◌, [], length, map, nat_le, IfOk, OnOk};
 ghost use Rattle.wf_headers.specs.Headers.{values_of};
 ghost use Rattle.wf_script.specs.Headers as spec;
 ghost use Rattle.wf_script.specs.Scenarios as table;
 
 use std::alloc::Global;
-use wf_csp_text::{Policies, parse_policies};
+use wf_csp_text::{Policies, count_policies, parse_policies};
 use wf_headers::HeaderList;
 use wf_script_tables::{
     Form, HeaderValue, ItemsOf, PairOf, Refused, TextThat, Token, refused_here,
@@ -51,6 +51,36 @@ fn policies_of_header(alloc: Global, header: &Pair) -> Result<Policies, OutOfMem
     } else {
         Ok(Policies::new(alloc))
     }
+}
+
+// How many policies a header has.
+fn count_of_header(header: &Pair) -> usize
+    ensures { result ≡ length (spec.policies_of_header header.now) }
+{
+    let name = header.name.as_slice();
+    let has_policies = name.eq_ignore_ascii_case(b"Content-Security-Policy")
+        || name.eq_ignore_ascii_case(b"Content-Security-Policy-Report-Only");
+    if has_policies {
+        count_policies(header.value.as_slice())
+    } else {
+        0
+    }
+}
+
+// Whether the headers have no more policies than a document may have. They are counted before one is kept, since there
+// may be one for every two bytes.
+fn has_few_policies(headers: &[Pair]) -> bool
+    ensures { result ≡ nat_le (length (spec.policies_of_headers headers.now)) 16 }
+{
+    let mut left: usize = MOST_POLICIES;
+    for header in headers {
+        let count = count_of_header(header);
+        if count > left {
+            return false;
+        }
+        left -= count;
+    }
+    true
 }
 
 // Adds policies at the end.
@@ -133,10 +163,10 @@ impl Form for DocumentHeaders {
         tree: &Tree<'_, '_>,
     ) -> Result<(ReferrerPolicy, Policies), Refused> {
         let headers = HEADERS.read(alloc, tree)?;
-        let policies = policies_of_headers(alloc, headers.as_slice())?;
-        if policies.len() > MOST_POLICIES {
+        if !has_few_policies(headers.as_slice()) {
             return refused_here(alloc);
         }
+        let policies = policies_of_headers(alloc, headers.as_slice())?;
         let policy = policy_of_headers(alloc, headers.as_slice())?;
         Ok((policy, policies))
     }

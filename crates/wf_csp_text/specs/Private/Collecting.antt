@@ -1,11 +1,15 @@
 -- Directives collected one by one: what is new to those that were found.
 use Rattle.std.specs.Prelude.{◌≡◌, ℕ, Bool, List, [], ◌∷◌, ◌++◌, not, Option, Some, None, bytes_eq, if◌then◌else◌}
-use Rattle.std.specs.List.{list_any}
+use Rattle.std.specs.List.{filter_map, list_any}
 use Rattle.std.specs.Ordering.{is_eq}
 use Rattle.std.specs.declared.cmp.Ordering.{Ordering}
 use Rattle.wf_text.specs.Orders.{text_cmp}
-use Rattle.wf_csp_text.specs.Policies.{is_named}
+use Rattle.wf_csp_text.specs.Policies.{directive_of, is_named}
 use Rattle.wf_csp_text.specs.declared.policy.Directive.{Directive}
+
+-- the directives of tokens
+abbrev pub directives_in : List (List ℕ) → List Directive
+directives_in tokens = filter_map directive_of tokens
 
 -- none of the directives found has its name
 abbrev pub is_new : List Directive → Directive → Bool
