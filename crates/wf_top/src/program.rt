@@ -16,6 +16,7 @@ ghost use Rattle.wf_top.specs.Words as spec;
 
 use crate::words::{Subcommand, subcommand_of};
 use std::alloc::Global;
+use std::mem::forget;
 use std::sync::Wait;
 use std::thread::Threads;
 use wf_iso::law_isolated;
@@ -45,6 +46,9 @@ const MOST_BASE: u64 = 1_099_511_627_776;
 /// `InputTooLong` exactly where byte 4,194,305 was read. `OutOfMemory` where memory was refused, or no
 /// link could be made. What a link does never changes the status. Links and clock are used with `net`
 /// alone; each link that was made is taken back.
+///
+/// The scenario and what was played are forgotten, not freed, since the program ends: the system takes back all of their
+/// memory at once.
 pub fn fetchplay<R: Threads + Wait + Sync, S: Source, K: Sink, E: Sink, N: Links, C: Clock>(
     rt: &R,
     alloc: Global,
@@ -122,9 +126,11 @@ fn play_scenario<R: Threads + Wait + Sync, S: Source, K: Sink>(
         Err(verdict) => return verdict,
         Ok(scenario) => scenario,
     };
-    match play_scripted(rt, alloc, &scenario) {
+    let played = play_scripted(rt, alloc, &scenario);
+    forget(scenario);
+    match played {
         Err(OutOfMemory) => Status::OutOfMemory,
-        Ok(played) => write_text(alloc, &played, output),
+        Ok(played) => write_text(alloc, played, output),
     }
 }
 
@@ -159,19 +165,22 @@ fn play_linked<R: Threads + Wait + Sync, S: Source, K: Sink, N: Links, C: Clock>
     let base = base_of(clock);
     // a document that waits for its server keeps no other from its work
     let threads = scenario.documents.len();
-    match play_over(rt, alloc, &scenario, base, threads, links) {
+    let played = play_over(rt, alloc, &scenario, base, threads, links);
+    forget(scenario);
+    match played {
         Err(OutOfMemory) => Status::OutOfMemory,
-        Ok(played) => write_text(alloc, &played, output),
+        Ok(played) => write_text(alloc, played, output),
     }
 }
 
-// Writes the text of a play.
-fn write_text<K: Sink>(alloc: Global, played: &Played, output: &mut K) -> Status
-    requires { HasText played.now.transcripts }
-    ensures { IsWritten (play_text played.now.transcripts played.now.history) (K.takes output.old)
+// Writes the text of a play, which is then forgotten: the program ends.
+fn write_text<K: Sink>(alloc: Global, played: Played, output: &mut K) -> Status
+    requires { HasText played.transcripts }
+    ensures { IsWritten (play_text played.transcripts played.history) (K.takes output.old)
         (K.takes output.new) result }
 {
     let written = write_play(alloc, &played.transcripts, &played.history, output);
+    forget(played);
     status_of(written)
 }
 
@@ -205,5 +214,6 @@ fn play_generated<R: Threads + Wait + Sync, K: Sink>(
         Ok(played) => played,
     };
     let written = write_summary(alloc, count, &played.transcripts, &played.history, output);
+    forget(played);
     status_of(written)
 }

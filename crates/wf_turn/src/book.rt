@@ -11,8 +11,9 @@ use crate::turn::take_turn;
 use crate::view::View;
 use atomic_table::{Refused, Table};
 use std::alloc::Global;
+use std::hint::spin_loop;
 use std::snapshot::Snapshot;
-use std::sync::{Mutex, Wait};
+use std::sync::{Mutex, MutexGuard, Wait};
 use std::thread::Threads;
 use wf_book::{Book, History, Op, Reply, Share};
 use wf_shared::Shared;
@@ -87,6 +88,32 @@ impl TurnBook {
     }
 }
 
+// How often a thread looks whether the door is open before it sleeps.
+const LOOKS: u32 = 100;
+
+// How many pauses of the processor there are between two looks.
+const PAUSES: u32 = 8;
+
+// Waits for a moment.
+fn pause() {
+    for _ in 0..PAUSES {
+        spin_loop();
+    }
+}
+
+impl TurnBook {
+    // Enters by the door. A call takes less time than to fall asleep and be woken, so a thread looks for a while first.
+    fn enter<R: Wait>(&self, rt: &R) -> MutexGuard<'_, ()> {
+        for _ in 0..LOOKS {
+            if let Some(entered) = self.door.try_lock() {
+                return entered;
+            }
+            pause();
+        }
+        self.door.lock(rt)
+    }
+}
+
 impl Share for TurnBook {
     type Pass = TurnPass;
 
@@ -120,7 +147,7 @@ impl Share for TurnBook {
             ((own_of pass.new ≡ own_of pass.old) × StartsWith (seen_of pass.new) (seen_of pass.old)) }
         ensures whole { entries_of pass.new.document (seen_of pass.new) ≡ own_of pass.new }
     {
-        let _entered = self.door.lock(rt);
+        let _entered = self.enter(rt);
         take_turn(
             rt,
             alloc,
