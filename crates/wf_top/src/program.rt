@@ -126,11 +126,12 @@ fn play_scenario<R: Threads + Wait + Sync, S: Source, K: Sink>(
         Err(verdict) => return verdict,
         Ok(scenario) => scenario,
     };
-    let played = play_scripted(rt, alloc, &scenario);
-    forget(scenario);
-    match played {
+    match play_scripted(rt, alloc, &scenario) {
         Err(OutOfMemory) => Status::OutOfMemory,
-        Ok(played) => write_text(alloc, played, output),
+        Ok(played) => {
+            forget(scenario);
+            write_text(alloc, played, output)
+        }
     }
 }
 
@@ -165,11 +166,12 @@ fn play_linked<R: Threads + Wait + Sync, S: Source, K: Sink, N: Links, C: Clock>
     let base = base_of(clock);
     // a document that waits for its server keeps no other from its work
     let threads = scenario.documents.len();
-    let played = play_over(rt, alloc, &scenario, base, threads, links);
-    forget(scenario);
-    match played {
+    match play_over(rt, alloc, &scenario, base, threads, links) {
         Err(OutOfMemory) => Status::OutOfMemory,
-        Ok(played) => write_text(alloc, played, output),
+        Ok(played) => {
+            forget(scenario);
+            write_text(alloc, played, output)
+        }
     }
 }
 

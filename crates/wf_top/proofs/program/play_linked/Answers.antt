@@ -6,8 +6,8 @@ use Rattle.wf_link_wire.specs.Wires.{over_link}
 use Rattle.wf_top.proofs.ProgramLemmas.{over-refused, over-written}
 use Rattle.wf_top.proofs.program.play_linked.Goals as goal
 
-pub returns : goal.returns
-returns g c =
+pub returns-in-Ok-play_over : goal.returns-in-Ok-play_over
+returns-in-Ok-play_over g c =
     let scenario = c.in-Ok.scenario in
     let played = c.in-Ok-play_over.played in
     let by = over_link g.N.Link.Link.serves in

@@ -3,8 +3,8 @@ use Rattle.wf_top.specs.Program.{IsScripted}
 use Rattle.wf_top.proofs.ProgramLemmas.{written-play}
 use Rattle.wf_top.proofs.program.play_scenario.Goals as goal
 
-pub returns : goal.returns
-returns g c =
+pub returns-in-Ok-play_scripted : goal.returns-in-Ok-play_scripted
+returns-in-Ok-play_scripted g c =
     let scenario = c.in-Ok.scenario in
     let played = c.in-Ok-play_scripted.played in
     written-play IsScripted
