@@ -1,7 +1,7 @@
 #!/usr/bin/env bash
 # What documents on threads cost, on the proved program: the instructions of `gen 8` and of `gen 64`, on one processor,
 # and how many times the one is the other; the memory of `gen 64` at its peak; and its wall and processor time on one
-# processor and on all, the median of eleven runs.
+# processor and on all, the median of 32 runs.
 set -eu
 source "$(dirname "${BASH_SOURCE[0]}")/common.bash"
 build_fetchplay
@@ -20,16 +20,21 @@ printf 'gen 8: %d instructions; gen 64: %d, which is %d.%02d times as many\n' "$
 /usr/bin/time -f '%M' -o "$work/memory" "$program" gen 64 >/dev/null
 printf 'gen 64: %d kilobytes of memory\n' "$(cat "$work/memory")"
 
-# The median of eleven runs of `gen 64`, in milliseconds: wall time, and user and system time.
+# What bin/fetchplay gives the allocator.
+export MALLOC_ARENA_MAX=16 MALLOC_TOP_PAD_=4194304 MALLOC_TRIM_THRESHOLD_=8388608 MALLOC_MMAP_THRESHOLD_=4194304
+
+# The median of 32 runs of `gen 64` on these processors, or on each in turn by itself, in milliseconds: wall time, or
+# user and system time.
 median() {
-    local place=$1
-    shift
-    for _ in 1 2 3 4 5 6 7 8 9 10 11; do
-        { TIMEFORMAT='%R %U %S'; time "$@" gen 64 >/dev/null; } 2>&1 \
+    local place=$1 processors=$2 run cpus
+    for ((run = 0; run < 32; run++)); do
+        cpus=$processors
+        [ "$cpus" != each ] || cpus=$((run % $(nproc)))
+        { TIMEFORMAT='%R %U %S'; time taskset -c "$cpus" "$program" gen 64 >/dev/null; } 2>&1 \
             | awk '{ printf "%d %d\n", $1 * 1000, ($2 + $3) * 1000 }'
-    done | sort -n -k "$place" | sed -n 6p | cut -d ' ' -f "$place"
+    done | sort -n -k "$place" | sed -n 16p | cut -d ' ' -f "$place"
 }
 
-printf 'on one processor: %d ms, of which the processor took %d\n' \
-    "$(median 1 taskset -c 0 "$program")" "$(median 2 taskset -c 0 "$program")"
-printf 'on %d processors: %d ms, of processor time %d\n' "$(nproc)" "$(median 1 "$program")" "$(median 2 "$program")"
+all=0-$(($(nproc) - 1))
+printf 'on one processor: %d ms, of which the processor took %d\n' "$(median 1 each)" "$(median 2 each)"
+printf 'on %d processors: %d ms, of processor time %d\n' "$(nproc)" "$(median 1 "$all")" "$(median 2 "$all")"
