@@ -17,24 +17,27 @@ many=$(instructions_of 64)
 printf 'gen 8: %d instructions; gen 64: %d, which is %d.%02d times as many\n' "$few" "$many" \
     $((many / few)) $((many * 100 / few % 100))
 
-/usr/bin/time -f '%M' -o "$work/memory" "$program" gen 64 >/dev/null
-printf 'gen 64: %d kilobytes of memory\n' "$(cat "$work/memory")"
-
 # What bin/fetchplay gives the allocator.
 export MALLOC_ARENA_MAX=16 MALLOC_TOP_PAD_=4194304 MALLOC_TRIM_THRESHOLD_=8388608 MALLOC_MMAP_THRESHOLD_=4194304
 
-# The median of 32 runs of `gen 64` on these processors, or on each in turn by itself, in milliseconds: wall time, or
-# user and system time.
-median() {
-    local place=$1 processors=$2 run cpus
-    for ((run = 0; run < 32; run++)); do
-        cpus=$processors
-        [ "$cpus" != each ] || cpus=$((run % $(nproc)))
-        { TIMEFORMAT='%R %U %S'; time taskset -c "$cpus" "$program" gen 64 >/dev/null; } 2>&1 \
-            | awk '{ printf "%d %d\n", $1 * 1000, ($2 + $3) * 1000 }'
-    done | sort -n -k "$place" | sed -n 16p | cut -d ' ' -f "$place"
+/usr/bin/time -f '%M' -o "$work/memory" "$program" gen 64 >/dev/null
+printf 'gen 64: %d kilobytes of memory\n' "$(cat "$work/memory")"
+
+# Adds the milliseconds of a run of `gen 64` on these processors to a file: wall time, and user and system time.
+run_on() {
+    { TIMEFORMAT='%R %U %S'; time taskset -c "$1" "$program" gen 64 >/dev/null; } 2>&1 \
+        | awk '{ printf "%d %d\n", $1 * 1000, ($2 + $3) * 1000 }' >>"$work/$2"
 }
 
-all=0-$(($(nproc) - 1))
-printf 'on one processor: %d ms, of which the processor took %d\n' "$(median 1 each)" "$(median 2 each)"
-printf 'on %d processors: %d ms, of processor time %d\n' "$(nproc)" "$(median 1 "$all")" "$(median 2 "$all")"
+# The median of a column of such a file.
+median() {
+    sort -n -k "$2" "$work/$1" | sed -n 16p | cut -d ' ' -f "$2"
+}
+
+# 32 runs each, in turns: on one processor, which is another each time, and on all.
+for ((run = 0; run < 32; run++)); do
+    run_on $((run % $(nproc))) one
+    run_on 0-$(($(nproc) - 1)) all
+done
+printf 'on one processor: %d ms, of which the processor took %d\n' "$(median one 1)" "$(median one 2)"
+printf 'on %d processors: %d ms, of processor time %d\n' "$(nproc)" "$(median all 1)" "$(median all 2)"
