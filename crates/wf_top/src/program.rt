@@ -47,8 +47,8 @@ const MOST_BASE: u64 = 1_099_511_627_776;
 /// link could be made. What a link does never changes the status. Links and clock are used with `net`
 /// alone; each link that was made is taken back.
 ///
-/// The scenario and what was played are forgotten, not freed, since the program ends: the system takes back all of their
-/// memory at once.
+/// Where a play succeeded it is forgotten, not freed, and so is a scenario that was read: the program ends, and the
+/// system takes back all of their memory at once. A caller that goes on does not get it back.
 pub fn fetchplay<R: Threads + Wait + Sync, S: Source, K: Sink, E: Sink, N: Links, C: Clock>(
     rt: &R,
     alloc: Global,
