@@ -1,22 +1,56 @@
 #!/usr/bin/env bash
-# What the gate costs from nothing: `rt ci --anew` at the top of the repository (`rt ci` where the kit keeps nothing from run to
-# run, and so knows no such word), its processor time (user and system) and how it is shared among the crates, in seconds, and
-# among their proofs, their tests and the edits that must fail. The shares are read off the running checks once a second, so
-# they are a little less than the whole. It takes all processors for an hour.
+# What the gate costs from nothing, on a machine that does nothing else.
+#
+#     bench/gate.sh                           these files: all of `rt ci`
+#     bench/gate.sh against COMMIT            that commit and these files, and the ratio
+#     bench/gate.sh against COMMIT in STEPS   the same in so many steps: a part of the one's crates, then of the other's,
+#                                             so that a run that is cut off tells the ratio of what it came to
+#     bench/gate.sh fetchplay against COMMIT  the wall time in which each proves and builds `fetchplay`, without edits
+#
+# It tells processor time (user and system) and wall time, and of these files how the processor time is shared among the
+# crates, and among their proofs, their tests and the edits that must fail, in seconds. The shares are read off the
+# running checks once a second, so they are a little less than the whole.
 set -eu
 source "$(dirname "${BASH_SOURCE[0]}")/common.bash"
 cd "$root"
 
-# One line for each running check of this repository: its process, the seconds it has taken, its crate, and whether it
-# proves the crate, its tests or an edit.
+usage() {
+    echo 'bench/gate.sh: [fetchplay] [against COMMIT [in STEPS]]' >&2
+    exit 2
+}
+
+# Makes a folder that `rt ci` takes for a repository, with the crates that stand in another. A line at the end of each
+# crate's root file makes it new to what `rt` has kept.
+laid() {
+    local file
+    mkdir -p "$2/.git"
+    (cd "$1" && tar -c --exclude=out --exclude=build.log crates crates.txt HANDLES) | tar -x -C "$2"
+    for file in "$2"/crates/*/src/lib.rt "$2"/crates/*/src/main.rt; do
+        [ ! -f "$file" ] || printf '// Measured at %s.\n' "$began" >>"$file"
+    done
+}
+
+# The crates of a folder in so many groups of about as many lines, a group a line.
+groups() {
+    local name lines
+    sed -n 's/^\([a-z_0-9]*\).*:.*/\1/p' "$1/crates.txt" | while read -r name; do
+        lines=$(find "$1/crates/$name" -name '*.rt' -o -name '*.antt' | xargs cat | wc -l)
+        echo "$name $lines"
+    done | awk -v steps="$2" '
+        { name[NR] = $1; lines[NR] = $2; all += $2 }
+        END { for (i = 1; i <= NR; i++) {
+            before = int(done * steps / all); done += lines[i]
+            printf "%s%s", name[i], i < NR && int(done * steps / all) == before ? " " : "\n" } }'
+}
+
+# One line for each running check: its process, the seconds it has taken, its crate, and what it proves.
 checks() {
     local process seconds words name kind
     while read -r process seconds words; do
-        case "$(readlink "/proc/$process/cwd") $words" in *"$root/"*) ;; *) continue ;; esac
         name=${words#*--crate-name }
         kind=proofs
         case " $words " in *" --test "*) kind=tests ;; esac
-        case "$(readlink "/proc/$process/cwd") $words" in *rt-edit*) kind=edits ;; esac
+        case "$(readlink "/proc/$process/cwd")" in *rt-edit*) kind=edits ;; esac
         printf '%s %s %s %s\n' "$process" "$seconds" "${name%% *}" "$kind"
     done < <(ps -eo pid=,cputimes=,args= | grep -e '/bin/rattle .*--crate-name' | grep -v grep)
 }
@@ -28,23 +62,80 @@ sampled() {
     done
 }
 
-anew=
-if rt help 2>&1 | grep -q -e '--anew'; then anew=--anew; fi
-sampled &
-sampler=$!
-start=$(date +%s)
-TIMEFORMAT='%U %S'
-status=0
-{ time rt ci $anew >"$work/log" 2>&1 || status=$?; } 2>"$work/time"
-kill "$sampler"
-tail -n 3 "$work/log"
-read -r user system <"$work/time"
-awk -v u="$user" -v s="$system" -v w="$(($(date +%s) - start))" \
-    'BEGIN { printf "processor time %.1f minutes, wall clock %.1f minutes\n", (u + s) / 60, w / 60 }'
-# The most seconds seen of each process count.
-awk '{ if ($2 > most[$1]) most[$1] = $2; name[$1] = $3; kind[$1] = $4 }
-    END { for (p in most) { sum[name[p]] += most[p]; by[name[p] " " kind[p]] += most[p]; all[kind[p]] += most[p] }
-        for (k in all) printf "all %s: %d\n", k, all[k]
-        for (n in sum) printf "%s: %d (proofs %d, tests %d, edits %d)\n", n, sum[n],
-            by[n " proofs"], by[n " tests"], by[n " edits"] }' "$work/samples" | sort
-exit "$status"
+# Runs `rt ci` in a folder, on the crates that are named or on all.
+run_ci() {
+    (cd "$1" && shift && exec rt ci "$@")
+}
+
+# The same, and adds what it took to the folder's times.
+timed() {
+    local status=0 start user system
+    start=$(date +%s.%N)
+    TIMEFORMAT='%U %S'
+    { time run_ci "$@" >"$work/log" 2>&1 || status=$?; } 2>"$work/time"
+    tail -n 1 "$work/log"
+    if [ "$status" != 0 ]; then
+        grep -e 'NOT PROVED' -e 'NOT REFUSED' -e FAILED "$work/log" || tail -n 20 "$work/log"
+        exit "$status"
+    fi
+    read -r user system <"$work/time"
+    echo "$user $system $start $(date +%s.%N)" >>"$1.times"
+}
+
+told() {
+    awk -v name="$2" '{ cpu += $1 + $2; wall += $4 - $3 }
+        END { printf "%s: processor time %.1f minutes, wall time %.1f minutes\n", name, cpu / 60, wall / 60 }' "$1.times"
+}
+
+ratio() {
+    awk 'FNR == 1 { at++ } { cpu[at] += $1 + $2; wall[at] += $4 - $3 }
+        END { printf "ratio: processor time %.3f, wall time %.3f\n", cpu[2] / cpu[1], wall[2] / wall[1] }' "$1.times" "$2.times"
+}
+
+shares() {
+    # The most seconds seen of each process count.
+    awk '{ if ($2 > most[$1]) most[$1] = $2; name[$1] = $3; kind[$1] = $4 }
+        END { for (p in most) { sum[name[p]] += most[p]; by[name[p] " " kind[p]] += most[p]; all[kind[p]] += most[p] }
+            for (k in all) printf "all %s: %d\n", k, all[k]
+            for (n in sum) printf "%s: %d (proofs %d, tests %d, edits %d)\n", n, sum[n],
+                by[n " proofs"], by[n " tests"], by[n " edits"] }' "$work/samples" | sort
+}
+
+only= against= steps=1
+while [ $# -gt 0 ]; do
+    case $1 in
+        fetchplay) only=fetchplay ;;
+        against) against=${2:?a commit} && shift ;;
+        in) steps=${2:?a number of steps} && shift ;;
+        *) usage ;;
+    esac
+    shift
+done
+began=$(date +%s)
+laid "$root" "$work/these"
+if [ -n "$against" ]; then
+    git clone -q --no-checkout "$root" "$work/clone"
+    git -C "$work/clone" checkout -q "$against"
+    laid "$work/clone" "$work/those"
+fi
+if [ -n "$only" ]; then
+    rm -rf "$work"/th*se/crates/*/must-fail
+fi
+for tree in these ${against:+those}; do
+    if [ -n "$only" ]; then echo "$only"; elif [ "$steps" = 1 ]; then echo; else groups "$work/$tree" "$steps"; fi >"$work/$tree.groups"
+done
+for step in $(seq "$(wc -l <"$work/these.groups")"); do
+    if [ -n "$against" ]; then
+        # shellcheck disable=SC2046 # (words)
+        timed "$work/those" $(sed -n "${step}p" "$work/those.groups")
+    fi
+    sampled &
+    sampler=$!
+    # shellcheck disable=SC2046
+    timed "$work/these" $(sed -n "${step}p" "$work/these.groups") || { kill "$sampler" && exit 1; }
+    kill "$sampler"
+    [ -z "$against" ] || ratio "$work/those" "$work/these"
+done
+[ -z "$against" ] || told "$work/those" "$against"
+told "$work/these" 'these files'
+shares
