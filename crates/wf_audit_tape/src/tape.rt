@@ -13,8 +13,8 @@ use std::marker::Model;
 use std::snapshot::Snapshot;
 use std::sync::Wait;
 use std::thread::Threads;
+use value_places::Shared;
 use wf_book::{Book, Entry, Op, Reply, Share};
-use wf_shared::Shared;
 use wf_text::OutOfMemory;
 
 /// A share that replies to each call of a document by the document's next entry of a given history. It calls no book.

@@ -9,7 +9,7 @@ ghost use Rattle.wf_script_steps.specs.Scripts as spec;
 use crate::fetches::FetchTable;
 use crate::loads::LoadTable;
 use std::alloc::Global;
-use wf_boxed::Boxed;
+use value_places::Boxed;
 use wf_script_commands::Command;
 use wf_script_tables::{Number, Refused, only_keys, refused_under, required};
 use wf_script_tree::Tree;
