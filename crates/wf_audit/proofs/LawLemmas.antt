@@ -15,7 +15,7 @@ use Rattle.wf_script_events.specs.declared.events.Transcript.{Transcript}
 use Rattle.wf_script_run.specs.Documents.{EachDocument}
 use Rattle.wf_script_values.specs.declared.scenario.Scenario.{Scenario}
 use Rattle.wf_script_values.specs.declared.servers.Server.{Server}
-use Rattle.wf_audit_history.specs.Legality.{AreRight, first_stranger, is_stranger}
+use Rattle.audit_replay.specs.Legality.{AreRight, first_stranger, is_stranger}
 use Rattle.wf_audit.specs.Laws.{IsComplete, IsSound}
 
 -- ---- a history that the book gives is legal, and has its turns

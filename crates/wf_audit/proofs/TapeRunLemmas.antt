@@ -29,8 +29,8 @@ use Rattle.wf_iso.specs.Calls.{PartAtReply}
 use Rattle.wf_iso.specs.Laws.{CallsFollow}
 use Rattle.wf_iso.specs.Plays.{RunsOver, by_rules, outside_on, way_to_servers}
 use Rattle.wf_player_seats.proofs.ServerLemmas.{by_bytes, ran-by-rules, sim_told, trace-state}
-use Rattle.wf_audit_tape.specs.Tapes.{IsParted, IsTape, IsUsedUp, Tape, account_of, before_stray, first_op, seen_on}
-use Rattle.wf_audit_tape.specs.Tapes.{stray_entries, stray_reply}
+use Rattle.audit_replay.specs.Tapes.{IsParted, IsTape, IsUsedUp, Tape, account_of, before_stray, first_op, seen_on}
+use Rattle.audit_replay.specs.Tapes.{stray_entries, stray_reply}
 use Rattle.wf_audit.specs.Verdicts.{Comes, ComesTo}
 use Rattle.wf_audit.specs.Private.Runs.{CameTo}
 

@@ -9,8 +9,8 @@ use Rattle.wf_print.specs.Text.{play_text}
 use Rattle.wf_script.specs.Scenarios.{scenario_of}
 use Rattle.wf_script_values.specs.declared.scenario.Scenario.{Scenario}
 use Rattle.wf_iso.specs.Plays.{opening_book}
-use Rattle.wf_audit_history.specs.Legality.{IsIllegalAt}
-use Rattle.wf_audit_compare.specs.Differences.{AreCompared}
+use Rattle.audit_replay.specs.Legality.{IsIllegalAt}
+use Rattle.audit_replay.specs.Differences.{AreCompared}
 use Rattle.wf_audit_text.specs.Histories.{AreLinesOf, Holds}
 use Rattle.wf_audit.specs.Verdicts.{HasRun, IsGiven, IsLegal, IsVerdict, StopsAt, stranger_in}
 use Rattle.wf_audit.specs.Private.Runs.{AllCame}

@@ -1,7 +1,7 @@
 // The audit, case by case.
 ghost use Rattle.std.specs.Prelude.{◌≡◌, ℕ, List, None, Ok, IfOk, length};
 ghost use Rattle.std.specs.List.{All};
-ghost use Rattle.wf_audit_history.specs.Legality.{first_stranger};
+ghost use Rattle.audit_replay.specs.Legality.{first_stranger};
 ghost use Rattle.wf_audit_text.specs.Histories.{Holds};
 ghost use Rattle.wf_book.specs.Ops.{InRange};
 ghost use Rattle.wf_iso.specs.Plays.{opening_book};
@@ -11,12 +11,11 @@ ghost use Rattle.wf_audit.specs.Verdicts.{IsGiven, IsVerdict};
 
 use crate::runs::{Runs, run_all};
 use crate::verdict::Verdict;
+use audit_replay::{differs_from, first_illegal, first_stranger};
 use std::alloc::Global;
 use std::snapshot::Snapshot;
 use std::sync::Wait;
 use std::thread::Threads;
-use wf_audit_compare::differs_from;
-use wf_audit_history::{first_illegal, first_stranger};
 use wf_audit_text::{Reading, read_history};
 use wf_book::{Book, History};
 use wf_player_seats::opened;

@@ -1,14 +1,14 @@
 // The runs of a scenario's documents over a history.
 ghost use Rattle.std.specs.Prelude.{◌<◌, length, IfOk};
-ghost use Rattle.wf_audit_history.specs.Legality.{AreRight};
+ghost use Rattle.audit_replay.specs.Legality.{AreRight};
 ghost use Rattle.wf_script_values.specs.Valid.{IsValid};
 ghost use Rattle.wf_audit.specs.Private.Runs as spec;
 
+use audit_replay::{TapePass, TapeShare};
 use std::alloc::Global;
 use std::snapshot::Snapshot;
 use std::sync::Wait;
 use std::thread::Threads;
-use wf_audit_tape::{TapePass, TapeShare};
 use wf_book::{Book, Entry};
 use wf_iso::law_same_calls;
 use wf_player::drive;

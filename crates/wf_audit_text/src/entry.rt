@@ -5,9 +5,9 @@ ghost use Rattle.wf_audit_text.specs.Private.Reading as spec;
 
 use crate::calls::call_in;
 use std::alloc::Global;
+use value_places::Shared;
 use wf_book::Entry;
 use wf_decimal::number_up_to;
-use wf_shared::Shared;
 use wf_text::{OutOfMemory, parts_between};
 
 // The words of an entry's line.

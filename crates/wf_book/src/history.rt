@@ -9,7 +9,7 @@ use crate::entry::Entry;
 use crate::op::{Op, Reply};
 use std::alloc::Global;
 use std::marker::Model;
-use wf_shared::Shared;
+use value_places::Shared;
 use wf_text::OutOfMemory;
 
 /// What was done on the book, seen as the list of its entries.

@@ -8,7 +8,7 @@ use crate::op::{Op, Reply};
 use std::alloc::Global;
 use std::sync::Wait;
 use std::thread::Threads;
-use wf_shared::Shared;
+use value_places::Shared;
 use wf_text::OutOfMemory;
 
 /// A book that is shared by passes. Each document has one pass, and does its operations through it.

@@ -11,7 +11,7 @@ use std::marker::Model;
 use std::snapshot::Snapshot;
 use std::sync::Wait;
 use std::thread::Threads;
-use wf_shared::Shared;
+use value_places::Shared;
 use wf_text::OutOfMemory;
 
 /// A share that one pass has for itself.

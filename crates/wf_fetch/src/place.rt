@@ -4,7 +4,7 @@ ghost use Rattle.wf_types.specs.Requests.{IsRequest};
 ghost use Rattle.wf_fetch.specs.Ready.{is_ready_at, owes_early};
 
 use std::snapshot::Snapshot;
-use wf_boxed::Boxed;
+use value_places::Boxed;
 use wf_cors::Checked;
 use wf_csp::Violations;
 use wf_fetch_acts::Act;

@@ -16,13 +16,12 @@ use crate::context::Context;
 use crate::place::{Fetching, Level, Place, Step};
 use std::alloc::Global;
 use std::snapshot::Snapshot;
+use value_places::{Boxed, Shared};
 use wf_book::Op;
-use wf_boxed::Boxed;
 use wf_csp::Violations;
 use wf_fetch_acts::Act;
 use wf_fetch_answers::{Ended, after_body, ended};
 use wf_fetch_rules::clear_of;
-use wf_shared::Shared;
 use wf_text::OutOfMemory;
 use wf_types::{BodyEnd, Head, Hop, NetError, Outcome, Response, Violation};
 

@@ -3,9 +3,8 @@ ghost use Rattle.std.specs.Prelude.{◌≡◌, if◌then◌else◌, not};
 ghost use Rattle.wf_fetch_acts.specs.Process as spec;
 ghost use Rattle.wf_book.specs.Ops.{is_answer, is_question};
 
+use value_places::{Boxed, Shared};
 use wf_book::{Op, Reply};
-use wf_boxed::Boxed;
-use wf_shared::Shared;
 use wf_types::{BodyEnd, Head, Hop, Violation};
 
 /// What a fetch asks for next.

@@ -5,7 +5,7 @@ ghost use Rattle.wf_fetch_session.specs.Readers.{bodies_read, suits};
 use crate::document::Document;
 use crate::reading::{Bodies, Reader};
 use std::mem::replace;
-use wf_boxed::Boxed;
+use value_places::Boxed;
 use wf_fetch::Fetching;
 use wf_fetch_acts::{Act, Input, fits};
 use wf_types::Outcome;

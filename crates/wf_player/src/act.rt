@@ -9,10 +9,10 @@ use crate::lent::Lent;
 use crate::player::Player;
 use std::sync::Wait;
 use std::thread::Threads;
+use value_places::Shared;
 use wf_book::{Op, Share};
 use wf_fetch_acts::{Act, Input};
 use wf_link::Link;
-use wf_shared::Shared;
 use wf_text::OutOfMemory;
 
 // Makes one call of the book, and answers its reply.

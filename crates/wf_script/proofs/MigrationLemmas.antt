@@ -7,11 +7,11 @@ use Rattle.serde_json.proofs.Views.{get_member-put, get_member-put_other}
 use Rattle.serde_json.specs.Data.{Data, number, unsigned, object, Members, put}
 use Rattle.serde_json.specs.Find.{get, as_array, as_object}
 use Rattle.url.specs.Parts.{Parts}
-use Rattle.wf_script_tables.specs.Reading.{Read, present, given, under, found_or, number_of, required, optional, count}
-use Rattle.wf_script_tables.specs.Reading.{each_from, items_of, list_of, has_keys}
-use Rattle.wf_script_tables.proofs.FollowsLemmas.{Follows, follows-same, follows-then, follows-past, follows-required}
-use Rattle.wf_script_tables.proofs.FollowsLemmas.{follows-optional, follows-list, follows-only_keys, apart, get-unknown}
-use Rattle.wf_script_tables.proofs.FollowsLemmas.{has_keys-more, known-put}
+use Rattle.value_json.specs.Reading.{Read, present, given, under, found_or, number_of, required, optional, count}
+use Rattle.value_json.specs.Reading.{each_from, items_of, list_of, has_keys}
+use Rattle.value_json.proofs.FollowsLemmas.{Follows, follows-same, follows-then, follows-past, follows-required}
+use Rattle.value_json.proofs.FollowsLemmas.{follows-optional, follows-list, follows-only_keys, apart, get-unknown}
+use Rattle.value_json.proofs.FollowsLemmas.{has_keys-more, known-put}
 use Rattle.wf_script.specs.declared.format.Format.{Format}
 use Rattle.wf_script.specs.declared.format.Format.TheVariants.{First, Second}
 use Rattle.wf_script_values.specs.declared.scenario.Scenario.{Scenario}

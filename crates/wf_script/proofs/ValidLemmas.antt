@@ -17,14 +17,14 @@ use Rattle.wf_types.specs.ReferrerPolicies.{policy_of_header}
 use Rattle.wf_types.specs.Requests.{is_policy}
 use Rattle.wf_types.specs.Urls.{url_of_text}
 use Rattle.wf_script_commands.specs.Valid.{IsValidScript}
-use Rattle.wf_script_tables.specs.Reading.{Read, present, any, has_key, only_keys, optional, found_or, number_of}
-use Rattle.wf_script_tables.specs.Reading.{truth_of}
-use Rattle.wf_script_tables.specs.Reading.{text_that, some_of, items_of, list_of}
-use Rattle.wf_script_tables.proofs.KeepsLemmas.{Keeps, Anything, keeps-anything, keeps-after, keeps-then, keeps-under}
-use Rattle.wf_script_tables.proofs.KeepsLemmas.{keeps-found_or, keeps-given, keeps-required, keeps-optional, IsListOf}
-use Rattle.wf_script_tables.proofs.KeepsLemmas.{keeps-items, keeps-list, Within, keeps-number, keeps-text_that}
-use Rattle.wf_script_tables.proofs.KeepsLemmas.{keeps-some}
-use Rattle.wf_script_tables.proofs.KeepsLemmas.{keeps-parts}
+use Rattle.value_json.specs.Reading.{Read, present, any, has_key, only_keys, optional, found_or, number_of}
+use Rattle.value_json.specs.Reading.{truth_of}
+use Rattle.value_json.specs.Reading.{text_that, some_of, items_of, list_of}
+use Rattle.value_json.proofs.KeepsLemmas.{Keeps, Anything, keeps-anything, keeps-after, keeps-then, keeps-under}
+use Rattle.value_json.proofs.KeepsLemmas.{keeps-found_or, keeps-given, keeps-required, keeps-optional, IsListOf}
+use Rattle.value_json.proofs.KeepsLemmas.{keeps-items, keeps-list, Within, keeps-number, keeps-text_that}
+use Rattle.value_json.proofs.KeepsLemmas.{keeps-some}
+use Rattle.value_json.proofs.KeepsLemmas.{keeps-parts}
 use Rattle.wf_script_steps.specs.Scripts.{document_script_of}
 use Rattle.wf_script_steps.proofs.ValidLemmas.{keeps-document_script}
 use Rattle.wf_script.specs.declared.format.Format.{Format}

@@ -4,7 +4,7 @@ use Rattle.std.specs.Prelude.{ℕ, ◌==◌, List, [], ◌∷◌, codes, Option,
 use Rattle.serde_json.specs.Data.{Data}
 use Rattle.serde_json.specs.Find.{get, as_number, as_u64}
 use Rattle.url.specs.Parts.{Parts}
-use Rattle.wf_script_tables.specs.Reading.{Read, number_of, optional}
+use Rattle.value_json.specs.Reading.{Read, number_of, optional}
 use Rattle.wf_script.specs.Urls.{document_url_of}
 use Rattle.wf_script.specs.declared.format.Format.{Format}
 use Rattle.wf_script.specs.declared.format.Format.TheVariants.{First, Second}

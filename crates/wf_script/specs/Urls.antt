@@ -4,7 +4,7 @@ use Rattle.serde_json.specs.Data.{Data}
 use Rattle.serde_json.specs.Find.{as_str}
 use Rattle.url.specs.Parts.{Parts}
 use Rattle.wf_types.specs.Urls.{url_of_text}
-use Rattle.wf_script_tables.specs.Reading.{Read, ◌>>=◌, present, given}
+use Rattle.value_json.specs.Reading.{Read, ◌>>=◌, present, given}
 use Rattle.wf_script_values.specs.Urls.{is_document_url}
 
 -- the URL that a text gives, where a document may have it

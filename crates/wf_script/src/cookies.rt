@@ -3,8 +3,7 @@ ghost use Rattle.wf_script.specs.Scenarios as spec;
 
 use crate::texts::{CookieValue, OriginText};
 use std::alloc::Global;
-use wf_script_tables::{Form, PairOf, Refused, TextThat};
-use wf_script_tree::Tree;
+use value_json::{Form, PairOf, Refused, TextThat, Tree};
 use wf_types::Cookie;
 
 const COOKIE: PairOf<TextThat<OriginText>, TextThat<CookieValue>> = PairOf {

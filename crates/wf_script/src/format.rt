@@ -1,14 +1,13 @@
 // The formats of scenarios, and the keys that only one of them has.
 ghost use Rattle.std.specs.Prelude.{◌≡◌, map};
-ghost use Rattle.wf_script_tree.specs.Trees.{data_of};
-ghost use Rattle.wf_script_tables.specs.Gives.{Gives};
+ghost use Rattle.value_json.specs.Trees.{data_of};
+ghost use Rattle.value_json.specs.Gives.{Gives};
 ghost use Rattle.wf_script.specs.Formats as spec;
 
 use crate::urls::DocumentUrl;
 use std::alloc::Global;
 use url::Url;
-use wf_script_tables::{Number, Refused, optional};
-use wf_script_tree::Tree;
+use value_json::{Number, Refused, Tree, optional};
 
 /// The format of a scenario.
 #[derive(Clone, Copy, Debug)]

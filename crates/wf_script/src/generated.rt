@@ -7,7 +7,7 @@ ghost use Rattle.wf_script_values.specs.Valid.{IsValid};
 use crate::answers::answer_bytes;
 use std::alloc::Global;
 use url::Url;
-use wf_boxed::Boxed;
+use value_places::Boxed;
 use wf_csp_text::Policies;
 use wf_link::Routes;
 use wf_script_commands::{Command, Script};

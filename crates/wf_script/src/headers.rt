@@ -5,12 +5,11 @@ ghost use Rattle.wf_script.specs.Headers as spec;
 ghost use Rattle.wf_script.specs.Scenarios as table;
 
 use std::alloc::Global;
+use value_json::{
+    Form, HeaderValue, ItemsOf, PairOf, Refused, TextThat, Token, Tree, refused_here,
+};
 use wf_csp_text::{Policies, count_policies, parse_policies};
 use wf_headers::HeaderList;
-use wf_script_tables::{
-    Form, HeaderValue, ItemsOf, PairOf, Refused, TextThat, Token, refused_here,
-};
-use wf_script_tree::Tree;
 use wf_text::{OutOfMemory, eq_fold};
 use wf_types::{Pair, ReferrerPolicy, policy_of_header};
 

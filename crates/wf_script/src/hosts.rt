@@ -6,9 +6,8 @@ ghost use Rattle.wf_text.specs.Mime.{is_text};
 
 use std::alloc::Global;
 use url::Url;
+use value_json::{Form, Number, Refused, TextTest, TextThat, Tree, Truth, only_keys, required};
 use wf_origin::is_local_name;
-use wf_script_tables::{Form, Number, Refused, TextTest, TextThat, Truth, only_keys, required};
-use wf_script_tree::Tree;
 use wf_script_values::KnownHost;
 use wf_text::OutOfMemory;
 use wf_types::url_alone;

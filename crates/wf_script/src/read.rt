@@ -1,6 +1,6 @@
 // The table of a scenario, and the reading of one from bytes.
 ghost use Rattle.std.specs.Prelude.{◌≡◌, IfOk, Some, None, option_map};
-ghost use Rattle.wf_script_tree.specs.Trees.{data_of};
+ghost use Rattle.value_json.specs.Trees.{data_of};
 ghost use Rattle.wf_script.specs.Formats as formats;
 ghost use Rattle.wf_script.specs.Scenarios as spec;
 ghost use Rattle.wf_script_values.specs.Valid.{IsValid};
@@ -13,8 +13,9 @@ use crate::place::Place;
 use crate::routes::RoutePair;
 use crate::servers::ServerTable;
 use std::alloc::Global;
-use wf_script_tables::{Form, ItemsOf, ListOf, Number, Refused, only_keys, optional, required};
-use wf_script_tree::{JsonText, Scratch, Tree};
+use value_json::{
+    Form, ItemsOf, JsonText, ListOf, Number, Refused, Scratch, Tree, only_keys, optional, required,
+};
 use wf_script_values::{Scenario, Servers};
 use wf_text::{Bytes, Items, OutOfMemory};
 use wf_types::utf8_text;

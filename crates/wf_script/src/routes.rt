@@ -3,9 +3,8 @@ ghost use Rattle.wf_script.specs.Scenarios as spec;
 
 use crate::texts::OriginText;
 use std::alloc::Global;
+use value_json::{AnyText, Form, PairOf, Refused, TextThat, Tree};
 use wf_link::Route;
-use wf_script_tables::{AnyText, Form, PairOf, Refused, TextThat};
-use wf_script_tree::Tree;
 
 const ROUTE: PairOf<TextThat<OriginText>, TextThat<AnyText>> = PairOf {
     first: TextThat { test: OriginText },

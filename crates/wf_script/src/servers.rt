@@ -1,17 +1,17 @@
 // The tables of servers and their rules.
 ghost use Rattle.wf_script.specs.Scenarios as spec;
 ghost use Rattle.std.specs.Prelude.{◌≡◌, map, is_some};
-ghost use Rattle.wf_script_tree.specs.Trees.{data_of};
-ghost use Rattle.wf_script_tables.specs.Gives.{Gives};
+ghost use Rattle.value_json.specs.Trees.{data_of};
+ghost use Rattle.value_json.specs.Gives.{Gives};
 
 use crate::answers::answer_bytes;
 use crate::headers::PlainHeader;
 use crate::texts::OriginText;
 use std::alloc::Global;
-use wf_script_tables::{
-    AnyText, Form, Given, ItemsOf, Number, Refused, TextThat, Token, only_keys, optional, required,
+use value_json::{
+    AnyText, Form, Given, ItemsOf, Number, Refused, TextThat, Token, Tree, only_keys, optional,
+    required,
 };
-use wf_script_tree::Tree;
 use wf_script_values::{Rule, Server};
 use wf_text::{Bytes, Items};
 

@@ -3,7 +3,7 @@ ghost use Rattle.wf_script_values.specs.Texts as spec;
 ghost use Rattle.wf_types.specs.OriginTexts.{is_origin_text};
 
 use std::alloc::Global;
-use wf_script_tables::TextTest;
+use value_json::TextTest;
 use wf_text::{OutOfMemory, is_value};
 use wf_types::read_origin;
 

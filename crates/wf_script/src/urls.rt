@@ -5,9 +5,8 @@ ghost use Rattle.wf_script.specs.Urls as spec;
 
 use std::alloc::Global;
 use url::Url;
+use value_json::{Form, Refused, Tree, refused_here};
 use wf_origin::is_http_url;
-use wf_script_tables::{Form, Refused, refused_here};
-use wf_script_tree::Tree;
 use wf_types::{has_credentials, is_short_url, url_alone};
 
 // Whether it is an http or https URL without credentials, of at most 8,192 bytes.

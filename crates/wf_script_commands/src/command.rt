@@ -1,7 +1,7 @@
 // The commands of a script, with the scripts and conditions inside them.
 use std::alloc::Global;
 use std::marker::Model;
-use wf_boxed::Boxed;
+use value_places::Boxed;
 use wf_text::{Bytes, OutOfMemory};
 use wf_types::{Init, LoadInit};
 

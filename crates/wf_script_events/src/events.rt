@@ -1,9 +1,8 @@
 ghost use Rattle.std.specs.Prelude.{◌↔◌, IsTrue};
 ghost use Rattle.wf_script_events.specs.Endings as spec;
 
+use value_places::{Boxed, Shared};
 use wf_book::{Op, Reply};
-use wf_boxed::Boxed;
-use wf_shared::Shared;
 use wf_text::{Bytes, Items};
 use wf_types::{Destination, Hop, NetError, Outcome, TypeFault, Violation};
 

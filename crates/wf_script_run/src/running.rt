@@ -11,7 +11,7 @@ ghost use Rattle.wf_script_run.specs.Runs.{started, waited};
 use crate::shown::Shown;
 use std::alloc::Global;
 use std::marker::Model;
-use wf_boxed::Boxed;
+use value_places::Boxed;
 use wf_fetch_acts::{Act, Input};
 use wf_script_commands::Command;
 use wf_script_events::{Ending, Event, Events};

@@ -14,7 +14,7 @@ use Rattle.wf_types.specs.declared.mode.ReferrerPolicy.TheVariants as policy
 use Rattle.wf_types.specs.declared.policy.Destination.TheVariants as destination
 use Rattle.wf_script_commands.specs.declared.command.Test.TheVariants.{IsError, TypeIs, StatusIs}
 use Rattle.wf_script_commands.specs.Scripts.{fetch, load, wait, repeat, choose, Steps, no_steps, step}
-use Rattle.wf_script_tables.specs.Reading.{Read}
+use Rattle.value_json.specs.Reading.{Read}
 use Rattle.wf_script_steps.specs.Scripts.{document_script_of}
 
 -- the script of a text

@@ -16,14 +16,14 @@ use Rattle.wf_script_commands.specs.Templates.{is_template}
 use Rattle.wf_script_commands.specs.Valid.{IsTemplatePair, IsValidInit, IsValidLoad, IsValidTest, IsValidStep, AreValid}
 use Rattle.wf_script_commands.specs.Valid.{step_repeats, repeats, step_choices, choices, IsValidScript}
 use Rattle.wf_script_commands.specs.declared.command.Test.TheVariants.{TypeIs, StatusIs, BodyIs}
-use Rattle.wf_script_tables.specs.Reading.{Read, under, present, number_of, truth_of, text_that, any, word_of, some_of}
-use Rattle.wf_script_tables.specs.Reading.{has_key, only_keys, optional, list_of, count, each_from}
-use Rattle.wf_script_tables.proofs.KeepsLemmas.{Keeps, Anything, keeps-anything, keeps-after, keeps-weaker, keeps-then}
-use Rattle.wf_script_tables.proofs.KeepsLemmas.{keeps-under, keeps-there, keeps-if, keeps-required, keeps-optional}
-use Rattle.wf_script_tables.proofs.KeepsLemmas.{IsListOf}
-use Rattle.wf_script_tables.proofs.KeepsLemmas.{keeps-list, Within, keeps-number, keeps-word, keeps-text_that}
-use Rattle.wf_script_tables.proofs.KeepsLemmas.{keeps-some}
-use Rattle.wf_script_tables.proofs.KeepsLemmas.{keeps-each, keeps-parts}
+use Rattle.value_json.specs.Reading.{Read, under, present, number_of, truth_of, text_that, any, word_of, some_of}
+use Rattle.value_json.specs.Reading.{has_key, only_keys, optional, list_of, count, each_from}
+use Rattle.value_json.proofs.KeepsLemmas.{Keeps, Anything, keeps-anything, keeps-after, keeps-weaker, keeps-then}
+use Rattle.value_json.proofs.KeepsLemmas.{keeps-under, keeps-there, keeps-if, keeps-required, keeps-optional}
+use Rattle.value_json.proofs.KeepsLemmas.{IsListOf}
+use Rattle.value_json.proofs.KeepsLemmas.{keeps-list, Within, keeps-number, keeps-word, keeps-text_that}
+use Rattle.value_json.proofs.KeepsLemmas.{keeps-some}
+use Rattle.value_json.proofs.KeepsLemmas.{keeps-each, keeps-parts}
 use Rattle.wf_script_steps.specs.Conditions.{subjects, second_part, parts_of, test_about, test_of}
 use Rattle.wf_script_steps.specs.Fetches.{header_of, content_of, manner_of, referring_of, fetch_keys, fetch_of}
 use Rattle.wf_script_steps.specs.Loads.{kinds, settings, load_keys, load_of}

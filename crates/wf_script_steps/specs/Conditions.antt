@@ -4,7 +4,7 @@ use Rattle.serde_json.specs.Data.{Data, Items, no_items, item}
 use Rattle.serde_json.specs.Find.{as_array}
 use Rattle.wf_script_commands.specs.declared.command.Test.{Test}
 use Rattle.wf_script_commands.specs.declared.command.Test.TheVariants.{IsOk, IsError, TypeIs, StatusIs, BodyIs}
-use Rattle.wf_script_tables.specs.Reading.{Read, ◌>>=◌, under, present, number_of, text_that, any, word_of}
+use Rattle.value_json.specs.Reading.{Read, ◌>>=◌, under, present, number_of, text_that, any, word_of}
 use Rattle.wf_script_steps.specs.declared.conditions.Subject.{Subject}
 use Rattle.wf_script_steps.specs.declared.conditions.Subject.TheVariants as subject
 

@@ -11,8 +11,8 @@ use Rattle.wf_types.specs.declared.mode.RedirectMode.{RedirectMode}
 use Rattle.wf_types.specs.declared.mode.RedirectMode.TheVariants as redirect
 use Rattle.wf_types.specs.declared.mode.ReferrerPolicy.{ReferrerPolicy}
 use Rattle.wf_script_commands.specs.Templates.{is_template}
-use Rattle.wf_script_tables.specs.Reading.{Read, ◌>>=◌, truth_of, text_that, any, word_of, some_of}
-use Rattle.wf_script_tables.specs.Reading.{only_keys, required, optional, list_of, pair_of}
+use Rattle.value_json.specs.Reading.{Read, ◌>>=◌, truth_of, text_that, any, word_of, some_of}
+use Rattle.value_json.specs.Reading.{only_keys, required, optional, list_of, pair_of}
 use Rattle.wf_script_steps.specs.Referring.{policy_of}
 
 abbrev pub modes : List (List ℕ × Mode)

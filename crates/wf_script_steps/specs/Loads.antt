@@ -7,8 +7,8 @@ use Rattle.wf_types.specs.declared.init.LoadInit.{LoadInit}
 use Rattle.wf_types.specs.declared.policy.Destination.{Destination}
 use Rattle.wf_types.specs.declared.policy.Destination.TheVariants as destination
 use Rattle.wf_script_commands.specs.Templates.{is_template}
-use Rattle.wf_script_tables.specs.Reading.{Read, ◌>>=◌, truth_of, text_that, any, word_of, only_keys, required}
-use Rattle.wf_script_tables.specs.Reading.{optional}
+use Rattle.value_json.specs.Reading.{Read, ◌>>=◌, truth_of, text_that, any, word_of, only_keys, required}
+use Rattle.value_json.specs.Reading.{optional}
 use Rattle.wf_script_steps.specs.Referring.{policy_of}
 
 -- the kinds of resources by their names

@@ -3,7 +3,7 @@ use Rattle.std.specs.Prelude.{ℕ, List, [], ◌∷◌, codes}
 use Rattle.serde_json.specs.Data.{Data}
 use Rattle.wf_types.specs.declared.mode.ReferrerPolicy.{ReferrerPolicy}
 use Rattle.wf_types.specs.declared.mode.ReferrerPolicy.TheVariants as policy
-use Rattle.wf_script_tables.specs.Reading.{Read, word_of, optional}
+use Rattle.value_json.specs.Reading.{Read, word_of, optional}
 
 -- the referrer policies by their names, and the empty one
 abbrev pub policies : List (List ℕ × ReferrerPolicy)

@@ -4,9 +4,9 @@ use Rattle.std.specs.Prelude.{if◌then◌else◌}
 use Rattle.serde_json.specs.Data.{Data, Items}
 use Rattle.serde_json.specs.Find.{as_array}
 use Rattle.wf_script_commands.specs.Scripts.{Step, fetch, load, wait, repeat, choose, Steps, no_steps, step}
-use Rattle.wf_script_tables.specs.Reading.{Read, ◌>>=◌, under, present, number_of, has_key, only_keys, required}
-use Rattle.wf_script_tables.specs.Reading.{optional}
-use Rattle.wf_script_tables.specs.Reading.{each_from}
+use Rattle.value_json.specs.Reading.{Read, ◌>>=◌, under, present, number_of, has_key, only_keys, required}
+use Rattle.value_json.specs.Reading.{optional}
+use Rattle.value_json.specs.Reading.{each_from}
 use Rattle.wf_script_steps.specs.Conditions.{test_of}
 use Rattle.wf_script_steps.specs.Fetches.{fetch_of}
 use Rattle.wf_script_steps.specs.Loads.{load_of}

@@ -1,18 +1,17 @@
 // The tables of the commands that have no scripts inside them.
-ghost use Rattle.wf_script_tree.specs.Trees.{data_of};
+ghost use Rattle.value_json.specs.Trees.{data_of};
 ghost use Rattle.std.specs.Prelude.{[], Err};
 ghost use Rattle.wf_script_commands.specs.Commands.{step_of};
-ghost use Rattle.wf_script_tables.specs.Gives.{GivesAs};
-ghost use Rattle.wf_script_tables.specs.Reading.{below};
+ghost use Rattle.value_json.specs.Gives.{GivesAs};
+ghost use Rattle.value_json.specs.Reading.{below};
 ghost use Rattle.wf_script_steps.specs.Scripts as spec;
 
 use crate::fetches::FetchTable;
 use crate::loads::LoadTable;
 use std::alloc::Global;
-use wf_boxed::Boxed;
+use value_json::{Number, Refused, Tree, only_keys, refused_under, required};
+use value_places::Boxed;
 use wf_script_commands::Command;
-use wf_script_tables::{Number, Refused, only_keys, refused_under, required};
-use wf_script_tree::Tree;
 use wf_text::Bytes;
 
 const SECONDS: Number = Number {

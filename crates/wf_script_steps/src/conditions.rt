@@ -1,15 +1,14 @@
 // The conditions of an `if`.
 ghost use Rattle.std.specs.Prelude.{◌≡◌, option_map, option_and_then};
 ghost use Rattle.serde_json.specs.Find.{as_array};
-ghost use Rattle.wf_script_tree.specs.Trees.{data_of};
-ghost use Rattle.wf_script_tables.specs.Gives.{Gives};
+ghost use Rattle.value_json.specs.Trees.{data_of};
+ghost use Rattle.value_json.specs.Gives.{Gives};
 ghost use Rattle.wf_script_steps.specs.Conditions as spec;
 
 use crate::texts::TEXT;
 use std::alloc::Global;
+use value_json::{Form, Number, Refused, Tree, Word, item_at, refused_here};
 use wf_script_commands::Test;
-use wf_script_tables::{Form, Number, Refused, Word, item_at, refused_here};
-use wf_script_tree::Tree;
 
 /// What a condition is about.
 #[derive(Clone, Copy, Debug)]

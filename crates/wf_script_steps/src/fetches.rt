@@ -1,15 +1,14 @@
 // The table of what a fetch asks for.
-ghost use Rattle.wf_script_tree.specs.Trees.{data_of};
-ghost use Rattle.wf_script_tables.specs.Gives.{Gives};
+ghost use Rattle.value_json.specs.Trees.{data_of};
+ghost use Rattle.value_json.specs.Gives.{Gives};
 ghost use Rattle.wf_script_steps.specs.Fetches as spec;
 
 use crate::texts::{TEMPLATE, TEXT, Template, policy};
 use std::alloc::Global;
-use wf_script_tables::{
-    AnyText, Form, Given, ListOf, PairOf, Refused, TextThat, Truth, Word, only_keys, optional,
-    required,
+use value_json::{
+    AnyText, Form, Given, ListOf, PairOf, Refused, TextThat, Tree, Truth, Word, only_keys,
+    optional, required,
 };
-use wf_script_tree::Tree;
 use wf_text::{Bytes, Items};
 use wf_types::{Credentials, Init, Mode, Pair, Pairs, RedirectMode, ReferrerPolicy};
 

@@ -3,8 +3,7 @@ ghost use Rattle.wf_script_steps.specs.Loads as spec;
 
 use crate::texts::{TEMPLATE, TEXT, policy};
 use std::alloc::Global;
-use wf_script_tables::{Form, Refused, Truth, Word, only_keys, optional, required};
-use wf_script_tree::Tree;
+use value_json::{Form, Refused, Tree, Truth, Word, only_keys, optional, required};
 use wf_text::Bytes;
 use wf_types::{CrossOrigin, Destination, LoadInit};
 

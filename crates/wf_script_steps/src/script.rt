@@ -1,20 +1,19 @@
 // Scripts, with the scripts inside their commands.
 ghost use Rattle.std.specs.Prelude.{decimal};
-ghost use Rattle.wf_script_tree.specs.Trees.{data_of, trees_of};
+ghost use Rattle.value_json.specs.Trees.{data_of, trees_of};
 ghost use Rattle.wf_script_commands.specs.Commands.{step_of};
 ghost use Rattle.wf_script_commands.specs.Scripts.{no_steps};
-ghost use Rattle.wf_script_tables.specs.Gives.{Gives, GivesAs};
-ghost use Rattle.wf_script_tables.specs.Reading.{under, required, optional};
+ghost use Rattle.value_json.specs.Gives.{Gives, GivesAs};
+ghost use Rattle.value_json.specs.Reading.{under, required, optional};
 ghost use Rattle.wf_script_steps.specs.Scripts as spec;
 
 use crate::commands::{fetch_command, load_command, refused_command, refused_key, wait_command};
 use crate::conditions::Condition;
 use std::alloc::Global;
-use wf_script_commands::{Command, Script};
-use wf_script_tables::{
-    Form, Number, Refused, at_segment, only_keys, refused_at, refused_here, required,
+use value_json::{
+    Form, Number, Refused, Tree, Trees, at_segment, only_keys, refused_at, refused_here, required,
 };
-use wf_script_tree::{Tree, Trees};
+use wf_script_commands::{Command, Script};
 
 // How many `repeat` may be inside each other.
 const REPEATS: u32 = 8;

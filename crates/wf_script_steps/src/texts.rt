@@ -1,13 +1,12 @@
 // Texts that are templates, and the words for referrer policies.
-ghost use Rattle.wf_script_tree.specs.Trees.{data_of};
+ghost use Rattle.value_json.specs.Trees.{data_of};
 ghost use Rattle.wf_script_commands.specs.Templates.{is_template};
-ghost use Rattle.wf_script_tables.specs.Gives.{Gives};
+ghost use Rattle.value_json.specs.Gives.{Gives};
 ghost use Rattle.wf_script_steps.specs.Referring as spec;
 
 use std::alloc::Global;
+use value_json::{AnyText, Refused, TextTest, TextThat, Tree, Word, optional};
 use wf_script_commands::is_template;
-use wf_script_tables::{AnyText, Refused, TextTest, TextThat, Word, optional};
-use wf_script_tree::Tree;
 use wf_text::OutOfMemory;
 use wf_types::ReferrerPolicy;
 

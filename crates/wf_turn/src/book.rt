@@ -16,8 +16,8 @@ use std::hint::spin_loop;
 use std::snapshot::Snapshot;
 use std::sync::{Mutex, MutexGuard, Wait};
 use std::thread::Threads;
+use value_places::Shared;
 use wf_book::{Book, History, Op, Reply, Share};
-use wf_shared::Shared;
 use wf_text::OutOfMemory;
 
 /// A book that threads share. A call waits for its turn; whose is next, no clause says.

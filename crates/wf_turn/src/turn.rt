@@ -13,8 +13,8 @@ use std::alloc::Global;
 use std::snapshot::Snapshot;
 use std::sync::Wait;
 use std::thread;
+use value_places::Shared;
 use wf_book::{Book, Op, Reply};
-use wf_shared::Shared;
 use wf_text::OutOfMemory;
 
 /// The seat of a pass.

@@ -5,8 +5,8 @@ use crate::ops::{clear, covers, is_known, learn, note};
 use std::alloc::Global;
 use std::sync::Wait;
 use std::thread::Threads;
+use value_places::Shared;
 use wf_book::{Book, Entry, History, Op, Reply, Share, SoloBook, SoloPass};
-use wf_shared::Shared;
 use worked_rows::{Failed, Held, Shown};
 
 // A reply as it is printed.

@@ -7,8 +7,8 @@ use std::alloc::Global;
 use std::sync::Wait;
 use std::thread;
 use std::thread::Threads;
+use value_places::Shared;
 use wf_book::{Book, Entry, History, Reply, Share};
-use wf_shared::Shared;
 use wf_turn::{TurnBook, TurnPass};
 use worked_rows::{Failed, Held, Shown};
 

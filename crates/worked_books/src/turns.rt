@@ -7,8 +7,8 @@ use crate::passes::{collected, two_documents};
 use std::alloc::Global;
 use std::sync::Wait;
 use std::thread::Threads;
+use value_places::Shared;
 use wf_book::{Book, History, Share};
-use wf_shared::Shared;
 use wf_turn::{FIRST, TurnBook, TurnPass};
 use worked_rows::{Failed, Shown};
 

@@ -1,7 +1,7 @@
 use Rattle.std.proofs.Common.{List, subst}
 use Rattle.wf_book.specs.declared.entry.Entry.{Entry}
 use Rattle.wf_print.specs.Text.{play_text}
-use Rattle.wf_audit_compare.specs.Differences.{AreCompared}
+use Rattle.audit_replay.specs.Differences.{AreCompared}
 use Rattle.wf_audit.specs.Verdicts.{StopsAt}
 use Rattle.wf_audit.specs.Private.Runs.{AllCame, AreRuns}
 use Rattle.wf_audit.proofs.VerdictLemmas.{calls-verdict, play-verdict, text-verdict}

@@ -2,7 +2,7 @@ use Rattle.std.proofs.Common.{◌≡◌, ◌≢◌, ◌∙◌, ap, List}
 use Rattle.wf_iso.specs.Laws.{CallsFollow}
 use Rattle.wf_script_events.specs.declared.events.Ending.TheVariants.{Memory}
 use Rattle.wf_script_values.specs.declared.servers.Server.{Server}
-use Rattle.wf_audit_tape.specs.Tapes.{Tape}
+use Rattle.audit_replay.specs.Tapes.{Tape}
 use Rattle.wf_audit.proofs.TapeRunLemmas.{came-to, document-at, unused-run, used-run}
 use Rattle.wf_audit.proofs.runs.run_one.Goals as goal
 

@@ -1,4 +1,4 @@
-use Rattle.wf_script_tree.specs.Trees.{data_of}
+use Rattle.value_json.specs.Trees.{data_of}
 use Rattle.wf_script.proofs.ValidLemmas.{scenario_as-IsValid}
 use Rattle.wf_script.proofs.read.scenario_of.Goals as goal
 

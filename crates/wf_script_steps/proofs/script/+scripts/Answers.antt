@@ -2,9 +2,9 @@ use Rattle.std.proofs.Common.{◌≡◌, ap, ◌∙◌, sym, ℕ, List, Ok}
 use Rattle.std.specs.Prelude.{decimal}
 use Rattle.wf_script_commands.specs.Commands.{step_of}
 use Rattle.wf_script_commands.specs.Scripts.{Step, Steps, count}
-use Rattle.wf_script_tree.specs.Trees.{data_of, trees_of}
-use Rattle.wf_script_tables.specs.Reading.{Read, ◌>>=◌, under, each_from}
-use Rattle.wf_script_tables.proofs.ReadingLemmas.{one-more, none-left}
+use Rattle.value_json.specs.Trees.{data_of, trees_of}
+use Rattle.value_json.specs.Reading.{Read, ◌>>=◌, under, each_from}
+use Rattle.value_json.proofs.ReadingLemmas.{one-more, none-left}
 use Rattle.wf_script_steps.specs.Scripts.{command_in, in_order}
 use Rattle.wf_script_steps.proofs.StepLemmas.{listed, listed-and_step, count-and_step, in_order-listed}
 use Rattle.wf_script_steps.proofs.script.+scripts.Goals as goal

@@ -1,8 +1,8 @@
 use Rattle.std.proofs.Common.{◌≡◌, ◌+◌, ◌*◌, length}
 use Rattle.wf_script_commands.specs.Scripts.{count}
-use Rattle.wf_script_tree.specs.Trees.{trees_of}
-use Rattle.wf_script_tables.specs.Reading.{each_from}
-use Rattle.wf_script_tables.proofs.ReadingLemmas.{with_front}
+use Rattle.value_json.specs.Trees.{trees_of}
+use Rattle.value_json.specs.Reading.{each_from}
+use Rattle.value_json.proofs.ReadingLemmas.{with_front}
 use Rattle.wf_script_steps.specs.Scripts.{command_in}
 use Rattle.wf_script_steps.proofs.StepLemmas.{listed}
 use Rattle.wf_script_steps.proofs.script.+scripts.Given as goal

@@ -1,0 +1,4 @@
+pub mod LegalityLemmas
+pub mod OpLemmas
+pub mod TapeLemmas
+pub mod CompareLemmas

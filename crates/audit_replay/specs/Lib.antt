@@ -1,0 +1,4 @@
+pub mod Differences
+pub mod Legality
+pub mod Private
+pub mod Tapes

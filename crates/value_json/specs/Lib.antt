@@ -1,0 +1,5 @@
+pub mod Gives
+pub mod Keys
+pub mod Private
+pub mod Reading
+pub mod Trees

@@ -1,2 +1,0 @@
--- What the crate's private contracts alone cite: how far a text was compared.
-pub mod Comparing

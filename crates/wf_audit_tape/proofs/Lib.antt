@@ -1,2 +1,0 @@
-pub mod OpLemmas
-pub mod TapeLemmas

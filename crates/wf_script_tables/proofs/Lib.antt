@@ -1,3 +1,0 @@
-pub mod ReadingLemmas
-pub mod KeepsLemmas
-pub mod FollowsLemmas

@@ -1,6 +1,0 @@
-mod NumberLemmas
-mod TreeLemmas
-mod FindLemmas
-mod ItemLemmas
-mod TakenLemmas
-mod DocumentLemmas

@@ -1,8 +1,0 @@
-use Rattle.std.proofs.Common.{◌≡◌, ℕ, List, Bor, map, drop}
-use Rattle.wf_script_tree.specs.Keys.{is_one_of}
-use Rattle.wf_script_tree.proofs.tree.is_one_of.Given as goal
-
-abbrev pub invariant-loop-name : goal.invariant-loop-name
-invariant-loop-name l =
-    is_one_of (map (λ (name : Bor (List ℕ)). name.now) l.names) l.key
-    ≡ is_one_of (map (λ (name : Bor (List ℕ)). name.now) (drop l.name-index l.names)) l.key

@@ -1,9 +1,0 @@
--- The keys of an object as it is written.
-use Rattle.std.specs.Prelude.{ℕ, ◌&&◌, Bool, true, List}
-use Rattle.json.specs.Json.{Members, no_members, member}
-use Rattle.wf_script_tree.specs.Keys.{is_one_of}
-
--- each key is one of the names
-abbrev pub written_known : List (List ℕ) → Members → Bool
-written_known names no_members = true
-written_known names (member key value members) = is_one_of names key && written_known names members

@@ -1,6 +1,0 @@
-// A value that several hold, which none of them changes.
-#![tactic(auto)]
-
-mod shared;
-
-pub use shared::Shared;
