@@ -1,3 +1,4 @@
+// The laws of verdicts: an audit says `Play` exactly of the texts of plays, and a text has one verdict.
 ghost use Rattle.wf_audit.specs.Laws as laws;
 
 use wf_audit_text::law_one_reading;

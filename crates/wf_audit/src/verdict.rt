@@ -1,3 +1,4 @@
+// The verdict of an audit: the text is that of a play, or what is wrong with it first.
 use wf_script::Place;
 
 /// What an audit of a printed play comes to.

@@ -1,3 +1,4 @@
+// The first entry of a given history that the book would not give, and the first that names no document.
 ghost use Rattle.std.specs.Prelude.{◌≡◌, ◌↔◌, IfOk, IsTrue};
 ghost use Rattle.std.specs.List.{All};
 ghost use Rattle.wf_book.specs.Ops.{InRange};

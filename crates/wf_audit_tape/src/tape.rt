@@ -1,3 +1,4 @@
+// A document's calls of the shared book, to which a given history replies in place of a book.
 ghost use Rattle.std.specs.Prelude.{◌≡◌, ◌≢◌, ◌==◌, ◌+◌, ◌<◌, [], drop, length, position, slice_get, Some};
 ghost use Rattle.std.specs.Prelude.{IfOk, MatchBool, MatchOption, OnErr};
 ghost use Rattle.wf_book.specs.Entries.{entries_of};

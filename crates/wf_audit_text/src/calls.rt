@@ -1,3 +1,4 @@
+// The calls in the lines of a printed history, read back: each operation, and what it replied.
 ghost use Rattle.std.specs.Prelude.{◌≡◌, map, IfOk};
 ghost use Rattle.wf_audit_text.specs.Private.Reading as spec;
 

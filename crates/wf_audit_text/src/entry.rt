@@ -1,3 +1,4 @@
+// A line of a printed history, read back as its entry.
 ghost use Rattle.std.specs.Prelude.{◌≡◌, map, IfOk};
 ghost use Rattle.wf_audit_text.specs.Entries.{IsReading};
 ghost use Rattle.wf_audit_text.specs.Private.Reading as spec;

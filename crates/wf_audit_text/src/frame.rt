@@ -1,3 +1,4 @@
+// The input of an audit, cut into the scenario and the printed play.
 ghost use Rattle.std.specs.Prelude.{ℕ, List, MatchOption};
 ghost use Rattle.wf_audit_text.specs.Frames.{IsFramed};
 

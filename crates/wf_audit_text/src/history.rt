@@ -1,3 +1,4 @@
+// The history in the printed text of a play, read back line by line.
 ghost use Rattle.std.specs.Prelude.{◌≡◌, ◌≢◌, ◌++◌, ℕ, List, IfOk, MatchBool, MatchOption};
 ghost use Rattle.wf_script_events.specs.Lines.{line};
 ghost use Rattle.wf_audit_text.specs.Histories.{IsLine, IsRead, heading};

@@ -1,3 +1,4 @@
+// The law of printed histories: a play's text holds one, and is read in one way.
 ghost use Rattle.wf_audit_text.specs.Laws.{HoldsOne, ReadsOnce};
 
 use wf_print::law_one_history;

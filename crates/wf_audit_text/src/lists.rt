@@ -1,3 +1,4 @@
+// The method that a line of a printed history asks for, or none, and its lists of tokens.
 ghost use Rattle.std.specs.Prelude.{◌≡◌, ◌==◌, map, IfOk};
 ghost use Rattle.std.specs.List.{list_all};
 ghost use Rattle.wf_text.specs.Tokens.{is_token};

@@ -1,3 +1,4 @@
+// The end of a line of a printed history: when the operation was done, and what it replied.
 ghost use Rattle.std.specs.Prelude.{◌≡◌, map};
 ghost use Rattle.wf_audit_text.specs.Private.Reading as spec;
 

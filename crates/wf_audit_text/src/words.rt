@@ -1,3 +1,4 @@
+// The words of a printed history's lines: visible ASCII, and what stands for credentials and subdomains.
 ghost use Rattle.std.specs.Prelude.{◌≡◌};
 ghost use Rattle.std.specs.List.{list_all};
 ghost use Rattle.wf_audit_text.specs.Entries as spec;

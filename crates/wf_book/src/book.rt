@@ -1,3 +1,4 @@
+// The book: the known HSTS hosts and the CORS-preflight cache, and what each operation does to them.
 ghost use Rattle.std.specs.Prelude.{◌≡◌, IfOk, OnOk, OnErr};
 ghost use Rattle.wf_book.specs.Book.{after, book_of, empty, reply, yes_or_no};
 ghost use Rattle.wf_book.specs.Ops.{InRange};

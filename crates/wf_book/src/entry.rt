@@ -1,3 +1,4 @@
+// An entry of the book's history: an operation, its turn, its document and its reply.
 use crate::op::{Op, Reply};
 use wf_shared::Shared;
 

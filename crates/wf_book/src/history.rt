@@ -1,3 +1,4 @@
+// The history of a book, which grows by an entry for each operation that is done.
 ghost use Rattle.std.specs.Prelude.{◌≡◌, ◌<◌, [], ◌∷◌, ◌++◌, length, slice_get, Some, OnOk, OnErr, IfOk};
 ghost use Rattle.wf_book.specs.Book.{after, reply};
 ghost use Rattle.wf_book.specs.Entries.{entry};

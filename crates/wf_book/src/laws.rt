@@ -1,3 +1,4 @@
+// Laws of the book's histories: how one grows, and on which entries the replies to a document rest.
 ghost use Rattle.wf_book.specs.Entries.{GrowsByAnEntry, IsLastOfItsDocument};
 ghost use Rattle.wf_book.specs.Past.{PastReplies, PastsAnswer};
 

@@ -1,3 +1,4 @@
+// The operations on the book, and what they reply.
 use wf_hsts::Sts;
 use wf_precache::{Lesson, Question};
 use wf_text::Bytes;

@@ -1,3 +1,4 @@
+// What a shared book promises to each document that calls it.
 ghost use Rattle.std.specs.Prelude.{◌≡◌, ◌-◌, ◌<◌, OnErr, IfOk};
 ghost use Rattle.wf_book.specs.Accounts.{Account};
 ghost use Rattle.wf_book.specs.Entries.{Extends, StartsWith, entries_of};

@@ -1,3 +1,4 @@
+// A share of the book that has one pass, which keeps the book itself.
 ghost use Rattle.std.specs.Prelude.{◌≡◌, []};
 ghost use Rattle.wf_book.specs.Entries.{AllTurnsBelow, Legal, book_after};
 

@@ -1,3 +1,4 @@
+// The fields of a book's text, read back: numbers, texts behind their lengths, and counts of lines.
 ghost use Rattle.std.specs.Prelude.{◌≡◌, ◌≤◌, IfSome, option_map};
 ghost use Rattle.wf_book_text.specs.Reading as spec;
 

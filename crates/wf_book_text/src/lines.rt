@@ -1,3 +1,4 @@
+// The lines of a book's text, read back: a known host, or an entry of the preflight cache.
 ghost use Rattle.std.specs.Prelude.{◌≡◌, IfOk, option_map};
 ghost use Rattle.wf_book_text.specs.Reading as spec;
 

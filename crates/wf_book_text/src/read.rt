@@ -1,3 +1,4 @@
+// A book's text read back: the book, or the first line that is wrong and why.
 ghost use Rattle.std.specs.Prelude.{◌≡◌, ◌≤◌, ◌+◌, ◌<◌, ◌^◌, IfOk};
 ghost use Rattle.wf_hsts.specs.Hosts as of_hosts;
 ghost use Rattle.wf_precache.specs.Keys as of_keys;

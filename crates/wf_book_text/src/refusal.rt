@@ -1,3 +1,4 @@
+// Why a text is not that of a book, and from which line on.
 ghost use Rattle.std.specs.Prelude.{◌≡◌};
 ghost use Rattle.wf_book_text.specs.declared.refusal.ReadError.TheVariants.{Memory};
 

@@ -1,3 +1,4 @@
+// A book written as a text: its known hosts, then the entries of its preflight cache.
 ghost use Rattle.std.specs.Prelude.{◌≡◌, ◌≤◌, ◌++◌, length, IfOk, OnOk, Ok};
 ghost use Rattle.std.specs.List.{AllByRecursion, flat_map};
 ghost use Rattle.wf_book_text.specs.Reading.{read_book};

@@ -1,3 +1,4 @@
+// A box that contracts see as the value inside.
 ghost use Rattle.std.specs.Prelude.{◌≡◌, IfOk};
 
 use std::alloc::Global;

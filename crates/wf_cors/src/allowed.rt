@@ -1,3 +1,4 @@
+// The first of a request's CORS-unsafe request-header names that the answer to a preflight does not list.
 ghost use Rattle.std.specs.Prelude.{◌≡◌, not, IfOk, option_copied};
 ghost use Rattle.std.specs.List.{find};
 ghost use Rattle.std.specs.Str.{str_to_ascii_lowercase};

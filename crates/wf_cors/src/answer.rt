@@ -1,3 +1,4 @@
+// The verdict on the answer to a CORS-preflight request (Fetch, section 4.8 "CORS-preflight fetch", steps 7 and 8).
 ghost use Rattle.std.specs.Prelude.{◌≡◌, IfOk, option_copied};
 ghost use Rattle.wf_types.specs.Requests.{IsRequest};
 ghost use Rattle.wf_cors.specs.Verdict as spec;

@@ -1,3 +1,4 @@
+// Laws of the CORS check and of the verdict on the answer to a preflight.
 ghost use Rattle.wf_cors.specs.Laws.{ChecksAreOfViews, CredentialsNeverByWildcard};
 ghost use Rattle.wf_cors.specs.Laws.{PassesAreLessons, VerdictsAreOfViews};
 

@@ -1,3 +1,4 @@
+// The CORS-preflight request that goes before a request (Fetch, section 4.8 "CORS-preflight fetch", steps 1 to 6).
 ghost use Rattle.std.specs.Prelude.{◌≡◌, [], ◌∷◌, IfOk, IsTrue};
 ghost use Rattle.std.specs.List.{join_with_byte};
 ghost use Rattle.wf_text.specs.Ascii.{comma};

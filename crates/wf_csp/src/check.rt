@@ -1,3 +1,4 @@
+// Which policies of a document a request, or the response to it, violates (CSP 3, section 4.1).
 ghost use Rattle.std.specs.Prelude.{◌≡◌, ◌<◌, ◌^◌, length, codes, bytes_eq, IfOk};
 ghost use Rattle.std.specs.List.{list_any};
 ghost use Rattle.wf_csp.specs.Violations as spec;

@@ -1,3 +1,4 @@
+// Reads the words of a document's policies as source expressions, once, for the directives that requests ask for.
 ghost use Rattle.std.specs.Prelude.{◌≡◌, ◌<◌, ◌^◌, filter, length, map, IfOk};
 ghost use Rattle.wf_csp.specs.Private.Kept as kept;
 ghost use Rattle.wf_csp.specs.Reading as spec;

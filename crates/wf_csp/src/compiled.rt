@@ -1,3 +1,4 @@
+// The policies of a document, ready to be checked: their words are source expressions.
 ghost use Rattle.std.specs.Prelude.{◌≡◌, length};
 
 use std::marker::Model;

@@ -1,3 +1,4 @@
+// Which directive of a policy decides about a request (CSP 3, section 6.8).
 ghost use Rattle.std.specs.Prelude.{◌≡◌, ◌∷◌, [], map, option_map};
 ghost use Rattle.wf_csp.specs.Directives as spec;
 

@@ -1,3 +1,4 @@
+// Laws of policies: a directive without words is as one with `'none'`, and both dispositions are violated alike.
 ghost use Rattle.std.specs.Prelude.{Bool, List};
 ghost use Rattle.wf_csp.specs.Laws.{AreEmptyAsNone, AreViolatedAlike};
 ghost use Rattle.wf_csp_text.specs.declared.policy.Policy.{Policy};

@@ -1,3 +1,4 @@
+// Whether a source list lets a request through (CSP 3, section 6.7.2 "does request match source list?").
 ghost use Rattle.std.specs.Prelude.{◌≡◌, ◌||◌, not, IfOk, OnOk, if◌then◌else◌};
 ghost use Rattle.std.specs.List.{list_all, list_any};
 ghost use Rattle.wf_csp.specs.Private.Hashes.{is_in};

@@ -1,3 +1,4 @@
+// The grammar of scheme-parts, host-parts, port-parts and path-parts (CSP 3, section 2.3.1).
 ghost use Rattle.std.specs.Prelude.{◌≡◌, ◌==◌, bytes_eq, codes};
 ghost use Rattle.std.specs.List.{list_all};
 ghost use Rattle.url.specs.Scheme.{is_scheme_byte};

@@ -1,4 +1,6 @@
-ghost use Rattle.std.specs.Prelude.{◌≡◌, ◌<◌, ◌+◌, ◌++◌, ◌∷◌, [], drop, length, take, option_and_then, option_copied, IfOk, OnOk};
+// A list of source expressions that is kept for long: their parts stand in one text, and are matched there.
+ghost use Rattle.std.specs.Prelude.{◌≡◌, ◌<◌, ◌+◌, ◌++◌, ◌∷◌, [], drop, length, take, option_and_then};
+ghost use Rattle.std.specs.Prelude.{option_copied, IfOk, OnOk};
 ghost use Rattle.std.specs.List.{list_any};
 ghost use Rattle.url.specs.Host.{domain_of};
 ghost use Rattle.url.specs.Parts.{nonempty_host};

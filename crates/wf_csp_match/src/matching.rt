@@ -1,3 +1,4 @@
+// Whether a source expression matches a URL (CSP 3, "does url match expression in origin with redirect count").
 ghost use Rattle.std.specs.Prelude.{◌≡◌, ◌&&◌, false, option_copied};
 ghost use Rattle.std.specs.Option.{option_map_or};
 ghost use Rattle.wf_csp_match.specs.Matching as spec;

@@ -1,3 +1,4 @@
+// Reads a word of a directive as a source expression (CSP 3, section 2.3.1).
 ghost use Rattle.std.specs.Prelude.{◌≡◌, true, option_copied, option_map};
 ghost use Rattle.std.specs.Option.{option_map_or};
 ghost use Rattle.wf_csp_match.specs.Grammar.{is_path_part, is_port_part};

@@ -1,3 +1,4 @@
+// Whether the path of a host-source matches that of a URL (CSP 3, "path-part matches").
 ghost use Rattle.std.specs.Prelude.{◌≡◌, ◌<◌, ◌∷◌, length, option_copied, IfSome};
 ghost use Rattle.wf_csp_match.specs.Paths as spec;
 ghost use Rattle.wf_csp_match.specs.Private.Walking.{pieces_left, walks};

@@ -1,3 +1,4 @@
+// Source expressions, whose parts are lent from the word that was read (CSP 3, section 2.3.1).
 ghost use Rattle.std.specs.Prelude.{◌≡◌};
 
 use std::marker::Model;

@@ -1,3 +1,4 @@
+// Counts the policies of a header value, so that it may be refused before any is kept.
 ghost use Rattle.std.specs.Prelude.{◌≡◌, Bool, true, length};
 ghost use Rattle.std.specs.Option.{is_some};
 ghost use Rattle.wf_csp_text.specs.Policies as spec;
@@ -20,8 +21,8 @@ fn has_directive(text: &[u8]) -> bool
         .any(|token| is_directive(token))
 }
 
-/// How many policies the value of a header has: as many as `parse_policies` gives. It takes no memory, so a value may be
-/// refused for its policies before they are kept.
+/// How many policies the value of a header has: as many as `parse_policies` gives. It takes no memory, so a value may
+/// be refused for its policies before they are kept.
 pub fn count_policies(value: &[u8]) -> usize
     ensures { (enforced : Bool) → result ≡ length (spec.policies_of enforced value.now) }
 {

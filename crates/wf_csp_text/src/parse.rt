@@ -1,3 +1,4 @@
+// Reads the policies of a header value (CSP 3, section 2.2 "parse a serialized CSP").
 ghost use Rattle.std.specs.Prelude.{◌≡◌, filter, map, option_map, IfOk, OnOk};
 ghost use Rattle.std.specs.List.{list_all};
 ghost use Rattle.wf_csp_text.specs.Policies as spec;

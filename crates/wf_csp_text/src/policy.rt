@@ -1,3 +1,4 @@
+// Policies and their directives (CSP 3, sections 2.2 and 2.3).
 use crate::word_list::Words;
 use wf_text::{Bytes, Items};
 

@@ -1,3 +1,4 @@
+// The words of a directive's value, kept as one text that is walked word by word.
 ghost use Rattle.std.specs.Prelude.{◌≡◌, ◌<◌, length, IfOk, IfSome};
 ghost use Rattle.std.specs.Char.{is_ascii_whitespace};
 ghost use Rattle.std.specs.List.{position, position_or_len};

@@ -1,3 +1,4 @@
+// Reads a number in decimal, without a sign and without a leading zero.
 ghost use Rattle.std.specs.Prelude.{◌≡◌, ◌≤◌, IfSome};
 ghost use Rattle.wf_decimal.specs.Decimals as spec;
 

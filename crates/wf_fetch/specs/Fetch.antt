@@ -1,5 +1,6 @@
 -- A whole fetch, as one recursive definition (Fetch, section 4.1 to 4.8): main fetch, again after each redirect, and
 -- at its end the checks of the response and the reading of its body.
+-- Read it from the end: the last definition is the top one, and each hands on to those above it.
 use Rattle.std.specs.Prelude.{ℕ, zero, suc, ◌-◌, Ok, Err}
 use Rattle.wf_types.specs.declared.error.NetError.TheVariants.{TooManyRedirects}
 use Rattle.wf_types.specs.declared.request.Request.{Request}

@@ -1,5 +1,6 @@
 -- HTTP fetch and HTTP-redirect fetch (Fetch, sections 4.4 to 4.6): the request is sent, the head of its answer is read
 -- and judged, and a redirect goes on.
+-- Read it from the end: the last definition is the top one, and each hands on to those above it.
 use Rattle.std.specs.Prelude.{Bool, Option, Some, None, Result, Ok, Err, if◌then◌else◌}
 use Rattle.wf_types.specs.declared.error.NetError.{NetError}
 use Rattle.wf_types.specs.declared.error.NetError.TheVariants.{LinkFault}

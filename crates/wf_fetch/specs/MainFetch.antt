@@ -1,4 +1,5 @@
 -- Main fetch up to the response (Fetch, section 4.1): what is done with a request before it is sent.
+-- Read it from the end: the last definition is the top one, and each hands on to those above it.
 use Rattle.std.specs.Prelude.{true, false, List, [], ◌∷◌, Option, Some, None, Err, if◌then◌else◌}
 use Rattle.wf_types.specs.declared.error.NetError.{NetError}
 use Rattle.wf_types.specs.declared.error.NetError.TheVariants.{CspRequest, Scheme}

@@ -1,6 +1,7 @@
 -- HTTP fetch with a CORS-preflight (Fetch, section 4.4 "HTTP fetch" and section 4.8 "CORS-preflight fetch"): the
 -- preflight cache is asked, a preflight is sent where it does not cover the request, and after an error what is known
 -- of the request, as it is by then, is taken back.
+-- Read it from the end: the last definition is the top one, and each hands on to those above it.
 use Rattle.std.specs.Prelude.{ℕ, Bool, List, Result, Ok, Err, if◌then◌else◌}
 use Rattle.wf_types.specs.declared.error.NetError.{NetError}
 use Rattle.wf_types.specs.declared.error.NetError.TheVariants.{LinkFault}

@@ -1,3 +1,4 @@
+// What a fetch is lent at each step: client, policies, cookies and time.
 use std::marker::Model;
 use wf_csp::Compiled;
 use wf_types::{Client, Cookies};

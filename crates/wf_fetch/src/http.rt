@@ -1,3 +1,4 @@
+// HTTP fetch and HTTP-redirect fetch, step by step (Fetch, sections 4.4 to 4.6).
 ghost use Rattle.std.specs.Prelude.{◌≡◌, ◌<◌, ◌≤◌, ◌+◌, false, IfOk, IsTrue, Option, Ok, Err};
 ghost use Rattle.wf_types.specs.Requests.{IsClient, IsRequest, is_http_url, most_redirects};
 ghost use Rattle.wf_fetch_answers.specs.Judging.{refusal_after as refusal_of};

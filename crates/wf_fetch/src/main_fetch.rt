@@ -1,3 +1,4 @@
+// Main fetch up to the response, step by step (Fetch, section 4.1).
 ghost use Rattle.std.specs.Prelude.{◌≡◌, true, false, drop, IfOk, Err};
 ghost use Rattle.wf_types.specs.declared.error.NetError.TheVariants.{CspRequest};
 ghost use Rattle.wf_types.specs.Requests.{IsAtHttp, IsClient};

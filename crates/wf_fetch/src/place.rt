@@ -1,3 +1,4 @@
+// The places where a fetch waits for an input, and what it holds there.
 ghost use Rattle.std.specs.Prelude.{◌≡◌, ◌≤◌, ◌<◌, ◌^◌, false, IsTrue};
 ghost use Rattle.wf_types.specs.Requests.{IsRequest};
 ghost use Rattle.wf_fetch.specs.Ready.{is_ready_at, owes_early};

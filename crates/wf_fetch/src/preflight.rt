@@ -1,3 +1,5 @@
+// HTTP fetch with a CORS-preflight: the preflight cache is asked, and a preflight sent and judged (Fetch, sections 4.4
+// and 4.8).
 ghost use Rattle.std.specs.Prelude.{◌≡◌, false, IfOk};
 ghost use Rattle.wf_cors.specs.Verdict.{verdict as verdict_of};
 ghost use Rattle.wf_types.specs.Requests.{IsRequest, serialized_request_origin};

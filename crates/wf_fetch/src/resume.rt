@@ -1,3 +1,4 @@
+// The calls of a fetch: it starts, and goes on from what came of its last act.
 ghost use Rattle.std.specs.Prelude.{◌≡◌, ◌∷◌, ◌<◌, ◌^◌, IfOk, IsTrue};
 ghost use Rattle.wf_fetch_acts.specs.Process.{fits, run};
 ghost use Rattle.wf_fetch.specs.Fetch.{fetch};

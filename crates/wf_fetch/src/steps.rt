@@ -1,3 +1,5 @@
+// What all steps of a fetch share: it asks for an act and waits, is refused, or ends (Fetch, section 4.1 "main fetch",
+// steps 14 to 23).
 ghost use Rattle.std.specs.Prelude.{◌≡◌, ◌<◌, ◌≤◌, false, length, drop, IfOk, IsTrue, Ok, Err};
 ghost use Rattle.wf_fetch_rules.specs.Questions.{clear_of as clear_at};
 ghost use Rattle.wf_types.specs.declared.error.NetError.{NetError as AnError};

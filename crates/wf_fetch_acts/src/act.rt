@@ -1,3 +1,4 @@
+// The acts that a fetch asks for, and the inputs that say what came of them.
 ghost use Rattle.std.specs.Prelude.{◌≡◌, if◌then◌else◌, not};
 ghost use Rattle.wf_fetch_acts.specs.Process as spec;
 ghost use Rattle.wf_book.specs.Ops.{is_answer, is_question};

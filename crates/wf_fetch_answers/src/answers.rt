@@ -1,3 +1,4 @@
+// What a redirect comes to, and how a fetch ends.
 use url::Url;
 use wf_types::{NetError, Outcome, Response};
 

@@ -1,3 +1,4 @@
+// Which answers have a null body (Fetch, "main fetch", step 21), and which a coded one (RFC 9110, section 8.4).
 ghost use Rattle.std.specs.Prelude.{◌≡◌, IfOk};
 ghost use Rattle.std.specs.List.{list_any};
 ghost use Rattle.wf_fetch_answers.specs.Bodies as spec;

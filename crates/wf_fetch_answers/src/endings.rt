@@ -1,3 +1,4 @@
+// How a fetch ends with its response, and with the body of it (Fetch, section 4.1 "main fetch", steps 14 to 23).
 ghost use Rattle.std.specs.Prelude.{◌≡◌, IfOk};
 ghost use Rattle.wf_filter.specs.Blocks as blocks;
 ghost use Rattle.wf_filter.specs.Laws as where_asked;

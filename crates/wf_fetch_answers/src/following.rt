@@ -1,3 +1,4 @@
+// The request after a redirect (Fetch, section 4.5 "HTTP-redirect fetch", steps 8 to 19).
 ghost use Rattle.std.specs.Prelude.{◌≡◌, ◌<◌, length, not, IfOk, OnOk};
 ghost use Rattle.wf_types.specs.PermittedNames as permitted;
 ghost use Rattle.wf_types.specs.Requests.{IsAtHttp, IsRequest, most_redirects};

@@ -1,3 +1,5 @@
+// What the head of an answer is refused for, and whether a redirect is followed (Fetch, section 4.4 "HTTP fetch",
+// steps 4.4, 5 and 6).
 ghost use Rattle.std.specs.Prelude.{◌≡◌, IfOk};
 ghost use Rattle.wf_fetch_answers.specs.Judging as spec;
 ghost use Rattle.wf_filter.specs.Views as views;

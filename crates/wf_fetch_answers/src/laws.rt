@@ -1,3 +1,4 @@
+// Laws: what is done with a head is what is done with what a document may learn of it.
 ghost use Rattle.wf_fetch_answers.specs.Laws as laws;
 
 /// A law: the head of an answer that is none to a preflight is refused, or not, as what a document may

@@ -1,3 +1,4 @@
+// Where a redirect leads, and what it is refused for (Fetch, section 4.5 "HTTP-redirect fetch", steps 3 to 10).
 ghost use Rattle.std.specs.Prelude.{◌≡◌, All, IfOk};
 ghost use Rattle.percent_encoding.specs.Percent.{IsKept};
 ghost use Rattle.url.specs.Parts as parts;

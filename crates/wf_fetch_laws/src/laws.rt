@@ -1,3 +1,4 @@
+// Laws of a whole fetch: what it asks of the shared book and how often, and what its run rests on.
 ghost use Rattle.wf_fetch_laws.specs.Laws as laws;
 ghost use Rattle.wf_fetch_laws.specs.Views as views;
 

@@ -1,3 +1,4 @@
+// What main fetch refuses before anything is sent (Fetch, section 4.1 "main fetch", step 7, and "scheme fetch").
 ghost use Rattle.std.specs.Prelude.{◌≡◌};
 ghost use Rattle.wf_fetch_rules.specs.Blocking as spec;
 ghost use Rattle.wf_types.specs.Requests.{IsRequest, current_url, is_http_url};

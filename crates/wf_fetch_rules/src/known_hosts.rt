@@ -1,3 +1,5 @@
+// Known HSTS hosts in a fetch: which host the book is asked for, and what an answer tells it (RFC 6797, sections 8.1
+// and 8.3).
 ghost use Rattle.std.specs.Prelude.{◌≡◌, ◌<◌, ◌^◌, IfOk, IfSome, option_copied};
 ghost use Rattle.std.specs.List.{find};
 ghost use Rattle.url.specs.Parts.{nonempty_host};

@@ -1,3 +1,4 @@
+// The referrer policy of a request, its own or its client's (Fetch, section 4.1 "main fetch", step 8).
 ghost use Rattle.std.specs.Prelude.{◌≡◌};
 ghost use Rattle.wf_fetch_rules.specs.Policies as spec;
 

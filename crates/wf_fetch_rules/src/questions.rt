@@ -1,3 +1,4 @@
+// What a fetch asks, teaches and takes back of the CORS-preflight cache (Fetch, sections 4.4, 4.8 and 4.9).
 ghost use Rattle.std.specs.Prelude.{◌≡◌, IfOk};
 ghost use Rattle.wf_fetch_rules.specs.Questions as spec;
 ghost use Rattle.wf_types.specs.Requests.{IsRequest};

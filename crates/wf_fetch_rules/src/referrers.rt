@@ -1,3 +1,4 @@
+// The referrer of a request, by its referrer policy (Fetch, section 4.1 "main fetch", steps 8 and 9).
 ghost use Rattle.std.specs.Prelude.{◌≡◌, IfOk, IsTrue};
 ghost use Rattle.wf_fetch_rules.specs.Policies.{with_policy as policied};
 ghost use Rattle.wf_fetch_rules.specs.Referrers as spec;

@@ -1,3 +1,4 @@
+// How main fetch has a request fetched, or refuses it (Fetch, section 4.1 "main fetch", step 12).
 ghost use Rattle.std.specs.Prelude.{◌≡◌, IfOk};
 ghost use Rattle.wf_fetch_rules.specs.Switch as spec;
 ghost use Rattle.wf_types.specs.Requests.{IsRequest};

@@ -1,3 +1,5 @@
+// Requests that go over https instead: upgraded ones, and those to known hosts (Fetch, section 4.1 "main fetch",
+// steps 5, 6 and 10).
 ghost use Rattle.std.specs.Prelude.{◌≡◌, IfOk, IsTrue, Ok};
 ghost use Rattle.url.specs.Parser.{Gives, GivesBy};
 ghost use Rattle.wf_fetch_rules.specs.Upgrading as spec;

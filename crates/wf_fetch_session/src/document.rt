@@ -1,3 +1,4 @@
+// The document that fetches: its client, policies and cookies.
 ghost use Rattle.wf_types.specs.Requests.{IsClient};
 
 use wf_csp::Compiled;

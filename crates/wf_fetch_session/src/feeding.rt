@@ -132,8 +132,8 @@ impl Session {
     fn feed_reader(&mut self, alloc: Global, waiting: Waiting, piece: &[u8]) -> Fed
         requires { reads_bytes (Some waiting.act) ≡ true }
         ensures { Came (Some waiting.act)
-            (stands_at self.old.document waiting.fetching waiting.act (bytes_of waiting.reader) waiting.bodies) piece.now
-            result.went result.used (standing_of self.new) }
+            (stands_at self.old.document waiting.fetching waiting.act (bytes_of waiting.reader) waiting.bodies)
+            piece.now result.went result.used (standing_of self.new) }
     {
         let Waiting {
             fetching,

@@ -1,3 +1,4 @@
+// The law of pieces: how an answer is cut does not matter to a fetch.
 ghost use Rattle.wf_fetch_session.specs.CutLaws.{PiecesJoin};
 
 use wf_http1::{law_one_end, law_one_head};

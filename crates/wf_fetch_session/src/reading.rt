@@ -1,3 +1,4 @@
+// What reads the bytes that come, of a head or a body, and how that body is framed.
 ghost use Rattle.std.specs.Prelude.{◌≡◌, IfOk};
 ghost use Rattle.wf_fetch_session.specs.Readers.{bodies_after, reader_for};
 

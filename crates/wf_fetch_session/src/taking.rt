@@ -31,7 +31,8 @@ impl Session {
         requires request { IsRequest request }
         requires timely { now < 2 ^ 48 }
         ensures { IfOk result (λ session. standing_of session
-            ≡ Some (begun (fetch (context_at document now) request) (record { framing = Framing.Nothing; limit = limit }))) }
+            ≡ Some (begun (fetch (context_at document now) request)
+            (record { framing = Framing.Nothing; limit = limit }))) }
     {
         let step = Fetching::start(
             alloc,

@@ -1,3 +1,4 @@
+// The names of response headers that a CORS response exposes (Fetch, section 2.2.6 "CORS-exposed header-name list").
 ghost use Rattle.std.specs.Prelude.{◌≡◌, codes, IfOk, OnOk};
 ghost use Rattle.wf_filter.specs.Exposed as spec;
 ghost use Rattle.wf_filter.specs.Private.Collecting.{with_new};

@@ -1,3 +1,4 @@
+// Which headers are kept of a head: for a filtered response, or for what a document may learn of it.
 ghost use Rattle.std.specs.Prelude.{◌≡◌};
 ghost use Rattle.wf_filter.specs.Private.Listing.{is_safelisted_among};
 ghost use Rattle.wf_filter.specs.Private.Keeping as private;

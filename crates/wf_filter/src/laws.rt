@@ -1,3 +1,4 @@
+// Laws of permitted views: a rule of a fetch that looks at a head comes to the same on its view.
 ghost use Rattle.wf_filter.specs.Laws as laws;
 
 /// A law: a permitted view is its own permitted view. The call does nothing.

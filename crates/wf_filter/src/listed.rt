@@ -1,3 +1,4 @@
+// Finds the headers of a response among the names that it exposes, in a set where both are many.
 ghost use Rattle.std.specs.Prelude.{◌≡◌, ◌||◌, ℕ, List, true, IfOk, OnOk};
 ghost use Rattle.std.specs.List.{list_any};
 ghost use Rattle.wf_filter.specs.Private.Listing.{Agree, is_found, is_safelisted_among, is_there};

@@ -1,3 +1,4 @@
+// Forbidden and CORS-safelisted response-header names (Fetch, section 2.2.2).
 ghost use Rattle.std.specs.Prelude.{◌≡◌};
 ghost use Rattle.wf_filter.specs.Names as spec;
 ghost use Rattle.wf_types.specs.PermittedNames as permitted;

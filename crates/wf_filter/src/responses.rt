@@ -1,3 +1,4 @@
+// Filtered responses: basic, CORS, opaque and opaque-redirect ones (Fetch, section 2.2.6).
 ghost use Rattle.std.specs.Prelude.{◌≡◌, filter, IfOk, OnOk};
 ghost use Rattle.wf_filter.specs.Filtered as spec;
 ghost use Rattle.wf_filter.specs.Names.{is_safelisted};

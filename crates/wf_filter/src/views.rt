@@ -1,3 +1,4 @@
+// The permitted view of a head: what a document may learn of an answer (this project's own).
 ghost use Rattle.std.specs.Prelude.{◌≡◌, filter, IfOk, map};
 ghost use Rattle.wf_filter.specs.Filtered.{exposed_to};
 ghost use Rattle.wf_filter.specs.Views as spec;

@@ -1,3 +1,4 @@
+-- What the crate's private contracts alone cite: how headers are found, joined, packed and split.
 pub mod Finding
 pub mod Joining
 pub mod Packs

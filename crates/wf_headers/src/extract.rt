@@ -1,3 +1,4 @@
+// "extract header list values" (Fetch, section 2.2.2).
 ghost use Rattle.std.specs.Prelude.{◌≡◌, ◌++◌, ◌∷◌, [], filter, IfOk, OnOk};
 ghost use Rattle.std.specs.List.{list_all};
 ghost use Rattle.wf_text.specs.Tokens.{is_token};

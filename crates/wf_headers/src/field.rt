@@ -1,3 +1,4 @@
+// A header as lists keep it: its name and its value in one text.
 ghost use Rattle.std.specs.Prelude.{◌≡◌, ◌≤◌, ◌++◌, IfOk, drop, length, take};
 ghost use Rattle.wf_headers.specs.declared.headers.Header.{Header};
 

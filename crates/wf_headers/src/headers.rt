@@ -1,3 +1,4 @@
+// Header lists: "contains", "get", "append", "set" and "delete" (Fetch, section 2.2.2).
 ghost use Rattle.std.specs.Prelude.{ℕ, List, [], length, take, vec_len, vec_capacity, IsTrue};
 ghost use Rattle.std.specs.Prelude.{◌≤◌, ◌≡◌, ◌≢◌, ◌↔◌, ◌<◌, ◌++◌};
 ghost use Rattle.std.specs.Prelude.{IfOk, OnOk, OnErr, MatchOption, Some, slice_get, option_map, codes, if◌then◌else◌};

@@ -1,3 +1,4 @@
+// "get, decode, and split" a header value (Fetch, section 2.2.2).
 ghost use Rattle.std.specs.Prelude.{ℕ, List, ◌≡◌, ◌++◌, ◌∷◌, [], IfOk, OnOk, codes, if◌then◌else◌};
 ghost use Rattle.wf_text.specs.Trims.{tab_or_space, trimmed};
 ghost use Rattle.wf_headers.specs.Split.{split, split_values};

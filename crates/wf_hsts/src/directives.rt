@@ -1,3 +1,4 @@
+// Reads the directives of a Strict-Transport-Security field (RFC 6797, section 6.1).
 ghost use Rattle.std.specs.Prelude.{◌≡◌, ◌==◌, ◌<◌, length, Some, None, IfOk, if◌then◌else◌, option_copied};
 ghost use Rattle.std.specs.List.{list_all};
 ghost use Rattle.wf_hsts.specs.Grammar.{is_blank};

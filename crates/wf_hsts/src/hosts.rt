@@ -1,3 +1,4 @@
+// The list of known HSTS hosts, and what a Strict-Transport-Security field does to it (RFC 6797, sections 8.1 and 8.2).
 ghost use Rattle.std.specs.Prelude.{◌≡◌, ◌^◌, ◌<◌, ◌≤◌, ◌&&◌, [], length, nat_lt, IfOk, OnOk, OnErr};
 ghost use Rattle.wf_hsts.specs.Hosts.{AreHosts, extended, matches_host, may_stand_last, noted, without};
 ghost use Rattle.wf_hsts.specs.Private.Terms.{IsLeaving, begins_under, covers, holds_alive, is_under, passes};

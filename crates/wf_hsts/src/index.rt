@@ -1,3 +1,4 @@
+// Known hosts, found by their names and by when their terms end.
 ghost use Rattle.std.specs.Prelude.{◌≡◌, [], length, Some, None, IfOk, OnOk, OnErr, option_copied};
 ghost use Rattle.std.specs.List.{list_all};
 ghost use Rattle.std.specs.Ordering.{is_lt};

@@ -1,3 +1,4 @@
+// Laws of HSTS: a field is read by its grammar, its age is bounded, and which host may stand last in a list.
 ghost use Rattle.wf_hsts.specs.Hosts.{ExtendsExactly};
 ghost use Rattle.wf_hsts.specs.Reading.{AgesAreBounded, ReadsTheGrammar};
 

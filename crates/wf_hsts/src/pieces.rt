@@ -1,3 +1,4 @@
+// Cuts a Strict-Transport-Security field at the semicolons outside its quoted strings.
 ghost use Rattle.std.specs.Prelude.{◌≡◌};
 ghost use Rattle.wf_hsts.specs.Private.Pieces.{piece_end};
 ghost use Rattle.wf_hsts.specs.Reading.{cuts, next_place};

@@ -1,3 +1,4 @@
+// What a Strict-Transport-Security field says of its host (RFC 6797, section 6.1).
 ghost use Rattle.std.specs.Prelude.{◌≡◌, ◌≤◌, ◌↔◌, IfOk, IfSome, option_copied};
 ghost use Rattle.wf_hsts.specs.Field.{IsSts, greatest_age, has_twice, include_subdomains, max_age, named, sts_of};
 ghost use Rattle.wf_hsts.specs.Reading.{sts_in};

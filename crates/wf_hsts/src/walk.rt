@@ -1,3 +1,4 @@
+// What goes through all known hosts: copies of them, and questions that no look-up by name answers.
 ghost use Rattle.std.specs.Prelude.{◌≡◌, ◌&&◌, ◌∷◌, nat_eq, nat_lt, IfOk};
 ghost use Rattle.std.specs.List.{ends_with, list_all};
 ghost use Rattle.std.specs.Ordering.{is_lt};

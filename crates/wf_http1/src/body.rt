@@ -1,3 +1,4 @@
+// Reads the body of an answer from pieces, by its framing and up to a limit (RFC 9112, sections 6.3, 7.1 and 8).
 ghost use Rattle.std.specs.Prelude.{◌≡◌, ◌≤◌, ◌<◌, ◌++◌, ℕ, List, [], length, IfOk};
 ghost use Rattle.wf_http1.specs.Bodies.{IsOpen, body_end, fewest as fewest_behind};
 ghost use Rattle.wf_http1.specs.BodyFeeding.{IsFed};

@@ -1,3 +1,4 @@
+// The bytes of a block whose end has not come yet.
 ghost use Rattle.std.specs.Prelude.{◌≡◌, ◌++◌, [], IfOk, OnOk};
 
 use std::alloc::Global;

@@ -1,3 +1,4 @@
+// Reads the heads of an answer from pieces, up to the final one (RFC 9112, section 4).
 ghost use Rattle.std.specs.Prelude.{◌≡◌, ◌≤◌, ◌<◌, ◌+◌, ◌++◌, ◌==◌, [], length, take, IfOk};
 ghost use Rattle.wf_http1.specs.Answers.{IsUnfinished, most_bytes};
 ghost use Rattle.wf_http1.specs.HeadFeeding.{IsFed};

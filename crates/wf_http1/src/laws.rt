@@ -1,3 +1,4 @@
+// Laws of messages as bytes: a head and its end are read in one way, and an open body is short.
 ghost use Rattle.wf_http1.specs.BodyLaws.{OpenBodiesAreShort};
 ghost use Rattle.wf_http1.specs.HeadLaws.{HasOneEnd, HasOneHead, HeadsAreBlocks};
 ghost use Rattle.wf_http1.specs.RequestHeads.{HasOneReading, NoneBeforeBlock, ReadingStays, RequestsAreBlocks};

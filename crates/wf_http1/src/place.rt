@@ -1,3 +1,4 @@
+// Where in a chunked body a reader is, and what the next byte comes to (RFC 9112, section 7.1).
 ghost use Rattle.std.specs.Prelude.{◌≡◌, IsTrue};
 ghost use Rattle.std.specs.Char.{digit_value, is_ascii_hexdigit};
 ghost use Rattle.wf_http1.specs.Private.Places as spec;

@@ -1,3 +1,4 @@
+// Writes a request as bytes (RFC 9112, sections 2.1 and 3).
 ghost use Rattle.std.specs.Prelude.{◌≡◌, ◌++◌, IfOk, OnOk, unwrap_or, []};
 ghost use Rattle.std.specs.List.{flat_map};
 ghost use Rattle.wf_http1.specs.Requests.{header_line, request_bytes, request_line};

@@ -1,3 +1,4 @@
+// Reads the head of a request, as a server does (RFC 9112, section 3).
 ghost use Rattle.std.specs.Prelude.{◌≤◌, length, IfOk};
 ghost use Rattle.wf_http1.specs.Private.RequestReading.{FindsRoom};
 ghost use Rattle.wf_http1.specs.RequestHeads.{IsRead};

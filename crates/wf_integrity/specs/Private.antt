@@ -1,1 +1,2 @@
+-- What the crate's private contracts alone cite: how hash expressions are collected.
 pub mod Collecting

@@ -1,3 +1,4 @@
+// Whether a body matches integrity metadata (SRI, section 3.3 "do bytes match metadataList").
 ghost use Rattle.std.specs.Prelude.{◌≡◌, ◌==◌, ◌&&◌, bytes_eq, map, IfOk};
 ghost use Rattle.std.specs.List.{list_any};
 ghost use Rattle.base64.specs.Engines.{standard};

@@ -1,3 +1,4 @@
+// Integrity metadata: hash expressions (SRI, section 3.5).
 use wf_text::{Bytes, Items};
 
 /// A hash expression (SRI, section 3.5, "hash-expression"): the bits of its algorithm, 256, 384 or 512,

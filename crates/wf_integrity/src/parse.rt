@@ -1,3 +1,4 @@
+// Reads the metadata of an integrity text (SRI, section 3.3 "parse metadata").
 ghost use Rattle.std.specs.Prelude.{◌≡◌, map, IfOk, OnOk};
 ghost use Rattle.std.specs.List.{filter_map};
 ghost use Rattle.wf_integrity.specs.Metadata as spec;

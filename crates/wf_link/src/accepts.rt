@@ -1,3 +1,4 @@
+// What listens at an address, and gives the end of each connection that comes: the trait.
 ghost use Rattle.std.specs.Prelude.{◌≡◌, ℕ, List, Option, IfOk, OnOk, OnErr, option_map};
 ghost use Rattle.wf_link.specs.Accepts.{GaveFirst, Opened};
 ghost use Rattle.wf_link.specs.Counts.{HasCause};

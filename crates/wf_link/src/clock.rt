@@ -1,3 +1,4 @@
+// Clocks in seconds: the trait, and one that always gives the same answer.
 ghost use Rattle.std.specs.Prelude.{◌≡◌, ℕ, Option, Some};
 
 /// A clock in seconds. It may tell its next answer.

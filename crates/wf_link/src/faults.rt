@@ -1,3 +1,4 @@
+// How often a device failed.
 ghost use Rattle.std.specs.Prelude.{◌≡◌, ◌≤◌};
 ghost use Rattle.wf_link.specs.Counts.{one_more};
 

@@ -1,3 +1,4 @@
+// What a link in memory was asked, kept in room that is made at the start.
 ghost use Rattle.std.specs.Prelude.{◌≡◌, [], length, IfOk};
 ghost use Rattle.wf_link.specs.Links.{with_bytes};
 ghost use Rattle.wf_link.specs.MemoryLink.{KeptState, asks_after, finds_room, received_after, room_after};

@@ -1,3 +1,4 @@
+// What makes each document's link and takes it back: the trait.
 ghost use Rattle.std.specs.Prelude.{◌≡◌, ◌+◌, ℕ, List, Option, IfOk, OnErr, option_map};
 ghost use Rattle.wf_link.specs.Counts.{grown_by};
 ghost use Rattle.wf_link.specs.Links.{IsForetold, Lendings, TookBack, one_out};

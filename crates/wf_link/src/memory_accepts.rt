@@ -1,3 +1,4 @@
+// Connections in memory that come in order, with failures at chosen calls.
 ghost use Rattle.std.specs.Prelude.{◌≡◌, ◌≤◌, [], None, Some, IfOk, OnOk, OnErr, option_copied, option_map};
 ghost use Rattle.wf_link.specs.Accepts.{GaveFirst, Opened};
 ghost use Rattle.wf_link.specs.Counts.{HasCause};

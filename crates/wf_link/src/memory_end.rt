@@ -1,3 +1,4 @@
+// The end of a connection in memory: a source and a sink.
 ghost use Rattle.std.specs.Prelude.{◌≡◌, ◌<◌, ◌++◌, [], take, drop, length, refl, Some, Ok, IfOk, OnErr};
 ghost use Rattle.std.specs.Io.{ReadsAtMost, WritesAtMost};
 ghost use Rattle.wf_link.specs.Counts.{HasCause};

@@ -1,3 +1,4 @@
+// A link in memory, with its answers to come and failures at chosen calls.
 ghost use Rattle.std.specs.Prelude.{◌≡◌, ◌⊎◌, ◌<◌, ◌≤◌, ◌++◌, [], take, drop, length};
 ghost use Rattle.std.specs.Prelude.{Some, Ok, IfOk, OnOk, OnErr};
 ghost use Rattle.std.specs.Io.{ReadsAtMost};

@@ -1,3 +1,4 @@
+// Links in memory, handed out in order and kept when they come back.
 ghost use Rattle.std.specs.Prelude.{◌≡◌, ◌+◌, ℕ, List, [], drop, slice_get, ok_or, Some, IfOk, OnOk, OnErr, option_map};
 ghost use Rattle.wf_link.specs.Counts.{grown_by};
 ghost use Rattle.wf_link.specs.Links.{IsForetold, TookBack, one_out};

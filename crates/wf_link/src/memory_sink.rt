@@ -1,3 +1,4 @@
+// A sink in memory, with failures at chosen calls.
 ghost use Rattle.std.specs.Prelude.{◌≡◌, [], take, Some, Ok, IfOk, OnErr};
 ghost use Rattle.std.specs.Io.{WritesAtMost};
 ghost use Rattle.wf_link.specs.Counts.{HasCause};

@@ -1,3 +1,4 @@
+// The peer at the other end of a connection, both a source and a sink: the trait.
 ghost use Rattle.std.specs.Prelude.{◌≡◌};
 
 use crate::sink::Sink;

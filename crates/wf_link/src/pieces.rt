@@ -1,3 +1,4 @@
+// What is still to come of an answer in memory, piece by piece.
 ghost use Rattle.std.specs.Prelude.{◌≡◌, ◌++◌, [], min, take, drop, length};
 ghost use Rattle.wf_link.specs.MemoryLink.{behind, front, skipped};
 

@@ -1,3 +1,4 @@
+// Where bytes go: the trait, and how a text is written whole.
 ghost use Rattle.std.specs.Prelude.{◌≡◌, ◌≤◌, [], take, Err, IfOk, OnOk, OnErr};
 ghost use Rattle.std.specs.Io.{WritesAtMost};
 ghost use Rattle.wf_link.specs.Counts.{HasCause, Rose};

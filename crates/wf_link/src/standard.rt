@@ -1,3 +1,4 @@
+// Standard input, output and error and the system's clock, behind the traits.
 ghost use Rattle.std.specs.Prelude.{◌≡◌, None};
 ghost use Rattle.wf_link.specs.Sinks.{no_sink};
 ghost use Rattle.wf_link.specs.Sources.{no_source};

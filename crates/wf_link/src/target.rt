@@ -1,3 +1,4 @@
+// Whom a request is for, what a link was asked, and where servers listen.
 use wf_text::{Bytes, Items};
 
 /// Whom a request is for: its serialised origin.

@@ -1,3 +1,4 @@
+// The law of exchanges: what comes of an act depends on what answers only by the request that the act sends.
 ghost use Rattle.wf_link_wire.specs.ExchangeLaws.{ExchangeAlike};
 
 use wf_link::Link;

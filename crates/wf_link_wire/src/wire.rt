@@ -1,3 +1,4 @@
+// A wire over a link: it keeps what was received and is not yet read.
 ghost use Rattle.std.specs.Prelude.{◌≡◌, ◌≤◌, ◌<◌, ◌+◌, [], length, drop, take, true, false, Ok, IfOk, OnOk, OnErr};
 ghost use Rattle.wf_link.specs.Counts.{HasCause};
 ghost use Rattle.wf_link.specs.Links.{Received};

@@ -1,3 +1,4 @@
+// "should response to request be blocked due to its MIME type", and ".. due to nosniff" (Fetch).
 ghost use Rattle.std.specs.Prelude.{◌≡◌, option_copied};
 ghost use Rattle.wf_mime.specs.Blocking as spec;
 

@@ -1,3 +1,4 @@
+// The essence of the MIME type that headers give (Fetch, "extract a MIME type").
 ghost use Rattle.std.specs.Prelude.{◌≡◌, IfOk, option_copied, option_map};
 ghost use Rattle.std.specs.Str.{str_to_ascii_lowercase};
 ghost use Rattle.wf_mime.specs.Essence as spec;

@@ -1,3 +1,4 @@
+// JavaScript MIME types (MIME Sniffing, section 4.6).
 ghost use Rattle.std.specs.Prelude.{◌≡◌};
 ghost use Rattle.wf_mime.specs.JavaScript as spec;
 

@@ -1,3 +1,4 @@
+// Whether headers say nosniff (Fetch, "determine nosniff").
 ghost use Rattle.std.specs.Prelude.{◌≡◌, ◌==◌, codes};
 ghost use Rattle.std.specs.List.{before_first};
 ghost use Rattle.std.specs.Str.{str_eq_ignore_ascii_case};

@@ -1,3 +1,4 @@
+// Mixed content: which requests are upgraded to https, and which are blocked (Mixed Content, section 4).
 ghost use Rattle.std.specs.Prelude.{◌≡◌};
 ghost use Rattle.url.specs.Parts.{nonempty_host};
 ghost use Rattle.wf_mixed.specs.Mixed as spec;

@@ -1,3 +1,4 @@
+// Bad ports, to which nothing is sent (Fetch, section 2.9 "port blocking").
 ghost use Rattle.std.specs.Prelude.{◌≡◌};
 ghost use Rattle.wf_mixed.specs.Ports as spec;
 

@@ -1,3 +1,4 @@
+// The law of serialised origins: this crate and `url` write them alike.
 ghost use Rattle.wf_origin.specs.Laws.{IsSerializedAsUrl};
 
 use url::Url;

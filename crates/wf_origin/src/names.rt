@@ -1,3 +1,4 @@
+// Domain names: whether one is a localhost name, and its last two labels.
 ghost use Rattle.std.specs.Prelude.{◌≡◌, ◌∷◌, [], MatchOption};
 ghost use Rattle.wf_origin.specs.Names as spec;
 ghost use Rattle.wf_origin.specs.Private.Cut.{IsCutAtLastDot};

@@ -1,3 +1,4 @@
+// Origins of http and https URLs: which are the same, and how one is serialised (HTML, section 7.1.1).
 ghost use Rattle.std.specs.Prelude.{◌≡◌, ◌==◌, ◌↔◌, ◌++◌, bytes_eq, codes, IsTrue, IfOk, OnOk};
 ghost use Rattle.wf_origin.specs.Origins as spec;
 ghost use Rattle.url.specs.Parts.{nonempty_host};

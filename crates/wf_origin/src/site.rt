@@ -1,3 +1,4 @@
+// Whether two origins are of one site, schemes aside (HTML, section 7.1.1 "schemelessly same site").
 ghost use Rattle.std.specs.Prelude.{◌≡◌};
 ghost use Rattle.wf_origin.specs.Sites.{same_site as is_same_site};
 ghost use Rattle.wf_origin.specs.Names as names;

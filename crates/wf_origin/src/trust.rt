@@ -1,3 +1,4 @@
+// Potentially trustworthy origins and URLs (Secure Contexts, sections 3.1 and 3.2).
 ghost use Rattle.std.specs.Prelude.{◌≡◌};
 ghost use Rattle.url.specs.Parts.{nonempty_host};
 ghost use Rattle.wf_origin.specs.Origins.{kind_of_host};

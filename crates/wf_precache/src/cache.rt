@@ -1,3 +1,4 @@
+// The CORS-preflight cache of all keys: it is asked, learns, and is cleared (Fetch, "CORS-preflight cache").
 ghost use Rattle.std.specs.Prelude.{◌≡◌, ◌≤◌, [], length, IfOk, OnOk, OnErr};
 ghost use Rattle.std.specs.BTreeMap.{IsOrdered};
 ghost use Rattle.wf_precache.specs.Cache.{cleared, covers, learned};

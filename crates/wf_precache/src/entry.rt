@@ -1,3 +1,4 @@
+// Cache entries: what a server allows an origin, and for how long (Fetch, "cache entry").
 ghost use Rattle.std.specs.Prelude.{◌≡◌, ◌+◌, nat_lt, IfOk};
 ghost use Rattle.std.specs.Str.{bytes_eq};
 ghost use Rattle.wf_precache.specs.Entries.{allows, allows_method, allows_name, is_alive, is_entry_match};

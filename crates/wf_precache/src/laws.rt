@@ -1,3 +1,4 @@
+// Laws of the preflight cache: a change leaves a cache, and the entries of other keys as they were.
 ghost use Rattle.wf_precache.specs.Keys.{ExtendsExactly};
 ghost use Rattle.wf_precache.specs.Laws.{ChangesKeepCaches, ClearsKeepOtherKeys, LessonsKeepOtherKeys};
 

@@ -1,3 +1,4 @@
+// How the entries of a key learn what a CORS-preflight fetch taught.
 ghost use Rattle.std.specs.Prelude.{◌≡◌, ◌≤◌, ◌++◌, ◌∷◌, [], length, map, filter, IfOk, OnOk};
 ghost use Rattle.std.specs.List.{fold, list_any};
 ghost use Rattle.wf_precache.specs.Entries.{is_alive};

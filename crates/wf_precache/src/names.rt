@@ -1,3 +1,4 @@
+// Lists of methods or header names that are kept for long, in little memory.
 ghost use Rattle.std.specs.Prelude.{◌≡◌, ◌==◌, ◌<◌, [], length, slice_get, Some, IfOk};
 
 use crate::packed::Packed;

@@ -1,3 +1,4 @@
+// The entries of one network partition key, and what they cover.
 ghost use Rattle.std.specs.Prelude.{◌≡◌, ◌<◌, ◌≤◌, ◌++◌, ◌∷◌, [], length, map, filter, not, IfOk, OnOk, OnErr};
 ghost use Rattle.std.specs.List.{fold, list_all, list_any};
 ghost use Rattle.wf_precache.specs.Entries.{covered, has_match, has_method_match, is_alive, is_of};

@@ -1,3 +1,4 @@
+// What a request asks of the preflight cache, and what a CORS-preflight fetch teaches it.
 ghost use Rattle.std.specs.Prelude.{◌≡◌, IfOk};
 
 use crate::names::Names;

@@ -1,3 +1,4 @@
+// The referrer that a policy tells of a URL (Referrer Policy, section 8.3 "determine request's Referrer").
 ghost use Rattle.std.specs.Prelude.{◌≡◌, IfOk, IfSome, IsTrue};
 ghost use Rattle.wf_referrer.specs.Referrer as spec;
 ghost use Rattle.wf_types.specs.Requests.{is_http_url, is_policy};

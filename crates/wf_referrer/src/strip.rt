@@ -1,3 +1,4 @@
+// A URL as a referrer: whole, or its origin alone (Referrer Policy, section 8.4 "strip url for use as a referrer").
 ghost use Rattle.std.specs.Prelude.{◌≡◌, IfOk, IsTrue, codes, None, Ok, Some};
 ghost use Rattle.url.specs.Parser.{Gives, GivesBy};
 ghost use Rattle.url.specs.Parts.{Parts};

@@ -1,3 +1,4 @@
+// Forbidden methods and forbidden request-headers (Fetch, sections 2.2.1 and 2.2.2).
 ghost use Rattle.std.specs.Prelude.{◌≡◌, IfOk};
 ghost use Rattle.std.specs.List.{list_any};
 ghost use Rattle.wf_safelist.specs.Forbidden as spec;

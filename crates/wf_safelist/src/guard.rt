@@ -1,3 +1,4 @@
+// How a header is appended to a Headers object that has a guard (Fetch, section 5.1).
 ghost use Rattle.std.specs.Prelude.{◌≡◌, IfOk, OnErr};
 ghost use Rattle.wf_headers.specs.Headers.{combined};
 ghost use Rattle.wf_safelist.specs.Guards as spec;

@@ -1,3 +1,4 @@
+// Values of Range that are safelisted (Fetch, section 2.2.2 "parse a single range header value").
 ghost use Rattle.std.specs.Prelude.{◌≡◌, IsTrue};
 ghost use Rattle.wf_text.specs.Digits.{is_digits};
 ghost use Rattle.wf_safelist.specs.Ranges as spec;

@@ -1,3 +1,4 @@
+// CORS-safelisted request-headers (Fetch, section 2.2.2).
 ghost use Rattle.std.specs.Prelude.{◌≡◌, not};
 ghost use Rattle.std.specs.List.{list_all, list_any};
 ghost use Rattle.wf_text.specs.Mime.{has_essence};

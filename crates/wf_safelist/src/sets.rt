@@ -1,3 +1,4 @@
+// "convert header names to a sorted-lowercase set" (Fetch, section 2.2.2).
 ghost use Rattle.std.specs.Prelude.{◌≡◌, ℕ, List, map, bytes_eq, IfOk};
 ghost use Rattle.std.specs.List.{list_any};
 ghost use Rattle.std.specs.List.Sorted.{IsStrictlySortedBy};

@@ -1,3 +1,4 @@
+// "CORS-unsafe request-header names" (Fetch, section 2.2.2).
 ghost use Rattle.std.specs.Prelude.{◌≡◌, map, nat_lt, IfOk};
 ghost use Rattle.std.specs.Str.{str_to_ascii_lowercase};
 ghost use Rattle.wf_safelist.specs.Sets.{IsSortedLowercaseSet};

@@ -1,3 +1,4 @@
+// Laws of scenarios: what one of the first format is in the second, and the URLs of generated documents.
 ghost use Rattle.std.specs.Prelude.{◌≡◌, ◌<◌, ℕ, Some, None};
 ghost use Rattle.serde_json.specs.Data.{Members};
 ghost use Rattle.wf_types.specs.Urls.{url_of_text};

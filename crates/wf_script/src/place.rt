@@ -1,3 +1,4 @@
+// The place where a scenario is refused.
 use wf_text::Bytes;
 
 /// Where a scenario is refused: `json` where the text is no tree, else the way from the root to the

@@ -1,3 +1,4 @@
+// The commands of a script, with the scripts and conditions inside them.
 use std::alloc::Global;
 use std::marker::Model;
 use wf_boxed::Boxed;

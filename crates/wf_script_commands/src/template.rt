@@ -1,3 +1,4 @@
+// Templates: texts in which `${` begins a placeholder for a part of the last result.
 ghost use Rattle.std.specs.Prelude.{◌≡◌, ◌<◌, length, option_map, IfSome};
 ghost use Rattle.wf_script_commands.specs.Templates as spec;
 ghost use Rattle.wf_script_commands.specs.Pieces.{piece_and};

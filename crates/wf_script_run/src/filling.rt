@@ -1,3 +1,4 @@
+// Puts the parts of the last result in the place of the placeholders of a script's texts.
 ghost use Rattle.std.specs.Prelude.{◌≡◌, ◌++◌, IfOk, OnOk, map, option_map};
 ghost use Rattle.wf_text.specs.Trims.{http_whitespace, trimmed};
 ghost use Rattle.wf_script_commands.specs.Templates.{filled, placed};
@@ -234,8 +235,8 @@ pub fn filled_init(
     })
 }
 
-/// What a script asks of a load, with the parts of the last result in the place of the placeholders in
-/// its URL. One that gets longer than 12,582,912 bytes, divided by the number of documents, at most by 16, is want of memory.
+/// What a script asks of a load, with the parts of the last result in the place of the placeholders in its URL. One
+/// that gets longer than 12,582,912 bytes, divided by the number of documents, at most by 16, is want of memory.
 pub fn filled_load(
     alloc: Global,
     documents: usize,

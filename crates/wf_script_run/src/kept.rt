@@ -1,3 +1,4 @@
+// How much of a long header value is kept while it is filled.
 ghost use Rattle.std.specs.Prelude.{◌≡◌, IfOk};
 ghost use Rattle.wf_text.specs.Trims.{http_whitespace, trimmed_end, trimmed_start};
 ghost use Rattle.wf_script_run.specs.Private.Squeezes as short;

@@ -1,3 +1,4 @@
+// The last result of a script: its parts, and the conditions on it.
 ghost use Rattle.std.specs.Prelude.{◌≡◌, ◌++◌, [], OnOk, drop, decimal, unwrap_or, option_map};
 ghost use Rattle.wf_script_run.specs.Results as spec;
 ghost use Rattle.wf_script_run.specs.Results.{lent_result};

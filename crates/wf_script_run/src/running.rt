@@ -1,3 +1,4 @@
+// How far a document's run has come, and the limits that end it.
 ghost use Rattle.std.specs.Prelude.{◌≡◌, ◌<◌, ◌≤◌, ◌+◌, ◌^◌, ◌++◌, ◌∷◌, [], OnOk, OnErr};
 ghost use Rattle.wf_script_commands.specs.Commands.{step_of};
 ghost use Rattle.wf_script_run.specs.Play.{events_of};

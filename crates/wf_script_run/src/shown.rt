@@ -1,3 +1,4 @@
+// The events that a document has shown, with how long their lines are and where the last result is.
 ghost use Rattle.std.specs.Prelude.{◌≡◌, [], ◌∷◌, ◌++◌, nat_lt, OnOk, OnErr};
 ghost use Rattle.wf_script_run.specs.Play.{events_of};
 ghost use Rattle.wf_script_run.specs.Play as spec;

@@ -1,3 +1,4 @@
+// The values of an object's keys, and the forms of numbers and truth values.
 ghost use Rattle.std.specs.Prelude.{map};
 ghost use Rattle.wf_script_tree.specs.Trees.{data_of};
 ghost use Rattle.wf_script_tables.specs.Reading as spec;

@@ -1,3 +1,4 @@
+// The form that a value of a JSON tree has to have: the trait, and the place where one is refused.
 ghost use Rattle.std.specs.Prelude.{◌≡◌, [], Err, IfOk, decimal};
 ghost use Rattle.serde_json.specs.Data.{Data};
 ghost use Rattle.wf_script_tree.specs.Trees.{data_of};

@@ -1,3 +1,4 @@
+// The forms of lists and of pairs.
 ghost use Rattle.std.specs.Prelude.{◌≡◌, decimal, option_map, option_and_then};
 ghost use Rattle.serde_json.specs.Find.{as_array};
 ghost use Rattle.wf_script_tree.specs.Trees.{data_of, trees_of};

@@ -1,3 +1,4 @@
+// Why a value was not read: want of memory, or the first refused place.
 use std::alloc::{AllocError, AllocFailed};
 use wf_text::{Bytes, OutOfMemory};
 

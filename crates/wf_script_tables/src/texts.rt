@@ -1,3 +1,4 @@
+// The form of texts that pass a test, such as tokens and header values.
 ghost use Rattle.std.specs.Prelude.{◌≡◌, Bool, List, ℕ, IfOk};
 ghost use Rattle.wf_text.specs.Tokens.{is_token};
 ghost use Rattle.wf_text.specs.Values.{is_header_value};

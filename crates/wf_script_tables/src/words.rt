@@ -1,3 +1,4 @@
+// The form of a word that is read as its meaning.
 ghost use Rattle.std.specs.Prelude.{◌≡◌, map};
 ghost use Rattle.wf_script_tables.specs.Reading as spec;
 

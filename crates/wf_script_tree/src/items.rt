@@ -1,3 +1,4 @@
+// The items of a list of a JSON text, one after the other.
 ghost use Rattle.std.specs.Prelude.{◌≡◌, ◌<◌, length, nat_lt, MatchOption, OnSome, IfNone};
 ghost use Rattle.serde_json.specs.Data.{no_items, item};
 ghost use Rattle.wf_script_tree.specs.Trees.{data_of, trees_of, count};

@@ -1,3 +1,4 @@
+// Reads a JSON text (RFC 8259), and refuses what `serde_json` does.
 ghost use Rattle.std.specs.Prelude.{◌≡◌, IfOk, map, option_map};
 ghost use Rattle.json.specs.Tape.{node_token};
 ghost use Rattle.serde_json.specs.Read.{read};

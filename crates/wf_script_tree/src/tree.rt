@@ -1,3 +1,4 @@
+// A value of a JSON text (RFC 8259), by its keys and items.
 ghost use Rattle.std.specs.Prelude.{◌≡◌, List, map, option_map, option_and_then};
 ghost use Rattle.json.specs.Json as json;
 ghost use Rattle.json.specs.Find.{InMembers};

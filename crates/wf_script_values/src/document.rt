@@ -1,3 +1,4 @@
+// The documents of a scenario.
 use url::Url;
 use wf_csp_text::Policies;
 use wf_script_commands::Script;

@@ -1,3 +1,4 @@
+// The hosts that are known when a scenario begins.
 use wf_text::{Bytes, Items};
 
 /// A known HSTS host (RFC 6797, section 8.1.1): its domain as a URL has it, whether the names under it

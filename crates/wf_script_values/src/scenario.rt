@@ -1,3 +1,4 @@
+// A scenario as a value: all that a play begins with.
 use crate::document::Documents;
 use crate::hosts::Hosts;
 use crate::servers::Servers;

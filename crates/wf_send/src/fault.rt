@@ -1,3 +1,4 @@
+// The first fault for which a script's `fetch` makes no request (Fetch, sections 5.4 and 5.6).
 ghost use Rattle.std.specs.Prelude.{◌≡◌, ◌+◌, ◌<◌, ◌^◌, nat_lt, length, sum_by};
 ghost use Rattle.wf_send.specs.Making as spec;
 ghost use Rattle.wf_types.specs.Methods.{normalized};

@@ -1,3 +1,5 @@
+// The header list that a request is made with: the given headers that its guard lets in, the type of its body, and
+// Accept.
 ghost use Rattle.std.specs.Prelude.{◌≡◌, IfOk, OnOk};
 ghost use Rattle.wf_send.specs.Loading as loading;
 ghost use Rattle.wf_send.specs.Making as spec;

@@ -1,3 +1,4 @@
+// The header list of a request as it is sent (Fetch, section 4.6 "HTTP-network-or-cache fetch", step 8).
 ghost use Rattle.std.specs.Prelude.{◌≡◌, [], option_copied, IfOk, OnOk, None, codes, if◌then◌else◌};
 ghost use Rattle.wf_origin.specs.Origins as origins;
 ghost use Rattle.wf_send.specs.Heads as spec;

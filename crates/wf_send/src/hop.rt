@@ -1,3 +1,4 @@
+// A request as it is sent to its current URL (Fetch, section 4.6; RFC 9112, section 3.2).
 ghost use Rattle.std.specs.Prelude.{◌≡◌, IfOk, IsTrue};
 ghost use Rattle.wf_send.specs.Heads as spec;
 ghost use Rattle.wf_text.specs.Ascii.{lacks_space};

@@ -1,3 +1,4 @@
+// The request of an element that loads a resource (HTML, section 2.5.1 "create a potential-CORS request").
 ghost use Rattle.std.specs.Prelude.{◌≡◌, ◌≢◌, IfOk};
 ghost use Rattle.wf_send.specs.Loading as spec;
 ghost use Rattle.wf_types.specs.Requests.{IsClient, IsRequest};

@@ -1,3 +1,4 @@
+// The request that a script's `fetch` makes (Fetch, sections 5.4 and 5.6).
 ghost use Rattle.std.specs.Prelude.{◌≡◌, ◌∷◌, ◌<◌, ◌^◌, [], length, IfOk};
 ghost use Rattle.wf_send.specs.Making as spec;
 ghost use Rattle.wf_types.specs.Methods.{normalized};

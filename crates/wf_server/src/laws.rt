@@ -1,3 +1,4 @@
+// The law of replies: the bytes of a request have one.
 ghost use Rattle.wf_server.specs.Served.{HasOneReply};
 
 use wf_http1::law_one_request;

@@ -1,3 +1,4 @@
+// Reads the head of a request from a peer, within a limit.
 ghost use Rattle.std.specs.Prelude.{◌≡◌, ◌≤◌, [], length, true, false, ◌||◌, IfOk, IfErr, OnOk, OnErr};
 ghost use Rattle.std.specs.List.{list_any};
 ghost use Rattle.wf_http1.specs.Blocks as spec;

@@ -1,3 +1,4 @@
+// What the server answers to a request, by the row of its origin.
 ghost use Rattle.std.specs.Prelude.{◌≡◌, ◌++◌, ◌∷◌, [], IfOk, OnOk, option_copied, option_map};
 ghost use Rattle.std.specs.List.{flat_map, join_with_byte};
 ghost use Rattle.wf_text.specs.Ascii.{comma};

@@ -1,3 +1,4 @@
+// One peer is served: what it asks is read, and answered by the table.
 ghost use Rattle.wf_server.specs.Serving.{IsServing, peer_told};
 
 use crate::listen::hear;

@@ -1,3 +1,4 @@
+// Allow tables, and how a row is found by its origin.
 ghost use Rattle.std.specs.Prelude.{◌≡◌, ◌∷◌, ◌++◌, [], IfOk, option_copied};
 ghost use Rattle.wf_server.specs.Tables.{row_of};
 

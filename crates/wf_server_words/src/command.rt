@@ -1,3 +1,4 @@
+// The words of the program, as a command of the crate `clap` reads them.
 ghost use Rattle.std.specs.Prelude.{◌≡◌, IfOk, option_map, true};
 ghost use Rattle.clap.specs.Words.{app_of};
 ghost use Rattle.wf_server_words.specs.Private.Command as spec;

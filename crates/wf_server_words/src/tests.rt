@@ -1,3 +1,4 @@
+// A test of the words of the program.
 use crate::task_of;
 use std::test::Fail;
 

@@ -1,3 +1,4 @@
+// What the words of the program ask for: where to listen, and how many connections to serve.
 ghost use Rattle.std.specs.Prelude.{◌≡◌, ◌≤◌, IfOk, IfSome, Ok, None, false};
 ghost use Rattle.wf_server_words.specs.Words as spec;
 ghost use Rattle.wf_server_words.specs.Words.{texts};

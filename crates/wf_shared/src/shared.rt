@@ -1,3 +1,4 @@
+// A counted reference that contracts see as the value.
 ghost use Rattle.std.specs.Prelude.{◌≡◌, IfOk};
 
 use std::alloc::Global;

@@ -1,3 +1,4 @@
+// The law of scripted servers: the bytes of a request are answered by its method and its target.
 ghost use Rattle.wf_sim.specs.Laws.{AnswersByParts};
 
 /// The answer to a request whose method and target have no space is the one that a scripted server

@@ -1,3 +1,4 @@
+// A link to the scripted servers of a scenario.
 ghost use Rattle.std.specs.Prelude.{◌≡◌, ◌⊎◌, ◌<◌, ◌≤◌, ◌++◌, [], List, take, drop, length};
 ghost use Rattle.std.specs.Prelude.{Some, Ok, IfOk, OnOk, OnErr};
 ghost use Rattle.std.specs.Io.{ReadsAtMost};

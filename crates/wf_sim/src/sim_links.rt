@@ -1,3 +1,4 @@
+// The links of a play's documents to scripted servers.
 ghost use Rattle.std.specs.Prelude.{◌≡◌, ◌+◌, ℕ, List, [], Ok, Some, IfOk, OnErr, option_map};
 ghost use Rattle.wf_link.specs.Links.{IsForetold, one_out};
 ghost use Rattle.wf_link.specs.declared.target.Route.{Route};

@@ -1,3 +1,4 @@
+// Listens for connections over TCP, and accepts them.
 ghost use Rattle.std.specs.Prelude.{◌≡◌, ◌≤◌, false, None, IfOk, IsErr};
 ghost use Rattle.wf_link.specs.Counts.{HasCause};
 ghost use Rattle.wf_tcp.specs.TcpAccepts.{after_listen, after_next, fresh_end};

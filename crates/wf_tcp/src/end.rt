@@ -1,3 +1,4 @@
+// The end of a connection over TCP that was accepted.
 ghost use Rattle.std.specs.Prelude.{◌≡◌, refl};
 ghost use Rattle.std.specs.Io.{ReadsAtMost, WritesAtMost};
 ghost use Rattle.wf_link.specs.Counts.{HasCause};

@@ -1,3 +1,4 @@
+// A link over TCP: each request goes on a connection of its own.
 ghost use Rattle.std.specs.Arc.{arc_value};
 ghost use Rattle.std.specs.Prelude.{◌≡◌, ◌≤◌, [], false, None, Ok, IsErr, IsNone};
 ghost use Rattle.std.specs.Io.{ReadsAtMost};

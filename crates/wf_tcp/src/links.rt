@@ -1,3 +1,4 @@
+// The links of a play's documents over TCP.
 ghost use Rattle.std.specs.Prelude.{◌≡◌, IfOk, None, Some};
 ghost use Rattle.wf_link.specs.Counts.{grown_by};
 ghost use Rattle.wf_tcp.specs.TcpLink.{opened};

@@ -1,3 +1,4 @@
+// The address of an origin's server, and routes that links share.
 ghost use Rattle.std.specs.Arc.{arc_value};
 ghost use Rattle.std.specs.Prelude.{◌≡◌, IfOk, IsTrue, option_copied};
 ghost use Rattle.wf_tcp.specs.Routes as spec;

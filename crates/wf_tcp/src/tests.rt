@@ -1,3 +1,4 @@
+// Tests of links and of accepted connections, over the loopback.
 use super::*;
 use std::alloc::Global;
 use std::io::{Read, Write};

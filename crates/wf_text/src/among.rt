@@ -1,3 +1,4 @@
+// Whether a text is one of a list, byte for byte or ASCII case aside.
 ghost use Rattle.std.specs.Prelude.{◌≡◌, bytes_eq};
 ghost use Rattle.std.specs.List.{list_any};
 ghost use Rattle.std.specs.Str.{str_eq_ignore_ascii_case};

@@ -1,3 +1,4 @@
+// Base64 values, as nonces and hashes have them (CSP 3, section 2.3.1 "base64-value").
 ghost use Rattle.std.specs.Prelude.{◌≡◌};
 ghost use Rattle.std.specs.List.{list_all};
 ghost use Rattle.wf_text.specs.Base64 as spec;

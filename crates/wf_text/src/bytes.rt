@@ -1,3 +1,4 @@
+// Texts of any bytes. A short one is kept in the value itself.
 ghost use Rattle.std.specs.Prelude.{◌≡◌, ◌==◌, ◌++◌, [], length, IfOk, OnOk, OnErr};
 
 use crate::memory::OutOfMemory;

@@ -1,3 +1,4 @@
+// Numbers that decimal digits write, however many there are.
 ghost use Rattle.std.specs.Prelude.{◌≡◌, IsTrue};
 ghost use Rattle.wf_text.specs.Digits.{capped_digits, digits_at_most, is_digits};
 ghost use Rattle.wf_text.specs.Private.Zeros.{without_zeros};

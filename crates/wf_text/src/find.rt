@@ -1,3 +1,4 @@
+// The first of a byte in a text: where it is, and what is before and after it.
 ghost use Rattle.std.specs.Prelude.{◌≡◌, ◌==◌};
 ghost use Rattle.std.specs.List.{after_first, before_first, position};
 

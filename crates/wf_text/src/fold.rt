@@ -1,3 +1,4 @@
+// ASCII case: texts that are equal but for it, and copies in lower and in upper case.
 ghost use Rattle.std.specs.Prelude.{◌≡◌, IfOk};
 ghost use Rattle.std.specs.Str.{str_eq_ignore_ascii_case, str_to_ascii_lowercase, str_to_ascii_uppercase};
 

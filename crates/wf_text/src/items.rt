@@ -1,3 +1,4 @@
+// A list of items, which contracts see as the list of them.
 ghost use Rattle.std.specs.Prelude.{◌≡◌, ◌==◌, ◌-◌, ◌<◌, ◌++◌, ◌∷◌, [], length, take, slice_get, Some, OnOk, OnErr};
 
 use crate::memory::OutOfMemory;

@@ -1,3 +1,4 @@
+// A list of texts, which contracts see as a list of lists of bytes.
 ghost use Rattle.std.specs.Prelude.{◌≡◌, ◌==◌, ◌<◌, ◌++◌, ◌∷◌, [], length, slice_get, Some, IfOk, OnOk, OnErr};
 
 use crate::bytes::Bytes;

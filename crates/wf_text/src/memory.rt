@@ -1,3 +1,4 @@
+// Want of memory, the error of every call that allocates.
 use std::alloc::{AllocError, AllocFailed};
 
 /// Memory was refused. Every call that allocates may answer it. A call's clauses say what is left then of what it was

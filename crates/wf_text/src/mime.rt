@@ -1,3 +1,4 @@
+// The essence of a MIME type (MIME Sniffing, sections 4.1 and 4.4).
 ghost use Rattle.std.specs.Prelude.{◌≡◌, ◌==◌, map, option_copied};
 ghost use Rattle.std.specs.Char.{to_ascii_lowercase};
 ghost use Rattle.std.specs.List.{list_all, zip};

@@ -1,3 +1,4 @@
+// A text of up to 23 bytes, which takes no memory beside the value.
 ghost use Rattle.std.specs.Prelude.{◌≡◌, ◌≤◌, ◌+◌, ◌==◌, ◌++◌, [], length, IsTrue, ◌↔◌};
 
 use std::marker::Model;

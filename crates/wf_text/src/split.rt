@@ -1,3 +1,4 @@
+// Splits a text at a byte, or at ASCII whitespace (Infra, "split on ASCII whitespace").
 ghost use Rattle.std.specs.Prelude.{◌≡◌, ◌==◌, filter, map, IfOk};
 ghost use Rattle.std.specs.Char.{is_ascii_whitespace};
 ghost use Rattle.std.specs.List.{slice_split};

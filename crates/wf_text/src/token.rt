@@ -1,3 +1,4 @@
+// Tokens: what a method and a field name are made of (RFC 9110, section 5.6.2).
 ghost use Rattle.std.specs.Prelude.{◌≡◌};
 ghost use Rattle.std.specs.List.{list_all};
 ghost use Rattle.wf_text.specs.Tokens.{is_tchar, is_token};

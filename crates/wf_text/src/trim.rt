@@ -1,3 +1,4 @@
+// Trims HTTP whitespace, or tabs and spaces, at the ends of a text (Fetch, section 2.2).
 ghost use Rattle.std.specs.Prelude.{◌≡◌};
 ghost use Rattle.wf_text.specs.Trims.{http_whitespace, tab_or_space, trimmed, trimmed_end, trimmed_start};
 

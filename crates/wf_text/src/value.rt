@@ -1,3 +1,4 @@
+// Header values (Fetch, section 2.2.2).
 ghost use Rattle.std.specs.Prelude.{◌≡◌, not};
 ghost use Rattle.std.specs.List.{list_all};
 ghost use Rattle.wf_text.specs.Values.{is_header_value, is_nul_or_newline};

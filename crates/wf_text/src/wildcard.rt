@@ -1,3 +1,4 @@
+// `*` in a list of methods or header names, and the name that it does not cover (Fetch, section 2.2.2).
 ghost use Rattle.std.specs.Prelude.{◌≡◌};
 ghost use Rattle.wf_text.specs.Wildcards as spec;
 

@@ -1,3 +1,4 @@
+// A book that threads call: each call waits for its turn.
 ghost use Rattle.std.specs.Prelude.{◌≡◌, ◌≢◌, ◌-◌, ◌<◌, [], ◌∷◌, IfOk, OnErr};
 ghost use Rattle.wf_book.specs.Entries.{Extends, StartsWith, entries_of};
 ghost use Rattle.wf_book.specs.Ops.{InRange, is_answer, is_question};

@@ -1,3 +1,4 @@
+// Closes a shared book: all passes come back, and leave the book and the one history of their calls.
 ghost use Rattle.std.specs.Prelude.{◌≡◌, ◌<◌, ◌∷◌, true, length, slice_index_or};
 ghost use Rattle.std.specs.List.{All, count_by};
 ghost use Rattle.std.specs.List.Sorted.{IsPermutation};

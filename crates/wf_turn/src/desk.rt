@@ -1,3 +1,4 @@
+// What a thread works on while it has the turn.
 use wf_book::{Book, History};
 
 /// What the one whose turn it is works on: the book, and its history so far.

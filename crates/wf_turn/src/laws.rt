@@ -1,3 +1,4 @@
+// Laws of a shared book: turn numbers where no call was refused, and which passes are all of them.
 ghost use Rattle.wf_turn.specs.Laws.{AreAllPasses, TurnsArePlaces};
 
 /// Where no call was refused, entry i of the history has turn number i.

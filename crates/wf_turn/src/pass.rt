@@ -1,3 +1,4 @@
+// A pass of a shared book, the right to call it as one document.
 ghost use Rattle.wf_turn.specs.Private.Rest.{IsAtRest};
 
 use crate::turn::Held;

@@ -1,3 +1,4 @@
+// What a pass knows of the shared book, as only clauses read it.
 use std::collections::LinkedList;
 use wf_book::{Book, Entry};
 

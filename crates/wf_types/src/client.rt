@@ -1,3 +1,4 @@
+// The client of a document (HTML, section 8.1.3.2), and the table of cookies.
 ghost use Rattle.std.specs.Prelude.{◌≡◌, IfOk};
 ghost use Rattle.wf_types.specs.Clients as spec;
 

@@ -1,3 +1,4 @@
+// The CORS check of a response (Fetch, section 4.10 "CORS check").
 ghost use Rattle.std.specs.Prelude.{◌≡◌, IfOk};
 ghost use Rattle.wf_types.specs.CorsCheck as spec;
 

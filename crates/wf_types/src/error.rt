@@ -1,3 +1,4 @@
+// Network errors, each with its number and its name.
 ghost use Rattle.std.specs.Prelude.{◌≡◌};
 ghost use Rattle.wf_types.specs.Errors.{error_number, error_name};
 

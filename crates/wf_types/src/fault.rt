@@ -1,3 +1,4 @@
+// Why a script's `fetch` makes no request, each fault with its number and its name.
 ghost use Rattle.std.specs.Prelude.{◌≡◌};
 ghost use Rattle.wf_types.specs.Errors.{fault_number, fault_name};
 

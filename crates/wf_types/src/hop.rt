@@ -1,3 +1,4 @@
+// A request as it is sent, and the head of an answer.
 use wf_headers::{HeaderList, PackedHeaders};
 use wf_text::Bytes;
 

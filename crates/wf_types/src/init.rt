@@ -1,3 +1,4 @@
+// What a script asks of `fetch`, and what an element asks for that loads a resource.
 use crate::mode::{Credentials, Mode, RedirectMode, ReferrerPolicy};
 use crate::policy::Destination;
 use wf_text::{Bytes, Items};

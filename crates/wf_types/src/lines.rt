@@ -1,3 +1,4 @@
+// Header lines that the user agent adds to a request that is sent.
 ghost use Rattle.std.specs.Prelude.{◌≡◌, option_copied, OnOk, OnErr};
 ghost use Rattle.wf_types.specs.Lines.{appended_where};
 

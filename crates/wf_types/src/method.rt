@@ -1,3 +1,4 @@
+// CORS-safelisted methods, and how methods are normalised (Fetch, section 2.2.1).
 ghost use Rattle.std.specs.Prelude.{◌≡◌, IfOk};
 ghost use Rattle.wf_types.specs.Methods as spec;
 

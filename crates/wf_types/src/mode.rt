@@ -1,3 +1,4 @@
+// The modes of a request and its response tainting (Fetch, section 2.2.5), and its referrer policy.
 ghost use Rattle.std.specs.Prelude.{◌≡◌};
 ghost use Rattle.wf_types.specs.CorsCheck.{is_include};
 ghost use Rattle.wf_types.specs.Modes as modes;

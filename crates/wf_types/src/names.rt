@@ -1,3 +1,4 @@
+// Whether a header has one of some names.
 ghost use Rattle.std.specs.Prelude.{◌≡◌, map};
 ghost use Rattle.wf_types.specs.PermittedNames as spec;
 

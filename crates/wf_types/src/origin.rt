@@ -1,3 +1,4 @@
+// The serialised origin of a request (Fetch, section 2.2.5 "serializing a request origin").
 ghost use Rattle.std.specs.Prelude.{◌≡◌, IfOk};
 ghost use Rattle.wf_types.specs.Requests as spec;
 

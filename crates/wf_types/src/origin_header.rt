@@ -1,3 +1,4 @@
+// The values of Origin (Fetch, section 3.2) and of Referer (Fetch, section 4.6).
 ghost use Rattle.std.specs.Prelude.{◌≡◌, option_copied, IfOk};
 ghost use Rattle.wf_types.specs.OriginHeader as spec;
 

@@ -1,3 +1,4 @@
+// What a request is for (Fetch, section 2.2.5), the directive that goes by it, and violations of policies.
 ghost use Rattle.std.specs.Prelude.{◌≡◌};
 ghost use Rattle.wf_types.specs.Names.{destination_name, directive_name};
 

@@ -1,3 +1,4 @@
+// The referrer policy that headers name (Referrer Policy, section 8.1).
 ghost use Rattle.std.specs.Prelude.{◌≡◌, map, unwrap_or, IfOk, None};
 ghost use Rattle.std.specs.List.{filter_map, find, last_or};
 ghost use Rattle.std.specs.Str.{str_eq_ignore_ascii_case};

@@ -1,3 +1,4 @@
+// Requests (Fetch, section 2.2.5).
 ghost use Rattle.std.specs.Prelude.{◌≡◌, ◌<◌, length};
 ghost use Rattle.wf_types.specs.Requests as spec;
 

@@ -1,3 +1,4 @@
+// Which responses a cross-origin resource policy blocks (Fetch, "cross-origin resource policy check").
 ghost use Rattle.std.specs.Prelude.{◌≡◌, IfOk};
 ghost use Rattle.wf_types.specs.OriginHeader.{is_https};
 ghost use Rattle.wf_types.specs.Requests.{IsRequest};

@@ -1,3 +1,4 @@
+// Responses as a script sees them (Fetch, section 2.2.6), how bodies end, and what a fetch comes to.
 ghost use Rattle.std.specs.Prelude.{◌≡◌};
 ghost use Rattle.wf_types.specs.Names.{kind_name};
 

@@ -1,3 +1,4 @@
+// Redirect, ok and null body statuses (Fetch, section 2.2.3).
 ghost use Rattle.std.specs.Prelude.{◌≡◌};
 ghost use Rattle.wf_types.specs.Statuses as spec;
 

@@ -1,3 +1,4 @@
+// URLs as they are told to others: without user name, password and fragment.
 ghost use Rattle.std.specs.Prelude.{◌≡◌, IfOk, OnOk, IsTrue, [], None, Ok};
 ghost use Rattle.url.specs.Parser.{Gives, GivesBy};
 ghost use Rattle.url.specs.Parts.{IsValid};

@@ -1,3 +1,4 @@
+// Where a request is sent: the request target and Host (RFC 9112, section 3.2), and the origin.
 ghost use Rattle.std.specs.Prelude.{◌≡◌, IfOk, IsTrue};
 ghost use Rattle.url.specs.Parts.{IsValid};
 ghost use Rattle.wf_origin.specs.Origins as origins;

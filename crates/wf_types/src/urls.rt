@@ -1,3 +1,4 @@
+// URLs read from texts (URL Standard, section 4.4), and how long one may be.
 ghost use Rattle.std.specs.Prelude.{◌≡◌, Some, None, IfOk, option_map};
 ghost use Rattle.std.specs.Result.{result_ok};
 ghost use Rattle.url.specs.Parts.{Parts, has_credentials};
