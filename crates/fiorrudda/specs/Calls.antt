@@ -3,7 +3,7 @@ use Rattle.std.specs.Prelude.{◌≡◌, ℕ, Bool, List, Option, Some, None, Re
 use Rattle.wf_book.specs.declared.book.Book.{Book}
 use Rattle.wf_headers.specs.Headers.{combined}
 use Rattle.wf_headers.specs.declared.headers.Header.{Header}
-use Rattle.wf_types.specs.CorsCheck.{passes_cors_check}
+use Rattle.policy_checks.specs.CorsCheck.{passes_cors_check}
 use Rattle.fiorrudda_rules.specs.Cors.{is_kept_by_resource_policy}
 use Rattle.fiorrudda_rules.specs.Headers.{appending}
 use Rattle.fiorrudda_rules.specs.Hosts.{after_field, is_known_host, says}

@@ -10,8 +10,8 @@ use fiorrudda_handle::{
     Handle, NO_SUCH_NUMBER, OUT_OF_MEMORY, Thing, WRONG_HANDLE, told, write_answer, yes_or_no,
 };
 use fiorrudda_rules::{is_kept_by_resource_policy, matches_integrity, told_referrer};
+use policy_checks::passes_cors_check;
 use std::alloc::Global;
-use wf_types::passes_cors_check;
 
 // "CORS check" of a thing that is a header list.
 fn checked(thing: &Thing, origin: &[u8], include: bool) -> u32

@@ -10,7 +10,8 @@ use Rattle.wf_fetch_rules.specs.declared.switch.Switch.{Switch}
 use Rattle.wf_fetch_rules.specs.declared.switch.Switch.TheVariants.{Preflights}
 use Rattle.wf_http1.specs.Requests.{request_bytes}
 use Rattle.wf_safelist.specs.UnsafeNames.{unsafe_names}
-use Rattle.wf_types.specs.Requests.{current_url, is_http_url, serialized_request_origin}
+use Rattle.wf_types.specs.Requests.{current_url, is_http_url}
+use Rattle.policy_checks.specs.RequestOrigins.{serialized_request_origin}
 use Rattle.wf_types.specs.declared.client.Client.{Client}
 use Rattle.wf_types.specs.declared.error.NetError.TheVariants.{PreflightHeader}
 use Rattle.wf_types.specs.declared.hop.Head.{Head}

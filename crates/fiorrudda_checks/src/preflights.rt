@@ -9,6 +9,7 @@ ghost use Rattle.wf_types.specs.Requests.{IsAtHttp, IsClient, IsRequest};
 use crate::requested::request_of;
 use fiorrudda_fetch::{Asked, Settings};
 use fiorrudda_rules::Refusal;
+use policy_checks::serialized_origin;
 use std::alloc::Global;
 use wf_cors::{Checked, preflight_of, verdict};
 use wf_fetch_rules::{Switch, is_at_http, set_referrer, switch_of};
@@ -16,7 +17,7 @@ use wf_headers::HeaderList;
 use wf_http1::write_request;
 use wf_safelist::unsafe_names;
 use wf_text::{Bytes, OutOfMemory};
-use wf_types::{Client, Head, Hop, NetError, Request, serialized_origin};
+use wf_types::{Client, Head, Hop, NetError, Request};
 
 // The preflight of a request of a client at an http or https URL.
 fn preflight_to(

@@ -2,7 +2,7 @@
 use Rattle.std.specs.Prelude.{ℕ, Bool, List, Result, Ok}
 use Rattle.wf_headers.specs.declared.headers.Header.{Header}
 use Rattle.wf_origin.specs.Origins.{tuple_origin}
-use Rattle.wf_types.specs.ResourcePolicy.{corp_blocks}
+use Rattle.policy_checks.specs.ResourcePolicy.{corp_blocks}
 use Rattle.fiorrudda_rules.specs.Answers.{and_then}
 use Rattle.fiorrudda_rules.specs.Reading.{web_url_in}
 use Rattle.fiorrudda_rules.specs.declared.refusal.Refusal.{Refusal}

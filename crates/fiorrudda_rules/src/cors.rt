@@ -4,10 +4,10 @@ ghost use Rattle.fiorrudda_rules.specs.Cors as spec;
 
 use crate::reading::read_web_url;
 use crate::refusal::Refusal;
+use policy_checks::corp_blocks;
 use std::alloc::Global;
 use wf_headers::HeaderList;
 use wf_origin::tuple_origin;
-use wf_types::corp_blocks;
 
 /// Whether the answer of a URL is kept from the requests of a page, in mode no-cors (Fetch, "cross-origin resource
 /// policy check", of the page's origin and the URL's). `NotUrl` or `NotHttp`, of the first URL that is refused.

@@ -15,9 +15,9 @@ use Rattle.wf_types.specs.declared.mode.Tainting.TheVariants.{Cors}
 use Rattle.wf_types.specs.declared.policy.Destination.TheVariants.{Fetch}
 use Rattle.wf_types.specs.declared.request.Referrer.TheVariants.{Address}
 use Rattle.wf_types.specs.declared.request.Request.{Request}
-use Rattle.wf_types.specs.CorsCheck.{passes_cors_check}
+use Rattle.policy_checks.specs.CorsCheck.{passes_cors_check}
 use Rattle.wf_types.specs.Lines.{appended_where, header}
-use Rattle.wf_types.specs.ResourcePolicy.{corp_blocks}
+use Rattle.policy_checks.specs.ResourcePolicy.{corp_blocks}
 use Rattle.wf_cors.specs.declared.answer.Checked.{Checked}
 use Rattle.wf_cors.specs.declared.answer.Checked.TheVariants.{Pass, Refused}
 use Rattle.wf_cors.specs.Preflight.{preflight_of}

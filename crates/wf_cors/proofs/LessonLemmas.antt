@@ -14,7 +14,8 @@ use Rattle.wf_headers.specs.Extract.{extracted, extracted_of, items, token_list}
 use Rattle.wf_headers.specs.Headers.{values_of}
 use Rattle.wf_types.specs.declared.hop.Head.{Head}
 use Rattle.wf_types.specs.declared.request.Request.{Request}
-use Rattle.wf_types.specs.CorsCheck.{is_include, passes_cors_check}
+use Rattle.wf_types.specs.Modes.{is_include}
+use Rattle.policy_checks.specs.CorsCheck.{passes_cors_check}
 use Rattle.wf_types.specs.Requests.{IsRequest}
 use Rattle.wf_types.specs.Statuses.{is_ok_status}
 use Rattle.wf_cors.specs.Laws.{IsLesson}

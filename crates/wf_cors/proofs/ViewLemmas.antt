@@ -8,10 +8,10 @@ use Rattle.wf_headers.specs.declared.headers.Header.{Header}
 use Rattle.wf_headers.specs.Headers.{values_of}
 use Rattle.wf_types.specs.declared.hop.Head.{Head}
 use Rattle.wf_types.specs.declared.request.Request.{Request}
-use Rattle.wf_types.specs.CorsCheck.{passes_cors_check}
-use Rattle.wf_types.specs.PermittedNames.{only_named, preflight_names, preflight_status, preflight_view}
+use Rattle.policy_checks.specs.CorsCheck.{passes_cors_check}
+use Rattle.policy_checks.specs.PermittedNames.{only_named, preflight_names, preflight_status, preflight_view}
 use Rattle.wf_types.specs.Statuses.{is_ok_status}
-use Rattle.wf_types.proofs.NameLemmas.{values-only_named}
+use Rattle.policy_checks.proofs.NameLemmas.{values-only_named}
 use Rattle.wf_cors.specs.Verdict.{verdict, verdict_of}
 
 -- the headers of a view

@@ -8,8 +8,8 @@ use Rattle.wf_headers.specs.declared.headers.Header.{Header}
 use Rattle.wf_headers.specs.Headers.{combined}
 use Rattle.wf_types.specs.declared.hop.Head.{Head}
 use Rattle.wf_types.specs.declared.request.Request.{Request}
-use Rattle.wf_types.specs.CorsCheck.{passes_cors_check}
-use Rattle.wf_types.specs.PermittedNames.{preflight_view}
+use Rattle.policy_checks.specs.CorsCheck.{passes_cors_check}
+use Rattle.policy_checks.specs.PermittedNames.{preflight_view}
 use Rattle.wf_cors.specs.declared.answer.Checked.{Checked}
 use Rattle.wf_cors.specs.declared.answer.Checked.TheVariants.{Pass, Refused}
 use Rattle.wf_cors.specs.Verdict.{verdict}

@@ -8,8 +8,9 @@ use Rattle.wf_origin.specs.Origins.{origin_of}
 use Rattle.wf_types.specs.declared.hop.Hop.{Hop}
 use Rattle.wf_types.specs.declared.request.Request.{Request}
 use Rattle.wf_types.specs.Lines.{Line, accept_encoding, all_appended_where, connection, line, line_where, user_agent}
-use Rattle.wf_types.specs.OriginHeader.{referrer_value}
-use Rattle.wf_types.specs.Requests.{current_url, serialized_request_origin}
+use Rattle.policy_checks.specs.OriginHeader.{referrer_value}
+use Rattle.wf_types.specs.Requests.{current_url}
+use Rattle.policy_checks.specs.RequestOrigins.{serialized_request_origin}
 use Rattle.wf_types.specs.Targets.{host_value, origin_text, target_of}
 
 -- the value of Access-Control-Request-Headers, where there are CORS-unsafe request-header names: these, with a comma

@@ -16,7 +16,8 @@ use Rattle.wf_types.specs.declared.error.NetError.TheVariants as error
 use Rattle.wf_types.specs.declared.hop.Head.{Head}
 use Rattle.wf_types.specs.declared.mode.Credentials.{Credentials}
 use Rattle.wf_types.specs.declared.request.Request.{Request}
-use Rattle.wf_types.specs.CorsCheck.{is_include, passes_cors_check}
+use Rattle.wf_types.specs.Modes.{is_include}
+use Rattle.policy_checks.specs.CorsCheck.{passes_cors_check}
 use Rattle.wf_types.specs.Methods.{is_safelisted_method}
 use Rattle.wf_types.specs.Statuses.{is_ok_status}
 use Rattle.wf_cors.specs.declared.answer.Checked.{Checked}

@@ -4,12 +4,11 @@ ghost use Rattle.wf_types.specs.Requests.{IsRequest};
 ghost use Rattle.wf_cors.specs.Verdict as spec;
 
 use crate::allowed::{first_unlisted, has_name};
+use policy_checks::passes_cors_check;
 use std::alloc::Global;
 use wf_headers::{Extracted, HeaderList, Rule};
 use wf_text::{AUTHORIZATION, Bytes, BytesList, OutOfMemory, has_text, has_wildcard, parse_digits};
-use wf_types::{
-    Credentials, Head, NetError, Request, is_ok_status, is_safelisted_method, passes_cors_check,
-};
+use wf_types::{Credentials, Head, NetError, Request, is_ok_status, is_safelisted_method};
 
 /// The verdict on a preflight's answer.
 #[derive(Drop)]

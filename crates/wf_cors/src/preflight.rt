@@ -7,13 +7,14 @@ ghost use Rattle.wf_types.specs.Requests.{IsAtHttp, IsRequest, is_determined};
 ghost use Rattle.wf_types.specs.Targets.{IsSendable};
 ghost use Rattle.wf_cors.specs.Preflight as spec;
 
+use policy_checks::{referrer_value, serialized_origin};
 use std::alloc::Global;
 use url::Url;
 use wf_headers::PackedHeaders;
 use wf_text::{Bytes, BytesList, OutOfMemory};
 use wf_types::{
     ACCEPT_ENCODING, CONNECTION, Hop, Request, USER_AGENT, append_where, host_value, origin_text,
-    referrer_value, serialized_origin, slice_of, target_of,
+    slice_of, target_of,
 };
 
 // How many lines a preflight has at most.

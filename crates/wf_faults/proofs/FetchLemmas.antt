@@ -29,8 +29,10 @@ use Rattle.wf_types.specs.declared.response.BodyEnd.TheVariants as body
 use Rattle.wf_types.specs.declared.response.Outcome.{Outcome}
 use Rattle.wf_types.specs.declared.response.Outcome.TheVariants as outcome
 use Rattle.wf_types.specs.declared.response.Response.{Response}
-use Rattle.wf_types.specs.CorsCheck.{is_include, passes_cors_check}
-use Rattle.wf_types.specs.Requests.{current_url, is_http_url, most_redirects, serialized_request_origin}
+use Rattle.wf_types.specs.Modes.{is_include}
+use Rattle.policy_checks.specs.CorsCheck.{passes_cors_check}
+use Rattle.wf_types.specs.Requests.{current_url, is_http_url, most_redirects}
+use Rattle.policy_checks.specs.RequestOrigins.{serialized_request_origin}
 use Rattle.wf_types.specs.Statuses.{is_ok_status}
 use Rattle.wf_mixed.specs.Ports.{is_bad_port}
 use Rattle.wf_book.specs.declared.op.Op.{Op}

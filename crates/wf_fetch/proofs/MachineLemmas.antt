@@ -15,7 +15,8 @@ use Rattle.wf_cors.specs.Verdict.{verdict}
 use Rattle.wf_cors.specs.declared.answer.Checked.{Checked}
 use Rattle.wf_origin.specs.Origins.{have_same_origin}
 use Rattle.wf_fetch_rules.specs.KnownHosts.{note_of}
-use Rattle.wf_types.specs.Requests.{current_url, serialized_request_origin}
+use Rattle.wf_types.specs.Requests.{current_url}
+use Rattle.policy_checks.specs.RequestOrigins.{serialized_request_origin}
 use Rattle.wf_types.specs.declared.error.NetError.TheVariants.{CspRequest}
 use Rattle.wf_types.specs.declared.policy.Violation.{Violation}
 use Rattle.wf_text.specs.declared.memory.OutOfMemory.{OutOfMemory}

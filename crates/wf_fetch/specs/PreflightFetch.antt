@@ -7,7 +7,7 @@ use Rattle.wf_types.specs.declared.error.NetError.{NetError}
 use Rattle.wf_types.specs.declared.error.NetError.TheVariants.{LinkFault}
 use Rattle.wf_types.specs.declared.hop.Head.{Head}
 use Rattle.wf_types.specs.declared.request.Request.{Request}
-use Rattle.wf_types.specs.Requests.{serialized_request_origin}
+use Rattle.policy_checks.specs.RequestOrigins.{serialized_request_origin}
 use Rattle.wf_safelist.specs.UnsafeNames.{unsafe_names}
 use Rattle.wf_cors.specs.declared.answer.Checked.{Checked}
 use Rattle.wf_cors.specs.declared.answer.Checked.TheVariants.{Pass, Refused}

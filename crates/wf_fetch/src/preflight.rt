@@ -2,7 +2,8 @@
 // and 4.8).
 ghost use Rattle.std.specs.Prelude.{◌≡◌, false, IfOk};
 ghost use Rattle.wf_cors.specs.Verdict.{verdict as verdict_of};
-ghost use Rattle.wf_types.specs.Requests.{IsRequest, serialized_request_origin};
+ghost use Rattle.wf_types.specs.Requests.{IsRequest};
+ghost use Rattle.policy_checks.specs.RequestOrigins.{serialized_request_origin};
 ghost use Rattle.wf_fetch.specs.Machine.{Leads, at_level};
 ghost use Rattle.wf_fetch.specs.PreflightFetch as spec;
 ghost use Rattle.wf_fetch.specs.Ready.{IsReady};
@@ -11,13 +12,14 @@ use crate::context::Context;
 use crate::http::send;
 use crate::place::{Level, Place, Step};
 use crate::steps::{asking, going, refused, sending};
+use policy_checks::serialized_origin;
 use std::alloc::Global;
 use wf_cors::{Checked, preflight_of, verdict};
 use wf_fetch_acts::Act;
 use wf_fetch_rules::{covers_of, learn_of, note_of};
 use wf_safelist::unsafe_names;
 use wf_text::OutOfMemory;
-use wf_types::{Head, NetError, Request, serialized_origin};
+use wf_types::{Head, NetError, Request};
 
 // HTTP fetch with a CORS-preflight: the preflight cache is asked (step 4.1). From here on the level owes a clear.
 pub(crate) fn ask_cache(

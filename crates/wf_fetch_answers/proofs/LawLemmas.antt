@@ -29,8 +29,8 @@ use Rattle.wf_filter.proofs.ViewLemmas.{absent-extracted}
 use Rattle.wf_filter.specs.Blocks.{is_nosniff_blocked, is_type_blocked}
 use Rattle.wf_filter.specs.Laws.{HasSameBody, IsAllowed, IsResponse, IsSameBlock, LeadsAlike, is_opaque_tainted}
 use Rattle.wf_filter.specs.Views.{is_error, is_followed, is_manual, is_refused, is_refused_by}
-use Rattle.wf_types.specs.ResourcePolicy.{is_blocked}
-use Rattle.wf_types.specs.CorsCheck.{passes_check}
+use Rattle.policy_checks.specs.ResourcePolicy.{is_blocked}
+use Rattle.policy_checks.specs.CorsCheck.{passes_check}
 use Rattle.wf_filter.specs.Views.{permitted_view}
 use Rattle.wf_fetch_answers.specs.declared.answers.Ended.{Ended}
 use Rattle.wf_fetch_answers.specs.declared.answers.Ended.TheVariants.{Over, Reads}

@@ -9,7 +9,7 @@ use Rattle.wf_origin.specs.Origins.{have_same_origin}
 use Rattle.wf_types.specs.declared.hop.Head.{Head}
 use Rattle.wf_types.specs.declared.request.Request.{Request}
 use Rattle.wf_types.specs.Methods.{is_get_or_head}
-use Rattle.wf_types.specs.PermittedNames.{has_name_among}
+use Rattle.policy_checks.specs.PermittedNames.{has_name_among}
 use Rattle.wf_types.specs.ReferrerPolicies.{policy_of_header, policy_or}
 use Rattle.wf_types.specs.Requests.{current_url}
 

@@ -12,8 +12,8 @@ use Rattle.wf_types.specs.declared.mode.Tainting.TheVariants as tainting
 use Rattle.wf_types.specs.declared.request.Request.{Request}
 use Rattle.wf_types.specs.Statuses.{is_redirect_status}
 use Rattle.wf_filter.specs.Views.{is_error}
-use Rattle.wf_types.specs.ResourcePolicy.{is_blocked}
-use Rattle.wf_types.specs.CorsCheck.{passes_check}
+use Rattle.policy_checks.specs.ResourcePolicy.{is_blocked}
+use Rattle.policy_checks.specs.CorsCheck.{passes_check}
 use Rattle.wf_types.specs.Modes.{is_follow}
 
 -- the network error of the check of a response by this tainting: the CORS check (step 4.4), or the cross-origin

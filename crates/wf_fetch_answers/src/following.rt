@@ -1,15 +1,16 @@
 // The request after a redirect (Fetch, section 4.5 "HTTP-redirect fetch", steps 8 to 19).
 ghost use Rattle.std.specs.Prelude.{◌≡◌, ◌<◌, length, not, IfOk, OnOk};
-ghost use Rattle.wf_types.specs.PermittedNames as permitted;
+ghost use Rattle.policy_checks.specs.PermittedNames as permitted;
 ghost use Rattle.wf_types.specs.Requests.{IsAtHttp, IsRequest, most_redirects};
 ghost use Rattle.wf_fetch_answers.specs.Following as spec;
 
+use policy_checks::has_name_among;
 use std::alloc::Global;
 use url::Url;
 use wf_headers::{Field, HeaderList, HeaderTest};
 use wf_origin::have_same_origin;
 use wf_text::{AUTHORIZATION, Bytes, OutOfMemory};
-use wf_types::{Head, Request, has_name_among, is_get_or_head, policy_of_header, policy_or};
+use wf_types::{Head, Request, is_get_or_head, policy_of_header, policy_or};
 
 // The request-body-header names.
 const BODY_HEADER_NAMES: [&[u8]; 4] = [

@@ -5,10 +5,11 @@ ghost use Rattle.wf_fetch_answers.specs.Judging as spec;
 ghost use Rattle.wf_filter.specs.Views as views;
 ghost use Rattle.wf_types.specs.Requests.{IsRequest};
 
+use policy_checks::{is_blocked, passes_check};
 use std::alloc::Global;
 use wf_headers::HeaderList;
 use wf_text::OutOfMemory;
-use wf_types::{Head, NetError, Request, Tainting, is_blocked, is_redirect_status, passes_check};
+use wf_types::{Head, NetError, Request, Tainting, is_redirect_status};
 
 // The network error of the check of a response by the request's tainting.
 fn check_error(

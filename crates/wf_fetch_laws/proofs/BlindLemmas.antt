@@ -9,7 +9,8 @@ use Rattle.wf_types.specs.declared.hop.Hop.{Hop}
 use Rattle.wf_types.specs.declared.mode.Tainting.TheVariants as tainting
 use Rattle.wf_types.specs.declared.policy.Violation.{Violation}
 use Rattle.wf_types.specs.declared.request.Request.{Request}
-use Rattle.wf_types.specs.Requests.{current_url, is_http_url, serialized_request_origin}
+use Rattle.wf_types.specs.Requests.{current_url, is_http_url}
+use Rattle.policy_checks.specs.RequestOrigins.{serialized_request_origin}
 use Rattle.wf_book.specs.declared.op.Op.{Op}
 use Rattle.wf_csp.specs.Violations.{has_enforced, request_violations, response_violations, upgrades}
 use Rattle.wf_cors.specs.declared.answer.Checked.{Checked}

@@ -15,8 +15,10 @@ use Rattle.wf_types.specs.declared.hop.Hop.{Hop}
 use Rattle.wf_types.specs.declared.mode.Tainting.TheVariants as tainting
 use Rattle.wf_types.specs.declared.policy.Violation.{Violation}
 use Rattle.wf_types.specs.declared.request.Request.{Request}
-use Rattle.wf_types.specs.CorsCheck.{is_include, passes_cors_check}
-use Rattle.wf_types.specs.Requests.{current_url, is_http_url, serialized_request_origin}
+use Rattle.wf_types.specs.Modes.{is_include}
+use Rattle.policy_checks.specs.CorsCheck.{passes_cors_check}
+use Rattle.wf_types.specs.Requests.{current_url, is_http_url}
+use Rattle.policy_checks.specs.RequestOrigins.{serialized_request_origin}
 use Rattle.wf_types.specs.Statuses.{is_ok_status}
 use Rattle.wf_book.specs.declared.op.Op.{Op}
 use Rattle.wf_csp.specs.declared.compiled.CompiledPolicy.{CompiledPolicy}

@@ -7,9 +7,10 @@ use Rattle.wf_book.specs.declared.op.Op.TheVariants.{Clear, Covers, Learn}
 use Rattle.wf_safelist.specs.UnsafeNames.{unsafe_names}
 use Rattle.wf_types.specs.declared.client.Client.{Client}
 use Rattle.wf_types.specs.declared.request.Request.{Request}
-use Rattle.wf_types.specs.CorsCheck.{is_include}
+use Rattle.wf_types.specs.Modes.{is_include}
 use Rattle.wf_types.specs.Methods.{is_safelisted_method}
-use Rattle.wf_types.specs.Requests.{current_url, serialized_request_origin}
+use Rattle.wf_types.specs.Requests.{current_url}
+use Rattle.policy_checks.specs.RequestOrigins.{serialized_request_origin}
 
 -- the URL by which entries are found: the text of the current URL
 abbrev pub url_text : Request → List ℕ

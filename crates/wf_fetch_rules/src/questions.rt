@@ -3,12 +3,13 @@ ghost use Rattle.std.specs.Prelude.{◌≡◌, IfOk};
 ghost use Rattle.wf_fetch_rules.specs.Questions as spec;
 ghost use Rattle.wf_types.specs.Requests.{IsRequest};
 
+use policy_checks::serialized_origin;
 use std::alloc::Global;
 use wf_book::Op;
 use wf_precache::{Lesson, Names, Question};
 use wf_safelist::unsafe_names;
 use wf_text::{Bytes, BytesList, OutOfMemory};
-use wf_types::{Client, Request, is_safelisted_method, serialized_origin};
+use wf_types::{Client, Request, is_safelisted_method};
 
 // The URL by which entries are found.
 fn url_text(alloc: Global, request: &Request) -> Result<Bytes, OutOfMemory>

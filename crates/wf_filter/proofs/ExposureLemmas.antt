@@ -13,8 +13,8 @@ use Rattle.wf_headers.specs.Extract.{extracted}
 use Rattle.wf_headers.specs.Headers.{is_named}
 use Rattle.wf_types.specs.declared.mode.Tainting.TheVariants as tainting
 use Rattle.wf_types.specs.declared.request.Request.{Request}
-use Rattle.wf_types.specs.CorsCheck.{is_include}
-use Rattle.wf_types.specs.PermittedNames.{has_name_among}
+use Rattle.wf_types.specs.Modes.{is_include}
+use Rattle.policy_checks.specs.PermittedNames.{has_name_among}
 use Rattle.wf_filter.proofs.ViewLemmas.{filter-all_named, other-name}
 use Rattle.wf_filter.specs.declared.exposed.Exposure.TheVariants.{All, Names}
 use Rattle.wf_filter.specs.Exposed.{exposed_by, exposed_names, header_names}

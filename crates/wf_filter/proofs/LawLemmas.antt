@@ -9,7 +9,7 @@ use Rattle.wf_headers.specs.Headers.{contains, values_of}
 use Rattle.wf_mime.specs.Blocking.{mime_blocked}
 use Rattle.wf_mime.specs.Essence.{essence_of}
 use Rattle.wf_mime.specs.Nosniff.{nosniff}
-use Rattle.wf_types.proofs.NameLemmas.{values-kept, values-only_named}
+use Rattle.policy_checks.proofs.NameLemmas.{values-kept, values-only_named}
 use Rattle.wf_types.specs.declared.hop.Head.{Head}
 use Rattle.wf_types.specs.declared.hop.Hop.{Hop}
 use Rattle.wf_types.specs.declared.mode.RedirectMode.{RedirectMode}
@@ -20,7 +20,7 @@ use Rattle.wf_types.specs.declared.policy.Destination.{Destination}
 use Rattle.wf_types.specs.declared.policy.Destination.TheVariants as destination
 use Rattle.wf_types.specs.declared.request.Request.{Request}
 use Rattle.wf_types.specs.Modes.{is_cors_tainted, is_error_mode, is_follow, is_manual_mode}
-use Rattle.wf_types.specs.PermittedNames.{preflight_names}
+use Rattle.policy_checks.specs.PermittedNames.{preflight_names}
 use Rattle.wf_types.specs.Statuses.{is_redirect_status}
 use Rattle.wf_filter.proofs.OwnViewLemmas.{both-second, cors-checked, cors-safelisted, fewer, view_by}
 use Rattle.wf_filter.proofs.ViewLemmas.{IsOneOf, Keeps, KeepsChecked, basic-named, contains-fewer, contains-kept}
@@ -32,9 +32,9 @@ use Rattle.wf_filter.specs.Laws.{KeepsCorsCheck, KeepsFiltered, KeepsKnownHost, 
 use Rattle.wf_filter.specs.Laws.{KeepsTarget, is_fetch, is_opaque_tainted}
 use Rattle.wf_filter.specs.Names.{is_forbidden}
 use Rattle.wf_filter.specs.Views.{checked_names, is_error, is_followed, is_manual}
-use Rattle.wf_types.specs.ResourcePolicy.{is_blocked}
+use Rattle.policy_checks.specs.ResourcePolicy.{is_blocked}
 use Rattle.wf_filter.specs.Views.{is_refused, is_told, is_told_cors, is_unfollowed}
-use Rattle.wf_types.specs.CorsCheck.{passes_check}
+use Rattle.policy_checks.specs.CorsCheck.{passes_check}
 use Rattle.wf_filter.specs.Views.{permitted_view, redirect_names, response_names, response_view, type_names}
 
 -- ---- tests

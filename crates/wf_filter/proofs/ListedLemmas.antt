@@ -7,7 +7,7 @@ use Rattle.std.specs.Cmp.Lexicographic.{bytes_decides, nat_list_eq_equiv}
 use Rattle.std.specs.List.{list_any}
 use Rattle.std.specs.Str.{str_eq_ignore_ascii_case, str_to_ascii_lowercase}
 use Rattle.wf_headers.specs.declared.headers.Header.{Header}
-use Rattle.wf_types.specs.PermittedNames.{has_name_among}
+use Rattle.policy_checks.specs.PermittedNames.{has_name_among}
 use Rattle.wf_types.specs.TextSets.{has_text}
 use Rattle.wf_filter.specs.Private.Listing.{is_found, is_there}
 

@@ -9,14 +9,13 @@ use Rattle.wf_headers.specs.declared.extract.Rule.TheVariants.{Tokens}
 use Rattle.wf_headers.specs.declared.headers.Header.{Header}
 use Rattle.wf_headers.specs.Extract.{extracted}
 use Rattle.wf_headers.specs.Headers.{contains, values_of}
-use Rattle.wf_types.proofs.NameLemmas.{values-kept}
+use Rattle.policy_checks.proofs.NameLemmas.{values-kept}
 use Rattle.wf_types.specs.declared.hop.Head.{Head}
 use Rattle.wf_types.specs.declared.hop.Hop.{Hop}
 use Rattle.wf_types.specs.declared.mode.Tainting.{Tainting}
 use Rattle.wf_types.specs.declared.mode.Tainting.TheVariants as tainting
 use Rattle.wf_types.specs.declared.request.Request.{Request}
-use Rattle.wf_types.specs.CorsCheck.{is_include}
-use Rattle.wf_types.specs.PermittedNames.{has_name_among, preflight_names, preflight_view}
+use Rattle.policy_checks.specs.PermittedNames.{has_name_among, preflight_names, preflight_view}
 use Rattle.wf_types.specs.Statuses.{is_ok_status, is_redirect_status}
 use Rattle.wf_filter.proofs.ExposureLemmas.{safelisted_if, told_if}
 use Rattle.wf_filter.proofs.ViewLemmas.{KeepsChecked, basic-named, contains-fewer, contains-kept, cors-told}
@@ -28,7 +27,7 @@ use Rattle.wf_text.specs.Wildcards.{has_wildcard}
 use Rattle.wf_filter.specs.Filtered.{exposed_to}
 use Rattle.wf_filter.specs.Names.{is_forbidden, is_safelisted}
 use Rattle.wf_filter.specs.Views.{followed_view, is_followed, is_refused, is_told, is_told_cors}
-use Rattle.wf_types.specs.Modes.{is_follow}
+use Rattle.wf_types.specs.Modes.{is_follow, is_include}
 use Rattle.wf_filter.specs.Views.{is_unfollowed, permitted_view, redirect_names, refused_view, response_names}
 use Rattle.wf_filter.specs.Views.{response_view}
 use Rattle.wf_filter.specs.Views.{type_names, unfollowed_view}

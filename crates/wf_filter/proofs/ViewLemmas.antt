@@ -13,11 +13,11 @@ use Rattle.wf_headers.specs.declared.extract.Extracted.TheVariants.{Absent}
 use Rattle.wf_headers.specs.declared.extract.Rule.{Rule}
 use Rattle.wf_headers.specs.Extract.{extracted, extracted_of}
 use Rattle.wf_headers.specs.Headers.{contains, is_named, values_of}
-use Rattle.wf_types.proofs.NameLemmas.{among-named, values-kept}
+use Rattle.policy_checks.proofs.NameLemmas.{among-named, values-kept}
 use Rattle.wf_types.specs.declared.mode.Tainting.{Tainting}
 use Rattle.wf_types.specs.declared.mode.Tainting.TheVariants as tainting
 use Rattle.wf_types.specs.declared.request.Request.{Request}
-use Rattle.wf_types.specs.PermittedNames.{has_name_among}
+use Rattle.policy_checks.specs.PermittedNames.{has_name_among}
 use Rattle.wf_filter.specs.Exposed.{header_names}
 use Rattle.wf_filter.specs.Names.{is_forbidden}
 use Rattle.wf_filter.specs.Views.{checked_names, is_refused_by, is_told, is_told_cors, response_names}

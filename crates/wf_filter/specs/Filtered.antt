@@ -8,7 +8,7 @@ use Rattle.wf_types.specs.declared.request.Request.{Request}
 use Rattle.wf_types.specs.declared.response.BodyEnd.TheVariants.{Null}
 use Rattle.wf_types.specs.declared.response.Response.{Response}
 use Rattle.wf_types.specs.declared.response.ResponseKind.TheVariants as kind
-use Rattle.wf_types.specs.CorsCheck.{is_include}
+use Rattle.wf_types.specs.Modes.{is_include}
 use Rattle.wf_types.specs.Requests.{current_url}
 use Rattle.wf_types.specs.Urls.{without_fragment}
 use Rattle.wf_filter.specs.Exposed.{exposed_names}

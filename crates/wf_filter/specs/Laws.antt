@@ -13,8 +13,8 @@ use Rattle.wf_types.specs.Modes.{is_cors_tainted, is_follow}
 use Rattle.wf_filter.specs.Blocks.{is_nosniff_blocked, is_type_blocked}
 use Rattle.wf_filter.specs.Filtered.{filtered}
 use Rattle.wf_filter.specs.Views.{is_error, is_followed, is_manual, is_refused}
-use Rattle.wf_types.specs.ResourcePolicy.{is_blocked}
-use Rattle.wf_types.specs.CorsCheck.{passes_check}
+use Rattle.policy_checks.specs.ResourcePolicy.{is_blocked}
+use Rattle.policy_checks.specs.CorsCheck.{passes_check}
 use Rattle.wf_filter.specs.Views.{permitted_view}
 
 -- ---- where the rules are asked

@@ -1,7 +1,7 @@
 -- Names of response headers: those that are forbidden and those that are CORS-safelisted (Fetch, section 2.2.2).
 use Rattle.std.specs.Prelude.{ℕ, Bool, not, ◌&&◌, ◌||◌, List, [], ◌∷◌, codes}
 use Rattle.wf_headers.specs.declared.headers.Header.{Header}
-use Rattle.wf_types.specs.PermittedNames.{has_name_among}
+use Rattle.policy_checks.specs.PermittedNames.{has_name_among}
 
 -- the forbidden response-header names
 abbrev pub forbidden_names : List (List ℕ)

@@ -11,10 +11,10 @@ use Rattle.wf_types.specs.declared.mode.Tainting.{Tainting}
 use Rattle.wf_types.specs.declared.policy.Destination.TheVariants as destination
 use Rattle.wf_types.specs.declared.policy.Destination.{Destination}
 use Rattle.wf_types.specs.declared.request.Request.{Request}
-use Rattle.wf_types.specs.CorsCheck.{passes_check}
+use Rattle.policy_checks.specs.CorsCheck.{passes_check}
 use Rattle.wf_types.specs.Modes.{is_error_mode, is_follow, is_manual_mode}
-use Rattle.wf_types.specs.PermittedNames.{has_name_among, preflight_view}
-use Rattle.wf_types.specs.ResourcePolicy.{is_blocked}
+use Rattle.policy_checks.specs.PermittedNames.{has_name_among, preflight_view}
+use Rattle.policy_checks.specs.ResourcePolicy.{is_blocked}
 use Rattle.wf_types.specs.Statuses.{is_redirect_status}
 use Rattle.wf_filter.specs.Filtered.{exposed_to, without_forbidden}
 use Rattle.wf_filter.specs.Names.{is_safelisted}

@@ -3,12 +3,13 @@ ghost use Rattle.std.specs.Prelude.{◌≡◌};
 ghost use Rattle.wf_filter.specs.Private.Listing.{is_safelisted_among};
 ghost use Rattle.wf_filter.specs.Private.Keeping as private;
 ghost use Rattle.wf_filter.specs.Views as views;
-ghost use Rattle.wf_types.specs.PermittedNames as permitted;
+ghost use Rattle.policy_checks.specs.PermittedNames as permitted;
 
 use crate::listed::{Exposed, is_safelisted_among};
 use crate::names::is_forbidden;
+use policy_checks::has_name_among;
 use wf_headers::{Field, HeaderTest};
-use wf_types::{Tainting, has_name_among};
+use wf_types::Tainting;
 
 // The headers that a verdict on the answer to a preflight rests on.
 const PREFLIGHT_NAMES: [&[u8]; 6] = [

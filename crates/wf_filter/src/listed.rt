@@ -3,7 +3,7 @@ ghost use Rattle.std.specs.Prelude.{◌≡◌, ◌||◌, ℕ, List, true, IfOk, 
 ghost use Rattle.std.specs.List.{list_any};
 ghost use Rattle.wf_filter.specs.Private.Listing.{Agree, is_found, is_safelisted_among, is_there};
 ghost use Rattle.wf_headers.specs.declared.headers.Header.{Header};
-ghost use Rattle.wf_types.specs.PermittedNames.{has_name_among};
+ghost use Rattle.policy_checks.specs.PermittedNames.{has_name_among};
 ghost use Rattle.wf_types.specs.TextSets.{has_text};
 
 use crate::exposed::Exposure;

@@ -1,11 +1,11 @@
 // Forbidden and CORS-safelisted response-header names (Fetch, section 2.2.2).
 ghost use Rattle.std.specs.Prelude.{◌≡◌};
 ghost use Rattle.wf_filter.specs.Names as spec;
-ghost use Rattle.wf_types.specs.PermittedNames as permitted;
+ghost use Rattle.policy_checks.specs.PermittedNames as permitted;
 
+use policy_checks::has_name_among;
 use wf_headers::Field;
 use wf_text::{Bytes, eq_fold};
-use wf_types::has_name_among;
 
 // The forbidden response-header names.
 const FORBIDDEN_NAMES: [&[u8]; 2] = [b"Set-Cookie", b"Set-Cookie2"];

@@ -2,19 +2,17 @@
 ghost use Rattle.std.specs.Prelude.{◌≡◌, filter, IfOk, map};
 ghost use Rattle.wf_filter.specs.Filtered.{exposed_to};
 ghost use Rattle.wf_filter.specs.Views as spec;
-ghost use Rattle.wf_types.specs.PermittedNames.{preflight_status as status_told, preflight_view as preflight_told};
+ghost use Rattle.policy_checks.specs.PermittedNames.{preflight_status as status_told, preflight_view as preflight_told};
 ghost use Rattle.wf_types.specs.Requests.{IsRequest};
 
 use crate::keep::Keep;
 use crate::listed::exposed_in;
 use crate::responses::{exposure_to, without_forbidden};
+use policy_checks::{is_blocked, passes_check};
 use std::alloc::Global;
 use wf_headers::HeaderList;
 use wf_text::OutOfMemory;
-use wf_types::{
-    Destination, Head, Hop, Request, Tainting, is_blocked, is_ok_status, is_redirect_status,
-    passes_check,
-};
+use wf_types::{Destination, Head, Hop, Request, Tainting, is_ok_status, is_redirect_status};
 
 // The headers that following a redirect rests on.
 const REDIRECT_NAMES: [&[u8]; 2] = [b"Location", b"Referrer-Policy"];

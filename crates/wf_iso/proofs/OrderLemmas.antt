@@ -11,7 +11,8 @@ use Rattle.wf_types.specs.declared.mode.Tainting.TheVariants as tainting
 use Rattle.wf_types.specs.declared.policy.Violation.{Violation}
 use Rattle.wf_types.specs.declared.request.Request.{Request}
 use Rattle.wf_types.specs.declared.response.Outcome.{Outcome}
-use Rattle.wf_types.specs.Requests.{current_url, is_http_url, serialized_request_origin}
+use Rattle.wf_types.specs.Requests.{current_url, is_http_url}
+use Rattle.policy_checks.specs.RequestOrigins.{serialized_request_origin}
 use Rattle.wf_book.specs.declared.op.Op.{Op}
 use Rattle.wf_csp.specs.Violations.{request_violations, response_violations}
 use Rattle.wf_cors.specs.declared.answer.Checked.{Checked}

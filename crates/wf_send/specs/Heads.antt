@@ -15,7 +15,7 @@ use Rattle.wf_types.specs.declared.request.Request.{Request}
 use Rattle.wf_types.specs.Lines.{Line, accept_encoding, all_appended_where, connection, header, line, line_where}
 use Rattle.wf_types.specs.Lines.{user_agent}
 use Rattle.wf_types.specs.Methods.{is_post_or_put}
-use Rattle.wf_types.specs.OriginHeader.{origin_value, referrer_value}
+use Rattle.policy_checks.specs.OriginHeader.{origin_value, referrer_value}
 use Rattle.wf_types.specs.Requests.{current_url}
 use Rattle.wf_types.specs.Targets.{host_value, origin_text, target_of}
 

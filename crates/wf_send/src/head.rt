@@ -3,16 +3,17 @@ ghost use Rattle.std.specs.Prelude.{◌≡◌, [], option_copied, IfOk, OnOk, No
 ghost use Rattle.wf_origin.specs.Origins as origins;
 ghost use Rattle.wf_send.specs.Heads as spec;
 ghost use Rattle.wf_types.specs.Lines.{all_appended_where, appended_where};
-ghost use Rattle.wf_types.specs.OriginHeader.{origin_value};
+ghost use Rattle.policy_checks.specs.OriginHeader.{origin_value};
 ghost use Rattle.wf_types.specs.Targets.{origin_text};
 
+use policy_checks::{origin_value, referrer_value};
 use std::alloc::Global;
 use url::Url;
 use wf_headers::{HeaderList, PackedHeaders};
 use wf_text::{Bytes, OutOfMemory};
 use wf_types::{
     ACCEPT_ENCODING, CONNECTION, Cookie, Credentials, Request, Tainting, USER_AGENT, append_where,
-    host_value, is_post_or_put, origin_value, referrer_value, slice_of,
+    host_value, is_post_or_put, slice_of,
 };
 
 // How many lines are sent beside a request's own: Host, and those of `append_added` but Cookie, which is rare.

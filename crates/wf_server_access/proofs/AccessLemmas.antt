@@ -12,7 +12,8 @@ use Rattle.wf_types.specs.declared.error.NetError.{NetError}
 use Rattle.wf_types.specs.declared.error.NetError.TheVariants as error
 use Rattle.wf_types.specs.declared.response.Outcome.{Outcome}
 use Rattle.wf_types.specs.declared.response.Outcome.TheVariants.{Answer, Error, Loaded}
-use Rattle.wf_types.specs.Requests.{current_url, serialized_request_origin}
+use Rattle.wf_types.specs.Requests.{current_url}
+use Rattle.policy_checks.specs.RequestOrigins.{serialized_request_origin}
 use Rattle.wf_book.specs.declared.op.Op.TheVariants.{Match}
 use Rattle.wf_book.specs.declared.op.Reply.{Reply as BookReply}
 use Rattle.wf_book.specs.declared.op.Reply.TheVariants.{No}
@@ -24,7 +25,7 @@ use Rattle.wf_fetch_acts.specs.Process.{Process}
 use Rattle.wf_fetch_rules.specs.KnownHosts.{host_to_match}
 use Rattle.wf_fetch_rules.specs.Referrers.{determined, with_referrer}
 use Rattle.wf_types.specs.declared.request.Referrer.{Referrer}
-use Rattle.wf_types.specs.OriginHeader.{referrer_value}
+use Rattle.policy_checks.specs.OriginHeader.{referrer_value}
 use Rattle.wf_types.specs.Targets.{host_value}
 use Rattle.wf_fetch_rules.specs.Switch.{needs_preflight, with_tainting}
 use Rattle.wf_fetch.specs.Fetch.{fetch, finished, onward_of}

@@ -9,8 +9,8 @@ use Rattle.wf_types.specs.declared.hop.Head.{Head}
 use Rattle.wf_types.specs.declared.request.Request.{Request}
 use Rattle.wf_types.specs.declared.response.Outcome.{Outcome}
 use Rattle.wf_types.specs.declared.response.Outcome.TheVariants.{Error}
-use Rattle.wf_types.specs.CorsCheck.{is_include}
-use Rattle.wf_types.specs.Requests.{serialized_request_origin}
+use Rattle.wf_types.specs.Modes.{is_include}
+use Rattle.policy_checks.specs.RequestOrigins.{serialized_request_origin}
 use Rattle.wf_book.specs.declared.op.Op.{Op}
 use Rattle.wf_book.specs.declared.op.Reply.{Reply as BookReply}
 use Rattle.wf_book.specs.declared.op.Reply.TheVariants.{No}

@@ -8,8 +8,9 @@ use Rattle.wf_types.specs.declared.request.Request.{Request}
 use Rattle.wf_types.specs.Lines.{header}
 use Rattle.wf_types.specs.Modes.{is_cors_tainted}
 use Rattle.wf_types.specs.Methods.{is_get_or_head}
-use Rattle.wf_types.specs.OriginHeader.{told_origin}
-use Rattle.wf_types.specs.Requests.{current_url, serialized_request_origin}
+use Rattle.policy_checks.specs.OriginHeader.{told_origin}
+use Rattle.wf_types.specs.Requests.{current_url}
+use Rattle.policy_checks.specs.RequestOrigins.{serialized_request_origin}
 use Rattle.wf_types.specs.Targets.{host_value}
 use Rattle.wf_cors.specs.Preflight.{preflight_lines, preflight_of}
 use Rattle.wf_send.specs.Heads.{added_lines, hop_of}

@@ -27,7 +27,7 @@ use Rattle.wf_types.specs.declared.response.BodyEnd.{BodyEnd}
 use Rattle.wf_types.specs.declared.response.Outcome.{Outcome}
 use Rattle.wf_types.specs.declared.response.Outcome.TheVariants.{Answer, Error, Loaded}
 use Rattle.wf_types.specs.declared.response.Response.{Response}
-use Rattle.wf_types.specs.CorsCheck.{passes_check}
+use Rattle.policy_checks.specs.CorsCheck.{passes_check}
 use Rattle.wf_types.specs.Modes.{is_error_mode, is_follow, is_manual_mode}
 use Rattle.wf_types.specs.Statuses.{is_null_body_status, is_redirect_status}
 use Rattle.wf_book.specs.declared.op.Op.{Op}

@@ -15,8 +15,9 @@ use Rattle.wf_types.specs.declared.request.Request.{Request}
 use Rattle.wf_types.specs.Lines.{header, user_agent}
 use Rattle.wf_types.specs.Methods.{is_get_or_head, is_post_or_put}
 use Rattle.wf_types.specs.Modes.{is_cors_tainted}
-use Rattle.wf_types.specs.OriginHeader.{origin_value, referrer_value, told_origin}
-use Rattle.wf_types.specs.Requests.{current_url, serialized_request_origin}
+use Rattle.policy_checks.specs.OriginHeader.{origin_value, referrer_value, told_origin}
+use Rattle.wf_types.specs.Requests.{current_url}
+use Rattle.policy_checks.specs.RequestOrigins.{serialized_request_origin}
 use Rattle.wf_types.specs.Targets.{host_value, origin_text}
 use Rattle.wf_cors.specs.Preflight.{names_value, preflight_lines, preflight_of}
 use Rattle.wf_send.specs.Heads.{added_lines, cookie_of, cookie_value, hop_of, includes_credentials, length_value}

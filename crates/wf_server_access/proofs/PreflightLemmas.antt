@@ -9,9 +9,9 @@ use Rattle.wf_precache.specs.Entries.{has_match, has_method_match}
 use Rattle.wf_types.specs.declared.client.Client.{Client}
 use Rattle.wf_types.specs.declared.hop.Head.{Head}
 use Rattle.wf_types.specs.declared.request.Request.{Request}
-use Rattle.wf_types.specs.CorsCheck.{is_include}
+use Rattle.wf_types.specs.Modes.{is_include}
 use Rattle.wf_types.specs.Methods.{is_safelisted_method}
-use Rattle.wf_types.specs.Requests.{serialized_request_origin}
+use Rattle.policy_checks.specs.RequestOrigins.{serialized_request_origin}
 use Rattle.wf_book.specs.declared.op.Op.{Op}
 use Rattle.wf_book.specs.declared.op.Reply.TheVariants.{No}
 use Rattle.wf_book.specs.Book.{empty, reply, yes_or_no}

@@ -15,8 +15,9 @@ use Rattle.wf_types.specs.declared.response.BodyEnd.{BodyEnd}
 use Rattle.wf_types.specs.declared.response.BodyEnd.TheVariants.{Null}
 use Rattle.wf_types.specs.declared.response.Outcome.{Outcome}
 use Rattle.wf_types.specs.declared.response.Outcome.TheVariants.{Answer, Error}
-use Rattle.wf_types.specs.CorsCheck.{is_include, passes_check, passes_cors_check}
-use Rattle.wf_types.specs.Requests.{serialized_request_origin}
+use Rattle.wf_types.specs.Modes.{is_include}
+use Rattle.policy_checks.specs.CorsCheck.{passes_check, passes_cors_check}
+use Rattle.policy_checks.specs.RequestOrigins.{serialized_request_origin}
 use Rattle.wf_fetch_acts.specs.declared.act.Input.TheVariants.{BodyIs, HeadIs}
 use Rattle.wf_fetch_acts.specs.Process.{Process, ended}
 use Rattle.wf_send.specs.Heads.{hop_of}

@@ -7,7 +7,7 @@ use Rattle.wf_fetch_rules.specs.Referrers.{determined, referrer_of}
 use Rattle.wf_types.specs.declared.client.Client.{Client}
 use Rattle.wf_types.specs.declared.mode.ReferrerPolicy.{ReferrerPolicy}
 use Rattle.wf_types.specs.declared.mode.ReferrerPolicy.TheVariants as policy
-use Rattle.wf_types.specs.OriginHeader.{referrer_value}
+use Rattle.policy_checks.specs.OriginHeader.{referrer_value}
 use Rattle.wf_types.specs.Urls.{stripped}
 use Rattle.wf_send.specs.Making.{referrer_of as given_referrer}
 use Rattle.wf_server_access.proofs.VisibleLemmas.{AreVisible, HasVisibleParts, visible-serialize}

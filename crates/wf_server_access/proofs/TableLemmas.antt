@@ -10,7 +10,7 @@ use Rattle.wf_types.specs.declared.error.NetError.TheVariants as error
 use Rattle.wf_types.specs.declared.request.Request.{Request}
 use Rattle.wf_types.specs.declared.response.Outcome.{Outcome}
 use Rattle.wf_types.specs.declared.response.Outcome.TheVariants.{Error}
-use Rattle.wf_types.specs.CorsCheck.{is_include}
+use Rattle.wf_types.specs.Modes.{is_include}
 use Rattle.wf_types.specs.Methods.{is_safelisted_method}
 use Rattle.wf_safelist.specs.UnsafeNames.{unsafe_names}
 use Rattle.wf_fetch_rules.specs.Switch.{has_unsafe_names, needs_preflight}

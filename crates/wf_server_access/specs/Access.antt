@@ -25,9 +25,10 @@ use Rattle.wf_types.specs.declared.response.BodyEnd.TheVariants.{Null, TooBig, W
 use Rattle.wf_types.specs.declared.response.Outcome.{Outcome}
 use Rattle.wf_types.specs.declared.response.Outcome.TheVariants.{Answer, Error}
 use Rattle.wf_types.specs.declared.response.ResponseKind.TheVariants as kind
-use Rattle.wf_types.specs.CorsCheck.{is_include}
+use Rattle.wf_types.specs.Modes.{is_include}
 use Rattle.wf_types.specs.Methods.{is_safelisted_method}
-use Rattle.wf_types.specs.Requests.{IsClient, current_url, is_http_url, serialized_request_origin}
+use Rattle.wf_types.specs.Requests.{IsClient, current_url, is_http_url}
+use Rattle.policy_checks.specs.RequestOrigins.{serialized_request_origin}
 use Rattle.wf_book.specs.Book.{empty}
 use Rattle.wf_book.specs.Entries.{Legal}
 use Rattle.wf_safelist.specs.UnsafeNames.{unsafe_names}

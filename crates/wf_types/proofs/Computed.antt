@@ -1,55 +1,25 @@
--- The definitions computed on examples that were written down by hand: methods, URLs, and tainted origins along
--- redirects, of a request of a document at http://a.test.
-use Rattle.std.proofs.Common.{◌≡◌, refl, ℕ, List, [], ◌∷◌, true, false, codes, Some, None}
+-- The definitions computed on examples that were written down by hand: methods, and URLs against that of a document at
+-- http://a.test.
+use Rattle.std.proofs.Common.{◌≡◌, refl, [], ◌∷◌, true, false, codes, Some, None}
 use Rattle.url.proofs.OnLiterals.{url_on_literals}
 use Rattle.url.specs.declared.host.Host.TheVariants.{Domain}
 use Rattle.url.specs.Parts.{Parts}
-use Rattle.wf_origin.specs.declared.origin.Origin.{Origin}
-use Rattle.wf_origin.specs.Origins.{tuple_origin}
 use Rattle.std.specs.Str.{is_utf8, chars}
 use Rattle.wf_types.specs.Methods.{is_safelisted_method, normalized}
-use Rattle.wf_types.specs.Requests.{has_tainted_origin}
 use Rattle.wf_types.specs.Urls.{url_against}
 
--- http://HOST/
-abbrev at : List ℕ → Parts
-at host = record {
+-- http://a.test/
+abbrev a : Parts
+a = record {
   scheme = codes "http";
   username = [];
   password = [];
-  host = Some (Domain host);
+  host = Some (Domain (codes "a.test"));
   port = None;
   path = codes "/";
   query = None;
   fragment = None;
 }
-
-abbrev a : Parts
-a = at (codes "a.test")
-
-abbrev b : Parts
-b = at (codes "b.test")
-
-abbrev c : Parts
-c = at (codes "c.test")
-
-abbrev home : Origin
-home = tuple_origin a
-
--- one URL, and a redirect within its origin
-straight : (has_tainted_origin home (b ∷ []) ≡ false) × (has_tainted_origin home (b ∷ b ∷ []) ≡ false)
-unfolding url_on_literals
-straight = (refl, refl)
-
--- a redirect from home to another origin, and one from there to a third
-away : (has_tainted_origin home (a ∷ a ∷ b ∷ []) ≡ false) × (has_tainted_origin home (a ∷ b ∷ c ∷ []) ≡ true)
-unfolding url_on_literals
-away = (refl, refl)
-
--- from one foreign origin to another, and home again
-detour : (has_tainted_origin home (b ∷ c ∷ []) ≡ true) × (has_tainted_origin home (b ∷ c ∷ a ∷ []) ≡ true)
-unfolding url_on_literals
-detour = (refl, refl)
 
 -- a text against the URL of a document; what is not UTF-8 is no URL
 against_base : (url_against (record a { path = codes "/x/y" }) (codes "../z") ≡ Some (record a { path = codes "/z" }))

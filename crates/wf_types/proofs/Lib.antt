@@ -4,5 +4,4 @@ pub mod UrlLemmas
 pub mod TargetLemmas
 pub mod PolicyLemmas
 pub mod StripLemmas
-pub mod NameLemmas
 pub mod SetLemmas

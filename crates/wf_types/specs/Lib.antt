@@ -1,16 +1,12 @@
 pub mod Clients
-pub mod CorsCheck
 pub mod Errors
 pub mod Lines
 pub mod Methods
 pub mod Modes
 pub mod Names
-pub mod OriginHeader
 pub mod OriginTexts
-pub mod PermittedNames
 pub mod ReferrerPolicies
 pub mod Requests
-pub mod ResourcePolicy
 pub mod Statuses
 pub mod Targets
 pub mod TextSets

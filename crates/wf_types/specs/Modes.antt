@@ -1,5 +1,7 @@
--- Which mode, redirect mode and response tainting a request has (Fetch, section 2.2.5).
+-- Which mode, credentials mode, redirect mode and response tainting a request has (Fetch, section 2.2.5).
 use Rattle.std.specs.Prelude.{Bool, true, false}
+use Rattle.wf_types.specs.declared.mode.Credentials.{Credentials}
+use Rattle.wf_types.specs.declared.mode.Credentials.TheVariants as credentials
 use Rattle.wf_types.specs.declared.mode.Mode.{Mode}
 use Rattle.wf_types.specs.declared.mode.Mode.TheVariants as mode
 use Rattle.wf_types.specs.declared.mode.RedirectMode.{RedirectMode}
@@ -11,6 +13,11 @@ use Rattle.wf_types.specs.declared.mode.Tainting.TheVariants as tainting
 abbrev pub is_cors_mode : Mode → Bool
 is_cors_mode mode.Cors = true
 is_cors_mode _ = false
+
+-- the credentials mode is include
+abbrev pub is_include : Credentials → Bool
+is_include credentials.Include = true
+is_include _ = false
 
 -- the redirect mode is follow
 abbrev pub is_follow : RedirectMode → Bool

@@ -1,11 +1,8 @@
--- Requests: their current URL, tainted origins and the serialized request origin (Fetch, section 2.2.5),
--- and which values of these types are requests and clients.
-use Rattle.std.specs.Prelude.{ℕ, ◌&&◌, ◌||◌, Bool, true, false, not, ◌≤◌, List, [], ◌∷◌, codes, None}
-use Rattle.std.specs.Prelude.{unwrap_or, IsTrue, if◌then◌else◌}
+-- Requests: their current URL (Fetch, section 2.2.5), and which values of these types are requests and clients.
+use Rattle.std.specs.Prelude.{ℕ, ◌&&◌, Bool, true, false, ◌≤◌, List, [], ◌∷◌, None, unwrap_or, IsTrue}
 use Rattle.std.specs.List.{last_or}
 use Rattle.url.specs.Parts.{Parts}
-use Rattle.wf_origin.specs.declared.origin.Origin.{Origin}
-use Rattle.wf_origin.specs.Origins.{have_same_origin, is_http, is_origin_of, serialized}
+use Rattle.wf_origin.specs.Origins.{is_http}
 use Rattle.wf_text.specs.Tokens.{is_token}
 use Rattle.wf_types.specs.declared.client.Client.{Client}
 use Rattle.wf_types.specs.declared.mode.ReferrerPolicy.{ReferrerPolicy}
@@ -34,26 +31,6 @@ current_url request = unwrap_or (last_or None request.urls) no_url
 -- the URL is http or https, and so has a tuple origin
 abbrev pub is_http_url : Parts → Bool
 is_http_url url = is_http url.scheme
-
--- a redirect from this URL to another origin, while the request's origin was not that of the URL
-abbrev pub taints : Origin → Parts → Parts → Bool
-taints origin url next =
-    not (have_same_origin url next) && not (is_origin_of origin url)
-
--- "redirect-tainted": some URL of a list and the one after it taint
-abbrev pub tainted_from : Origin → Parts → List Parts → Bool
-tainted_from origin url [] = false
-tainted_from origin url (next ∷ urls) = taints origin url next || tainted_from origin next urls
-
--- a URL list has a tainted origin
-abbrev pub has_tainted_origin : Origin → List Parts → Bool
-has_tainted_origin origin [] = false
-has_tainted_origin origin (url ∷ urls) = tainted_from origin url urls
-
--- "serializing a request origin": `null` for a tainted origin, and else the origin's text
-abbrev pub serialized_request_origin : Request → List ℕ
-serialized_request_origin request =
-    if has_tainted_origin request.origin request.urls then codes "null" else serialized request.origin
 
 -- there is a URL, and each of the list but the last is http or https
 abbrev pub were_http : List Parts → Bool

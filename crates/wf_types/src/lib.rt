@@ -3,7 +3,6 @@
 #![tactic(auto)]
 
 mod client;
-mod cors_check;
 mod error;
 mod fault;
 mod hop;
@@ -11,14 +10,10 @@ mod init;
 mod lines;
 mod method;
 mod mode;
-mod names;
-mod origin;
-mod origin_header;
 mod origin_texts;
 mod policy;
 mod referrer_policy;
 mod request;
-mod resource_policy;
 mod response;
 mod status;
 mod stripping;
@@ -27,7 +22,6 @@ mod text_set;
 mod urls;
 
 pub use client::{Client, Cookie, Cookies};
-pub use cors_check::{passes_check, passes_cors_check};
 pub use error::NetError;
 pub use fault::TypeFault;
 pub use hop::{Head, Hop};
@@ -35,14 +29,10 @@ pub use init::{CrossOrigin, Init, LoadInit, Pair, Pairs};
 pub use lines::{ACCEPT_ENCODING, CONNECTION, USER_AGENT, append_where, slice_of};
 pub use method::{is_get_or_head, is_post_or_put, is_safelisted_method, normalized_method};
 pub use mode::{Credentials, Mode, RedirectMode, ReferrerPolicy, Tainting};
-pub use names::has_name_among;
-pub use origin::serialized_origin;
-pub use origin_header::{origin_value, referrer_value};
 pub use origin_texts::read_origin;
 pub use policy::{Destination, Directive, Violation};
 pub use referrer_policy::{policy_of_header, policy_or};
 pub use request::{MOST_REDIRECTS, Referrer, Request, Urls};
-pub use resource_policy::{corp_blocks, is_blocked};
 pub use response::{BodyEnd, Outcome, Response, ResponseKind};
 pub use status::{is_null_body_status, is_ok_status, is_redirect_status};
 pub use stripping::{strip, without_fragment};

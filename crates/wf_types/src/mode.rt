@@ -1,6 +1,5 @@
 // The modes of a request and its response tainting (Fetch, section 2.2.5), and its referrer policy.
 ghost use Rattle.std.specs.Prelude.{◌≡◌};
-ghost use Rattle.wf_types.specs.CorsCheck.{is_include};
 ghost use Rattle.wf_types.specs.Modes as modes;
 ghost use Rattle.wf_types.specs.Names.{mode_name, credentials_name, redirect_name, policy_name};
 
@@ -56,7 +55,7 @@ impl Credentials {
 
     /// Whether the credentials mode is include. It takes no memory.
     pub fn is_include(self) -> bool
-        ensures { result ≡ is_include self }
+        ensures { result ≡ modes.is_include self }
     {
         matches!(self, Credentials::Include)
     }

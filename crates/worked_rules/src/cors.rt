@@ -8,11 +8,12 @@ ghost use Rattle.std.specs.Prelude.{IsTrue};
 ghost use Rattle.wf_types.specs.Requests.{IsAtHttp, IsRequest, is_determined};
 
 use crate::responses::head_of;
+use policy_checks::{corp_blocks, serialized_origin};
 use std::alloc::Global;
 use wf_cors::{Checked, preflight_of, verdict};
 use wf_origin::tuple_origin;
 use wf_text::BytesList;
-use wf_types::{Hop, NetError, Request, corp_blocks, serialized_origin};
+use wf_types::{Hop, NetError, Request};
 use worked_rows::{Failed, Held, Row, Shown, list_of, texts_between};
 
 // Whether the row's headers keep an answer from a request.

@@ -5,12 +5,13 @@
 //     unsafe OPS                         the CORS-unsafe names of the list
 //     policy OPS                         the referrer policy of the headers, `empty` where there is none
 //     exposed CREDENTIALS OPS            the names that the headers expose
+use policy_checks::passes_cors_check;
 use std::alloc::Global;
 use wf_filter::exposed_names;
 use wf_headers::HeaderList;
 use wf_mime::{essence_of, nosniff};
 use wf_safelist::unsafe_names;
-use wf_types::{ReferrerPolicy, passes_cors_check, policy_of_header};
+use wf_types::{ReferrerPolicy, policy_of_header};
 use worked_rows::{Failed, Row, Shown};
 
 // The answer to a row that takes no memory, and whether the row is one.

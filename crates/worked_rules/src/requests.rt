@@ -9,9 +9,10 @@ ghost use Rattle.std.specs.Prelude.{IsTrue};
 ghost use Rattle.wf_types.specs.Requests.{IsAtHttp, IsRequest, is_determined};
 
 use crate::{checks, cors, responses};
+use policy_checks::serialized_origin;
 use std::alloc::Global;
 use wf_mixed::{blocked, upgrade};
-use wf_types::{Request, serialized_origin};
+use wf_types::Request;
 use worked_rows::{Failed, Row, Shown, origin_written, request_of, value_of};
 
 // The answer to a row of a request or of policies, and whether the row is one.

@@ -6,7 +6,7 @@ use Rattle.wf_headers.specs.declared.extract.Rule.TheVariants.{Tokens}
 use Rattle.wf_headers.specs.declared.headers.Header.{Header}
 use Rattle.wf_headers.specs.Extract.{extracted}
 use Rattle.wf_types.specs.declared.request.Request.{Request}
-use Rattle.wf_types.specs.CorsCheck.{is_include}
+use Rattle.wf_types.specs.Modes.{is_include}
 use Rattle.wf_filter.specs.declared.exposed.Exposure.{Exposure}
 use Rattle.wf_filter.specs.declared.exposed.Exposure.TheVariants.{All, Names}
 use Rattle.wf_filter.specs.Exposed.{header_names}

@@ -2,7 +2,7 @@
 use Rattle.std.specs.Prelude.{Bool, ◌||◌, not, map}
 use Rattle.wf_headers.specs.declared.headers.Header.{Header}
 use Rattle.wf_types.specs.declared.mode.Tainting.TheVariants as tainting
-use Rattle.wf_types.specs.PermittedNames.{has_name_among, preflight_names}
+use Rattle.policy_checks.specs.PermittedNames.{has_name_among, preflight_names}
 use Rattle.wf_filter.specs.declared.keep.Keep.{Keep}
 use Rattle.wf_filter.specs.declared.keep.Keep.TheVariants.{Allowed, Preflight, Safelisted, Told, ToldCors}
 use Rattle.wf_filter.specs.Names.{is_forbidden}

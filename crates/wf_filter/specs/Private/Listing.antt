@@ -3,7 +3,7 @@ use Rattle.std.specs.Prelude.{◌≡◌, ℕ, Bool, true, not, ◌&&◌, ◌||�
 use Rattle.std.specs.List.{list_any}
 use Rattle.std.specs.Str.{str_to_ascii_lowercase}
 use Rattle.wf_headers.specs.declared.headers.Header.{Header}
-use Rattle.wf_types.specs.PermittedNames.{has_name_among}
+use Rattle.policy_checks.specs.PermittedNames.{has_name_among}
 use Rattle.wf_types.specs.TextSets.{has_text}
 use Rattle.wf_filter.specs.declared.exposed.Exposure.{Exposure}
 use Rattle.wf_filter.specs.declared.listed.Exposed.{Exposed}

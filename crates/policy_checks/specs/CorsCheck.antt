@@ -1,16 +1,10 @@
 -- The CORS check of a response (Fetch, section 4.10 "CORS check").
-use Rattle.std.specs.Prelude.{ℕ, Bool, true, false, ◌&&◌, ◌||◌, List, codes, if◌then◌else◌}
+use Rattle.std.specs.Prelude.{ℕ, Bool, ◌&&◌, ◌||◌, List, codes, if◌then◌else◌}
 use Rattle.wf_headers.specs.declared.headers.Header.{Header}
 use Rattle.wf_headers.specs.Headers.{has_value}
-use Rattle.wf_types.specs.declared.mode.Credentials.{Credentials}
-use Rattle.wf_types.specs.declared.mode.Credentials.TheVariants as credentials
 use Rattle.wf_types.specs.declared.request.Request.{Request}
-use Rattle.wf_types.specs.Requests.{serialized_request_origin}
-
--- the credentials mode is include
-abbrev pub is_include : Credentials → Bool
-is_include credentials.Include = true
-is_include _ = false
+use Rattle.wf_types.specs.Modes.{is_include}
+use Rattle.policy_checks.specs.RequestOrigins.{serialized_request_origin}
 
 -- `Access-Control-Allow-Origin` is `*`
 abbrev pub allows_any : List Header → Bool

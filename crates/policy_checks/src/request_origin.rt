@@ -1,12 +1,12 @@
 // The serialised origin of a request (Fetch, section 2.2.5 "serializing a request origin").
 ghost use Rattle.std.specs.Prelude.{◌≡◌, IfOk};
-ghost use Rattle.wf_types.specs.Requests as spec;
+ghost use Rattle.policy_checks.specs.RequestOrigins as spec;
 
-use crate::request::Request;
 use std::alloc::Global;
 use url::Url;
 use wf_origin::{Origin, have_same_origin, is_origin_of, serialize};
 use wf_text::{Bytes, OutOfMemory};
+use wf_types::Request;
 
 // Whether a redirect from one URL to the next taints the request's origin.
 fn taints(origin: &Origin, url: &Url, next: &Url) -> bool

@@ -1,14 +1,14 @@
 // Which responses a cross-origin resource policy blocks (Fetch, "cross-origin resource policy check").
 ghost use Rattle.std.specs.Prelude.{◌≡◌, IfOk};
-ghost use Rattle.wf_types.specs.OriginHeader.{is_https};
+ghost use Rattle.policy_checks.specs.OriginHeader.{is_https};
 ghost use Rattle.wf_types.specs.Requests.{IsRequest};
-ghost use Rattle.wf_types.specs.ResourcePolicy as spec;
+ghost use Rattle.policy_checks.specs.ResourcePolicy as spec;
 
-use crate::request::Request;
 use std::alloc::Global;
 use wf_headers::HeaderList;
 use wf_origin::{Origin, same_origin, same_site, tuple_origin};
 use wf_text::OutOfMemory;
+use wf_types::Request;
 
 // Whether Cross-Origin-Resource-Policy is this text.
 fn has_resource_policy(headers: &HeaderList, text: &[u8]) -> bool

@@ -12,7 +12,7 @@ use Rattle.wf_types.specs.declared.request.Referrer.TheVariants as referrer
 use Rattle.wf_types.specs.declared.request.Request.{Request}
 use Rattle.wf_types.specs.Methods.{is_get_or_head}
 use Rattle.wf_types.specs.Modes.{is_cors_mode, is_cors_tainted}
-use Rattle.wf_types.specs.Requests.{serialized_request_origin}
+use Rattle.policy_checks.specs.RequestOrigins.{serialized_request_origin}
 
 -- ---- Origin
 

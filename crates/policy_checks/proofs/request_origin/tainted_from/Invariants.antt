@@ -1,6 +1,6 @@
 use Rattle.std.proofs.Common.{◌≡◌, drop}
-use Rattle.wf_types.specs.Requests.{tainted_from}
-use Rattle.wf_types.proofs.origin.tainted_from.Given as goal
+use Rattle.policy_checks.specs.RequestOrigins.{tainted_from}
+use Rattle.policy_checks.proofs.request_origin.tainted_from.Given as goal
 
 abbrev pub invariant-loop-next : goal.invariant-loop-next
 invariant-loop-next l =

@@ -9,7 +9,7 @@ use Rattle.std.specs.Str.{str_eq_ignore_ascii_case}
 use Rattle.wf_headers.proofs.SpellingLemmas.{fold-sym}
 use Rattle.wf_headers.specs.declared.headers.Header.{Header}
 use Rattle.wf_headers.specs.Headers.{is_named, values_of}
-use Rattle.wf_types.specs.PermittedNames.{has_name_among, only_named}
+use Rattle.policy_checks.specs.PermittedNames.{has_name_among, only_named}
 
 -- the headers of a name are all kept where each header of this name is
 pub named-kept : (keep : Header → Bool) (name : List ℕ)

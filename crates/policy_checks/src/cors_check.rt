@@ -1,12 +1,12 @@
 // The CORS check of a response (Fetch, section 4.10 "CORS check").
 ghost use Rattle.std.specs.Prelude.{◌≡◌, IfOk};
-ghost use Rattle.wf_types.specs.CorsCheck as spec;
+ghost use Rattle.policy_checks.specs.CorsCheck as spec;
 
-use crate::origin::serialized_origin;
-use crate::request::Request;
+use crate::request_origin::serialized_origin;
 use std::alloc::Global;
 use wf_headers::HeaderList;
 use wf_text::OutOfMemory;
+use wf_types::Request;
 
 // Whether any origin is allowed.
 fn allows_any(headers: &HeaderList) -> bool

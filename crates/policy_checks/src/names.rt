@@ -1,6 +1,6 @@
 // Whether a header has one of some names.
 ghost use Rattle.std.specs.Prelude.{◌≡◌, map};
-ghost use Rattle.wf_types.specs.PermittedNames as spec;
+ghost use Rattle.policy_checks.specs.PermittedNames as spec;
 
 use wf_headers::Field;
 use wf_text::is_among_fold;

@@ -6,8 +6,8 @@ use Rattle.wf_origin.specs.declared.origin.Origin.{Origin}
 use Rattle.wf_origin.specs.Origins.{same_origin, tuple_origin}
 use Rattle.wf_origin.specs.Sites.{same_site}
 use Rattle.wf_types.specs.declared.request.Request.{Request}
-use Rattle.wf_types.specs.OriginHeader.{is_https}
 use Rattle.wf_types.specs.Requests.{current_url}
+use Rattle.policy_checks.specs.OriginHeader.{is_https}
 
 -- the value of `Cross-Origin-Resource-Policy` is this text; another value than the three that there are is as none
 abbrev pub has_resource_policy : List ℕ → List Header → Bool

@@ -1,15 +1,13 @@
 // The values of Origin (Fetch, section 3.2) and of Referer (Fetch, section 4.6).
 ghost use Rattle.std.specs.Prelude.{◌≡◌, option_copied, IfOk};
-ghost use Rattle.wf_types.specs.OriginHeader as spec;
+ghost use Rattle.policy_checks.specs.OriginHeader as spec;
 
-use crate::method::is_get_or_head;
-use crate::mode::ReferrerPolicy;
-use crate::origin::serialized_origin;
-use crate::request::{Referrer, Request};
+use crate::request_origin::serialized_origin;
 use std::alloc::Global;
 use url::Url;
 use wf_origin::{Origin, is_origin_of};
 use wf_text::{Bytes, OutOfMemory};
+use wf_types::{Referrer, ReferrerPolicy, Request, is_get_or_head};
 
 // Whether it goes from an https origin to a URL that is not https.
 fn is_downgrade(origin: &Origin, url: &Url) -> bool

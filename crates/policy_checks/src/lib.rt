@@ -1,0 +1,16 @@
+// What the header fields of a fetch say of origins, where several rules ask it: the CORS check and the cross-origin
+// resource policy check of an answer, and the Origin and Referer of a request. And what a document may learn of the
+// answer to a preflight.
+#![tactic(auto)]
+
+mod cors_check;
+mod names;
+mod origin_header;
+mod request_origin;
+mod resource_policy;
+
+pub use cors_check::{passes_check, passes_cors_check};
+pub use names::has_name_among;
+pub use origin_header::{origin_value, referrer_value};
+pub use request_origin::serialized_origin;
+pub use resource_policy::{corp_blocks, is_blocked};
