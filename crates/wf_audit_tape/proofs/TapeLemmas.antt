@@ -4,6 +4,7 @@ use Rattle.std.proofs.Common.{length, take}
 use Rattle.std.proofs.Common.{drop, get_or, refl, ap, sym, subst, ◌∙◌, arith, append_assoc, length-append, length-drop}
 use Rattle.std.proofs.Common.{length-take}
 use Rattle.std.proofs.Common.{Option, Some, None, Result, Ok, Err}
+use Rattle.std.proofs.lemmas.Bool.{and_from}
 use Rattle.std.proofs.lemmas.Bool.Decides.{Decides-eqb, nat_tests}
 use Rattle.std.proofs.lemmas.Grind.{common_steps}
 use Rattle.std.proofs.lemmas.List.{append-nil, take-append-drop, take_at, get_or-append-add}
@@ -60,10 +61,6 @@ or-false : (a b : Bool) → a ≡ false → b ≡ false → (a || b) ≡ false
 or-false true b x y = cc
 or-false false b x y = y
 
-true-and : (a b : Bool) → a ≡ true → b ≡ true → (a && b) ≡ true
-true-and true b x y = y
-true-and false b x y = cc
-
 false-and : (a b : Bool) → a ≡ false → (a && b) ≡ false
 false-and true b e = cc
 false-and false b e = refl
@@ -78,7 +75,7 @@ noted-matches : (host : List ℕ) (now : ℕ) (hosts : List KnownHost)
     → matches_host (noted host (record { age = 1; subdomains = false }) now hosts) host now ≡ true
 noted-matches host now hosts =
     any-middle (λ known. stands_for host known && nat_lt now known.until) _ _ (known_host host false (now + 1))
-    (true-and (stands_for host (known_host host false (now + 1))) (nat_lt now (now + 1))
+    (and_from (stands_for host (known_host host false (now + 1))) (nat_lt now (now + 1))
     (true-or (bytes_eq host host) _ (is-itself host)) (later now))
 
 -- of what is left where all of a key that pass a test are gone, nothing of the key passes it

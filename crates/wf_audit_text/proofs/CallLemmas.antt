@@ -2,6 +2,7 @@
 use Rattle.std.proofs.Common.{◌≡◌, ◌≤◌, ◌<◌, ◌^◌, ℕ, Bool, true, false, List, [], ◌∷◌, ◌++◌, codes, refl, ap, sym}
 use Rattle.std.proofs.Common.{subst, ◌∙◌}
 use Rattle.std.proofs.Common.{arith, append_assoc, Option, Some, None, ◌⊎◌, inl, inr, Result, Ok, Err}
+use Rattle.std.proofs.lemmas.Bool.{and_from}
 use Rattle.std.proofs.lemmas.List.{append_cancel_right}
 use Rattle.std.proofs.lemmas.List.Folds.{list_all-append}
 use Rattle.std.proofs.lemmas.List.Splits.{join_with_byte-slice_split}
@@ -12,7 +13,7 @@ use Rattle.wf_text.specs.Tokens.{is_token}
 use Rattle.wf_text.specs.declared.memory.OutOfMemory.{OutOfMemory}
 use Rattle.wf_decimal.specs.Decimals.{number_up_to}
 use Rattle.wf_decimal.proofs.DecimalLemmas.{lacks, number-lacks, number-read, number-writes}
-use Rattle.wf_decimal.proofs.TestLemmas.{and-both, chosen, done, mapped}
+use Rattle.wf_decimal.proofs.TestLemmas.{chosen, done, mapped}
 use Rattle.wf_book.specs.declared.entry.Entry.{Entry}
 use Rattle.wf_book.specs.declared.op.Op.{Op}
 use Rattle.wf_book.specs.declared.op.Op.TheVariants.{Match, Note, Covers, Learn, Clear}
@@ -235,7 +236,7 @@ entry-read entry is =
 
 with-word : (word : List ℕ) (words : List (List ℕ)) → lacks 32 word ≡ true → list_all (lacks 32) words ≡ true
     → list_all (lacks 32) (word ∷ words) ≡ true
-with-word word words one more = and-both (lacks 32 word) (list_all (lacks 32) words) one more
+with-word word words one more = and_from (lacks 32 word) (list_all (lacks 32) words) one more
 
 digits-lack : (n : ℕ) → n < 2 ^ 64 → lacks 32 (decimal n) ≡ true
 digits-lack n small = number-lacks 32 (inl (omega arith)) n small
@@ -243,7 +244,7 @@ digits-lack n small = number-lacks 32 (inl (omega arith)) n small
 time-lacks : (now : ℕ) → now < 2 ^ 48 → lacks 32 (decimal now ++ codes ":") ≡ true
 time-lacks now small =
     list_all-append (λ byte. not (byte == 32)) (decimal now) (codes ":")
-    ∙ and-both (lacks 32 (decimal now)) (lacks 32 (codes ":")) (digits-lack now (omega (arith, small))) refl
+    ∙ and_from (lacks 32 (decimal now)) (lacks 32 (codes ":")) (digits-lack now (omega (arith, small))) refl
 
 reply-lacks : (reply : Reply) → lacks 32 (reply_text reply) ≡ true
 reply-lacks Yes = refl

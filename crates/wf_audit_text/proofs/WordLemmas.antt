@@ -1,6 +1,7 @@
 -- Words are read as what they write: times, replies, credentials modes and subdomains.
 use Rattle.std.proofs.Common.{◌≡◌, ◌<◌, ◌^◌, ℕ, Bool, true, false, List, [], ◌∷◌, ◌++◌, length, get_or, codes, refl}
 use Rattle.std.proofs.Common.{ap, sym, ◌∙◌, arith, eq-eqb, length-append, length-take, Option, Some, None, ◌⊎◌, inl, inr}
+use Rattle.std.proofs.lemmas.Bool.{and_parts}
 use Rattle.std.proofs.lemmas.Bool.Decides.{Decides-eqb, nat_tests}
 use Rattle.std.proofs.lemmas.Grind.{common_steps}
 use Rattle.std.proofs.lemmas.List.{take_at}
@@ -10,7 +11,7 @@ use Rattle.std.specs.Prelude.{◌==◌, ◌+◌, not, decimal, bytes_eq, if◌th
 use Rattle.std.specs.List.{after_first, before_first, position_or_len, prefix_len}
 use Rattle.wf_decimal.specs.Decimals.{number_up_to}
 use Rattle.wf_decimal.proofs.DecimalLemmas.{lacks, number-lacks, number-read, number-writes}
-use Rattle.wf_decimal.proofs.TestLemmas.{and-right, choose, chosen}
+use Rattle.wf_decimal.proofs.TestLemmas.{choose, chosen}
 use Rattle.wf_book.specs.declared.op.Reply.{Reply}
 use Rattle.wf_book.specs.declared.op.Reply.TheVariants.{Yes, No, Done}
 use Rattle.wf_script_events.specs.Calls.{credentials_text, reply_text, subdomains_text}
@@ -25,7 +26,7 @@ colon-at : (text : List ℕ) → lacks 58 text ≡ true
     → length text ≡ prefix_len (λ byte. not (is_colon byte)) (text ++ 58 ∷ [])
 colon-at [] e = grind arith
 colon-at (byte ∷ text) e =
-    grind (arith, common_steps, colon-at text (and-right (not (byte == 58)) (lacks 58 text) e))
+    grind (arith, common_steps, colon-at text (and_parts (not (byte == 58)) (lacks 58 text) e).1)
 
 until-colon : (text : List ℕ) → lacks 58 text ≡ true → before_first is_colon (text ++ 58 ∷ []) ≡ text
 until-colon text e = take_at text (58 ∷ []) _ (colon-at text e)

@@ -2,6 +2,7 @@
 use Rattle.std.proofs.Common.{◌≡◌, ◌≤◌, ◌<◌, ◌+◌, ℕ, Bool, true, false, List, [], ◌∷◌, ◌++◌, length, take}
 use Rattle.std.proofs.Common.{drop, get_or, refl, ap, sym, subst, ◌∙◌, arith, Option, Some, None, ◌⊎◌, inr, cond}
 use Rattle.std.proofs.Common.{append_assoc, length-append, length-take}
+use Rattle.std.proofs.lemmas.Bool.{and_parts}
 use Rattle.std.proofs.lemmas.Bool.Decides.{nat_tests, Decides-eqb}
 use Rattle.std.proofs.lemmas.Grind.{common_steps}
 use Rattle.std.proofs.lemmas.List.{take-append-drop, take_at, drop_at}
@@ -11,7 +12,7 @@ use Rattle.std.specs.Prelude.{◌==◌, nat_lt, not, decimal, option_and_then, o
 use Rattle.std.specs.List.{position, position_or_len}
 use Rattle.wf_decimal.specs.Decimals.{number_up_to}
 use Rattle.wf_decimal.proofs.DecimalLemmas.{lacks, number-lacks, number-read, number-writes}
-use Rattle.wf_decimal.proofs.TestLemmas.{and-right, chosen, done, mapped}
+use Rattle.wf_decimal.proofs.TestLemmas.{chosen, done, mapped}
 use Rattle.wf_book_text.specs.Reading.{after_prefix, both_at, bytes_at, made_at, number_at, stopped, text_at}
 use Rattle.wf_book_text.specs.Texts.{greatest, number_field, text_field}
 
@@ -46,7 +47,7 @@ module _ (stop : ℕ) where
   place : (front rest : List ℕ) → lacks stop front ≡ true → length front ≡ position_or_len is_stop (front ++ stop ∷ rest)
   place [] rest none = grind (arith, common_steps)
   place (byte ∷ front) rest none =
-      grind (arith, common_steps, place front rest (and-right (not (byte == stop)) (lacks stop front) none))
+      grind (arith, common_steps, place front rest (and_parts (not (byte == stop)) (lacks stop front) none).1)
 
   place-there : (front rest : List ℕ) → lacks stop front ≡ true
       → position is_stop (front ++ stop ∷ rest) ≡ Some (length front)

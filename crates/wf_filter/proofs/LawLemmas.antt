@@ -1,7 +1,7 @@
 -- Each rule of a fetch that looks at a head comes to the same on its permitted view.
 use Rattle.std.proofs.Common.{◌≡◌, ◌&&◌, ◌||◌, ◌∷◌, [], ℕ, Bool, true, false, not, List, codes, filter}
 use Rattle.std.proofs.Common.{arith, refl, ap, sym, ◌∙◌, subst, Option, Some, None, inl, inr}
-use Rattle.std.proofs.lemmas.Bool.{cases_Bool}
+use Rattle.std.proofs.lemmas.Bool.{and_parts, cases_Bool}
 use Rattle.std.proofs.lemmas.Slice.Eq.{bytes_eq-Decides}
 use Rattle.std.specs.Prelude.{IsTrue, bytes_eq}
 use Rattle.wf_headers.specs.declared.headers.Header.{Header}
@@ -22,7 +22,7 @@ use Rattle.wf_types.specs.declared.request.Request.{Request}
 use Rattle.wf_types.specs.Modes.{is_cors_tainted, is_error_mode, is_follow, is_manual_mode}
 use Rattle.wf_types.specs.PermittedNames.{preflight_names}
 use Rattle.wf_types.specs.Statuses.{is_redirect_status}
-use Rattle.wf_filter.proofs.OwnViewLemmas.{both-second, cors-checked, cors-safelisted, fewer, view_by}
+use Rattle.wf_filter.proofs.OwnViewLemmas.{cors-checked, cors-safelisted, fewer, view_by}
 use Rattle.wf_filter.proofs.ViewLemmas.{IsOneOf, Keeps, KeepsChecked, basic-named, contains-fewer, contains-kept}
 use Rattle.wf_filter.proofs.ViewLemmas.{cors-told, filter-twice, told-checked, told-named}
 use Rattle.wf_filter.specs.Blocks.{is_nosniff_blocked, is_script, is_style, is_type_blocked}
@@ -42,10 +42,6 @@ use Rattle.wf_filter.specs.Views.{permitted_view, redirect_names, response_names
 negated : (a : Bool) → IsTrue (not a) → a ≡ false
 negated true e = absurd (grind arith)
 negated false e = refl
-
-both-first : (a b : Bool) → (a && b) ≡ true → a ≡ true
-both-first true b e = refl
-both-first false b e = absurd (grind arith)
 
 -- ---- what the checks rest on
 
@@ -163,8 +159,8 @@ blocked-same request a b policies = rw policies refl
 pub keeps_resource_policy : KeepsResourcePolicy
 keeps_resource_policy request hop head asked =
     let policy = codes "Cross-Origin-Resource-Policy" in
-    let sent = negated hop.preflight (both-first (not hop.preflight) (is_opaque_tainted request.tainting) asked) in
-    let opaque = both-second (not hop.preflight) (is_opaque_tainted request.tainting) asked in
+    let sent = negated hop.preflight (and_parts (not hop.preflight) (is_opaque_tainted request.tainting) asked).0 in
+    let opaque = (and_parts (not hop.preflight) (is_opaque_tainted request.tainting) asked).1 in
     blocked-same request (permitted_view request hop head).headers head.headers
     (checked-values request hop head policy sent (opaque-within request.tainting policy opaque refl))
 
@@ -230,9 +226,9 @@ redirect-by : (unfollowed followed : Bool) (request : Request) (head : Head)
     → is_unfollowed request head ≡ unfollowed → is_followed request head ≡ followed
     → IsSameRedirect request (view_by false unfollowed followed request head) head
 redirect-by true followed request head u f =
-    let is = both-first (is_redirect_status head.status) (not (is_follow request.redirect)) u in
+    let is = (and_parts (is_redirect_status head.status) (not (is_follow request.redirect)) u).0 in
     let not_followed = negated (is_follow request.redirect)
-    (both-second (is_redirect_status head.status) (not (is_follow request.redirect)) u) in
+    (and_parts (is_redirect_status head.status) (not (is_follow request.redirect)) u).1 in
     record {
       error = rw is refl;
       manual = rw is refl;
@@ -395,7 +391,7 @@ blocks-by : (unfollowed : Bool) (request : Request) (head : Head) → is_unfollo
     → SameBlock request.destination (view_by false unfollowed false request head).headers head.headers
 blocks-by true request head u plain =
     let not_followed = negated (is_follow request.redirect)
-    (both-second (is_redirect_status head.status) (not (is_follow request.redirect)) u) in
+    (and_parts (is_redirect_status head.status) (not (is_follow request.redirect)) u).1 in
     fetch-none request.destination (view_by false true false request head).headers head.headers
     (rw not_followed at plain)
 blocks-by false request head u plain = response-types request.tainting request head

@@ -2,7 +2,7 @@
 use Rattle.std.proofs.Common.{◌≡◌, ◌&&◌, [], ℕ, Bool, true, false, not, List, codes, cond, filter, refl, ap}
 use Rattle.std.proofs.Common.{sym, ◌∙◌}
 use Rattle.std.proofs.Common.{arith, inl, inr}
-use Rattle.std.proofs.lemmas.Bool.{cases_Bool}
+use Rattle.std.proofs.lemmas.Bool.{and_parts, cases_Bool}
 use Rattle.wf_headers.specs.declared.extract.Extracted.{Extracted}
 use Rattle.wf_headers.specs.declared.extract.Extracted.TheVariants.{Absent, Failure, Items}
 use Rattle.wf_headers.specs.declared.extract.Rule.TheVariants.{Tokens}
@@ -134,11 +134,6 @@ refused-told request names headers =
     refused-kept request.tainting request (is_told request.tainting names) headers
     (told-checked request.tainting names)
 
--- both of two
-pub both-second : (a b : Bool) → (a && b) ≡ true → b ≡ true
-both-second true b e = e
-both-second false b e = absurd (grind arith)
-
 -- a preflight's view
 preflight-again : (head : Head) → preflight_view (preflight_view head) ≡ preflight_view head
 preflight-again head =
@@ -203,7 +198,7 @@ again-by_tests true unfollowed followed request head r u f =
 again-by_tests false true followed request head r u f =
     rw (
       refused-told request [] head.headers ∙ r,
-      both-second (is_redirect_status head.status) (not (is_follow request.redirect)) u,
+      (and_parts (is_redirect_status head.status) (not (is_follow request.redirect)) u).1,
     )
     (twice 302 (is_told request.tainting []) head.headers)
 again-by_tests false false true request head r u f =

@@ -1,6 +1,7 @@
 -- What ends in an empty line, and lines that do not.
 use Rattle.std.proofs.Common.{◌≡◌, ◌||◌, ◌⊎◌, inl, inr, ℕ, zero, suc, Bool, true, false, true≢false, List, [], ◌∷◌}
 use Rattle.std.proofs.Common.{◌++◌, length, take, reverse, refl, ap, sym, ◌∙◌, subst, arith, append_assoc}
+use Rattle.std.proofs.lemmas.Bool.{and_parts}
 use Rattle.std.proofs.lemmas.Bool.Decides.{Decides-eqb}
 use Rattle.std.proofs.lemmas.List.{append-nil, reverse-append, take_all}
 use Rattle.std.proofs.lemmas.List.Folds.{list_any-append}
@@ -14,10 +15,6 @@ use Rattle.wf_http1.specs.Blocks.{is_block, is_line_byte}
 -- read from its end, the text begins with an empty line
 abbrev pub EndsEmpty : List ℕ → Type 0
 EndsEmpty back = (rest : List ℕ) × ((back ≡ 10 ∷ 10 ∷ rest) ⊎ (back ≡ 10 ∷ 13 ∷ 10 ∷ rest))
-
-and-true : (a b : Bool) → (a && b) ≡ true → (a ≡ true) × (b ≡ true)
-and-true true b h = (refl, h)
-and-true false b h = absurd (true≢false (sym h))
 
 or-true : (a b : Bool) → (a || b) ≡ true → (a ≡ true) ⊎ (b ≡ true)
 or-true true b h = inl refl
@@ -33,7 +30,7 @@ ends text end = let is = ends_is Decides-eqb text end (ends_with nat_eq text end
 
 -- a block ends in an empty line
 pub block-ends : (text : List ℕ) → is_block text ≡ true → EndsEmpty (reverse text)
-block-ends text block = by_cases (or-true _ _ (and-true _ _ block).1)
+block-ends text block = by_cases (or-true _ _ (and_parts _ _ block).1)
   where
     by_cases : (ends_with nat_eq text (codes "\n\n") ≡ true) ⊎ (ends_with nat_eq text (codes "\n\r\n") ≡ true)
         → EndsEmpty (reverse text)

@@ -1,6 +1,7 @@
 -- A lesson that is learnt over marks is the lesson learnt over the entries.
 use Rattle.std.proofs.Common.{◌≡◌, ◌++◌, ◌-◌, ◌∷◌, [], ℕ, List, Bool, true, false, cond, map, length}
 use Rattle.std.proofs.Common.{filter, refl, sym, ap, ◌∙◌, ◌+◌, ◌&&◌, ◌||◌, not, nat_lt, true≢false, Some, None}
+use Rattle.std.proofs.lemmas.Bool.{and_parts}
 use Rattle.std.proofs.lemmas.List.{drop-map, length-map, map-append}
 use Rattle.std.proofs.lemmas.List.Sums.{fold-append}
 use Rattle.std.proofs.lemmas.Slice.Eq.{bytes_eq-Decides}
@@ -88,15 +89,10 @@ module _ (lesson : Lesson) (now : ℕ) where
       ap (λ (l : List Mark). fold (marks.with_item lesson now) l items) (item-marked entries item)
       ∙ items-marked items (with_item lesson now entries item)
 
--- a place that is not told is the lesson's
-both-true : (a b : Bool) → (a && b) ≡ true → (a ≡ true) × (b ≡ true)
-both-true true b e = (refl, e)
-both-true false b e = absurd (true≢false (sym e))
-
 own-same : (lesson : Lesson) (entry : CacheEntry) → is_of lesson.origin lesson.url entry ≡ true
     → (entry.origin ≡ lesson.origin) × (entry.url ≡ lesson.url)
 own-same lesson entry is =
-    let both = both-true (bytes_eq entry.origin lesson.origin) (bytes_eq entry.url lesson.url) is in
+    let both = and_parts (bytes_eq entry.origin lesson.origin) (bytes_eq entry.url lesson.url) is in
     (one-text entry.origin lesson.origin both.0, one-text entry.url lesson.url both.1)
 
 place-back : (lesson : Lesson) (own : Bool) (origin url : List ℕ)

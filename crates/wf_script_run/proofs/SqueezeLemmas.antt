@@ -1,6 +1,7 @@
 -- Header values that are squeezed while they are filled: whatever follows, they are cut to the same.
 use Rattle.std.proofs.Common.{◌≡◌, ℕ, zero, suc, ◌<◌, Bool, true, false, cond, ◌&&◌, not, List, [], ◌∷◌, ◌++◌, length}
 use Rattle.std.proofs.Common.{take, drop, refl, ap, sym, subst, ◌∙◌, arith, append_assoc, take_all, true≢false}
+use Rattle.std.proofs.lemmas.Bool.{and_parts}
 use Rattle.std.proofs.lemmas.List.{length-append, length-take, reverse-append, take-append-drop}
 use Rattle.std.proofs.lemmas.List.{take-append-le}
 use Rattle.std.proofs.lemmas.Slice.Eq.{bytes_eq-Decides}
@@ -109,12 +110,6 @@ core-append blanks (byte ∷ x) y =
 abbrev ended : List ℕ → List ℕ
 ended text = core http_whitespace text
 
--- what may stand in a header value does so without the blanks at its end
-both : (a b : Bool) → (a && b) ≡ true → (a ≡ true) × (b ≡ true)
-both true true is = (refl, refl)
-both true false is = absurd (true≢false (sym is))
-both false b is = absurd (true≢false (sym is))
-
 fit-by : (byte : ℕ) (e : List ℕ) (is : Bool) → all_fit (byte ∷ e) ≡ true → all_fit (cond is [] (byte ∷ e)) ≡ true
 fit-by byte e true fit = refl
 fit-by byte e false fit = fit
@@ -122,7 +117,7 @@ fit-by byte e false fit = fit
 ended-fit : (text : List ℕ) → all_fit text ≡ true → all_fit (ended text) ≡ true
 ended-fit [] fit = refl
 ended-fit (byte ∷ text) fit =
-    let parts = both (not (is_nul_or_newline byte)) (all_fit text) fit in
+    let parts = and_parts (not (is_nul_or_newline byte)) (all_fit text) fit in
     fit-by byte (ended text) (is_blank http_whitespace byte && none (ended text))
     (ap (λ (b : Bool). b && all_fit (ended text)) parts.0 ∙ ended-fit text parts.1)
 
