@@ -1,6 +1,7 @@
 -- A scenario and a text have one verdict: step by step, one of two cases applies, and its value is one.
 use Rattle.std.proofs.Common.{◌≡◌, ◌≤◌, ◌<◌, ◌+◌, ◌⊎◌, inl, inr, ℕ, zero, suc, List, [], ◌∷◌, length, map, take}
 use Rattle.std.proofs.Common.{refl, ap, sym, subst, ◌∙◌, arith, Some, None, Result, Ok, Err}
+use Rattle.std.proofs.lemmas.Option.{same_Some}
 use Rattle.std.specs.List.{slice_get}
 use Rattle.wf_book.specs.declared.book.Book.{Book}
 use Rattle.wf_book.specs.declared.entry.Entry.{Entry}
@@ -56,9 +57,6 @@ take-take l (suc a) zero le = absurd (omega (arith, le))
 take-take [] (suc a) (suc b) le = refl
 take-take {X = X} (x ∷ l) (suc a) (suc b) le =
     ap (λ (m : List X). x ∷ m) (take-take l a b (omega (arith, le)))
-
-some-same : {A : Type 0} {a b : A} → Some a ≡ Some b → a ≡ b
-some-same is = cc
 
 -- ---- the text
 
@@ -172,7 +170,7 @@ module _ (scenario : Scenario) (history : List Entry) where
     named-once : IsGiven scenario history → Named play one → Named play other → one ≡ other
     named-once given x y = elim x [
       | inl a ↦ elim y [
-        | inl b ↦ a.1 ∙ ap (λ (n : ℕ). verdict.Stranger n) (some-same (sym a.2 ∙ b.2)) ∙ sym b.1
+        | inl b ↦ a.1 ∙ ap (λ (n : ℕ). verdict.Stranger n) (same_Some _ _ (sym a.2 ∙ b.2)) ∙ sym b.1
         | inr b ↦ let both = sym a.2 ∙ b.0 in absurd (cc (both))
       ]
       | inr a ↦ elim y [
@@ -187,7 +185,7 @@ right-at : (book : Book) (turn : ℕ) (history : List Entry) (index : ℕ) (entr
 right-at book turn [] index entry are at = absurd (cc)
 right-at book turn (e ∷ history) zero entry are at =
     let sum : turn ≡ turn + 0 = omega arith in
-    subst (λ (n : ℕ). IsRight book n entry) sum (subst (IsRight book turn) (some-same at) are.0)
+    subst (λ (n : ℕ). IsRight book n entry) sum (subst (IsRight book turn) (same_Some _ _ at) are.0)
 right-at book turn (e ∷ history) (suc index) entry are at =
     let sum : turn + 1 + index ≡ turn + suc index = omega arith in
     subst (λ (n : ℕ). IsRight (book_after (after book e.op) (take index history)) n entry) sum

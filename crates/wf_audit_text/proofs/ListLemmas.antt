@@ -11,6 +11,7 @@ use Rattle.std.proofs.lemmas.List.Splits.{slice_split_none}
 use Rattle.std.proofs.lemmas.Slice.Eq.{bytes_eq-Decides}
 use Rattle.std.specs.Prelude.{◌==◌, not, bytes_eq, if◌then◌else◌}
 use Rattle.std.specs.List.{All, join_with_byte, list_all, slice_split}
+use Rattle.value_lemmas.proofs.Lists.{list_all-weaker}
 use Rattle.wf_text.specs.Tokens.{is_tchar, is_token}
 use Rattle.wf_script_events.specs.Calls.{comma_texts, list_text, method_text}
 use Rattle.wf_audit_text.specs.Entries.{is_method, is_visible, is_word}
@@ -19,13 +20,6 @@ use Rattle.wf_decimal.proofs.TestLemmas.{choose, chosen, otherwise}
 use Rattle.wf_decimal.proofs.DecimalLemmas.{lacks}
 
 -- ---- bytes that texts have not
-
-weaker : (p q : ℕ → Bool) → ((byte : ℕ) → p byte ≡ true → q byte ≡ true) → (text : List ℕ) → list_all p text ≡ true
-    → list_all q text ≡ true
-weaker p q each [] e = refl
-weaker p q each (byte ∷ text) e =
-    and_from (q byte) (list_all q text) (each byte (and_parts (p byte) (list_all p text) e).0)
-    (weaker p q each text (and_parts (p byte) (list_all p text) e).1)
 
 no-tchar : (byte other : ℕ) → is_tchar byte ≡ false → is_tchar other ≡ true → not (other == byte) ≡ true
 no-tchar byte other none is = by (other == byte) (eqb-tells other byte)
@@ -40,7 +34,7 @@ no-tchar byte other none is = by (other == byte) (eqb-tells other byte)
 -- a token has no byte that is no tchar
 pub token-lacks : (byte : ℕ) → is_tchar byte ≡ false → (text : List ℕ) → is_token text ≡ true → lacks byte text ≡ true
 token-lacks byte none text e =
-    weaker is_tchar (λ other. not (other == byte)) (λ other is. no-tchar byte other none is) text
+    list_all-weaker is_tchar (λ other. not (other == byte)) (λ other is. no-tchar byte other none is) text
     (and_parts (not (length text == 0)) (list_all is_tchar text) e).1
 
 -- a word has no space
@@ -49,7 +43,7 @@ visible-other byte e = grind (arith, nat_tests)
 
 pub word-lacks : (text : List ℕ) → is_word text ≡ true → lacks 32 text ≡ true
 word-lacks text e =
-    weaker is_visible (λ byte. not (byte == 32)) visible-other text
+    list_all-weaker is_visible (λ byte. not (byte == 32)) visible-other text
     (and_parts (not (length text == 0)) (list_all is_visible text) e).1
 
 -- ---- texts that are cut at a byte

@@ -13,17 +13,6 @@ pub choose : {A : Type 0} (b : Bool) (o : Option A) (y : A) → b ≡ true → o
 choose true o y p q = q
 choose false o y p q = cc
 
--- what was done with a value was done with the one that is there
-pub mapped : {A B : Type 0} (f : A → B) (o : Option A) (y : B) → option_map f o ≡ Some y
-    → (x : A) × (o ≡ Some x) × (f x ≡ y)
-mapped f None y e = cc
-mapped f (Some x) y e = (x, refl, cc)
-
-pub done : {A B : Type 0} (f : A → Option B) (o : Option A) (y : B) → option_and_then f o ≡ Some y
-    → (x : A) × (o ≡ Some x) × (f x ≡ Some y)
-done f None y e = cc
-done f (Some x) y e = (x, refl, e)
-
 -- where the test does not hold, what is chosen is the other
 pub otherwise : {A : Type 0} (b : Bool) (x o y : A) → b ≡ false → o ≡ y → (if b then x else o) ≡ y
 otherwise true x o y p q = cc

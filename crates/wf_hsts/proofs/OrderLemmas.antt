@@ -10,12 +10,6 @@ use Rattle.wf_text.specs.Orders.{text_cmp}
 pub text-equal : (a b : List ℕ) → text_cmp a b ≡ Equal → a ≡ b
 text-equal a b e = (bytes_decides a b).0 (texts_ties a b ∙ ap is_eq e)
 
-pub bytes-self : (a : List ℕ) → bytes_eq a a ≡ true
-bytes-self a = (bytes_decides a a).1 refl
-
-pub bytes-equal : (a b : List ℕ) → bytes_eq a b ≡ true → a ≡ b
-bytes-equal a b e = (bytes_decides a b).0 e
-
 -- a test for equal texts is one of their order
 pub bytes-order : (a b : List ℕ) → bytes_eq a b ≡ is_eq (text_cmp a b)
 bytes-order a b = texts_ties a b

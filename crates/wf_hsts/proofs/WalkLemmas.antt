@@ -2,7 +2,7 @@
 use Rattle.std.proofs.Common.{◌≡◌, ◌<◌, ◌&&◌, ℕ, zero, suc, Bool, true, false, List, [], ◌∷◌}
 use Rattle.std.proofs.Common.{◌++◌, length, filter, arith, refl, ap, sym, subst, ◌∙◌, Some, if◌then◌else◌}
 use Rattle.std.proofs.Common.{length-append}
-use Rattle.std.proofs.lemmas.Bool.{and_from, and_parts}
+use Rattle.std.proofs.lemmas.Bool.{and_from, and_parts, lt-ltb, ltb-true}
 use Rattle.std.proofs.lemmas.Bool.Decides.{nat_tests}
 use Rattle.std.proofs.lemmas.List.Elements.{recursion_from_All}
 use Rattle.std.specs.List.{All, AllByRecursion, list_all, slice_get}
@@ -11,6 +11,7 @@ use Rattle.std.specs.Ordering.{is_gt, is_lt, ordering_reverse}
 use Rattle.std.specs.Prelude.{nat_lt}
 use Rattle.std.specs.declared.cmp.Ordering.{Ordering}
 use Rattle.std.specs.declared.cmp.Ordering.TheVariants.{Equal, Greater, Less}
+use Rattle.value_lemmas.proofs.Tests.{is_lt-true}
 use Rattle.wf_hsts.specs.Hosts.{AreHosts, AreSorted, ExtendsExactly, extended, may_stand_last, with_host}
 use Rattle.wf_hsts.specs.Private.Index.{known_of, listed}
 use Rattle.wf_hsts.specs.declared.hosts.KnownHost.{KnownHost}
@@ -22,11 +23,6 @@ use Rattle.wf_hsts.proofs.OrderLemmas.{chained, flipped, text-equal}
 
 abbrev pub is_before : List ℕ → KnownHost → Bool
 is_before host known = is_lt (text_cmp known.host host)
-
-less : (o : Ordering) → is_lt o ≡ true → o ≡ Less
-less Less e = refl
-less Equal e = absurd (cc)
-less Greater e = absurd (cc)
 
 -- what is not after a text that comes before another comes before that
 not-after : (a b c : List ℕ) (o : Ordering) → text_cmp a b ≡ o → is_lt o ≡ false → text_cmp a c ≡ Less
@@ -92,7 +88,7 @@ none-behind : (new : KnownHost) (hosts : List KnownHost) → list_all (is_before
 none-behind new [] all = refl
 none-behind new (known ∷ hosts) all =
     let is : text_cmp known.host new.host ≡ Less =
-    less (text_cmp known.host new.host)
+    is_lt-true (text_cmp known.host new.host)
     (and_parts (is_before new.host known) (list_all (is_before new.host) hosts) all).0 in
     rw is (none-behind new hosts (and_parts (is_before new.host known) (list_all (is_before new.host) hosts) all).1)
 
@@ -112,7 +108,7 @@ sorted-more new (known ∷ hosts) sorted all = (
 )
   where
     here : text_cmp known.host new.host ≡ Less
-    here = less (text_cmp known.host new.host)
+    here = is_lt-true (text_cmp known.host new.host)
         (and_parts (is_before new.host known) (list_all (is_before new.host) hosts) all).0
 
     add : (others : List KnownHost) → AllByRecursion (λ other. text_cmp known.host other.host ≡ Less) others
@@ -134,16 +130,10 @@ sorted-back new (known ∷ hosts) sorted =
 
 -- ---- and few
 
-lt-true : (a b : ℕ) → nat_lt a b ≡ true → a < b
-lt-true a b e = grind (arith, nat_tests)
-
-true-lt : (a b : ℕ) → a < b → nat_lt a b ≡ true
-true-lt a b e = grind (arith, nat_tests)
-
 pub hosts-more : (new : KnownHost) (hosts : List KnownHost) → AreHosts hosts → may_stand_last new hosts ≡ true
     → AreHosts (hosts ++ new ∷ [])
 hosts-more new hosts are may =
-    let few = lt-true (length hosts) 4096
+    let few = ltb-true (length hosts) 4096
     (and_parts (nat_lt (length hosts) 4096) (list_all (is_before new.host) hosts) may).0 in
     record {
       sorted = sorted-more new hosts are.sorted
@@ -155,7 +145,7 @@ hosts-back : (new : KnownHost) (hosts : List KnownHost) → AreHosts (hosts ++ n
     → may_stand_last new hosts ≡ true
 hosts-back new hosts are =
     and_from (nat_lt (length hosts) 4096) (list_all (is_before new.host) hosts)
-    (true-lt (length hosts) 4096 (omega (arith, are.few, length-append hosts (new ∷ []))))
+    (lt-ltb (length hosts) 4096 (omega (arith, are.few, length-append hosts (new ∷ []))))
     (sorted-back new hosts are.sorted)
 
 pub extends-exactly : ExtendsExactly

@@ -4,7 +4,8 @@ use Rattle.std.proofs.Common.{length, filter, map, arith, refl, ap, sym, subst, 
 use Rattle.std.proofs.Common.{Err, OnErr, Option, None, IfSome, IfNone}
 use Rattle.std.proofs.Common.{◌-◌, ◌==◌}
 use Rattle.std.proofs.Common.{if◌then◌else◌}
-use Rattle.std.proofs.lemmas.Bool.{and_from, and_parts}
+use mathlib.Core.Bool.{and-false}
+use Rattle.std.proofs.lemmas.Bool.{and_from, and_parts, lt-ltb, ltb-true}
 use Rattle.std.proofs.lemmas.Bool.Decides.{nat_tests}
 use Rattle.std.proofs.lemmas.List.Elements.{recursion_from_All}
 use Rattle.std.specs.Cmp.Lexicographic.{bytes_decides, nat_list_cmp_total, slice_cmp}
@@ -29,10 +30,6 @@ use Rattle.wf_precache.proofs.KeyLemmas.{equal-keys, high-by, low-by, same-by}
 
 abbrev pub is_not_after : List ℕ → Keyed → Bool
 is_not_after key k = not (stands_before key k.key)
-
-never : (b : Bool) → (b && false) ≡ false
-never true = refl
-never false = refl
 
 -- a is not after b, which is not before c: c is not after a... then a does not come before c
 through : (last key other : List ℕ) (o p : Ordering) → slice_cmp nat_cmp last key ≡ o → slice_cmp nat_cmp key other ≡ p
@@ -72,7 +69,7 @@ module _ {K : Type 0} (bytes : K → List ℕ) where
 
   any-append : (test : Keyed → Bool) (xs ys : List Keyed) → list_all test ys ≡ false → list_all test (xs ++ ys) ≡ false
   any-append test [] ys e = e
-  any-append test (x ∷ xs) ys e = rw (any-append test xs ys e) (never (test x))
+  any-append test (x ∷ xs) ys e = rw (any-append test xs ys e) (and-false (test x))
 
   first-fails : (key other : List ℕ) (entries : List CacheEntry) (rest : List Keyed) → 0 < length entries
       → stands_before key other ≡ true → list_all (is_not_after key) (map (keyed other) entries ++ rest) ≡ false
@@ -148,18 +145,7 @@ pub unchanged : {K X : Type 0} (test : K → Bool) (ps new : List (K × X)) (old
     → new ≡ set_value test ps after → after ≡ old → lookup test ps ≡ Some old → new ≡ ps
 unchanged test ps new old after is same there = is ∙ ap (set_value test ps) same ∙ set_value_same test ps old there
 
--- what holds anyway holds of an error
-pub on-err : {A E P : Type 0} (r : Result A E) → P → OnErr r P
-on-err (Ok x) p = tt
-on-err (Err e) p = p
-
 -- ---- an entry behind all
-
-lt-true : (a b : ℕ) → nat_lt a b ≡ true → a < b
-lt-true a b e = grind (arith, nat_tests)
-
-true-lt : (a b : ℕ) → a < b → nat_lt a b ≡ true
-true-lt a b e = grind (arith, nat_tests)
 
 module _ (new : Keyed) where
   none-before : (key : List ℕ) (ks : List Keyed) → AllByRecursion (λ other. stands_before other.key key ≡ false) ks
@@ -233,7 +219,7 @@ module _ (new : Keyed) where
   more-few cache room = omega (arith, room, length-append (entries_of new.key cache) (new.entry ∷ []))
 
   room-there : (cache : List Keyed) → may_stand_last new cache ≡ true → length (entries_of new.key cache) < 64
-  room-there cache may = lt-true (length (entries_of new.key cache)) 64
+  room-there cache may = ltb-true (length (entries_of new.key cache)) 64
       (and_parts (nat_lt (length (entries_of new.key cache)) 64) (list_all (is_not_after new.key) cache) may).0
 
   pub stands-last : (cache : List Keyed) → AreSorted cache → may_stand_last new cache ≡ true
@@ -269,7 +255,7 @@ module _ (new : Keyed) where
       let most : length (entries_of new.key (cache ++ new ∷ [])) ≤ 64 = is.bounded new.key in
       let most_with : length (with-more cache) ≤ 64 = subst (λ (l : List CacheEntry). length l ≤ 64) (own-more cache) most in
       and_from (nat_lt (length (entries_of new.key cache)) 64) (list_all (is_not_after new.key) cache)
-      (true-lt (length (entries_of new.key cache)) 64
+      (lt-ltb (length (entries_of new.key cache)) 64
       (omega (arith, most_with, length-append (entries_of new.key cache) (new.entry ∷ []))))
       (back-none cache is.sorted)
 

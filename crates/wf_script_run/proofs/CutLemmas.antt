@@ -2,6 +2,7 @@
 use Rattle.std.proofs.Common.{◌≡◌, ℕ, zero, suc, ◌<◌, Bool, true, false, cond, ◌&&◌, not, List, [], ◌∷◌, ◌++◌, length}
 use Rattle.std.proofs.Common.{take}
 use Rattle.std.proofs.Common.{refl, ap, sym, ◌∙◌, arith, true≢false}
+use mathlib.Core.Bool.{and-false}
 use Rattle.std.proofs.lemmas.Bool.{and_parts}
 use Rattle.std.proofs.lemmas.List.{length-take, length-append}
 use Rattle.std.proofs.lemmas.Slice.Eq.{bytes_eq-Decides}
@@ -24,10 +25,6 @@ all-taken (suc n) [] last all ends = ap (λ (b : Bool). b && true) ends
 all-taken (suc n) (byte ∷ text) last all ends =
     let parts = and_parts (fits byte) (list_all fits text) all in
     ap (λ (b : Bool). b && list_all fits (take n text ++ last ∷ [])) parts.0 ∙ all-taken n text last parts.1 ends
-
-and-false : (b : Bool) → (b && false) ≡ false
-and-false true = refl
-and-false false = refl
 
 -- with one that does not, it does not
 none-fits : (text : List ℕ) (last : ℕ) → fits last ≡ false → list_all fits (text ++ last ∷ []) ≡ false

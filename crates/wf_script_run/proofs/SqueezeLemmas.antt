@@ -1,7 +1,8 @@
 -- Header values that are squeezed while they are filled: whatever follows, they are cut to the same.
 use Rattle.std.proofs.Common.{◌≡◌, ℕ, zero, suc, ◌<◌, Bool, true, false, cond, ◌&&◌, not, List, [], ◌∷◌, ◌++◌, length}
 use Rattle.std.proofs.Common.{take, drop, refl, ap, sym, subst, ◌∙◌, arith, append_assoc, take_all, true≢false}
-use Rattle.std.proofs.lemmas.Bool.{and_parts}
+use mathlib.Core.Bool.{and-false}
+use Rattle.std.proofs.lemmas.Bool.{and_parts, not-true}
 use Rattle.std.proofs.lemmas.List.{length-append, length-take, reverse-append, take-append-drop}
 use Rattle.std.proofs.lemmas.List.{take-append-le}
 use Rattle.std.proofs.lemmas.Slice.Eq.{bytes_eq-Decides}
@@ -54,10 +55,6 @@ start-twice blanks (byte ∷ x) = by-blank (is_blank blanks byte) refl (start-tw
 abbrev core : List ℕ → List ℕ → List ℕ
 core blanks [] = []
 core blanks (byte ∷ text) = cond (is_blank blanks byte && none (core blanks text)) [] (byte ∷ core blanks text)
-
-and-false : (b : Bool) → (b && false) ≡ false
-and-false true = refl
-and-false false = refl
 
 none-append : (text : List ℕ) (byte : ℕ) → none (text ++ byte ∷ []) ≡ false
 none-append [] byte = refl
@@ -219,10 +216,6 @@ begins-take (suc n) (byte ∷ text) is = is
 begins-append : (x y : List ℕ) → begins x ≡ true → none x ≡ false → begins (x ++ y) ≡ true
 begins-append [] y is some = absurd (true≢false some)
 begins-append (byte ∷ x) y is some = is
-
-not-true : (b : Bool) → not b ≡ true → b ≡ false
-not-true true is = absurd (true≢false (sym is))
-not-true false is = refl
 
 start-keeps : (text : List ℕ) → begins text ≡ true → trimmed_start http_whitespace text ≡ text
 start-keeps [] is = refl

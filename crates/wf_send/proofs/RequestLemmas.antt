@@ -2,7 +2,7 @@
 use Rattle.std.proofs.Common.{◌≡◌, ℕ, Bool, true, false, ◌&&◌, ◌==◌, not, length, List, [], ◌∷◌, Option}
 use Rattle.std.proofs.Common.{None, sym, subst}
 use Rattle.std.proofs.Common.{refl, arith}
-use Rattle.std.proofs.lemmas.Bool.{and_parts}
+use Rattle.std.proofs.lemmas.Bool.{and_parts, not-false}
 use Rattle.std.proofs.lemmas.Grind.{common_steps}
 use Rattle.std.proofs.lemmas.List.{length-map}
 use Rattle.std.specs.Char.{to_ascii_uppercase}
@@ -60,10 +60,6 @@ first-clear : (is : Bool) (fault : TypeFault) (more : List (Option TypeFault))
     → first_fault (then_some is fault ∷ more) ≡ None → (is ≡ false) × (first_fault more ≡ None)
 first-clear true fault more none = absurd (cc)
 first-clear false fault more none = (refl, none)
-
-not-false : (b : Bool) → not b ≡ false → IsTrue b
-not-false true is = refl
-not-false false is = cc
 
 pub method-token : (init : Init) (url : Parts) → first_fault (faults init url) ≡ None → IsTrue (is_token init.method)
 method-token init url none =

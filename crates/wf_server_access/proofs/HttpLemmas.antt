@@ -3,6 +3,7 @@
 use Rattle.std.proofs.Common.{◌≡◌, ℕ, Bool, true, false, not, ◌&&◌, ◌||◌, ◌==◌, List, [], length}
 use Rattle.std.proofs.Common.{Option, Some, None, Ok, Err, codes, bytes_eq, refl, ap, ◌∙◌, option_map}
 use Rattle.std.proofs.Common.{option_and_then, if◌then◌else◌}
+use mathlib.Core.Bool.{and-false, or-false}
 use Rattle.std.specs.Bool.{then_some}
 use Rattle.std.specs.Option.{option_or}
 use Rattle.wf_headers.specs.declared.extract.Rule.TheVariants.{Single}
@@ -52,7 +53,6 @@ use Rattle.wf_fetch_answers.specs.Redirects.{redirection, redirection_by}
 use Rattle.wf_fetch.specs.Fetch.{after_body, ends, finished}
 use Rattle.wf_fetch.specs.HttpFetch.{after_head, judged, redirected}
 use Rattle.wf_fetch.specs.Then.{Context, Onward, Then, tell_all, then_ask_where}
-use Rattle.wf_server_access.proofs.ListLemmas.{and-false, or-false}
 
 -- the name of the field that known hosts are noted by
 abbrev pub sts : List ℕ

@@ -8,6 +8,7 @@ use Rattle.std.proofs.lemmas.Slice.Eq.{bytes_eq-Decides}
 use Rattle.std.specs.List.{AllByRecursion, list_all}
 use Rattle.std.specs.Prelude.{IfSome}
 use Rattle.std.specs.Str.{bytes_eq, str_eq_ignore_ascii_case, str_to_ascii_lowercase}
+use Rattle.value_lemmas.proofs.Bytes.{eq_ignore_case-alike}
 use Rattle.wf_text.specs.Tokens.{is_token}
 use Rattle.wf_headers.proofs.ExtractLemmas.{named-some}
 use Rattle.wf_headers.proofs.SpellingLemmas.{spelling-folds}
@@ -17,13 +18,6 @@ use Rattle.wf_types.specs.Lines.{Line, all_appended_where, appended_where}
 use Rattle.wf_http1.specs.Blocks.{is_line_byte}
 use Rattle.wf_server_heard.specs.Heard.{IsLine}
 use Rattle.wf_server_access.proofs.ListLemmas.{each-more}
-
--- names that are one, case aside, are among the same names
-pub folds-alike : (a b other : List ℕ) → str_eq_ignore_ascii_case a b ≡ true
-    → str_eq_ignore_ascii_case a other ≡ str_eq_ignore_ascii_case b other
-folds-alike a b other same =
-    ap (λ (lowered : List ℕ). bytes_eq lowered (str_to_ascii_lowercase other))
-    ((bytes_eq-Decides (str_to_ascii_lowercase a) (str_to_ascii_lowercase b)).0 same)
 
 -- the values of some headers
 abbrev pub values : List Header → List (List ℕ)
@@ -54,7 +48,7 @@ values-appended name other value headers =
     ∙ ap (λ (more : List (List ℕ)). values_of name headers ++ more)
     (single-value (is_named name new) new
     ∙ ap (λ (b : Bool). value_if b value)
-    (folds-alike (spelling other headers) other name (spelling-folds other headers)))
+    (eq_ignore_case-alike (spelling other headers) other name (spelling-folds other headers)))
 
 first-value : (b : Bool) (one : Header) (rest : List Header)
     → value_if b one.value ++ values rest ≡ values (cond b (one ∷ rest) rest)
