@@ -13,6 +13,7 @@ use Rattle.std.proofs.lemmas.Option.{get_or_from_slice_get}
 use Rattle.std.proofs.lemmas.Slice.Eq.{bytes_eq-Decides}
 use Rattle.std.specs.Prelude.{◌==◌, ◌&&◌, ◌||◌, not, filter, map, nat_lt, position, bytes_eq, IfOk, MatchBool}
 use Rattle.std.specs.List.{list_all, list_any, position_or_len, slice_get}
+use Rattle.wf_book.proofs.SoloLemmas.{reply-kind, yes_or_no-answers}
 use Rattle.value_lemmas.proofs.Lists.{position_or_len-no, position_or_len-yes}
 use Rattle.value_lemmas.proofs.Bytes.{bytes_eq-self}
 use Rattle.wf_text.specs.declared.memory.OutOfMemory.{OutOfMemory}
@@ -184,22 +185,10 @@ right-take book turn zero history are = tt
 right-take book turn (suc n) [] are = tt
 right-take book turn (suc n) (e ∷ history) are = (are.0, right-take (after book e.op) (turn + 1) n history are.1)
 
--- the reply of an entry that is right is of its op's kind
-yes-or-no : (b : Bool) → is_answer (yes_or_no b) ≡ true
-yes-or-no true = refl
-yes-or-no false = refl
-
-reply-kind : (book : Book) (op : Op) → is_answer (reply book op) ≡ is_question op
-reply-kind book (Match host now) = yes-or-no (matches_host book.hosts host now)
-reply-kind book (Note host sts now) = refl
-reply-kind book (Covers question now) = yes-or-no (covers question now book.cache)
-reply-kind book (Learn lesson now) = refl
-reply-kind book (Clear key origin url now) = refl
-
 pub stray-kind : (op : Op) → is_answer (stray_reply op) ≡ is_question op
 stray-kind (Match host now) = refl
 stray-kind (Note host sts now) = refl
-stray-kind (Covers question now) = yes-or-no (asks_nothing question)
+stray-kind (Covers question now) = yes_or_no-answers (asks_nothing question)
 stray-kind (Learn lesson now) = refl
 stray-kind (Clear key origin url now) = refl
 

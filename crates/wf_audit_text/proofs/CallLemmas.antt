@@ -9,12 +9,11 @@ use Rattle.std.proofs.lemmas.List.Splits.{join_with_byte-slice_split}
 use Rattle.std.proofs.lemmas.Slice.Eq.{bytes_eq-Decides}
 use Rattle.std.specs.Prelude.{◌==◌, ◌&&◌, not, bytes_eq, decimal, if◌then◌else◌, option_and_then, option_map, IfOk}
 use Rattle.std.specs.List.{join_with_byte, list_all}
-use Rattle.value_lemmas.proofs.Options.{option_and_then-some, option_map-some}
+use Rattle.value_lemmas.proofs.Options.{if-parts, option_and_then-some, option_map-some}
 use Rattle.wf_text.specs.Tokens.{is_token}
 use Rattle.wf_text.specs.declared.memory.OutOfMemory.{OutOfMemory}
 use Rattle.wf_decimal.specs.Decimals.{number_up_to}
 use Rattle.wf_decimal.proofs.DecimalLemmas.{lacks, number-lacks, number-read, number-writes}
-use Rattle.wf_decimal.proofs.TestLemmas.{chosen}
 use Rattle.wf_book.specs.declared.entry.Entry.{Entry}
 use Rattle.wf_book.specs.declared.op.Op.{Op}
 use Rattle.wf_book.specs.declared.op.Op.TheVariants.{Match, Note, Covers, Learn, Clear}
@@ -336,7 +335,7 @@ tail-writes (a ∷ []) end e = cc
 tail-writes (a ∷ b ∷ []) end e = cc
 tail-writes (a ∷ b ∷ c ∷ d ∷ words) end e = cc
 tail-writes (at ∷ now ∷ reply ∷ []) end e =
-    let is = chosen (bytes_eq at (codes "at"))
+    let is = if-parts (bytes_eq at (codes "at"))
     (option_and_then (λ now. option_map (tail now) (reply_in reply)) (time_in now)) end e in
     let time = option_and_then-some (λ now. option_map (tail now) (reply_in reply)) (time_in now) end is.1 in
     let said = option_map-some (tail time.0) (reply_in reply) end time.2 in
@@ -359,7 +358,7 @@ match-writes : (words : List (List ℕ)) (said : Call) → match_in words ≡ So
     → WritesCall (codes "match" ∷ words) said
 match-writes [] said e = cc
 match-writes (host ∷ rest) said e =
-    let is = chosen (is_word host) (option_map (λ end. call (Match host end.now) end) (tail_in rest)) said e in
+    let is = if-parts (is_word host) (option_map (λ end. call (Match host end.now) end) (tail_in rest)) said e in
     let end = option_map-some (λ end. call (Match host end.now) end) (tail_in rest) said is.1 in
     let written = tail-writes rest end.0 end.1 in
     subst (WritesCall (codes "match" ∷ host ∷ rest)) end.2 (record {
@@ -374,7 +373,7 @@ note-writes [] said e = cc
 note-writes (a ∷ []) said e = cc
 note-writes (a ∷ b ∷ []) said e = cc
 note-writes (host ∷ age ∷ subdomains ∷ rest) said e =
-    let is = chosen (is_word host) (option_and_then (λ age. option_and_then (λ subdomains.
+    let is = if-parts (is_word host) (option_and_then (λ age. option_and_then (λ subdomains.
     option_map (note_of host age subdomains) (tail_in rest)) (subdomains_in subdomains))
     (number_up_to 281474976710655 age)) said e in
     let number = option_and_then-some (λ age. option_and_then (λ subdomains.
@@ -402,7 +401,7 @@ clear-writes [] said e = cc
 clear-writes (a ∷ []) said e = cc
 clear-writes (a ∷ b ∷ []) said e = cc
 clear-writes (key ∷ origin ∷ url ∷ rest) said e =
-    let is = chosen (is_word key && is_word origin && is_word url)
+    let is = if-parts (is_word key && is_word origin && is_word url)
     (option_map (λ end. call (Clear key origin url end.now) end) (tail_in rest)) said e in
     let end = option_map-some (λ end. call (Clear key origin url end.now) end) (tail_in rest) said is.1 in
     let written = tail-writes rest end.0 end.1 in
@@ -427,7 +426,7 @@ covers-writes (key ∷ origin ∷ credentials ∷ method ∷ names ∷ url ∷ r
     (list_in names) in
     let second = λ (include : Bool) (end : Tail). option_and_then (third include end) (method_in method) in
     let first = λ (include : Bool). option_and_then (second include) (tail_in rest) in
-    let is = chosen (is_word key && is_word origin && is_word url) (option_and_then first (credentials_in credentials))
+    let is = if-parts (is_word key && is_word origin && is_word url) (option_and_then first (credentials_in credentials))
     said e in
     let mode = option_and_then-some first (credentials_in credentials) said is.1 in
     let end = option_and_then-some (second mode.0) (tail_in rest) said mode.2 in
@@ -469,7 +468,7 @@ learn-writes (key ∷ origin ∷ credentials ∷ age ∷ methods ∷ names ∷ u
     let third = λ (include : Bool) (age : ℕ) (end : Tail). option_and_then (fourth include age end) (list_in methods) in
     let second = λ (include : Bool) (age : ℕ). option_and_then (third include age) (tail_in rest) in
     let first = λ (include : Bool). option_and_then (second include) (number_up_to 7200 age) in
-    let is = chosen (is_word key && is_word origin && is_word url) (option_and_then first (credentials_in credentials))
+    let is = if-parts (is_word key && is_word origin && is_word url) (option_and_then first (credentials_in credentials))
     said e in
     let mode = option_and_then-some first (credentials_in credentials) said is.1 in
     let number = option_and_then-some (second mode.0) (number_up_to 7200 age) said mode.2 in

@@ -11,12 +11,12 @@ use Rattle.std.proofs.lemmas.List.Splits.{slice_split_none}
 use Rattle.std.proofs.lemmas.Slice.Eq.{bytes_eq-Decides}
 use Rattle.std.specs.Prelude.{◌==◌, not, bytes_eq, if◌then◌else◌}
 use Rattle.std.specs.List.{All, join_with_byte, list_all, slice_split}
+use Rattle.value_lemmas.proofs.Options.{if-from, if-not, if-parts}
 use Rattle.value_lemmas.proofs.Lists.{list_all-weaker}
 use Rattle.wf_text.specs.Tokens.{is_tchar, is_token}
 use Rattle.wf_script_events.specs.Calls.{comma_texts, list_text, method_text}
 use Rattle.wf_audit_text.specs.Entries.{is_method, is_visible, is_word}
 use Rattle.wf_audit_text.specs.Private.Reading.{list_in, method_in, tokens_in}
-use Rattle.wf_decimal.proofs.TestLemmas.{choose, chosen, otherwise}
 use Rattle.wf_decimal.proofs.DecimalLemmas.{lacks}
 
 -- ---- bytes that texts have not
@@ -146,7 +146,7 @@ list-writes word tokens e = by (bytes_eq word (codes "()")) (bytes_eq-Decides wo
         let none : [] ≡ tokens = cc in
         record { text = ap list_text (sym none) ∙ sym (same refl); valid = ap (list_all is_token) (sym none) }
     by false same e =
-        let is = chosen (list_all is_token parts) (Some parts) tokens e in
+        let is = if-parts (list_all is_token parts) (Some parts) tokens e in
         let all : parts ≡ tokens = cc in
         record {
           text = ap list_text (sym all) ∙ text-of parts (join_with_byte-slice_split 44 word) is.0 (some-parts word);
@@ -177,10 +177,10 @@ list-read (token ∷ tokens) e =
     let cut : slice_split (λ byte. byte == 44) (token ++ comma_texts tokens) ≡ token ∷ tokens =
     ap (slice_split (λ byte. byte == 44)) (sym (joined token tokens))
     ∙ split-join 44 token tokens (token-lacks 44 refl token one) (tokens-lack 44 refl tokens more) in
-    otherwise (bytes_eq (token ++ comma_texts tokens) (codes "()")) (Some [])
+    if-not (bytes_eq (token ++ comma_texts tokens) (codes "()")) (Some [])
     (tokens_in (slice_split (λ byte. byte == 44) (token ++ comma_texts tokens))) (Some (token ∷ tokens))
     (differs (token ++ comma_texts tokens) (codes "()") (token-first token (comma_texts tokens) one))
-    (ap tokens_in cut ∙ choose (list_all is_token (token ∷ tokens)) (Some (token ∷ tokens)) (token ∷ tokens) e refl)
+    (ap tokens_in cut ∙ if-from (list_all is_token (token ∷ tokens)) (Some (token ∷ tokens)) (token ∷ tokens) e refl)
 
 -- the text of a list of tokens has no space
 commas-lack : (tokens : List (List ℕ)) → list_all is_token tokens ≡ true → lacks 32 (comma_texts tokens) ≡ true

@@ -11,11 +11,10 @@ use Rattle.std.proofs.lemmas.List.Sums.{passes_at_first, split_at_first}
 use Rattle.std.proofs.lemmas.Slice.Eq.{bytes_eq-Decides}
 use Rattle.std.specs.Prelude.{◌==◌, nat_lt, not, decimal, option_and_then, option_map, if◌then◌else◌, bytes_eq}
 use Rattle.std.specs.List.{position, position_or_len}
-use Rattle.value_lemmas.proofs.Options.{option_and_then-some, option_map-some}
+use Rattle.value_lemmas.proofs.Options.{if-parts, option_and_then-some, option_map-some}
 use Rattle.value_lemmas.proofs.Tests.{eqb-self}
 use Rattle.wf_decimal.specs.Decimals.{number_up_to}
 use Rattle.wf_decimal.proofs.DecimalLemmas.{lacks, number-lacks, number-read, number-writes}
-use Rattle.wf_decimal.proofs.TestLemmas.{chosen}
 use Rattle.wf_book_text.specs.Reading.{after_prefix, both_at, bytes_at, made_at, number_at, stopped, text_at}
 use Rattle.wf_book_text.specs.Texts.{greatest, number_field, text_field}
 
@@ -23,8 +22,6 @@ use Rattle.wf_book_text.specs.Texts.{greatest, number_field, text_field}
 pub record Reads {A : Type 0} (spell : A → List ℕ) (Fits : A → Type 0) (read : List ℕ → Option (A × List ℕ)) : Type 0 where
   pub sound : (text : List ℕ) (x : A) (rest : List ℕ) → read text ≡ Some (x, rest) → (text ≡ spell x ++ rest) × Fits x
   pub complete : (x : A) (rest : List ℕ) → Fits x → read (spell x ++ rest) ≡ Some (x, rest)
-
--- ---- tests
 
 -- ---- numbers
 
@@ -104,7 +101,7 @@ stop-sound : (stop : ℕ) (front after x rest : List ℕ) → stopped stop front
     → (front ≡ x) × (after ≡ stop ∷ rest)
 stop-sound stop front [] x rest e = absurd (cc)
 stop-sound stop front (byte ∷ after) x rest e =
-    let is = chosen (byte == stop) (Some (front, after)) (x, rest) e in
+    let is = if-parts (byte == stop) (Some (front, after)) (x, rest) e in
     let same : byte ≡ stop = (Decides-eqb byte stop).0 is.0 in
     let pair : (front, after) ≡ (x, rest) = same_Some (front, after) (x, rest) is.1 in
     (ap (λ p. p.0) pair, (λ i. same i ∷ ap (λ p. p.1) pair i))
@@ -218,7 +215,7 @@ prefix-sound prefix text rest e = by (nat_lt (length text) (length prefix)) e
         then Some (drop (length prefix) text) else None) ≡ Some rest → text ≡ prefix ++ rest
     by true e = absurd (cc)
     by false e =
-        let is = chosen (bytes_eq (take (length prefix) text) prefix) (Some (drop (length prefix) text)) rest e in
+        let is = if-parts (bytes_eq (take (length prefix) text) prefix) (Some (drop (length prefix) text)) rest e in
         let front : take (length prefix) text ≡ prefix = (bytes_eq-Decides (take (length prefix) text) prefix).0 is.0 in
         sym (take-append-drop (length prefix) text)
         ∙ (λ i. front i ++ same_Some (drop (length prefix) text) rest is.1 i)

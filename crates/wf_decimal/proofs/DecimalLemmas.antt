@@ -11,10 +11,10 @@ use Rattle.std.specs.Char.{is_ascii_digit}
 use Rattle.std.specs.Int.{IsInRange}
 use Rattle.std.specs.List.{list_all}
 use Rattle.std.specs.Str.Parse.{digits_value}
+use Rattle.value_lemmas.proofs.Options.{if-from, if-parts}
 use Rattle.wf_text.specs.Digits.{is_digits}
 use Rattle.wf_decimal.specs.Decimals.{begins_with_zero, is_number}
 use Rattle.wf_decimal.specs.Laws.{ReadsDecimals, ReadsOnlyDecimals}
-use Rattle.wf_decimal.proofs.TestLemmas.{choose, chosen}
 
 -- ---- numbers
 
@@ -69,7 +69,7 @@ number-text word e =
 
 pub number-writes : ReadsOnlyDecimals
 number-writes most word n e =
-    let is = chosen (is_number word && nat_le (digits_value 10 word) most) (Some (digits_value 10 word)) n e in
+    let is = if-parts (is_number word && nat_le (digits_value 10 word) most) (Some (digits_value 10 word)) n e in
     let value : digits_value 10 word ≡ n = cc in
     let fits = and_parts (is_number word) (nat_le (digits_value 10 word) most) is.0 in
     let text = number-text word fits.0 in
@@ -103,7 +103,7 @@ number-read most n few small =
     let plain = and_from (is_digits text) (is_plain text) digits (plain-start n small) in
     let is = and_from (is_digits text && is_plain text) (is_small text) plain
     (le-leb (digits_value 10 text) 18446744073709551615 (omega (arith, value, small))) in
-    choose (is_number text && nat_le (digits_value 10 text) most) (Some (digits_value 10 text)) n
+    if-from (is_number text && nat_le (digits_value 10 text) most) (Some (digits_value 10 text)) n
     (and_from (is_number text) (nat_le (digits_value 10 text) most) is
     (le-leb (digits_value 10 text) most (omega (arith, value, few)))) (ap Some value)
 

@@ -3,6 +3,7 @@ use Rattle.std.proofs.Common.{◌≡◌, ◌≢◌, ◌∙◌, ◌<◌, ◌^◌,
 use Rattle.std.proofs.Common.{refl, sym, ap, arith}
 use Rattle.std.specs.Prelude.{codes, IsTrue, IfSome, Option, Some, None, Ok, unwrap_or}
 use Rattle.std.specs.List.{last_or}
+use Rattle.wf_types.proofs.TargetLemmas.{https-kind}
 use Rattle.url.specs.declared.scheme.SchemeType.TheVariants.{SpecialNotFile}
 use Rattle.url.specs.Input.{split_once, strip_tabs_and_new_lines}
 use Rattle.url.specs.Parser.{without_default_port}
@@ -16,7 +17,6 @@ use Rattle.wf_types.specs.Urls.{IsWeb}
 
 -- ---- the setter
 
-https-kind : scheme_type (codes "https") ≡ SpecialNotFile
 unfolding scheme_type default_port
 https-kind = refl
 

@@ -38,8 +38,6 @@ use Rattle.wf_filter.specs.Views.{is_refused, is_told, is_told_cors, is_unfollow
 use Rattle.wf_types.specs.CorsCheck.{passes_check}
 use Rattle.wf_filter.specs.Views.{permitted_view, redirect_names, response_names, response_view, type_names}
 
--- ---- tests
-
 -- ---- what the checks rest on
 
 -- the one header that is checked of a basic response is not forbidden
@@ -323,7 +321,7 @@ types-same : (destination : Destination) (a b : List Header)
     → SameBlock destination a b
 types-same destination a b types options = (rw types refl, rw (types, options) refl)
 
-not-script : (essence : Option (List ℕ)) → mime_blocked essence false ≡ false
+pub not-script : (essence : Option (List ℕ)) → mime_blocked essence false ≡ false
 not-script None = refl
 not-script (Some essence) = refl
 

@@ -73,7 +73,7 @@ contains-fewer keep name (header ∷ headers) none =
     grind (arith, common_steps, contains-fewer keep name headers)
 
 -- a name that is not there has no values, and nothing is extracted of it
-no-values : (name : List ℕ) (headers : List Header) → contains name headers ≡ false → values_of name headers ≡ []
+pub no-values : (name : List ℕ) (headers : List Header) → contains name headers ≡ false → values_of name headers ≡ []
 no-values name [] none = refl
 no-values name (header ∷ headers) none = grind (arith, common_steps, no-values name headers)
 

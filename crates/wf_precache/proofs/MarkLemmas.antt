@@ -83,6 +83,7 @@ module _ (lesson : Lesson) (now : ℕ) where
       ap (λ (l : List Mark). fold (marks.with_item lesson now) l items) (item-marked entries item)
       ∙ items-marked items (with_item lesson now entries item)
 
+-- a place that is not told is the lesson's
 own-same : (lesson : Lesson) (entry : CacheEntry) → is_of lesson.origin lesson.url entry ≡ true
     → (entry.origin ≡ lesson.origin) × (entry.url ≡ lesson.url)
 own-same lesson entry is =

@@ -107,6 +107,7 @@ core-append blanks (byte ∷ x) y =
 abbrev ended : List ℕ → List ℕ
 ended text = core http_whitespace text
 
+-- what may stand in a header value does so without the blanks at its end
 fit-by : (byte : ℕ) (e : List ℕ) (is : Bool) → all_fit (byte ∷ e) ≡ true → all_fit (cond is [] (byte ∷ e)) ≡ true
 fit-by byte e true fit = refl
 fit-by byte e false fit = fit

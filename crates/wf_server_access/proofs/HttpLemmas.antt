@@ -6,6 +6,7 @@ use Rattle.std.proofs.Common.{option_and_then, if◌then◌else◌}
 use mathlib.Core.Bool.{and-false, or-false}
 use Rattle.std.specs.Bool.{then_some}
 use Rattle.std.specs.Option.{option_or}
+use Rattle.wf_filter.proofs.LawLemmas.{not-script}
 use Rattle.wf_headers.specs.declared.extract.Rule.TheVariants.{Single}
 use Rattle.wf_headers.specs.declared.headers.Header.{Header}
 use Rattle.wf_headers.specs.Extract.{extracted}
@@ -120,16 +121,12 @@ pub record IsAtEnd (context : Context) (request : Request) (head : Head) : Type 
   pub status_is : head.status ≡ 200
   pub uncoded : values_of (codes "Content-Encoding") head.headers ≡ []
 
-mime-quiet : (essence : Option (List ℕ)) → mime_blocked essence false ≡ false
-mime-quiet None = refl
-mime-quiet (Some essence) = refl
-
 -- a `fetch` is blocked for no type
 no-block : (kind : Destination) (headers : List Header) → kind ≡ destination.Fetch → type_error kind headers ≡ None
 no-block kind headers is =
     ap (λ (d : Destination). type_error d headers) is
     ∙ ap (λ (b : Bool). if b then Some error.Mime
-    else if nosniff headers && false then Some error.NoSniff else None) (mime-quiet (essence_of headers))
+    else if nosniff headers && false then Some error.NoSniff else None) (not-script (essence_of headers))
     ∙ ap (λ (b : Bool). if b then Some error.NoSniff else None) (and-false (nosniff headers))
 
 module _ (context : Context) (request : Request) (head : Head) (is : IsAtEnd context request head) where

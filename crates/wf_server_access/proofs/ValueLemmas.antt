@@ -8,6 +8,7 @@ use Rattle.std.proofs.lemmas.Slice.Eq.{bytes_eq-Decides}
 use Rattle.std.specs.List.{AllByRecursion, list_all}
 use Rattle.std.specs.Prelude.{IfSome}
 use Rattle.std.specs.Str.{bytes_eq, str_eq_ignore_ascii_case, str_to_ascii_lowercase}
+use Rattle.wf_filter.proofs.ViewLemmas.{no-values}
 use Rattle.value_lemmas.proofs.Bytes.{eq_ignore_case-alike}
 use Rattle.wf_text.specs.Tokens.{is_token}
 use Rattle.wf_headers.proofs.ExtractLemmas.{named-some}
@@ -118,16 +119,6 @@ not-there name headers none = by-test (contains name headers) refl
         absurd (omega (arith, named-some name headers is, ap (λ (l : List (List ℕ)). length l) none))
     by-test false is = is
 
-none-left : (name : List ℕ) (headers : List Header) → contains name headers ≡ false → values_of name headers ≡ []
-none-left name [] none = refl
-none-left name (one ∷ more) none = by-test (none-left name more) (is_named name one) none
-  where
-    by-test : (contains name more ≡ false → values_of name more ≡ []) → (b : Bool)
-        → (b || contains name more) ≡ false
-        → values (cond b (one ∷ filter (is_named name) more) (filter (is_named name) more)) ≡ []
-    by-test rest true is = absurd (true≢false is)
-    by-test rest false is = rest is
-
 -- and one with a value is
 pub there : (name value : List ℕ) (rest : List (List ℕ)) (headers : List Header)
     → values_of name headers ≡ value ∷ rest → contains name headers ≡ true
@@ -136,7 +127,7 @@ there name value rest headers some = by-test (contains name headers) refl
     by-test : (b : Bool) → contains name headers ≡ b → contains name headers ≡ true
     by-test true is = is
     by-test false is =
-        let same : [] ≡ value ∷ rest = sym (none-left name headers is) ∙ some in absurd (cc)
+        let same : [] ≡ value ∷ rest = sym (no-values name headers is) ∙ some in absurd (cc)
 
 -- the first value of a name is that of a header in the list
 pub first-at : (name value : List ℕ) (rest : List (List ℕ)) (headers : List Header)
