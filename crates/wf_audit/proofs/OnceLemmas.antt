@@ -1,6 +1,7 @@
 -- A scenario and a text have one verdict: step by step, one of two cases applies, and its value is one.
 use Rattle.std.proofs.Common.{◌≡◌, ◌≤◌, ◌<◌, ◌+◌, ◌⊎◌, inl, inr, ℕ, zero, suc, List, [], ◌∷◌, length, map, take}
 use Rattle.std.proofs.Common.{refl, ap, sym, subst, ◌∙◌, arith, Some, None, Result, Ok, Err}
+use Rattle.std.proofs.lemmas.Bool.{cases_order}
 use Rattle.std.proofs.lemmas.Option.{same_Some}
 use Rattle.std.specs.List.{slice_get}
 use Rattle.wf_book.specs.declared.book.Book.{Book}
@@ -29,20 +30,13 @@ use Rattle.wf_audit.specs.declared.verdict.Verdict.TheVariants as verdict
 
 -- ---- numbers and lists
 
-compared : (a b : ℕ) → (a < b) ⊎ (b < a) ⊎ (a ≡ b)
-compared zero zero = inr (inr refl)
-compared zero (suc b) = inl (omega arith)
-compared (suc a) zero = inr (inl (omega arith))
-compared (suc a) (suc b) = elim (compared a b) [
-  | inl x ↦ inl (omega (arith, x))
-  | inr y ↦ elim y [ inl x ↦ inr (inl (omega (arith, x))) | inr x ↦ inr (inr (ap (λ (n : ℕ). suc n) x)) ]
 ]
 
 -- where neither of two numbers can be the smaller, they are one
 only-one : (a b : ℕ) → ¬ (a < b) → ¬ (b < a) → a ≡ b
-only-one a b x y = elim (compared a b) [
-  | inl lt ↦ absurd (x lt)
-  | inr z ↦ elim z [ inl lt ↦ absurd (y lt) | inr same ↦ same ]
+only-one a b x y = elim (cases_order a b) [
+  | inl same ↦ same
+  | inr z ↦ elim z [ inl lt ↦ absurd (x lt) | inr lt ↦ absurd (y lt) ]
 ]
 
 get-take : {X : Type 0} (l : List X) (a b : ℕ) → a < b → slice_get (take b l) a ≡ slice_get l a

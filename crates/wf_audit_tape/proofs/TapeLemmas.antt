@@ -192,6 +192,7 @@ stray-kind (Covers question now) = yes_or_no-answers (asks_nothing question)
 stray-kind (Learn lesson now) = refl
 stray-kind (Clear key origin url now) = refl
 
+-- the reply of an entry that is right is of its op's kind
 pub right-kind : (book : Book) (turn : ℕ) (front : List Entry) (e : Entry) (back : List Entry)
     → AreRight book turn (front ++ e ∷ back) → is_answer e.reply ≡ is_question e.op
 right-kind book turn [] e back are = ap is_answer are.0.reply_is ∙ reply-kind book e.op

@@ -17,9 +17,6 @@ use Rattle.wf_types.specs.Urls.{IsWeb}
 
 -- ---- the setter
 
-unfolding scheme_type default_port
-https-kind = refl
-
 https-port : default_port (codes "https") ≡ Some 443
 unfolding default_port
 https-port = refl

@@ -7,6 +7,7 @@ use Rattle.std.specs.List.{list_all, list_any}
 use Rattle.std.specs.Prelude.{IsTrue, bytes_eq}
 use Rattle.std.proofs.lemmas.Slice.Eq.{bytes_eq-Decides}
 use Rattle.std.specs.Str.{str_eq_ignore_ascii_case, str_to_ascii_lowercase}
+use Rattle.wf_headers.proofs.ValueLemmas.{no-values}
 use Rattle.wf_headers.proofs.SpellingLemmas.{fold-sym, fold-trans}
 use Rattle.wf_headers.specs.declared.headers.Header.{Header}
 use Rattle.wf_headers.specs.declared.extract.Extracted.TheVariants.{Absent}
@@ -71,11 +72,6 @@ pub contains-fewer : (keep : Header → Bool) (name : List ℕ) (headers : List 
 contains-fewer keep name [] none = refl
 contains-fewer keep name (header ∷ headers) none =
     grind (arith, common_steps, contains-fewer keep name headers)
-
--- a name that is not there has no values, and nothing is extracted of it
-pub no-values : (name : List ℕ) (headers : List Header) → contains name headers ≡ false → values_of name headers ≡ []
-no-values name [] none = refl
-no-values name (header ∷ headers) none = grind (arith, common_steps, no-values name headers)
 
 pub absent-extracted : (rule : Rule) (name : List ℕ) (headers : List Header) → contains name headers ≡ false
     → extracted rule name headers ≡ Absent

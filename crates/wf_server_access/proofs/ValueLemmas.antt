@@ -8,7 +8,7 @@ use Rattle.std.proofs.lemmas.Slice.Eq.{bytes_eq-Decides}
 use Rattle.std.specs.List.{AllByRecursion, list_all}
 use Rattle.std.specs.Prelude.{IfSome}
 use Rattle.std.specs.Str.{bytes_eq, str_eq_ignore_ascii_case, str_to_ascii_lowercase}
-use Rattle.wf_filter.proofs.ViewLemmas.{no-values}
+use Rattle.wf_headers.proofs.ValueLemmas.{no-values}
 use Rattle.value_lemmas.proofs.Bytes.{eq_ignore_case-alike}
 use Rattle.wf_text.specs.Tokens.{is_token}
 use Rattle.wf_headers.proofs.ExtractLemmas.{named-some}
@@ -55,17 +55,6 @@ first-value : (b : Bool) (one : Header) (rest : List Header)
     → value_if b one.value ++ values rest ≡ values (cond b (one ∷ rest) rest)
 first-value true one rest = refl
 first-value false one rest = refl
-
--- once some were
-pub values-all_appended : (name : List ℕ) (more before : List Header)
-    → values_of name (all_appended more before) ≡ values_of name before ++ values_of name more
-values-all_appended name [] before = sym (append-nil (values_of name before))
-values-all_appended name (one ∷ more) before =
-    values-all_appended name more (appended one.name one.value before)
-    ∙ ap (λ (l : List (List ℕ)). l ++ values_of name more) (values-appended name one.name one.value before)
-    ∙ append_assoc (values_of name before) (value_if (is_named name one) one.value) (values_of name more)
-    ∙ ap (λ (l : List (List ℕ)). values_of name before ++ l)
-    (first-value (is_named name one) one (filter (is_named name) more))
 
 -- the value of a line, where the name is asked for and there is one
 abbrev pub line_value : Bool → Option (List ℕ) → List (List ℕ)
