@@ -1,10 +1,7 @@
 -- Two ops are one exactly where their parts are.
 use Rattle.std.proofs.Common.{◌≡◌, ℕ, Bool, true, false, List, [], ◌∷◌, length, suc, refl, ap, sym, ◌∙◌, Option, Some}
-use Rattle.std.proofs.Common.{None, ◌+◌, drop, slice_get, add-one, drop-cons}
+use Rattle.std.proofs.Common.{None, ◌+◌, drop, slice_get}
 use Rattle.std.proofs.lemmas.Bool.{and_from, and_parts, eqb-true}
-use Rattle.std.proofs.lemmas.Bool.Decides.{Decides-eqb}
-use Rattle.std.proofs.lemmas.Option.{get_or_from_slice_get, slice_get_within}
-use Rattle.std.proofs.lemmas.Slice.Eq.{bytes_eq-Decides}
 use Rattle.std.specs.Prelude.{◌==◌, ◌&&◌, bytes_eq, not}
 use Rattle.value_lemmas.proofs.Lists.{drop-slice_get}
 use Rattle.value_lemmas.proofs.Tests.{eqb-self}

@@ -1,6 +1,6 @@
 -- Pieces of paths: two that decode to the same bytes, the first one, all but the last, and two paths walked through
 -- together.
-use Rattle.std.proofs.Common.{◌≡◌, ◌∙◌, ◌&&◌, ◌==◌, ◌<◌, ◌≤◌, ◌+◌, ◌-◌, ℕ, Bool, true, false, cond, nat_eq}
+use Rattle.std.proofs.Common.{◌≡◌, ◌∙◌, ◌&&◌, ◌==◌, ◌<◌, ◌+◌, ◌-◌, ℕ, Bool, true, false, cond, nat_eq}
 use Rattle.std.proofs.Common.{List, [], ◌∷◌, ◌++◌, bytes_eq, length, take, drop, refl, sym, ap, arith}
 use Rattle.std.proofs.Common.{Option, Some, None, MatchOption, IfSome}
 use Rattle.std.proofs.lemmas.Grind.{common_steps}

@@ -1,5 +1,5 @@
 -- The request after a redirect is a request.
-use Rattle.std.proofs.Common.{◌≡◌, ◌∙◌, ◌<◌, ◌&&◌, ◌∷◌, ◌++◌, [], ℕ, Bool, true, false, List}
+use Rattle.std.proofs.Common.{◌≡◌, ◌∙◌, ◌<◌, ◌∷◌, ◌++◌, [], ℕ, Bool, true, false, List}
 use Rattle.std.proofs.Common.{refl, ap, sym, subst, arith, cond, length}
 use Rattle.std.proofs.lemmas.Bool.{and_from, and_parts}
 use Rattle.std.specs.Prelude.{IsTrue, unwrap_or, Some, None}

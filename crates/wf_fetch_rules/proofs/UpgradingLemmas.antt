@@ -8,7 +8,7 @@ use Rattle.url.specs.declared.scheme.SchemeType.TheVariants.{SpecialNotFile}
 use Rattle.url.specs.Input.{split_once, strip_tabs_and_new_lines}
 use Rattle.url.specs.Parser.{without_default_port}
 use Rattle.url.specs.Parts.{Parts, IsValid}
-use Rattle.url.specs.Scheme.{default_port, scheme_len, scheme_type}
+use Rattle.url.specs.Scheme.{default_port, scheme_len}
 use Rattle.url.specs.Setters as setters
 use Rattle.wf_fetch_rules.specs.Upgrading.{secured, with_https, with_last}
 use Rattle.wf_types.specs.declared.request.Request.{Request}

@@ -1,7 +1,7 @@
 -- A permitted view is its own permitted view.
 use Rattle.std.proofs.Common.{◌≡◌, ◌&&◌, [], ℕ, Bool, true, false, not, List, codes, cond, filter, refl, ap}
 use Rattle.std.proofs.Common.{sym, ◌∙◌}
-use Rattle.std.proofs.Common.{arith, inl, inr}
+use Rattle.std.proofs.Common.{inl, inr}
 use Rattle.std.proofs.lemmas.Bool.{and_parts, cases_Bool, or_left}
 use Rattle.wf_headers.specs.declared.extract.Extracted.{Extracted}
 use Rattle.wf_headers.specs.declared.extract.Extracted.TheVariants.{Absent, Failure, Items}

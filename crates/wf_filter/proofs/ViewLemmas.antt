@@ -13,7 +13,7 @@ use Rattle.wf_headers.specs.declared.headers.Header.{Header}
 use Rattle.wf_headers.specs.declared.extract.Extracted.TheVariants.{Absent}
 use Rattle.wf_headers.specs.declared.extract.Rule.{Rule}
 use Rattle.wf_headers.specs.Extract.{extracted, extracted_of}
-use Rattle.wf_headers.specs.Headers.{contains, is_named, values_of}
+use Rattle.wf_headers.specs.Headers.{contains, is_named}
 use Rattle.wf_types.proofs.NameLemmas.{among-named, values-kept}
 use Rattle.wf_types.specs.declared.mode.Tainting.{Tainting}
 use Rattle.wf_types.specs.declared.mode.Tainting.TheVariants as tainting
@@ -73,6 +73,7 @@ contains-fewer keep name [] none = refl
 contains-fewer keep name (header ∷ headers) none =
     grind (arith, common_steps, contains-fewer keep name headers)
 
+-- nothing is extracted of a name that is not there
 pub absent-extracted : (rule : Rule) (name : List ℕ) (headers : List Header) → contains name headers ≡ false
     → extracted rule name headers ≡ Absent
 absent-extracted rule name headers none = ap (extracted_of rule) (no-values name headers none)

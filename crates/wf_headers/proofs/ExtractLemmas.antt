@@ -36,7 +36,7 @@ pub items-cut : (text : List ℕ) (at : ℕ) → position (λ byte. byte == 44) 
 items-cut text at e =
     let found = cond_some _ _ at e in
     let cut : between_commas text ≡ take at text ∷ between_commas (drop 1 (drop at text)) =
-    between_commas-cut text at found.1 (grind (arith, found.0, found.1)) in
+    between_commas-cut text at (sym found.1) (grind (arith, found.0, found.1)) in
     rw cut (grind (arith, common_steps))
 
 -- the item where there is no comma

@@ -1,7 +1,6 @@
 -- A test of all elements, from one of them on.
-use Rattle.std.proofs.Common.{arith, ◌≡◌, ◌+◌, ◌&&◌, ◌∷◌, [], ℕ, zero, suc, List, refl, ap, ◌∙◌, Bool, true, false}
+use Rattle.std.proofs.Common.{◌≡◌, ◌+◌, ℕ, List, refl, ◌∙◌, Bool, true, false}
 use Rattle.std.proofs.Common.{drop, Some}
-use Rattle.std.proofs.lemmas.Grind.{common_steps}
 use Rattle.std.specs.List.{list_all, slice_get}
 use Rattle.value_lemmas.proofs.Lists.{list_all-drop}
 

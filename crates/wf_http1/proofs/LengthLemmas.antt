@@ -1,10 +1,9 @@
 -- A Content-Length that is digits alone is one piece, which nothing is trimmed of.
-use Rattle.std.proofs.Common.{arith, ◌≡◌, ◌^◌, ◌-◌, ◌∷◌, [], ℕ, List, refl, ap, ◌∙◌, Bool}
+use Rattle.std.proofs.Common.{arith, ◌≡◌, ◌^◌, ◌-◌, ◌∷◌, [], ℕ, List, refl, ap, ◌∙◌}
 use Rattle.std.proofs.Common.{true, codes, reverse, Option, Some, None, option_map, IfSome}
 use Rattle.std.proofs.lemmas.Grind.{common_steps}
 use Rattle.std.proofs.lemmas.Bool.Decides.{nat_tests}
-use Rattle.std.proofs.lemmas.List.{reverse-append, reverse-reverse}
-use Rattle.std.proofs.lemmas.List.Folds.{list_all-append}
+use Rattle.std.proofs.lemmas.List.{reverse-reverse}
 use Rattle.std.specs.Char.{is_ascii_digit}
 use Rattle.std.specs.List.{list_all}
 use Rattle.value_lemmas.proofs.Lists.{list_all-reverse}

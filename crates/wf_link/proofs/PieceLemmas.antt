@@ -1,10 +1,8 @@
 -- Going over the pieces of an answer.
-use Rattle.std.proofs.Common.{◌≡◌, ◌<◌, ◌+◌, ℕ, suc, min, List, [], ◌∷◌, ◌++◌, length, take, drop, refl, ap, sym}
+use Rattle.std.proofs.Common.{◌≡◌, ◌<◌, ◌+◌, ℕ, min, List, [], ◌∷◌, ◌++◌, length, take, drop, refl, ap, sym}
 use Rattle.std.proofs.Common.{◌∙◌, arith, Some, append_assoc}
-use Rattle.std.proofs.Math.Numerals.{add-one}
-use Rattle.std.proofs.Math.Seq.{drop-cons, drop-length, take-nil}
+use Rattle.std.proofs.Math.Seq.{drop-length, take-nil}
 use Rattle.std.proofs.lemmas.List.{length-drop, length-take-le, take-append-drop, take_at}
-use Rattle.std.proofs.lemmas.Option.{get_or_from_slice_get, slice_get_within}
 use Rattle.std.specs.Prelude.{slice_get}
 use Rattle.std.specs.List.{concat}
 use Rattle.value_lemmas.proofs.Lists.{drop-slice_get}

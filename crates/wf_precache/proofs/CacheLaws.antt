@@ -1,9 +1,7 @@
 -- Every cache is sorted by its keys, and bounded for each.
 use Rattle.std.proofs.Common.{arith, ◌≡◌, ◌≤◌, ◌-◌, ◌++◌, ◌∷◌, [], ℕ, List, Bool, true, false, cond, not, ◌&&◌}
-use Rattle.std.proofs.Common.{length, map, filter, refl, sym, ap, ◌∙◌, Result, Ok, Err, OnOk, OnErr}
-use mathlib.Core.Bool.{true≢false}
-use Rattle.std.specs.declared.cmp.Ordering.{Ordering}
-use Rattle.std.specs.declared.cmp.Ordering.TheVariants.{Less, Equal, Greater}
+use Rattle.std.proofs.Common.{length, map, filter, refl, ap, ◌∙◌, Result, Ok, Err, OnOk, OnErr}
+use Rattle.std.specs.declared.cmp.Ordering.TheVariants.{Less}
 use Rattle.std.specs.Ordering.{is_lt, nat_cmp, ordering_reverse}
 use Rattle.std.specs.Cmp.Lexicographic.{slice_cmp, nat_list_cmp_total}
 use Rattle.std.specs.List.{AllByRecursion, fold, list_any}

@@ -1,8 +1,8 @@
 -- Steps of loops over lists.
 use Rattle.std.proofs.Common.{arith, add-one, ◌≡◌, ◌<◌, ◌++◌, ◌+◌, ◌∷◌, [], ℕ, zero, suc, List, length, take, drop}
-use Rattle.std.proofs.Common.{get_or, set, map, Bool, false, true, cond, ◌&&◌, ◌||◌, ◌==◌, Some, refl, subst, sym, ap}
+use Rattle.std.proofs.Common.{get_or, set, map, Bool, false, true, cond, ◌||◌, ◌==◌, Some, refl, subst, sym, ap}
 use Rattle.std.proofs.Common.{◌∙◌}
-use Rattle.std.specs.List.{fold, list_all, list_any, slice_get}
+use Rattle.std.specs.List.{fold, list_any, slice_get}
 use Rattle.std.proofs.lemmas.List.{at_drop_more, get_or_default, take_more}
 use Rattle.std.proofs.lemmas.List.Folds.{list_any_more}
 use Rattle.std.proofs.lemmas.Option.{slice_get_within, get_or_from_slice_get}

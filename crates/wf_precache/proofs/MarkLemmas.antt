@@ -1,10 +1,9 @@
 -- A lesson that is learnt over marks is the lesson learnt over the entries.
 use Rattle.std.proofs.Common.{◌≡◌, ◌++◌, ◌-◌, ◌∷◌, [], ℕ, List, Bool, true, false, cond, map, length}
-use Rattle.std.proofs.Common.{filter, refl, sym, ap, ◌∙◌, ◌+◌, ◌&&◌, ◌||◌, not, nat_lt, true≢false, Some, None}
+use Rattle.std.proofs.Common.{filter, refl, sym, ap, ◌∙◌, ◌+◌, ◌&&◌, ◌||◌, not, nat_lt, Some, None}
 use Rattle.std.proofs.lemmas.Bool.{and_parts}
 use Rattle.std.proofs.lemmas.List.{drop-map, length-map, map-append}
 use Rattle.std.proofs.lemmas.List.Sums.{fold-append}
-use Rattle.std.proofs.lemmas.Slice.Eq.{bytes_eq-Decides}
 use Rattle.std.specs.List.{fold, list_any}
 use Rattle.std.specs.Str.{bytes_eq}
 use Rattle.value_lemmas.proofs.Bytes.{bytes_eq-self, bytes_eq-true}

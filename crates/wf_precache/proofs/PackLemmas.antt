@@ -1,8 +1,7 @@
 -- Texts that stand one behind the other: where each of them is, and what one more makes of them.
 use Rattle.std.proofs.Common.{◌≡◌, ℕ, ◌<◌, ◌≤◌, ◌+◌, ◌-◌, List, [], ◌∷◌, ◌++◌, length, take, drop, get_or, refl, ap}
-use Rattle.std.proofs.Common.{◌∙◌, arith, suc, zero}
+use Rattle.std.proofs.Common.{arith, suc, zero}
 use Rattle.std.proofs.Math.Seq.{drop-append_seam, take-length}
-use Rattle.std.proofs.lemmas.List.{drop-append-le, length-drop, take-append-le}
 use Rattle.std.specs.List.{slice_get}
 use Rattle.std.specs.Prelude.{Some}
 use Rattle.value_lemmas.proofs.Lists.{take-drop-append}

@@ -1,12 +1,11 @@
 -- Entries in order: which may stand last.
-use Rattle.std.proofs.Common.{◌≡◌, ◌<◌, ◌≤◌, ◌&&◌, not, ℕ, zero, suc, Bool, true, false, cond, List, [], ◌∷◌, ◌++◌}
-use Rattle.std.proofs.Common.{length, filter, map, arith, refl, ap, sym, subst, ◌∙◌, Some, length-append, Result, Ok}
-use Rattle.std.proofs.Common.{Err, OnErr, Option, None, IfSome, IfNone}
+use Rattle.std.proofs.Common.{◌≡◌, ◌<◌, ◌≤◌, not, ℕ, zero, suc, Bool, true, false, cond, List, [], ◌∷◌, ◌++◌}
+use Rattle.std.proofs.Common.{length, filter, map, arith, refl, ap, sym, subst, ◌∙◌, Some, length-append}
+use Rattle.std.proofs.Common.{Option, None, IfSome, IfNone}
 use Rattle.std.proofs.Common.{◌-◌, ◌==◌}
 use Rattle.std.proofs.Common.{if◌then◌else◌}
 use mathlib.Core.Bool.{and-false}
 use Rattle.std.proofs.lemmas.Bool.{and_from, and_parts, lt-ltb, ltb-true}
-use Rattle.std.proofs.lemmas.Bool.Decides.{nat_tests}
 use Rattle.std.proofs.lemmas.List.Elements.{recursion_from_All}
 use Rattle.std.specs.Cmp.Lexicographic.{bytes_decides, nat_list_cmp_total, slice_cmp}
 use Rattle.std.specs.List.{All, AllByRecursion, list_all, slice_get}

@@ -1,6 +1,6 @@
 -- A span is cut at its first dash.
-use Rattle.std.proofs.Common.{arith, ◌≡◌, ◌+◌, ◌==◌, ◌&&◌, ℕ, List, refl, Bool, true, false, cond, take, drop, Option}
-use Rattle.std.proofs.Common.{Some, None}
+use Rattle.std.proofs.Common.{◌≡◌, ◌+◌, ◌==◌, ◌&&◌, ℕ, List, refl, take, drop}
+use Rattle.std.proofs.Common.{Some}
 use Rattle.std.proofs.lemmas.Option.{cond_some}
 use Rattle.std.specs.List.{position}
 use Rattle.wf_text.specs.Digits.{is_digits}

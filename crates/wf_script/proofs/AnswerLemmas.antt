@@ -1,5 +1,5 @@
 -- What is in a text to which pieces were added, and how long headers on their lines are.
-use Rattle.std.proofs.Common.{◌≡◌, ℕ, List, [], ◌++◌, append_assoc, ap, ◌∙◌}
+use Rattle.std.proofs.Common.{◌≡◌, ℕ, List, [], ◌++◌, ap, ◌∙◌}
 use Rattle.value_lemmas.proofs.Lists.{append-three}
 
 -- four pieces, the first at the front

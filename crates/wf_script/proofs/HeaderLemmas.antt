@@ -1,12 +1,10 @@
 -- The values of a name in a header list that headers were appended to: those of another name add none.
-use Rattle.std.proofs.Common.{◌≡◌, ◌++◌, ◌∷◌, [], ℕ, Bool, true, false, cond, List, filter, map, refl, ap, sym, ◌∙◌}
-use Rattle.std.proofs.Common.{append_assoc, append-nil, Result, Ok, Err, OnOk}
-use Rattle.std.proofs.lemmas.Slice.Eq.{bytes_eq-Decides}
-use Rattle.std.specs.Prelude.{⊤, bytes_eq}
-use Rattle.std.specs.Str.{str_eq_ignore_ascii_case, str_to_ascii_lowercase}
-use Rattle.wf_headers.specs.Headers.{all_appended, appended, is_named, spelling, values_of}
+use Rattle.std.proofs.Common.{◌≡◌, ◌++◌, ◌∷◌, [], ℕ, List, map, ap, ◌∙◌}
+use Rattle.std.proofs.Common.{Result, Ok, Err, OnOk}
+use Rattle.std.specs.Prelude.{⊤}
+use Rattle.wf_headers.specs.Headers.{appended, values_of}
 use Rattle.wf_headers.specs.declared.headers.Header.{Header}
-use Rattle.wf_headers.proofs.ValueLemmas.{values-all_appended, values-appended, values-cons}
+use Rattle.wf_headers.proofs.ValueLemmas.{values-all_appended, values-appended}
 use Rattle.wf_types.specs.declared.init.Pair.{Pair}
 use Rattle.wf_script.specs.Headers.{header_of_pair, listed}
 

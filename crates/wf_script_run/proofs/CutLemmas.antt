@@ -1,7 +1,7 @@
 -- Header values that are cut: what is cut is a header value where the whole is.
 use Rattle.std.proofs.Common.{◌≡◌, ℕ, zero, suc, ◌<◌, Bool, true, false, cond, ◌&&◌, not, List, [], ◌∷◌, ◌++◌, length}
 use Rattle.std.proofs.Common.{take}
-use Rattle.std.proofs.Common.{refl, ap, sym, ◌∙◌, arith, true≢false}
+use Rattle.std.proofs.Common.{refl, ap, ◌∙◌, arith}
 use mathlib.Core.Bool.{and-false}
 use Rattle.std.proofs.lemmas.Bool.{and_parts}
 use Rattle.std.proofs.lemmas.List.{length-take, length-append}

@@ -3,7 +3,7 @@
 use Rattle.std.proofs.Common.{◌≡◌, ℕ, ◌+◌, Bool, true, false, List, [], ◌∷◌, Option, Some, None, Ok, Err, Ordering}
 use Rattle.std.proofs.Common.{Less, Equal, Greater, nat_cmp, is_eq, bytes_eq, true≢false, refl, ap, sym, ◌∙◌}
 use Rattle.std.proofs.lemmas.Bool.{and_from}
-use Rattle.std.specs.Prelude.{◌&&◌, ◌||◌, decimal, nat_le, IsTrue, ⊤}
+use Rattle.std.specs.Prelude.{◌||◌, decimal, nat_le, IsTrue, ⊤}
 use Rattle.std.specs.Cmp.Lexicographic.{slice_cmp}
 use Rattle.std.specs.Ordering.{match_ordering}
 use Rattle.std.proofs.lemmas.Map.Text.{is_eq-slice_cmp}

@@ -2,13 +2,13 @@
 use Rattle.std.proofs.Common.{◌≡◌, ℕ, List, Bool, true, false, Option, Some, None, refl, sym, ap, ◌∙◌, subst}
 use Rattle.std.proofs.Common.{bytes_eq, true≢false}
 use Rattle.std.proofs.lemmas.Slice.Eq.{bytes_eq-Decides}
-use Rattle.std.specs.Prelude.{option_map, option_and_then, cond, MatchOption}
+use Rattle.std.specs.Prelude.{option_and_then, cond, MatchOption}
 use Rattle.value_lemmas.proofs.Options.{option_and_then-some, option_map-some}
 use Rattle.json.specs.Token.{Token}
 use Rattle.json.specs.Json as json
 use Rattle.json.specs.Find as written
 use Rattle.json.specs.Find.{BeginsWith, InItems, InMembers, Finds, later_or}
-use Rattle.json.proofs.Found.{Some_inj, not_found}
+use Rattle.json.proofs.Found.{Some_inj}
 use Rattle.serde_json.specs.Data.{Data, null, boolean, number, string, array, object, Members, no_members, put}
 use Rattle.serde_json.specs.Find.{get, get_member, as_bool, as_str, as_number, as_array, as_object}
 use Rattle.serde_json.specs.Read.{number_of, of_json, of_items, of_members}

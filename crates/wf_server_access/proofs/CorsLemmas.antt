@@ -4,7 +4,6 @@ use Rattle.std.proofs.Common.{Option, Some, codes, refl, ap, sym, ◌∙◌, if�
 use mathlib.Core.Bool.{and-false, or-false}
 use Rattle.std.proofs.lemmas.Bool.{or_right}
 use Rattle.std.proofs.lemmas.List.{append-nil}
-use Rattle.std.proofs.lemmas.Slice.Eq.{bytes_eq-Decides}
 use Rattle.std.specs.List.{AllByRecursion, list_all, list_any}
 use Rattle.std.specs.Str.{bytes_eq, str_to_ascii_lowercase}
 use Rattle.value_lemmas.proofs.Bytes.{bytes_eq-self}

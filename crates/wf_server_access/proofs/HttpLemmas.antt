@@ -14,7 +14,6 @@ use Rattle.wf_headers.specs.Headers.{joined, values_of}
 use Rattle.wf_headers.specs.Split.{split}
 use Rattle.wf_hsts.specs.declared.sts.Sts.{Sts}
 use Rattle.wf_hsts.specs.Reading.{sts_in}
-use Rattle.wf_mime.specs.Blocking.{mime_blocked}
 use Rattle.wf_mime.specs.Essence.{essence_of}
 use Rattle.wf_mime.specs.Nosniff.{nosniff}
 use Rattle.wf_types.specs.declared.error.NetError.{NetError}

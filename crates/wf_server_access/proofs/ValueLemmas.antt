@@ -1,13 +1,12 @@
 -- The values of a name in header lists that are made by appending, and in the lists of a hop.
-use Rattle.std.proofs.Common.{◌≡◌, ℕ, suc, Bool, true, false, ◌||◌, cond, List, [], ◌∷◌, ◌++◌, length}
+use Rattle.std.proofs.Common.{◌≡◌, ℕ, suc, Bool, true, false, cond, List, [], ◌∷◌, ◌++◌, length}
 use Rattle.std.proofs.Common.{Contains, Option, Some, None, map, filter, refl, ap, sym, ◌∙◌, arith}
-use Rattle.std.proofs.Common.{append_assoc, true≢false, if◌then◌else◌}
+use Rattle.std.proofs.Common.{append_assoc, if◌then◌else◌}
 use Rattle.std.proofs.lemmas.List.{append-nil, map-append}
 use Rattle.std.proofs.lemmas.List.Elements.{filter-append}
-use Rattle.std.proofs.lemmas.Slice.Eq.{bytes_eq-Decides}
 use Rattle.std.specs.List.{AllByRecursion, list_all}
 use Rattle.std.specs.Prelude.{IfSome}
-use Rattle.std.specs.Str.{bytes_eq, str_eq_ignore_ascii_case, str_to_ascii_lowercase}
+use Rattle.std.specs.Str.{str_eq_ignore_ascii_case}
 use Rattle.wf_headers.proofs.ValueLemmas.{no-values}
 use Rattle.value_lemmas.proofs.Bytes.{eq_ignore_case-alike}
 use Rattle.wf_text.specs.Tokens.{is_token}
@@ -50,11 +49,6 @@ values-appended name other value headers =
     (single-value (is_named name new) new
     ∙ ap (λ (b : Bool). value_if b value)
     (eq_ignore_case-alike (spelling other headers) other name (spelling-folds other headers)))
-
-first-value : (b : Bool) (one : Header) (rest : List Header)
-    → value_if b one.value ++ values rest ≡ values (cond b (one ∷ rest) rest)
-first-value true one rest = refl
-first-value false one rest = refl
 
 -- the value of a line, where the name is asked for and there is one
 abbrev pub line_value : Bool → Option (List ℕ) → List (List ℕ)

@@ -1,6 +1,6 @@
 -- What is not told holds, whatever a call answers.
 use Rattle.std.proofs.Common.{refl, Result, Ok, Err}
-use Rattle.std.specs.Prelude.{IfOk, OnErr}
+use Rattle.std.specs.Prelude.{IfOk}
 use Rattle.value_lemmas.proofs.Options.{OnErr-from}
 use Rattle.wf_tcp.proofs.accepts.TcpAcceptsAccepts.TheImpl.Goals as goal
 
