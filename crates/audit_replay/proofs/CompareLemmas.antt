@@ -5,7 +5,7 @@ use Rattle.std.proofs.Common.{append_assoc, length-append, length-take, length-d
 use Rattle.std.proofs.Math.Seq.{get_or-append_seam, take-add, take-suc}
 use Rattle.std.proofs.lemmas.Bool.Decides.{Decides-eqb}
 use Rattle.std.proofs.lemmas.List.{append-nil, get_or-take, take_all, take_at}
-use Rattle.std.proofs.lemmas.Option.{slice_get-get_or, slice_get_past}
+use Rattle.std.proofs.lemmas.Option.{same_Some, slice_get-get_or, slice_get_past}
 use Rattle.std.specs.List.{slice_get}
 use Rattle.std.specs.Option.{is_some}
 use Rattle.std.specs.Prelude.{◌==◌, if◌then◌else◌, IsSome}
@@ -156,16 +156,13 @@ compared-part expected text at faults n None is same some = absurd (cc)
 
 -- ---- a text that was written
 
-some-same : {A : Type 0} {a b : A} → Some a ≡ Some b → a ≡ b
-some-same is = cc
-
 -- what was taken since the sink was made
 taken-since : (expected text : List ℕ) (old new : Compared)
     → old ≡ record { expected = expected; at = 0; found = None; faults = 0 }
     → Took (Some (told_of old)) (Some (told_of new)) text → Opens new.expected expected (taken_of new) text
 taken-since expected text old new made took =
     opened new.expected expected (taken_of new) text
-    (some-same took ∙ ap (λ (s : Compared). told_of s ++ text) made
+    (same_Some _ _ took ∙ ap (λ (s : Compared). told_of s ++ text) made
     ∙ append_assoc (sealed expected) (taken expected 0 None) text)
 
 pub differs-whole : (expected text : List ℕ) (old new : Compared) (answer : Option ℕ)

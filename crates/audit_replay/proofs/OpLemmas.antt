@@ -1,40 +1,17 @@
 -- Two ops are one exactly where their parts are.
 use Rattle.std.proofs.Common.{◌≡◌, ℕ, Bool, true, false, List, [], ◌∷◌, length, suc, refl, ap, sym, ◌∙◌, Option, Some}
-use Rattle.std.proofs.Common.{None, ◌+◌, drop, slice_get, add-one, drop-cons}
-use Rattle.std.proofs.lemmas.Bool.Decides.{Decides-eqb}
-use Rattle.std.proofs.lemmas.Option.{get_or_from_slice_get, slice_get_within}
-use Rattle.std.proofs.lemmas.Slice.Eq.{bytes_eq-Decides}
+use Rattle.std.proofs.Common.{None, ◌+◌, drop, slice_get}
+use Rattle.std.proofs.lemmas.Bool.{and_from, and_parts, eqb-true}
 use Rattle.std.specs.Prelude.{◌==◌, ◌&&◌, bytes_eq, not}
+use Rattle.value_lemmas.proofs.Lists.{drop-slice_get}
+use Rattle.value_lemmas.proofs.Tests.{eqb-self}
+use Rattle.value_lemmas.proofs.Bytes.{bytes_eq-self, bytes_eq-true}
 use Rattle.wf_book.specs.declared.op.Op.{Op}
 use Rattle.wf_book.specs.declared.op.Op.TheVariants.{Match, Note, Covers, Learn, Clear}
 use Rattle.wf_hsts.specs.declared.sts.Sts.{Sts}
 use Rattle.wf_precache.specs.declared.question.Lesson.{Lesson}
 use Rattle.wf_precache.specs.declared.question.Question.{Question}
 use Rattle.audit_replay.specs.Private.Ops.{bool_eq, lesson_eq, method_eq, op_eq, question_eq, sts_eq, texts_eq}
-
-and-left : (a b : Bool) → (a && b) ≡ true → a ≡ true
-and-left true b e = refl
-and-left false b e = e
-
-and-right : (a b : Bool) → (a && b) ≡ true → b ≡ true
-and-right true b e = e
-and-right false b e = cc
-
-and-both : (a b : Bool) → a ≡ true → b ≡ true → (a && b) ≡ true
-and-both true b p q = q
-and-both false b p q = p
-
-text-same : (a b : List ℕ) → bytes_eq a b ≡ true → a ≡ b
-text-same a b e = (bytes_eq-Decides a b).0 e
-
-text-itself : (a : List ℕ) → bytes_eq a a ≡ true
-text-itself a = (bytes_eq-Decides a a).1 refl
-
-number-same : (a b : ℕ) → (a == b) ≡ true → a ≡ b
-number-same a b e = (Decides-eqb a b).0 e
-
-number-itself : (a : ℕ) → (a == a) ≡ true
-number-itself a = (Decides-eqb a a).1 refl
 
 bool-same : (a b : Bool) → bool_eq a b ≡ true → a ≡ b
 bool-same true true e = refl
@@ -51,28 +28,28 @@ texts-same [] [] e = refl
 texts-same [] (y ∷ b) e = cc
 texts-same (x ∷ a) [] e = cc
 texts-same (x ∷ a) (y ∷ b) e =
-    let one = text-same x y (and-left (bytes_eq x y) (texts_eq a b) e) in
-    let more = texts-same a b (and-right (bytes_eq x y) (texts_eq a b) e) in cc (one, more)
+    let one = bytes_eq-true x y (and_parts (bytes_eq x y) (texts_eq a b) e).0 in
+    let more = texts-same a b (and_parts (bytes_eq x y) (texts_eq a b) e).1 in cc (one, more)
 
 texts-itself : (a : List (List ℕ)) → texts_eq a a ≡ true
 texts-itself [] = refl
-texts-itself (x ∷ a) = and-both (bytes_eq x x) (texts_eq a a) (text-itself x) (texts-itself a)
+texts-itself (x ∷ a) = and_from (bytes_eq x x) (texts_eq a a) (bytes_eq-self x) (texts-itself a)
 
 method-same : (a b : Option (List ℕ)) → method_eq a b ≡ true → a ≡ b
 method-same None None e = refl
-method-same (Some x) (Some y) e = ap Some (text-same x y e)
+method-same (Some x) (Some y) e = ap Some (bytes_eq-true x y e)
 method-same None (Some y) e = cc
 method-same (Some x) None e = cc
 
 method-itself : (a : Option (List ℕ)) → method_eq a a ≡ true
 method-itself None = refl
-method-itself (Some x) = text-itself x
+method-itself (Some x) = bytes_eq-self x
 
 sts-same : (a b : Sts) → sts_eq a b ≡ true → a ≡ b
 sts-same a b e =
-    let age = number-same a.age b.age (and-left (a.age == b.age) (bool_eq a.subdomains b.subdomains) e) in
+    let age = eqb-true a.age b.age (and_parts (a.age == b.age) (bool_eq a.subdomains b.subdomains) e).0 in
     let under = bool-same a.subdomains b.subdomains
-    (and-right (a.age == b.age) (bool_eq a.subdomains b.subdomains) e) in
+    (and_parts (a.age == b.age) (bool_eq a.subdomains b.subdomains) e).1 in
     λ i. record { age = age i; subdomains = under i }
 
 question-same : (a b : Question) → question_eq a b ≡ true → a ≡ b
@@ -83,16 +60,16 @@ question-same a b e =
     let include = bool_eq a.include b.include in
     let method = method_eq a.method b.method in
     let names = texts_eq a.names b.names in
-    let e5 = and-left (key && origin && url && include && method) names e in
-    let e4 = and-left (key && origin && url && include) method e5 in
-    let e3 = and-left (key && origin && url) include e4 in
-    let e2 = and-left (key && origin) url e3 in
-    let k = text-same a.key b.key (and-left key origin e2) in
-    let o = text-same a.origin b.origin (and-right key origin e2) in
-    let u = text-same a.url b.url (and-right (key && origin) url e3) in
-    let c = bool-same a.include b.include (and-right (key && origin && url) include e4) in
-    let m = method-same a.method b.method (and-right (key && origin && url && include) method e5) in
-    let n = texts-same a.names b.names (and-right (key && origin && url && include && method) names e) in
+    let e5 = (and_parts (key && origin && url && include && method) names e).0 in
+    let e4 = (and_parts (key && origin && url && include) method e5).0 in
+    let e3 = (and_parts (key && origin && url) include e4).0 in
+    let e2 = (and_parts (key && origin) url e3).0 in
+    let k = bytes_eq-true a.key b.key (and_parts key origin e2).0 in
+    let o = bytes_eq-true a.origin b.origin (and_parts key origin e2).1 in
+    let u = bytes_eq-true a.url b.url (and_parts (key && origin) url e3).1 in
+    let c = bool-same a.include b.include (and_parts (key && origin && url) include e4).1 in
+    let m = method-same a.method b.method (and_parts (key && origin && url && include) method e5).1 in
+    let n = texts-same a.names b.names (and_parts (key && origin && url && include && method) names e).1 in
     λ i. record { key = k i; origin = o i; url = u i; include = c i; method = m i; names = n i }
 
 question-itself : (a : Question) → question_eq a a ≡ true
@@ -102,10 +79,10 @@ question-itself a =
     let url = bytes_eq a.url a.url in
     let include = bool_eq a.include a.include in
     let method = method_eq a.method a.method in
-    and-both (key && origin && url && include && method) (texts_eq a.names a.names)
-    (and-both (key && origin && url && include) method
-    (and-both (key && origin && url) include
-    (and-both (key && origin) url (and-both key origin (text-itself a.key) (text-itself a.origin)) (text-itself a.url))
+    and_from (key && origin && url && include && method) (texts_eq a.names a.names)
+    (and_from (key && origin && url && include) method
+    (and_from (key && origin && url) include
+    (and_from (key && origin) url (and_from key origin (bytes_eq-self a.key) (bytes_eq-self a.origin)) (bytes_eq-self a.url))
     (bool-itself a.include)) (method-itself a.method)) (texts-itself a.names)
 
 lesson-same : (a b : Lesson) → lesson_eq a b ≡ true → a ≡ b
@@ -117,18 +94,18 @@ lesson-same a b e =
     let age = a.age == b.age in
     let methods = texts_eq a.methods b.methods in
     let names = texts_eq a.names b.names in
-    let e6 = and-left (key && origin && url && include && age && methods) names e in
-    let e5 = and-left (key && origin && url && include && age) methods e6 in
-    let e4 = and-left (key && origin && url && include) age e5 in
-    let e3 = and-left (key && origin && url) include e4 in
-    let e2 = and-left (key && origin) url e3 in
-    let k = text-same a.key b.key (and-left key origin e2) in
-    let o = text-same a.origin b.origin (and-right key origin e2) in
-    let u = text-same a.url b.url (and-right (key && origin) url e3) in
-    let c = bool-same a.include b.include (and-right (key && origin && url) include e4) in
-    let g = number-same a.age b.age (and-right (key && origin && url && include) age e5) in
-    let m = texts-same a.methods b.methods (and-right (key && origin && url && include && age) methods e6) in
-    let n = texts-same a.names b.names (and-right (key && origin && url && include && age && methods) names e) in
+    let e6 = (and_parts (key && origin && url && include && age && methods) names e).0 in
+    let e5 = (and_parts (key && origin && url && include && age) methods e6).0 in
+    let e4 = (and_parts (key && origin && url && include) age e5).0 in
+    let e3 = (and_parts (key && origin && url) include e4).0 in
+    let e2 = (and_parts (key && origin) url e3).0 in
+    let k = bytes_eq-true a.key b.key (and_parts key origin e2).0 in
+    let o = bytes_eq-true a.origin b.origin (and_parts key origin e2).1 in
+    let u = bytes_eq-true a.url b.url (and_parts (key && origin) url e3).1 in
+    let c = bool-same a.include b.include (and_parts (key && origin && url) include e4).1 in
+    let g = eqb-true a.age b.age (and_parts (key && origin && url && include) age e5).1 in
+    let m = texts-same a.methods b.methods (and_parts (key && origin && url && include && age) methods e6).1 in
+    let n = texts-same a.names b.names (and_parts (key && origin && url && include && age && methods) names e).1 in
     λ i. record { key = k i; origin = o i; url = u i; include = c i; age = g i; methods = m i; names = n i }
 
 lesson-itself : (a : Lesson) → lesson_eq a a ≡ true
@@ -139,55 +116,55 @@ lesson-itself a =
     let include = bool_eq a.include a.include in
     let age = a.age == a.age in
     let methods = texts_eq a.methods a.methods in
-    and-both (key && origin && url && include && age && methods) (texts_eq a.names a.names)
-    (and-both (key && origin && url && include && age) methods
-    (and-both (key && origin && url && include) age
-    (and-both (key && origin && url) include
-    (and-both (key && origin) url (and-both key origin (text-itself a.key) (text-itself a.origin)) (text-itself a.url))
-    (bool-itself a.include)) (number-itself a.age)) (texts-itself a.methods)) (texts-itself a.names)
+    and_from (key && origin && url && include && age && methods) (texts_eq a.names a.names)
+    (and_from (key && origin && url && include && age) methods
+    (and_from (key && origin && url && include) age
+    (and_from (key && origin && url) include
+    (and_from (key && origin) url (and_from key origin (bytes_eq-self a.key) (bytes_eq-self a.origin)) (bytes_eq-self a.url))
+    (bool-itself a.include)) (eqb-self a.age)) (texts-itself a.methods)) (texts-itself a.names)
 
 pub op-same : (a b : Op) → op_eq a b ≡ true → a ≡ b
 op-same (Match host now) (Match other then) e =
-    let h = text-same host other (and-left (bytes_eq host other) (now == then) e) in
-    let n = number-same now then (and-right (bytes_eq host other) (now == then) e) in cc (h, n)
+    let h = bytes_eq-true host other (and_parts (bytes_eq host other) (now == then) e).0 in
+    let n = eqb-true now then (and_parts (bytes_eq host other) (now == then) e).1 in cc (h, n)
 op-same (Note host sts now) (Note other field then) e =
-    let front = and-left (bytes_eq host other && sts_eq sts field) (now == then) e in
-    let h = text-same host other (and-left (bytes_eq host other) (sts_eq sts field) front) in
-    let s = sts-same sts field (and-right (bytes_eq host other) (sts_eq sts field) front) in
-    let n = number-same now then (and-right (bytes_eq host other && sts_eq sts field) (now == then) e) in cc (h, s, n)
+    let front = (and_parts (bytes_eq host other && sts_eq sts field) (now == then) e).0 in
+    let h = bytes_eq-true host other (and_parts (bytes_eq host other) (sts_eq sts field) front).0 in
+    let s = sts-same sts field (and_parts (bytes_eq host other) (sts_eq sts field) front).1 in
+    let n = eqb-true now then (and_parts (bytes_eq host other && sts_eq sts field) (now == then) e).1 in cc (h, s, n)
 op-same (Covers question now) (Covers other then) e =
-    let q = question-same question other (and-left (question_eq question other) (now == then) e) in
-    let n = number-same now then (and-right (question_eq question other) (now == then) e) in cc (q, n)
+    let q = question-same question other (and_parts (question_eq question other) (now == then) e).0 in
+    let n = eqb-true now then (and_parts (question_eq question other) (now == then) e).1 in cc (q, n)
 op-same (Learn lesson now) (Learn other then) e =
-    let l = lesson-same lesson other (and-left (lesson_eq lesson other) (now == then) e) in
-    let n = number-same now then (and-right (lesson_eq lesson other) (now == then) e) in cc (l, n)
+    let l = lesson-same lesson other (and_parts (lesson_eq lesson other) (now == then) e).0 in
+    let n = eqb-true now then (and_parts (lesson_eq lesson other) (now == then) e).1 in cc (l, n)
 op-same (Clear key origin url now) (Clear key' origin' url' then) e =
-    let front = and-left (bytes_eq key key' && bytes_eq origin origin' && bytes_eq url url') (now == then) e in
-    let two = and-left (bytes_eq key key' && bytes_eq origin origin') (bytes_eq url url') front in
-    let k = text-same key key' (and-left (bytes_eq key key') (bytes_eq origin origin') two) in
-    let o = text-same origin origin' (and-right (bytes_eq key key') (bytes_eq origin origin') two) in
-    let u = text-same url url' (and-right (bytes_eq key key' && bytes_eq origin origin') (bytes_eq url url') front) in
-    let n = number-same now then (and-right (bytes_eq key key' && bytes_eq origin origin' && bytes_eq url url')
-    (now == then) e) in
+    let front = (and_parts (bytes_eq key key' && bytes_eq origin origin' && bytes_eq url url') (now == then) e).0 in
+    let two = (and_parts (bytes_eq key key' && bytes_eq origin origin') (bytes_eq url url') front).0 in
+    let k = bytes_eq-true key key' (and_parts (bytes_eq key key') (bytes_eq origin origin') two).0 in
+    let o = bytes_eq-true origin origin' (and_parts (bytes_eq key key') (bytes_eq origin origin') two).1 in
+    let u = bytes_eq-true url url' (and_parts (bytes_eq key key' && bytes_eq origin origin') (bytes_eq url url') front).1 in
+    let n = eqb-true now then (and_parts (bytes_eq key key' && bytes_eq origin origin' && bytes_eq url url')
+    (now == then) e).1 in
     cc (k, o, u, n)
 op-same a b e = cc
 
 pub op-itself : (a : Op) → op_eq a a ≡ true
-op-itself (Match host now) = and-both (bytes_eq host host) (now == now) (text-itself host) (number-itself now)
+op-itself (Match host now) = and_from (bytes_eq host host) (now == now) (bytes_eq-self host) (eqb-self now)
 op-itself (Note host sts now) =
-    and-both (bytes_eq host host && sts_eq sts sts) (now == now)
-    (and-both (bytes_eq host host) (sts_eq sts sts) (text-itself host)
-    (and-both (sts.age == sts.age) (bool_eq sts.subdomains sts.subdomains) (number-itself sts.age)
-    (bool-itself sts.subdomains))) (number-itself now)
+    and_from (bytes_eq host host && sts_eq sts sts) (now == now)
+    (and_from (bytes_eq host host) (sts_eq sts sts) (bytes_eq-self host)
+    (and_from (sts.age == sts.age) (bool_eq sts.subdomains sts.subdomains) (eqb-self sts.age)
+    (bool-itself sts.subdomains))) (eqb-self now)
 op-itself (Covers question now) =
-    and-both (question_eq question question) (now == now) (question-itself question) (number-itself now)
+    and_from (question_eq question question) (now == now) (question-itself question) (eqb-self now)
 op-itself (Learn lesson now) =
-    and-both (lesson_eq lesson lesson) (now == now) (lesson-itself lesson) (number-itself now)
+    and_from (lesson_eq lesson lesson) (now == now) (lesson-itself lesson) (eqb-self now)
 op-itself (Clear key origin url now) =
-    and-both (bytes_eq key key && bytes_eq origin origin && bytes_eq url url) (now == now)
-    (and-both (bytes_eq key key && bytes_eq origin origin) (bytes_eq url url)
-    (and-both (bytes_eq key key) (bytes_eq origin origin) (text-itself key) (text-itself origin)) (text-itself url))
-    (number-itself now)
+    and_from (bytes_eq key key && bytes_eq origin origin && bytes_eq url url) (now == now)
+    (and_from (bytes_eq key key && bytes_eq origin origin) (bytes_eq url url)
+    (and_from (bytes_eq key key) (bytes_eq origin origin) (bytes_eq-self key) (bytes_eq-self origin)) (bytes_eq-self url))
+    (eqb-self now)
 
 and-no : (a b : Bool) → false ≡ b → false ≡ (a && b)
 and-no true b e = e
@@ -200,18 +177,11 @@ lengths-differ (x ∷ a) [] ne = refl
 lengths-differ (x ∷ a) (y ∷ b) ne =
     and-no (bytes_eq x y) (texts_eq a b) (lengths-differ a b (λ same. ne (ap suc same)))
 
-text-from : (texts : List (List ℕ)) (index : ℕ) (text : List ℕ) → slice_get texts index ≡ Some text
-    → drop index texts ≡ text ∷ drop (index + 1) texts
-text-from texts index text is =
-    drop-cons texts index text (slice_get_within texts index text is)
-    ∙ ap (λ (t : List ℕ). t ∷ drop (suc index) texts) (get_or_from_slice_get texts index text text is)
-    ∙ rw (add-one index) refl
-
 -- two lists from an index on
 texts-from : (a b : List (List ℕ)) (index : ℕ) (x y : List ℕ) → slice_get a index ≡ Some x
     → slice_get b index ≡ Some y
     → texts_eq (drop index a) (drop index b) ≡ (bytes_eq x y && texts_eq (drop (index + 1) a) (drop (index + 1) b))
-texts-from a b index x y one other = rw (text-from a index x one, text-from b index y other) refl
+texts-from a b index x y one other = rw (drop-slice_get a index x one, drop-slice_get b index y other) refl
 
 and-unequal : (a b : Bool) → true ≡ not a → (a && b) ≡ false
 and-unequal true b is = cc

@@ -4,13 +4,17 @@ use Rattle.std.proofs.Common.{length, take}
 use Rattle.std.proofs.Common.{drop, get_or, refl, ap, sym, subst, ◌∙◌, arith, append_assoc, length-append, length-drop}
 use Rattle.std.proofs.Common.{length-take}
 use Rattle.std.proofs.Common.{Option, Some, None, Result, Ok, Err}
+use mathlib.Core.Bool.{or-true}
+use Rattle.std.proofs.lemmas.Bool.{and_from, and_left, or_from, or_left}
 use Rattle.std.proofs.lemmas.Bool.Decides.{Decides-eqb, nat_tests}
 use Rattle.std.proofs.lemmas.Grind.{common_steps}
 use Rattle.std.proofs.lemmas.List.{append-nil, take-append-drop, take_at, get_or-append-add}
 use Rattle.std.proofs.lemmas.Option.{get_or_from_slice_get}
-use Rattle.std.proofs.lemmas.Slice.Eq.{bytes_eq-Decides}
 use Rattle.std.specs.Prelude.{◌==◌, ◌&&◌, ◌||◌, not, filter, map, nat_lt, position, bytes_eq, IfOk, MatchBool}
 use Rattle.std.specs.List.{list_all, list_any, position_or_len, slice_get}
+use Rattle.wf_book.proofs.SoloLemmas.{reply-kind, yes_or_no-answers}
+use Rattle.value_lemmas.proofs.Lists.{position_or_len-no, position_or_len-yes}
+use Rattle.value_lemmas.proofs.Bytes.{bytes_eq-self}
 use Rattle.wf_text.specs.declared.memory.OutOfMemory.{OutOfMemory}
 use Rattle.wf_book.specs.declared.book.Book.{Book}
 use Rattle.wf_book.specs.declared.entry.Entry.{Entry}
@@ -42,35 +46,12 @@ use Rattle.audit_replay.specs.Tapes.{stray_entries, stray_reply, Tape}
 
 -- ---- what a book replies to a stray call
 
-or-true : (a : Bool) → (a || true) ≡ true
-or-true true = refl
-or-true false = refl
-
-is-itself : (text : List ℕ) → bytes_eq text text ≡ true
-is-itself text = (bytes_eq-Decides text text).1 refl
-
 later : (now : ℕ) → nat_lt now (now + 1) ≡ true
 later now = grind (arith, nat_tests)
 
-true-or : (a b : Bool) → a ≡ true → (a || b) ≡ true
-true-or true b e = refl
-true-or false b e = cc
-
-or-false : (a b : Bool) → a ≡ false → b ≡ false → (a || b) ≡ false
-or-false true b x y = cc
-or-false false b x y = y
-
-true-and : (a b : Bool) → a ≡ true → b ≡ true → (a && b) ≡ true
-true-and true b x y = y
-true-and false b x y = cc
-
-false-and : (a b : Bool) → a ≡ false → (a && b) ≡ false
-false-and true b e = cc
-false-and false b e = refl
-
 any-middle : {X : Type 0} (p : X → Bool) (front back : List X) (x : X) → p x ≡ true
     → list_any p (front ++ x ∷ back) ≡ true
-any-middle p [] back x is = true-or (p x) (list_any p back) is
+any-middle p [] back x is = or_left (p x) (list_any p back) is
 any-middle p (y ∷ front) back x is = ap (λ (b : Bool). p y || b) (any-middle p front back x is) ∙ or-true (p y)
 
 -- a host that was noted is known
@@ -78,8 +59,8 @@ noted-matches : (host : List ℕ) (now : ℕ) (hosts : List KnownHost)
     → matches_host (noted host (record { age = 1; subdomains = false }) now hosts) host now ≡ true
 noted-matches host now hosts =
     any-middle (λ known. stands_for host known && nat_lt now known.until) _ _ (known_host host false (now + 1))
-    (true-and (stands_for host (known_host host false (now + 1))) (nat_lt now (now + 1))
-    (true-or (bytes_eq host host) _ (is-itself host)) (later now))
+    (and_from (stands_for host (known_host host false (now + 1))) (nat_lt now (now + 1))
+    (or_left (bytes_eq host host) _ (bytes_eq-self host)) (later now))
 
 -- of what is left where all of a key that pass a test are gone, nothing of the key passes it
 left-over : {X : Type 0} (key m : X → Bool) (a b : Bool) (x : X) (rest : List X) → (b ≡ false → m x ≡ false)
@@ -87,7 +68,7 @@ left-over : {X : Type 0} (key m : X → Bool) (a b : Bool) (x : X) (rest : List 
     → list_any m (filter key (cond (not (a && b)) (x ∷ rest) rest)) ≡ false
 left-over key m true true x rest other none is = none
 left-over key m true false x rest other none is = rw is
-    (or-false (m x) (list_any m (filter key rest)) (other refl) none)
+    (or_from (m x) (list_any m (filter key rest)) (other refl) none)
 left-over key m false b x rest other none is = rw is none
 
 cleared-none : {X : Type 0} (key of m : X → Bool) → ((x : X) → of x ≡ false → m x ≡ false) → (xs : List X)
@@ -140,11 +121,11 @@ covers-none question now entries none = by question.method question.names
         ≡ (lacks_method method && length names == 0)
     by None [] = refl
     by None (name ∷ names) =
-        false-and (has_match question now entries (HeaderName name))
+        and_left (has_match question now entries (HeaderName name))
         (list_all (λ name. has_match question now entries (HeaderName name)) names) (none (HeaderName name))
         ∙ sym (some (length names))
     by (Some method) names =
-        false-and (has_match question now entries (Method method))
+        and_left (has_match question now entries (Method method))
         (list_all (λ name. has_match question now entries (HeaderName name)) names) (none (Method method))
 
 cleared-covers : (question : Question) (now : ℕ) (cache : List Keyed)
@@ -203,25 +184,14 @@ right-take book turn zero history are = tt
 right-take book turn (suc n) [] are = tt
 right-take book turn (suc n) (e ∷ history) are = (are.0, right-take (after book e.op) (turn + 1) n history are.1)
 
--- the reply of an entry that is right is of its op's kind
-yes-or-no : (b : Bool) → is_answer (yes_or_no b) ≡ true
-yes-or-no true = refl
-yes-or-no false = refl
-
-reply-kind : (book : Book) (op : Op) → is_answer (reply book op) ≡ is_question op
-reply-kind book (Match host now) = yes-or-no (matches_host book.hosts host now)
-reply-kind book (Note host sts now) = refl
-reply-kind book (Covers question now) = yes-or-no (covers question now book.cache)
-reply-kind book (Learn lesson now) = refl
-reply-kind book (Clear key origin url now) = refl
-
 pub stray-kind : (op : Op) → is_answer (stray_reply op) ≡ is_question op
 stray-kind (Match host now) = refl
 stray-kind (Note host sts now) = refl
-stray-kind (Covers question now) = yes-or-no (asks_nothing question)
+stray-kind (Covers question now) = yes_or_no-answers (asks_nothing question)
 stray-kind (Learn lesson now) = refl
 stray-kind (Clear key origin url now) = refl
 
+-- the reply of an entry that is right is of its op's kind
 pub right-kind : (book : Book) (turn : ℕ) (front : List Entry) (e : Entry) (back : List Entry)
     → AreRight book turn (front ++ e ∷ back) → is_answer e.reply ≡ is_question e.op
 right-kind book turn [] e back are = ap is_answer are.0.reply_is ∙ reply-kind book e.op
@@ -247,13 +217,6 @@ record First {X : Type 0} (p : X → Bool) (xs : List X) : Type 0 where
   pub passes : p one ≡ true
   pub count : position_or_len p xs ≡ length front
 
-at-once : {X : Type 0} (p : X → Bool) (x : X) (xs : List X) → p x ≡ true → position_or_len p (x ∷ xs) ≡ 0
-at-once p x xs is = rw is refl
-
-one-later : {X : Type 0} (p : X → Bool) (x : X) (xs : List X) → p x ≡ false
-    → position_or_len p (x ∷ xs) ≡ 1 + position_or_len p xs
-one-later p x xs is = rw is refl
-
 none-more : {X : Type 0} (p : X → Bool) (x : X) (xs : List X) → p x ≡ false → filter p xs ≡ [] → filter p (x ∷ xs) ≡ []
 none-more p x xs is none = rw is none
 
@@ -269,10 +232,10 @@ first-of {X = X} p (x ∷ xs) below = by (p x) refl (first-of p xs)
       is = refl;
       none = refl;
       passes = is;
-      count = at-once p x xs is;
+      count = position_or_len-yes p x xs is;
     }
     by false is rest =
-        let step = one-later p x xs is in
+        let step = position_or_len-no p x xs is in
         let more = rest (omega (arith, below, step)) in
         record {
           front = x ∷ more.front;

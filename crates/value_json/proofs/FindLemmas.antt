@@ -2,12 +2,13 @@
 use Rattle.std.proofs.Common.{◌≡◌, ℕ, List, Bool, true, false, Option, Some, None, refl, sym, ap, ◌∙◌, subst}
 use Rattle.std.proofs.Common.{bytes_eq, true≢false}
 use Rattle.std.proofs.lemmas.Slice.Eq.{bytes_eq-Decides}
-use Rattle.std.specs.Prelude.{option_map, option_and_then, cond, MatchOption}
+use Rattle.std.specs.Prelude.{option_and_then, cond, MatchOption}
+use Rattle.value_lemmas.proofs.Options.{option_and_then-some, option_map-some}
 use Rattle.json.specs.Token.{Token}
 use Rattle.json.specs.Json as json
 use Rattle.json.specs.Find as written
 use Rattle.json.specs.Find.{BeginsWith, InItems, InMembers, Finds, later_or}
-use Rattle.json.proofs.Found.{Some_inj, not_found}
+use Rattle.json.proofs.Found.{Some_inj}
 use Rattle.serde_json.specs.Data.{Data, null, boolean, number, string, array, object, Members, no_members, put}
 use Rattle.serde_json.specs.Find.{get, get_member, as_bool, as_str, as_number, as_array, as_object}
 use Rattle.serde_json.specs.Read.{number_of, of_json, of_items, of_members}
@@ -28,25 +29,20 @@ Agrees j d = (written.as_bool j ≡ as_bool d) × (written.as_str j ≡ as_str d
     × (option_and_then of_items (written.as_array j) ≡ as_array d)
     × (option_and_then members_of (written.as_object j) ≡ as_object d)
 
-pub mapped : {A B : Type 0} (f : A → B) (o : Option A) (b : B) → option_map f o ≡ Some b
-    → (a : A) × (o ≡ Some a) × (f a ≡ b)
-mapped f None b e = not_found b e
-mapped f (Some a) b e = (a, refl, Some_inj (f a) b e)
-
 agrees : (j : json.Json) (d : Data) → of_json j ≡ Some d → Agrees j d
 agrees json.null d e = subst (Agrees json.null) (Some_inj null d e) (refl, refl, refl, refl, refl)
 agrees (json.boolean b) d e =
     subst (Agrees (json.boolean b)) (Some_inj (boolean b) d e) (refl, refl, refl, refl, refl)
 agrees (json.number s) d e =
-    let n = mapped number (number_of s) d e in
+    let n = option_map-some number (number_of s) d e in
     subst (Agrees (json.number s)) n.2 (refl, refl, n.1, refl, refl)
 agrees (json.string s) d e =
     subst (Agrees (json.string s)) (Some_inj (string s) d e) (refl, refl, refl, refl, refl)
 agrees (json.array js) d e =
-    let ds = mapped array (of_items js) d e in
+    let ds = option_map-some array (of_items js) d e in
     subst (Agrees (json.array js)) ds.2 (refl, refl, refl, ds.1, refl)
 agrees (json.object ms) d e =
-    let ds = mapped object (members_of ms) d e in
+    let ds = option_map-some object (members_of ms) d e in
     subst (Agrees (json.object ms)) ds.2 (refl, refl, refl, refl, ds.1)
 
 means : (tokens : List Token) (tree : IsTree tokens) → data_of tokens ≡ tree.1
@@ -77,11 +73,6 @@ abbrev IsFound : Option json.Json → Option Data → Option Data → Type 0
 IsFound None before o = o ≡ before
 IsFound (Some j) before o = (d : Data) × (of_json j ≡ Some d) × (o ≡ Some d)
 
-pub then-gave : {A B : Type 0} (f : A → Option B) (o : Option A) (b : B) → option_and_then f o ≡ Some b
-    → (a : A) × (o ≡ Some a) × (f a ≡ Some b)
-then-gave f None b e = not_found b e
-then-gave f (Some a) b e = (a, refl, e)
-
 same-or-other : (k q : List ℕ) (j : json.Json) (d : Data) (found : Members) (o : Option Data) (b : Bool)
     → bytes_eq k q ≡ b
     → of_json j ≡ Some d → o ≡ get_member q (put k d found) → IsFound (cond b (Some j) None) (get_member q found) o
@@ -101,7 +92,7 @@ found-in : (q : List ℕ) (ms : json.Members) (found ds : Members) → of_member
     → IsFound (written.get_member q ms) (get_member q found) (get_member q ds)
 found-in q json.no_members found ds e = ap (get_member q) (sym (Some_inj found ds e))
 found-in q (json.member k j ms) found ds e =
-    let first = then-gave (λ (d : Data). of_members ms (put k d found)) (of_json j) ds e in
+    let first = option_and_then-some (λ (d : Data). of_members ms (put k d found)) (of_json j) ds e in
     or-earlier k q j first.0 found ds (written.get_member q ms) first.1
     (found-in q ms (put k first.0 found) ds first.2)
 
@@ -109,11 +100,11 @@ found-in q (json.member k j ms) found ds e =
 found-of : (q : List ℕ) (j : json.Json) (d : Data) → of_json j ≡ Some d → IsFound (written.get q j) None (get q d)
 found-of q json.null d e = ap (get q) (sym (Some_inj null d e))
 found-of q (json.boolean b) d e = ap (get q) (sym (Some_inj (boolean b) d e))
-found-of q (json.number s) d e = ap (get q) (sym (mapped number (number_of s) d e).2)
+found-of q (json.number s) d e = ap (get q) (sym (option_map-some number (number_of s) d e).2)
 found-of q (json.string s) d e = ap (get q) (sym (Some_inj (string s) d e))
-found-of q (json.array js) d e = ap (get q) (sym (mapped array (of_items js) d e).2)
+found-of q (json.array js) d e = ap (get q) (sym (option_map-some array (of_items js) d e).2)
 found-of q (json.object ms) d e =
-    let ds = mapped object (members_of ms) d e in
+    let ds = option_map-some object (members_of ms) d e in
     subst (λ (t : Data). IsFound (written.get_member q ms) None (get q t)) ds.2 (found-in q ms no_members ds.0 ds.1)
 
 -- what is found where a name stands is a tree, with the meaning that the object has there

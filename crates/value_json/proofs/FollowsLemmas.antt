@@ -2,7 +2,8 @@
 -- known in another.
 use Rattle.std.proofs.Common.{◌≡◌, ℕ, ◌+◌, Bool, true, false, List, [], ◌∷◌, Option, Some, None, Ok, Err, Ordering}
 use Rattle.std.proofs.Common.{Less, Equal, Greater, nat_cmp, is_eq, bytes_eq, true≢false, refl, ap, sym, ◌∙◌}
-use Rattle.std.specs.Prelude.{◌&&◌, ◌||◌, decimal, nat_le, IsTrue, ⊤}
+use Rattle.std.proofs.lemmas.Bool.{and_from}
+use Rattle.std.specs.Prelude.{◌||◌, decimal, nat_le, IsTrue, ⊤}
 use Rattle.std.specs.Cmp.Lexicographic.{slice_cmp}
 use Rattle.std.specs.Ordering.{match_ordering}
 use Rattle.std.proofs.lemmas.Map.Text.{is_eq-slice_cmp}
@@ -102,10 +103,6 @@ follows-only_keys names others tree other next goes each =
 
 -- ---- known keys
 
-with_both : (a b : Bool) → IsTrue a → IsTrue b → IsTrue (a && b)
-with_both true b one other = other
-with_both false b one other = one
-
 -- keys that are not equal
 pub apart : (a b : List ℕ) → bytes_eq a b ≡ false → a ≡ b → ⊥
 apart a b differs same = true≢false (sym ((bytes_eq-Decides a b).1 same) ∙ differs)
@@ -155,7 +152,7 @@ known-more : (a b : List ℕ) (names : List (List ℕ)) (rest : Members) → IsT
 known-more a b names no_members all = refl
 known-more a b names (member key value rest) all =
     let parts = both (is_one_of (a ∷ names) key) (known (a ∷ names) rest) all in
-    with_both (is_one_of (a ∷ b ∷ names) key) (known (a ∷ b ∷ names) rest)
+    and_from (is_one_of (a ∷ b ∷ names) key) (known (a ∷ b ∷ names) rest)
     (more (bytes_eq a key) (bytes_eq b key) (is_one_of names key) parts.0) (known-more a b names rest parts.1)
 
 pub has_keys-more : (a b : List ℕ) (names : List (List ℕ)) (rest : Option Members)
@@ -169,16 +166,16 @@ known-put_at : (o : Ordering) (names : List (List ℕ)) (key other : List ℕ) (
     → IsTrue (known names (match_ordering o (member key x (member other y rest)) (member other x rest)
     (member other y (put key x rest))))
 known-put_at Less names key other x y rest is all later =
-    with_both (is_one_of names key) (known names (member other y rest)) is all
+    and_from (is_one_of names key) (known names (member other y rest)) is all
 known-put_at Equal names key other x y rest is all later = all
 known-put_at Greater names key other x y rest is all later =
-    with_both (is_one_of names other) (known names (put key x rest))
+    and_from (is_one_of names other) (known names (put key x rest))
     (both (is_one_of names other) (known names rest) all).0 later
 
 -- a known key more
 pub known-put : (names : List (List ℕ)) (key : List ℕ) (x : Data) (rest : Members) → IsTrue (is_one_of names key)
     → IsTrue (known names rest) → IsTrue (known names (put key x rest))
-known-put names key x no_members is all = with_both (is_one_of names key) true is refl
+known-put names key x no_members is all = and_from (is_one_of names key) true is refl
 known-put names key x (member other y rest) is all =
     known-put_at (slice_cmp nat_cmp key other) names key other x y rest is all
     (known-put names key x rest is (both (is_one_of names other) (known names rest) all).1)

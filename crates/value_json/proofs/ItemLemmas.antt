@@ -6,6 +6,7 @@ use Rattle.std.proofs.lemmas.Slice.Eq.{bytes_eq-Decides}
 use Rattle.std.specs.Prelude.{option_and_then, ◌&&◌, MatchOption}
 use Rattle.std.specs.Ordering.{nat_cmp, match_ordering}
 use Rattle.std.specs.Cmp.Lexicographic.{slice_cmp}
+use Rattle.value_lemmas.proofs.Options.{option_and_then-some, option_map-some}
 use Rattle.json.specs.Token.{Token}
 use Rattle.json.specs.Json as json
 use Rattle.json.specs.Find as written
@@ -19,7 +20,7 @@ use Rattle.value_json.specs.Private.Written.{written_known}
 use Rattle.value_json.specs.Trees.{data_of, trees_of}
 use Rattle.value_json.specs.Private.Trees.{IsTree, AreTrees}
 use Rattle.value_json.proofs.TreeLemmas.{items-of, data-of, both-gave}
-use Rattle.value_json.proofs.FindLemmas.{mapped, then-gave, members_of, array-of, object-of}
+use Rattle.value_json.proofs.FindLemmas.{members_of, array-of, object-of}
 
 -- ---- items
 
@@ -35,7 +36,7 @@ list-tree tokens tree None is = ap (option_and_then of_items) (sym is) ∙ array
 list-tree tokens tree (Some rest) is =
     let whole : of_json (json.array is.0) ≡ Some tree.1 =
     subst (λ (j : json.Json). of_json j ≡ Some tree.1) is.1 tree.3 in
-    let ds = mapped array (of_items is.0) tree.1 whole in (
+    let ds = option_map-some array (of_items is.0) tree.1 whole in (
       (is.0, ds.0, is.2, ds.1),
       ap (λ (items : Items). Some items) (items-of rest is.0 ds.0 is.2 ds.1) ∙ sym ds.1
           ∙ ap (λ (j : json.Json). option_and_then of_items (written.as_array j)) (sym is.1) ∙ array-of tokens tree,
@@ -104,7 +105,7 @@ known-of : (names : List (List ℕ)) (ms : json.Members) (found ds : Members) �
     → known names ds ≡ written_known names ms && known names found
 known-of names json.no_members found ds e = ap (known names) (sym (Some_inj found ds e))
 known-of names (json.member k j ms) found ds e =
-    let first = then-gave (λ (d : Data). of_members ms (put k d found)) (of_json j) ds e in
+    let first = option_and_then-some (λ (d : Data). of_members ms (put k d found)) (of_json j) ds e in
     known-of names ms (put k first.0 found) ds first.2
     ∙ ap (λ (b : Bool). written_known names ms && b) (known-put names k first.0 found)
     ∙ and-move (written_known names ms) (is_one_of names k) (known names found)
@@ -115,7 +116,7 @@ pub keys-of : (names : List (List ℕ)) (tokens : List Token) (tree : IsTree tok
 keys-of names tokens tree ms is =
     let whole : of_json (json.object ms) ≡ Some tree.1 =
     subst (λ (j : json.Json). of_json j ≡ Some tree.1) is tree.3 in
-    let ds = mapped object (members_of ms) tree.1 whole in
+    let ds = option_map-some object (members_of ms) tree.1 whole in
     and-true (written_known names ms) ∙ sym (known-of names ms no_members ds.0 ds.1)
     ∙ ap (has_keys names) (sym ds.1 ∙ ap (λ (j : json.Json). option_and_then members_of (written.as_object j)) (sym is)
     ∙ object-of tokens tree)

@@ -5,6 +5,7 @@ use Rattle.std.proofs.lemmas.Bool.Decides.{nat_tests}
 use Rattle.std.proofs.lemmas.Grind.{common_steps}
 use Rattle.std.specs.Prelude.{nat_le, position}
 use Rattle.std.specs.List.{AllByRecursion, position_or_len}
+use Rattle.value_lemmas.proofs.Lists.{position_or_len-no, position_or_len-yes}
 use Rattle.wf_book.specs.declared.book.Book.{Book}
 use Rattle.wf_book.specs.declared.entry.Entry.{Entry}
 use Rattle.wf_book.specs.Book.{after}
@@ -53,21 +54,14 @@ none-passes p xs none = grind (arith, common_steps)
 passes-none : {X : Type 0} (p : X → Bool) (xs : List X) → length xs ≤ position_or_len p xs → position p xs ≡ None
 passes-none p xs far = grind (arith, nat_tests)
 
-at-once : {X : Type 0} (p : X → Bool) (x : X) (xs : List X) → p x ≡ true → position_or_len p (x ∷ xs) ≡ 0
-at-once p x xs is = rw is refl
-
-one-later : {X : Type 0} (p : X → Bool) (x : X) (xs : List X) → p x ≡ false
-    → position_or_len p (x ∷ xs) ≡ 1 + position_or_len p xs
-one-later p x xs is = rw is refl
-
 named-one : (count : ℕ) (e : Entry) (history : List Entry) (b : Bool) → nat_le count e.document ≡ b
     → length (e ∷ history) ≤ position_or_len (is_stranger count) (e ∷ history)
     → (length history ≤ position_or_len (is_stranger count) history
     → AllByRecursion (λ (e : Entry). e.document < count) history)
     → AllByRecursion (λ (e : Entry). e.document < count) (e ∷ history)
-named-one count e history true is far more = absurd (omega (arith, far, at-once (is_stranger count) e history is))
+named-one count e history true is far more = absurd (omega (arith, far, position_or_len-yes (is_stranger count) e history is))
 named-one count e history false is far more =
-    (grind (arith, nat_tests), more (omega (arith, far, one-later (is_stranger count) e history is)))
+    (grind (arith, nat_tests), more (omega (arith, far, position_or_len-no (is_stranger count) e history is)))
 
 named-far : (count : ℕ) (history : List Entry)
     → length history ≤ position_or_len (is_stranger count) history
@@ -82,7 +76,7 @@ far-named count [] all = omega arith
 far-named count (e ∷ history) all =
     let below : e.document < count = all.0 in
     let no : nat_le count e.document ≡ false = grind (arith, nat_tests) in
-    omega (arith, far-named count history all.1, one-later (is_stranger count) e history no)
+    omega (arith, far-named count history all.1, position_or_len-no (is_stranger count) e history no)
 
 named-all : (count : ℕ) (history : List Entry) → first_stranger count history ≡ None
     → AllByRecursion (λ (e : Entry). e.document < count) history

@@ -1,6 +1,8 @@
 -- A scenario and a text have one verdict: step by step, one of two cases applies, and its value is one.
 use Rattle.std.proofs.Common.{◌≡◌, ◌≤◌, ◌<◌, ◌+◌, ◌⊎◌, inl, inr, ℕ, zero, suc, List, [], ◌∷◌, length, map, take}
 use Rattle.std.proofs.Common.{refl, ap, sym, subst, ◌∙◌, arith, Some, None, Result, Ok, Err}
+use Rattle.std.proofs.lemmas.Bool.{cases_order}
+use Rattle.std.proofs.lemmas.Option.{same_Some}
 use Rattle.std.specs.List.{slice_get}
 use Rattle.wf_book.specs.declared.book.Book.{Book}
 use Rattle.wf_book.specs.declared.entry.Entry.{Entry}
@@ -28,20 +30,13 @@ use Rattle.wf_audit.specs.declared.verdict.Verdict.TheVariants as verdict
 
 -- ---- numbers and lists
 
-compared : (a b : ℕ) → (a < b) ⊎ (b < a) ⊎ (a ≡ b)
-compared zero zero = inr (inr refl)
-compared zero (suc b) = inl (omega arith)
-compared (suc a) zero = inr (inl (omega arith))
-compared (suc a) (suc b) = elim (compared a b) [
-  | inl x ↦ inl (omega (arith, x))
-  | inr y ↦ elim y [ inl x ↦ inr (inl (omega (arith, x))) | inr x ↦ inr (inr (ap (λ (n : ℕ). suc n) x)) ]
 ]
 
 -- where neither of two numbers can be the smaller, they are one
 only-one : (a b : ℕ) → ¬ (a < b) → ¬ (b < a) → a ≡ b
-only-one a b x y = elim (compared a b) [
-  | inl lt ↦ absurd (x lt)
-  | inr z ↦ elim z [ inl lt ↦ absurd (y lt) | inr same ↦ same ]
+only-one a b x y = elim (cases_order a b) [
+  | inl same ↦ same
+  | inr z ↦ elim z [ inl lt ↦ absurd (x lt) | inr lt ↦ absurd (y lt) ]
 ]
 
 get-take : {X : Type 0} (l : List X) (a b : ℕ) → a < b → slice_get (take b l) a ≡ slice_get l a
@@ -56,9 +51,6 @@ take-take l (suc a) zero le = absurd (omega (arith, le))
 take-take [] (suc a) (suc b) le = refl
 take-take {X = X} (x ∷ l) (suc a) (suc b) le =
     ap (λ (m : List X). x ∷ m) (take-take l a b (omega (arith, le)))
-
-some-same : {A : Type 0} {a b : A} → Some a ≡ Some b → a ≡ b
-some-same is = cc
 
 -- ---- the text
 
@@ -172,7 +164,7 @@ module _ (scenario : Scenario) (history : List Entry) where
     named-once : IsGiven scenario history → Named play one → Named play other → one ≡ other
     named-once given x y = elim x [
       | inl a ↦ elim y [
-        | inl b ↦ a.1 ∙ ap (λ (n : ℕ). verdict.Stranger n) (some-same (sym a.2 ∙ b.2)) ∙ sym b.1
+        | inl b ↦ a.1 ∙ ap (λ (n : ℕ). verdict.Stranger n) (same_Some _ _ (sym a.2 ∙ b.2)) ∙ sym b.1
         | inr b ↦ let both = sym a.2 ∙ b.0 in absurd (cc (both))
       ]
       | inr a ↦ elim y [
@@ -187,7 +179,7 @@ right-at : (book : Book) (turn : ℕ) (history : List Entry) (index : ℕ) (entr
 right-at book turn [] index entry are at = absurd (cc)
 right-at book turn (e ∷ history) zero entry are at =
     let sum : turn ≡ turn + 0 = omega arith in
-    subst (λ (n : ℕ). IsRight book n entry) sum (subst (IsRight book turn) (some-same at) are.0)
+    subst (λ (n : ℕ). IsRight book n entry) sum (subst (IsRight book turn) (same_Some _ _ at) are.0)
 right-at book turn (e ∷ history) (suc index) entry are at =
     let sum : turn + 1 + index ≡ turn + suc index = omega arith in
     subst (λ (n : ℕ). IsRight (book_after (after book e.op) (take index history)) n entry) sum

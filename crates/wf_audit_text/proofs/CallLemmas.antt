@@ -2,17 +2,18 @@
 use Rattle.std.proofs.Common.{◌≡◌, ◌≤◌, ◌<◌, ◌^◌, ℕ, Bool, true, false, List, [], ◌∷◌, ◌++◌, codes, refl, ap, sym}
 use Rattle.std.proofs.Common.{subst, ◌∙◌}
 use Rattle.std.proofs.Common.{arith, append_assoc, Option, Some, None, ◌⊎◌, inl, inr, Result, Ok, Err}
+use Rattle.std.proofs.lemmas.Bool.{and_from}
 use Rattle.std.proofs.lemmas.List.{append_cancel_right}
 use Rattle.std.proofs.lemmas.List.Folds.{list_all-append}
 use Rattle.std.proofs.lemmas.List.Splits.{join_with_byte-slice_split}
 use Rattle.std.proofs.lemmas.Slice.Eq.{bytes_eq-Decides}
 use Rattle.std.specs.Prelude.{◌==◌, ◌&&◌, not, bytes_eq, decimal, if◌then◌else◌, option_and_then, option_map, IfOk}
 use Rattle.std.specs.List.{join_with_byte, list_all}
+use Rattle.value_lemmas.proofs.Options.{if-parts, option_and_then-some, option_map-some}
 use Rattle.wf_text.specs.Tokens.{is_token}
 use Rattle.wf_text.specs.declared.memory.OutOfMemory.{OutOfMemory}
 use Rattle.wf_decimal.specs.Decimals.{number_up_to}
 use Rattle.wf_decimal.proofs.DecimalLemmas.{lacks, number-lacks, number-read, number-writes}
-use Rattle.wf_decimal.proofs.TestLemmas.{and-both, chosen, done, mapped}
 use Rattle.wf_book.specs.declared.entry.Entry.{Entry}
 use Rattle.wf_book.specs.declared.op.Op.{Op}
 use Rattle.wf_book.specs.declared.op.Op.TheVariants.{Match, Note, Covers, Learn, Clear}
@@ -235,7 +236,7 @@ entry-read entry is =
 
 with-word : (word : List ℕ) (words : List (List ℕ)) → lacks 32 word ≡ true → list_all (lacks 32) words ≡ true
     → list_all (lacks 32) (word ∷ words) ≡ true
-with-word word words one more = and-both (lacks 32 word) (list_all (lacks 32) words) one more
+with-word word words one more = and_from (lacks 32 word) (list_all (lacks 32) words) one more
 
 digits-lack : (n : ℕ) → n < 2 ^ 64 → lacks 32 (decimal n) ≡ true
 digits-lack n small = number-lacks 32 (inl (omega arith)) n small
@@ -243,7 +244,7 @@ digits-lack n small = number-lacks 32 (inl (omega arith)) n small
 time-lacks : (now : ℕ) → now < 2 ^ 48 → lacks 32 (decimal now ++ codes ":") ≡ true
 time-lacks now small =
     list_all-append (λ byte. not (byte == 32)) (decimal now) (codes ":")
-    ∙ and-both (lacks 32 (decimal now)) (lacks 32 (codes ":")) (digits-lack now (omega (arith, small))) refl
+    ∙ and_from (lacks 32 (decimal now)) (lacks 32 (codes ":")) (digits-lack now (omega (arith, small))) refl
 
 reply-lacks : (reply : Reply) → lacks 32 (reply_text reply) ≡ true
 reply-lacks Yes = refl
@@ -334,10 +335,10 @@ tail-writes (a ∷ []) end e = cc
 tail-writes (a ∷ b ∷ []) end e = cc
 tail-writes (a ∷ b ∷ c ∷ d ∷ words) end e = cc
 tail-writes (at ∷ now ∷ reply ∷ []) end e =
-    let is = chosen (bytes_eq at (codes "at"))
+    let is = if-parts (bytes_eq at (codes "at"))
     (option_and_then (λ now. option_map (tail now) (reply_in reply)) (time_in now)) end e in
-    let time = done (λ now. option_map (tail now) (reply_in reply)) (time_in now) end is.1 in
-    let said = mapped (tail time.0) (reply_in reply) end time.2 in
+    let time = option_and_then-some (λ now. option_map (tail now) (reply_in reply)) (time_in now) end is.1 in
+    let said = option_map-some (tail time.0) (reply_in reply) end time.2 in
     let written = time-writes now time.0 time.1 in
     let word = reply-writes reply said.0 said.1 in
     let name : codes "at" ≡ at = sym ((bytes_eq-Decides at (codes "at")).0 is.0) in
@@ -357,8 +358,8 @@ match-writes : (words : List (List ℕ)) (said : Call) → match_in words ≡ So
     → WritesCall (codes "match" ∷ words) said
 match-writes [] said e = cc
 match-writes (host ∷ rest) said e =
-    let is = chosen (is_word host) (option_map (λ end. call (Match host end.now) end) (tail_in rest)) said e in
-    let end = mapped (λ end. call (Match host end.now) end) (tail_in rest) said is.1 in
+    let is = if-parts (is_word host) (option_map (λ end. call (Match host end.now) end) (tail_in rest)) said e in
+    let end = option_map-some (λ end. call (Match host end.now) end) (tail_in rest) said is.1 in
     let written = tail-writes rest end.0 end.1 in
     subst (WritesCall (codes "match" ∷ host ∷ rest)) end.2 (record {
       words_are = ap (λ (l : List (List ℕ)). codes "match" ∷ host ∷ l) written.words_are;
@@ -372,15 +373,15 @@ note-writes [] said e = cc
 note-writes (a ∷ []) said e = cc
 note-writes (a ∷ b ∷ []) said e = cc
 note-writes (host ∷ age ∷ subdomains ∷ rest) said e =
-    let is = chosen (is_word host) (option_and_then (λ age. option_and_then (λ subdomains.
+    let is = if-parts (is_word host) (option_and_then (λ age. option_and_then (λ subdomains.
     option_map (note_of host age subdomains) (tail_in rest)) (subdomains_in subdomains))
     (number_up_to 281474976710655 age)) said e in
-    let number = done (λ age. option_and_then (λ subdomains.
+    let number = option_and_then-some (λ age. option_and_then (λ subdomains.
     option_map (note_of host age subdomains) (tail_in rest)) (subdomains_in subdomains))
     (number_up_to 281474976710655 age) said is.1 in
-    let under = done (λ subdomains. option_map (note_of host number.0 subdomains) (tail_in rest))
+    let under = option_and_then-some (λ subdomains. option_map (note_of host number.0 subdomains) (tail_in rest))
     (subdomains_in subdomains) said number.2 in
-    let end = mapped (note_of host number.0 under.0) (tail_in rest) said under.2 in
+    let end = option_map-some (note_of host number.0 under.0) (tail_in rest) said under.2 in
     let age_is = number-writes 281474976710655 age number.0 number.1 in
     let under_is = subdomains-writes subdomains under.0 under.1 in
     let written = tail-writes rest end.0 end.1 in
@@ -400,9 +401,9 @@ clear-writes [] said e = cc
 clear-writes (a ∷ []) said e = cc
 clear-writes (a ∷ b ∷ []) said e = cc
 clear-writes (key ∷ origin ∷ url ∷ rest) said e =
-    let is = chosen (is_word key && is_word origin && is_word url)
+    let is = if-parts (is_word key && is_word origin && is_word url)
     (option_map (λ end. call (Clear key origin url end.now) end) (tail_in rest)) said e in
-    let end = mapped (λ end. call (Clear key origin url end.now) end) (tail_in rest) said is.1 in
+    let end = option_map-some (λ end. call (Clear key origin url end.now) end) (tail_in rest) said is.1 in
     let written = tail-writes rest end.0 end.1 in
     subst (WritesCall (codes "clear" ∷ key ∷ origin ∷ url ∷ rest)) end.2 (record {
       words_are = ap (λ (l : List (List ℕ)). codes "clear" ∷ key ∷ origin ∷ url ∷ l) written.words_are;
@@ -425,12 +426,12 @@ covers-writes (key ∷ origin ∷ credentials ∷ method ∷ names ∷ url ∷ r
     (list_in names) in
     let second = λ (include : Bool) (end : Tail). option_and_then (third include end) (method_in method) in
     let first = λ (include : Bool). option_and_then (second include) (tail_in rest) in
-    let is = chosen (is_word key && is_word origin && is_word url) (option_and_then first (credentials_in credentials))
+    let is = if-parts (is_word key && is_word origin && is_word url) (option_and_then first (credentials_in credentials))
     said e in
-    let mode = done first (credentials_in credentials) said is.1 in
-    let end = done (second mode.0) (tail_in rest) said mode.2 in
-    let asked = done (third mode.0 end.0) (method_in method) said end.2 in
-    let named = mapped (last mode.0 end.0 asked.0) (list_in names) said asked.2 in
+    let mode = option_and_then-some first (credentials_in credentials) said is.1 in
+    let end = option_and_then-some (second mode.0) (tail_in rest) said mode.2 in
+    let asked = option_and_then-some (third mode.0 end.0) (method_in method) said end.2 in
+    let named = option_map-some (last mode.0 end.0 asked.0) (list_in names) said asked.2 in
     let words_valid = three (is_word key) (is_word origin) (is_word url) is.0 in
     let mode_is = credentials-writes credentials mode.0 mode.1 in
     let written = tail-writes rest end.0 end.1 in
@@ -467,13 +468,13 @@ learn-writes (key ∷ origin ∷ credentials ∷ age ∷ methods ∷ names ∷ u
     let third = λ (include : Bool) (age : ℕ) (end : Tail). option_and_then (fourth include age end) (list_in methods) in
     let second = λ (include : Bool) (age : ℕ). option_and_then (third include age) (tail_in rest) in
     let first = λ (include : Bool). option_and_then (second include) (number_up_to 7200 age) in
-    let is = chosen (is_word key && is_word origin && is_word url) (option_and_then first (credentials_in credentials))
+    let is = if-parts (is_word key && is_word origin && is_word url) (option_and_then first (credentials_in credentials))
     said e in
-    let mode = done first (credentials_in credentials) said is.1 in
-    let number = done (second mode.0) (number_up_to 7200 age) said mode.2 in
-    let end = done (third mode.0 number.0) (tail_in rest) said number.2 in
-    let taught = done (fourth mode.0 number.0 end.0) (list_in methods) said end.2 in
-    let named = mapped (last mode.0 number.0 end.0 taught.0) (list_in names) said taught.2 in
+    let mode = option_and_then-some first (credentials_in credentials) said is.1 in
+    let number = option_and_then-some (second mode.0) (number_up_to 7200 age) said mode.2 in
+    let end = option_and_then-some (third mode.0 number.0) (tail_in rest) said number.2 in
+    let taught = option_and_then-some (fourth mode.0 number.0 end.0) (list_in methods) said end.2 in
+    let named = option_map-some (last mode.0 number.0 end.0 taught.0) (list_in names) said taught.2 in
     let words_valid = three (is_word key) (is_word origin) (is_word url) is.0 in
     let mode_is = credentials-writes credentials mode.0 mode.1 in
     let age_is = number-writes 7200 age number.0 number.1 in
@@ -547,9 +548,9 @@ entry-writes (a ∷ []) entry e = cc
 entry-writes (turn ∷ document ∷ words) entry e =
     let second = λ (turn document : ℕ). option_map (entry_of turn document) (call_in words) in
     let first = λ (turn : ℕ). option_and_then (second turn) (number_up_to 4294967295 document) in
-    let counted = done first (number_up_to 18446744073709551615 turn) entry e in
-    let numbered = done (second counted.0) (number_up_to 4294967295 document) entry counted.2 in
-    let made = mapped (entry_of counted.0 numbered.0) (call_in words) entry numbered.2 in
+    let counted = option_and_then-some first (number_up_to 18446744073709551615 turn) entry e in
+    let numbered = option_and_then-some (second counted.0) (number_up_to 4294967295 document) entry counted.2 in
+    let made = option_map-some (entry_of counted.0 numbered.0) (call_in words) entry numbered.2 in
     let turn_is = number-writes 18446744073709551615 turn counted.0 counted.1 in
     let document_is = number-writes 4294967295 document numbered.0 numbered.1 in
     let written = call-writes words made.0 made.1 in

@@ -3,6 +3,7 @@ use Rattle.std.proofs.Common.{◌≡◌, ◌≢◌, ◌≤◌, ◌<◌, ◌+◌,
 use Rattle.std.proofs.Common.{codes, take, drop, get_or, refl, ap, sym, subst, ◌∙◌, arith, append_assoc, length-append}
 use Rattle.std.proofs.Common.{Some}
 use Rattle.std.proofs.Common.{add-one, cond, None, Result, Ok, Err}
+use Rattle.std.proofs.lemmas.Bool.{and_from, and_parts}
 use Rattle.std.proofs.lemmas.Bool.Decides.{Decides-eqb, nat_tests}
 use Rattle.std.proofs.lemmas.Grind.{common_steps}
 use Rattle.std.proofs.lemmas.List.{append-nil, append_cancel_left, get_or-append_right}
@@ -22,7 +23,6 @@ use Rattle.wf_audit_text.specs.declared.history.Reading.{Reading}
 use Rattle.wf_audit_text.specs.declared.history.Reading.TheVariants.{Entries, Fault}
 use Rattle.wf_text.specs.declared.memory.OutOfMemory.{OutOfMemory}
 use Rattle.wf_audit_text.proofs.ListLemmas.{lacks-all}
-use Rattle.wf_decimal.proofs.TestLemmas.{and-both, and-right}
 use Rattle.wf_decimal.proofs.DecimalLemmas.{lacks}
 
 -- ---- one line
@@ -42,7 +42,7 @@ before-end (byte ∷ text) =
   where
     by : (b : Bool) → not (byte == 10) ≡ b → (rest : List ℕ) → lacks 10 rest ≡ true
         → lacks 10 (cond b (byte ∷ rest) []) ≡ true
-    by true is rest e = and-both (not (byte == 10)) (lacks 10 rest) is e
+    by true is rest e = and_from (not (byte == 10)) (lacks 10 rest) is e
     by false is rest e = refl
 
 pub cut-none : (text : List ℕ) → position is_end text ≡ None → IsLine text
@@ -82,8 +82,8 @@ cut-at (c ∷ x) [] a b lx ly e = absurd (let same : c ≡ 10 = cc in grind (ari
 cut-at (c ∷ x) (d ∷ y) a b lx ly e =
     let first : c ≡ d = cc in
     let rest : x ++ 10 ∷ a ≡ y ++ 10 ∷ b = cc in
-    let h = cut-at x y a b (and-right (not (c == 10)) (lacks 10 x) lx)
-    (and-right (not (d == 10)) (lacks 10 y) ly) rest in
+    let h = cut-at x y a b (and_parts (not (c == 10)) (lacks 10 x) lx).1
+    (and_parts (not (d == 10)) (lacks 10 y) ly).1 rest in
     (cc, h.1)
 
 pub one-line : (x y a b : List ℕ) → IsLine x → IsLine y → line x ++ a ≡ line y ++ b → (x ≡ y) × (a ≡ b)
@@ -93,7 +93,7 @@ pub no-line-in : (x y a : List ℕ) → IsLine x → x ≡ y ++ 10 ∷ a → ⊥
 no-line-in [] [] a lx e = cc
 no-line-in [] (d ∷ y) a lx e = cc
 no-line-in (c ∷ x) [] a lx e = let same : c ≡ 10 = cc in grind (arith, common_steps)
-no-line-in (c ∷ x) (d ∷ y) a lx e = no-line-in x y a (and-right (not (c == 10)) (lacks 10 x) lx) cc
+no-line-in (c ∷ x) (d ∷ y) a lx e = no-line-in x y a (and_parts (not (c == 10)) (lacks 10 x) lx).1 cc
 
 pub no-line : (x y a : List ℕ) → IsLine x → x ≡ line y ++ a → ⊥
 no-line x y a lx e = no-line-in x y a lx (e ∙ line-then y a)
@@ -187,14 +187,14 @@ with-byte byte text last [] other are last_is e = record {
   lines = [];
   last = byte ∷ last;
   are = are;
-  last_is = and-both (not (byte == 10)) (lacks 10 last) other last_is;
+  last_is = and_from (not (byte == 10)) (lacks 10 last) other last_is;
   text_is = ap (λ (l : List ℕ). byte ∷ l) e;
 }
 with-byte byte text last (first ∷ lines) other are last_is e = record {
   lines = (byte ∷ first) ∷ lines;
   last = last;
   are = All-cons IsLine (byte ∷ first) lines
-      (and-both (not (byte == 10)) (lacks 10 first) other (All-head IsLine first lines are))
+      (and_from (not (byte == 10)) (lacks 10 first) other (All-head IsLine first lines are))
       (All-tail IsLine first lines are);
   last_is = last_is;
   text_is = ap (λ (l : List ℕ). byte ∷ l) e;

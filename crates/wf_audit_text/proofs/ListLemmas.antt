@@ -1,6 +1,7 @@
 -- Methods and lists of tokens are read as what they write.
 use Rattle.std.proofs.Common.{◌≡◌, ℕ, Bool, true, false, List, [], ◌∷◌, ◌++◌, length, codes, refl, ap, sym, ◌∙◌}
 use Rattle.std.proofs.Common.{arith, Option, Some, None}
+use Rattle.std.proofs.lemmas.Bool.{and_from, and_parts}
 use Rattle.std.proofs.lemmas.Bool.Decides.{nat_tests}
 use Rattle.std.proofs.lemmas.List.{append-nil}
 use Rattle.std.proofs.lemmas.List.Elements.{All-cons, All-nil}
@@ -10,21 +11,15 @@ use Rattle.std.proofs.lemmas.List.Splits.{slice_split_none}
 use Rattle.std.proofs.lemmas.Slice.Eq.{bytes_eq-Decides}
 use Rattle.std.specs.Prelude.{◌==◌, not, bytes_eq, if◌then◌else◌}
 use Rattle.std.specs.List.{All, join_with_byte, list_all, slice_split}
+use Rattle.value_lemmas.proofs.Options.{if-from, if-not, if-parts}
+use Rattle.value_lemmas.proofs.Lists.{list_all-weaker}
 use Rattle.wf_text.specs.Tokens.{is_tchar, is_token}
 use Rattle.wf_script_events.specs.Calls.{comma_texts, list_text, method_text}
 use Rattle.wf_audit_text.specs.Entries.{is_method, is_visible, is_word}
 use Rattle.wf_audit_text.specs.Private.Reading.{list_in, method_in, tokens_in}
-use Rattle.wf_decimal.proofs.TestLemmas.{and-both, and-left, and-right, choose, chosen, otherwise}
 use Rattle.wf_decimal.proofs.DecimalLemmas.{lacks}
 
 -- ---- bytes that texts have not
-
-weaker : (p q : ℕ → Bool) → ((byte : ℕ) → p byte ≡ true → q byte ≡ true) → (text : List ℕ) → list_all p text ≡ true
-    → list_all q text ≡ true
-weaker p q each [] e = refl
-weaker p q each (byte ∷ text) e =
-    and-both (q byte) (list_all q text) (each byte (and-left (p byte) (list_all p text) e))
-    (weaker p q each text (and-right (p byte) (list_all p text) e))
 
 no-tchar : (byte other : ℕ) → is_tchar byte ≡ false → is_tchar other ≡ true → not (other == byte) ≡ true
 no-tchar byte other none is = by (other == byte) (eqb-tells other byte)
@@ -39,8 +34,8 @@ no-tchar byte other none is = by (other == byte) (eqb-tells other byte)
 -- a token has no byte that is no tchar
 pub token-lacks : (byte : ℕ) → is_tchar byte ≡ false → (text : List ℕ) → is_token text ≡ true → lacks byte text ≡ true
 token-lacks byte none text e =
-    weaker is_tchar (λ other. not (other == byte)) (λ other is. no-tchar byte other none is) text
-    (and-right (not (length text == 0)) (list_all is_tchar text) e)
+    list_all-weaker is_tchar (λ other. not (other == byte)) (λ other is. no-tchar byte other none is) text
+    (and_parts (not (length text == 0)) (list_all is_tchar text) e).1
 
 -- a word has no space
 visible-other : (byte : ℕ) → is_visible byte ≡ true → not (byte == 32) ≡ true
@@ -48,8 +43,8 @@ visible-other byte e = grind (arith, nat_tests)
 
 pub word-lacks : (text : List ℕ) → is_word text ≡ true → lacks 32 text ≡ true
 word-lacks text e =
-    weaker is_visible (λ byte. not (byte == 32)) visible-other text
-    (and-right (not (length text == 0)) (list_all is_visible text) e)
+    list_all-weaker is_visible (λ byte. not (byte == 32)) visible-other text
+    (and_parts (not (length text == 0)) (list_all is_visible text) e).1
 
 -- ---- texts that are cut at a byte
 
@@ -57,8 +52,8 @@ pub lacks-all : (byte : ℕ) (text : List ℕ) → lacks byte text ≡ true → 
 lacks-all byte [] e = All-nil (λ other. (other == byte) ≡ false)
 lacks-all byte (other ∷ text) e =
     All-cons (λ other. (other == byte) ≡ false) other text
-    (not-false (other == byte) (and-left (not (other == byte)) (lacks byte text) e))
-    (lacks-all byte text (and-right (not (other == byte)) (lacks byte text) e))
+    (not-false (other == byte) (and_parts (not (other == byte)) (lacks byte text) e).0)
+    (lacks-all byte text (and_parts (not (other == byte)) (lacks byte text) e).1)
   where
     not-false : (b : Bool) → not b ≡ true → b ≡ false
     not-false true e = sym e
@@ -72,8 +67,8 @@ split-join byte word (next ∷ words) one more =
     slice_split_at (λ other. other == byte) word byte (join_with_byte byte (next ∷ words)) (lacks-all byte word one)
     (same byte)
     ∙ ap (λ (l : List (List ℕ)). word ∷ l) (split-join byte next words
-    (and-left (lacks byte next) (list_all (lacks byte) words) more)
-    (and-right (lacks byte next) (list_all (lacks byte) words) more))
+    (and_parts (lacks byte next) (list_all (lacks byte) words) more).0
+    (and_parts (lacks byte next) (list_all (lacks byte) words) more).1)
   where
     same : (byte : ℕ) → (byte == byte) ≡ true
     same byte = grind (arith, nat_tests)
@@ -151,7 +146,7 @@ list-writes word tokens e = by (bytes_eq word (codes "()")) (bytes_eq-Decides wo
         let none : [] ≡ tokens = cc in
         record { text = ap list_text (sym none) ∙ sym (same refl); valid = ap (list_all is_token) (sym none) }
     by false same e =
-        let is = chosen (list_all is_token parts) (Some parts) tokens e in
+        let is = if-parts (list_all is_token parts) (Some parts) tokens e in
         let all : parts ≡ tokens = cc in
         record {
           text = ap list_text (sym all) ∙ text-of parts (join_with_byte-slice_split 44 word) is.0 (some-parts word);
@@ -162,47 +157,47 @@ tokens-lack : (byte : ℕ) → is_tchar byte ≡ false → (tokens : List (List 
     → list_all (lacks byte) tokens ≡ true
 tokens-lack byte none [] e = refl
 tokens-lack byte none (token ∷ tokens) e =
-    and-both (lacks byte token) (list_all (lacks byte) tokens)
-    (token-lacks byte none token (and-left (is_token token) (list_all is_token tokens) e))
-    (tokens-lack byte none tokens (and-right (is_token token) (list_all is_token tokens) e))
+    and_from (lacks byte token) (list_all (lacks byte) tokens)
+    (token-lacks byte none token (and_parts (is_token token) (list_all is_token tokens) e).0)
+    (tokens-lack byte none tokens (and_parts (is_token token) (list_all is_token tokens) e).1)
 
 token-first : (token rest : List ℕ) → is_token token ≡ true → token ++ rest ≡ codes "()" → ⊥
 token-first [] rest is e = cc
 token-first (byte ∷ token) rest is e =
     let first : byte ≡ 40 = cc in
-    let mark = and-left (is_tchar byte) (list_all is_tchar token)
-    (and-right (not (length (byte ∷ token) == 0)) (list_all is_tchar (byte ∷ token)) is) in
+    let mark = (and_parts (is_tchar byte) (list_all is_tchar token)
+    (and_parts (not (length (byte ∷ token) == 0)) (list_all is_tchar (byte ∷ token)) is).1).0 in
     let no : is_tchar 40 ≡ true = ap is_tchar (sym first) ∙ mark in cc
 
 pub list-read : (tokens : List (List ℕ)) → list_all is_token tokens ≡ true → list_in (list_text tokens) ≡ Some tokens
 list-read [] e = refl
 list-read (token ∷ tokens) e =
-    let one = and-left (is_token token) (list_all is_token tokens) e in
-    let more = and-right (is_token token) (list_all is_token tokens) e in
+    let one = (and_parts (is_token token) (list_all is_token tokens) e).0 in
+    let more = (and_parts (is_token token) (list_all is_token tokens) e).1 in
     let cut : slice_split (λ byte. byte == 44) (token ++ comma_texts tokens) ≡ token ∷ tokens =
     ap (slice_split (λ byte. byte == 44)) (sym (joined token tokens))
     ∙ split-join 44 token tokens (token-lacks 44 refl token one) (tokens-lack 44 refl tokens more) in
-    otherwise (bytes_eq (token ++ comma_texts tokens) (codes "()")) (Some [])
+    if-not (bytes_eq (token ++ comma_texts tokens) (codes "()")) (Some [])
     (tokens_in (slice_split (λ byte. byte == 44) (token ++ comma_texts tokens))) (Some (token ∷ tokens))
     (differs (token ++ comma_texts tokens) (codes "()") (token-first token (comma_texts tokens) one))
-    (ap tokens_in cut ∙ choose (list_all is_token (token ∷ tokens)) (Some (token ∷ tokens)) (token ∷ tokens) e refl)
+    (ap tokens_in cut ∙ if-from (list_all is_token (token ∷ tokens)) (Some (token ∷ tokens)) (token ∷ tokens) e refl)
 
 -- the text of a list of tokens has no space
 commas-lack : (tokens : List (List ℕ)) → list_all is_token tokens ≡ true → lacks 32 (comma_texts tokens) ≡ true
 commas-lack [] e = refl
 commas-lack (token ∷ tokens) e =
     list_all-append (λ byte. not (byte == 32)) token (comma_texts tokens)
-    ∙ and-both (lacks 32 token) (lacks 32 (comma_texts tokens))
-    (token-lacks 32 refl token (and-left (is_token token) (list_all is_token tokens) e))
-    (commas-lack tokens (and-right (is_token token) (list_all is_token tokens) e))
+    ∙ and_from (lacks 32 token) (lacks 32 (comma_texts tokens))
+    (token-lacks 32 refl token (and_parts (is_token token) (list_all is_token tokens) e).0)
+    (commas-lack tokens (and_parts (is_token token) (list_all is_token tokens) e).1)
 
 pub list-lacks : (tokens : List (List ℕ)) → list_all is_token tokens ≡ true → lacks 32 (list_text tokens) ≡ true
 list-lacks [] e = refl
 list-lacks (token ∷ tokens) e =
     list_all-append (λ byte. not (byte == 32)) token (comma_texts tokens)
-    ∙ and-both (lacks 32 token) (lacks 32 (comma_texts tokens))
-    (token-lacks 32 refl token (and-left (is_token token) (list_all is_token tokens) e))
-    (commas-lack tokens (and-right (is_token token) (list_all is_token tokens) e))
+    ∙ and_from (lacks 32 token) (lacks 32 (comma_texts tokens))
+    (token-lacks 32 refl token (and_parts (is_token token) (list_all is_token tokens) e).0)
+    (commas-lack tokens (and_parts (is_token token) (list_all is_token tokens) e).1)
 
 pub method-lacks : (method : Option (List ℕ)) → is_method method ≡ true → lacks 32 (method_text method) ≡ true
 method-lacks None e = refl

@@ -1,6 +1,7 @@
 -- What a text is read as is one.
-use Rattle.std.proofs.Common.{◌≡◌, ◌<◌, ◌⊎◌, inl, inr, ℕ, zero, suc, List, [], ◌∷◌, take, refl, ap}
+use Rattle.std.proofs.Common.{◌≡◌, ◌<◌, inl, inr, ℕ, zero, suc, List, [], ◌∷◌, take, refl, ap}
 use Rattle.std.proofs.Common.{subst, arith, Some}
+use Rattle.std.proofs.lemmas.Bool.{cases_order}
 use Rattle.std.specs.List.{slice_get}
 use Rattle.wf_book.specs.declared.entry.Entry.{Entry}
 use Rattle.wf_print.specs.Laws.{HasOneHistory}
@@ -45,24 +46,17 @@ fails-behind play count more first later below =
     (subst (λ (l : List (List ℕ)). slice_get l count ≡ Some first.text) same first.next)) in
     first.bad one.0 one.1
 
-compared : (a b : ℕ) → (a < b) ⊎ (b < a) ⊎ (a ≡ b)
-compared zero zero = inr (inr refl)
-compared zero (suc b) = inl (omega arith)
-compared (suc a) zero = inr (inl (omega arith))
-compared (suc a) (suc b) = elim (compared a b) [
-  | inl x ↦ inl (omega (arith, x))
-  | inr y ↦ elim y [ inl x ↦ inr (inl (omega (arith, x))) | inr x ↦ inr (inr (ap (λ (n : ℕ). suc n) x)) ]
 ]
 
 one-fault : (play : List ℕ) (number other : ℕ) → HasFault play number → HasFault play other → number ≡ other
 one-fault play zero zero one two = refl
 one-fault play zero (suc other) one two = absurd (one two.before two.lines two.has)
 one-fault play (suc number) zero one two = absurd (two one.before one.lines one.has)
-one-fault play (suc number) (suc other) one two = elim (compared number other) [
-  | inl x ↦ absurd (fails-behind play number other one two x)
+one-fault play (suc number) (suc other) one two = elim (cases_order number other) [
+  | inl x ↦ ap (λ (n : ℕ). suc n) x
   | inr y ↦ elim y [
-    | inl x ↦ absurd (fails-behind play other number two one x)
-    | inr x ↦ ap (λ (n : ℕ). suc n) x
+    | inl x ↦ absurd (fails-behind play number other one two x)
+    | inr x ↦ absurd (fails-behind play other number two one x)
   ]
 ]
 

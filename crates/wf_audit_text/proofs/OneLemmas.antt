@@ -1,6 +1,7 @@
 -- A text holds one history.
 use Rattle.std.proofs.Common.{◌≡◌, ◌≢◌, ℕ, true, List, [], ◌∷◌, ◌++◌, codes, refl, ap, sym, ◌∙◌, arith}
 use Rattle.std.proofs.Common.{length, length-append, Option, Some, None}
+use Rattle.std.proofs.lemmas.Bool.{and_parts}
 use Rattle.std.proofs.lemmas.List.{append_cancel_left}
 use Rattle.std.proofs.lemmas.List.Elements.{All-cons, All-head, All-nil, All-tail}
 use Rattle.std.specs.Prelude.{IfSome}
@@ -19,7 +20,6 @@ use Rattle.wf_audit_text.specs.Laws.{HoldsOne}
 use Rattle.wf_audit_text.proofs.CallLemmas.{five, three}
 use Rattle.wf_audit_text.proofs.LineLemmas.{lined-then, one-line}
 use Rattle.wf_audit_text.proofs.ListLemmas.{token-lacks, word-lacks}
-use Rattle.wf_decimal.proofs.TestLemmas.{and-left, and-right}
 
 -- ---- entries can be read back
 
@@ -34,9 +34,9 @@ method-named (Some method) is = named method is
 listed : (tokens : List (List ℕ)) → list_all is_token tokens ≡ true → All IsListed tokens
 listed [] is = All-nil IsListed
 listed (token ∷ tokens) is =
-    let one = and-left (is_token token) (list_all is_token tokens) is in
+    let one = (and_parts (is_token token) (list_all is_token tokens) is).0 in
     All-cons IsListed token tokens (named token one, token-lacks 44 refl token one)
-    (listed tokens (and-right (is_token token) (list_all is_token tokens) is))
+    (listed tokens (and_parts (is_token token) (list_all is_token tokens) is).1)
 
 readable-op : (op : Op) → InRange op → has_words op ≡ true → IsReadableOp op
 readable-op (Match host now) range is = word-lacks host is

@@ -1,6 +1,7 @@
 -- Words are read as what they write: times, replies, credentials modes and subdomains.
 use Rattle.std.proofs.Common.{◌≡◌, ◌<◌, ◌^◌, ℕ, Bool, true, false, List, [], ◌∷◌, ◌++◌, length, get_or, codes, refl}
 use Rattle.std.proofs.Common.{ap, sym, ◌∙◌, arith, eq-eqb, length-append, length-take, Option, Some, None, ◌⊎◌, inl, inr}
+use Rattle.std.proofs.lemmas.Bool.{and_parts}
 use Rattle.std.proofs.lemmas.Bool.Decides.{Decides-eqb, nat_tests}
 use Rattle.std.proofs.lemmas.Grind.{common_steps}
 use Rattle.std.proofs.lemmas.List.{take_at}
@@ -8,9 +9,9 @@ use Rattle.std.proofs.lemmas.List.Sums.{passes_at_first, split_at_first}
 use Rattle.std.proofs.lemmas.Slice.Eq.{bytes_eq-Decides}
 use Rattle.std.specs.Prelude.{◌==◌, ◌+◌, not, decimal, bytes_eq, if◌then◌else◌}
 use Rattle.std.specs.List.{after_first, before_first, position_or_len, prefix_len}
+use Rattle.value_lemmas.proofs.Options.{if-from, if-parts}
 use Rattle.wf_decimal.specs.Decimals.{number_up_to}
 use Rattle.wf_decimal.proofs.DecimalLemmas.{lacks, number-lacks, number-read, number-writes}
-use Rattle.wf_decimal.proofs.TestLemmas.{and-right, choose, chosen}
 use Rattle.wf_book.specs.declared.op.Reply.{Reply}
 use Rattle.wf_book.specs.declared.op.Reply.TheVariants.{Yes, No, Done}
 use Rattle.wf_script_events.specs.Calls.{credentials_text, reply_text, subdomains_text}
@@ -25,7 +26,7 @@ colon-at : (text : List ℕ) → lacks 58 text ≡ true
     → length text ≡ prefix_len (λ byte. not (is_colon byte)) (text ++ 58 ∷ [])
 colon-at [] e = grind arith
 colon-at (byte ∷ text) e =
-    grind (arith, common_steps, colon-at text (and-right (not (byte == 58)) (lacks 58 text) e))
+    grind (arith, common_steps, colon-at text (and_parts (not (byte == 58)) (lacks 58 text) e).1)
 
 until-colon : (text : List ℕ) → lacks 58 text ≡ true → before_first is_colon (text ++ 58 ∷ []) ≡ text
 until-colon text e = take_at text (58 ∷ []) _ (colon-at text e)
@@ -53,7 +54,7 @@ pub time-writes : (word : List ℕ) (n : ℕ) → time_in word ≡ Some n
     → (decimal n ++ codes ":" ≡ word) × (n < 2 ^ 48)
 time-writes word n e =
     let front = before_first (λ b. b == 58) word in
-    let is = chosen (length front + 1 == length word) (number_up_to 281474976710655 front) n e in
+    let is = if-parts (length front + 1 == length word) (number_up_to 281474976710655 front) n e in
     let written = number-writes 281474976710655 front n is.1 in (
       ap (λ (l : List ℕ). l ++ codes ":") written.text ∙ ends-in-colon word (grind (arith, nat_tests, is.0)),
       omega (arith, written.few),
@@ -64,7 +65,7 @@ time-read n small =
     let text = decimal n in
     let front : before_first (λ b. b == 58) (text ++ codes ":") ≡ text =
     until-colon text (number-lacks 58 (inr (omega arith)) n (omega (arith, small))) in
-    choose (length (before_first (λ b. b == 58) (text ++ codes ":")) + 1 == length (text ++ codes ":"))
+    if-from (length (before_first (λ b. b == 58) (text ++ codes ":")) + 1 == length (text ++ codes ":"))
     (number_up_to 281474976710655 (before_first (λ b. b == 58) (text ++ codes ":"))) n
     (rw (front, length-append text (codes ":")) (eq-eqb (length text + 1) (length text + 1) refl))
     (ap (number_up_to 281474976710655) front

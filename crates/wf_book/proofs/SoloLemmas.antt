@@ -17,12 +17,12 @@ use Rattle.wf_book.specs.Private.Solo.{IsSolo}
 use Rattle.wf_book.proofs.EntryLemmas.{AllTurnsBelow-mono, AllTurnsBelow-snoc, LegalFrom-snoc, book_after-append}
 use Rattle.wf_book.proofs.EntryLemmas.{entries_of-snoc_same}
 
-yes_or_no-answers : (b : Bool) → is_answer (yes_or_no b) ≡ true
+pub yes_or_no-answers : (b : Bool) → is_answer (yes_or_no b) ≡ true
 yes_or_no-answers true = refl
 yes_or_no-answers false = refl
 
 -- a reply is of the kind that its op asks for
-reply-kind : (book : Book) (op : Op) → is_answer (reply book op) ≡ is_question op
+pub reply-kind : (book : Book) (op : Op) → is_answer (reply book op) ≡ is_question op
 reply-kind book (Match host now) = yes_or_no-answers (matches_host book.hosts host now)
 reply-kind book (Note host sts now) = refl
 reply-kind book (Covers question now) = yes_or_no-answers (covers question now book.cache)

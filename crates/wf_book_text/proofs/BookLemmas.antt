@@ -6,6 +6,7 @@ use Rattle.std.proofs.lemmas.List.{append-nil}
 use Rattle.std.specs.Prelude.{option_and_then}
 use Rattle.std.specs.List.{AllByRecursion, flat_map}
 use Rattle.std.specs.Str.{bytes_eq}
+use Rattle.value_lemmas.proofs.Options.{option_and_then-some}
 use Rattle.wf_hsts.specs.Hosts as hosts
 use Rattle.wf_hsts.specs.Hosts.{AreHosts}
 use Rattle.wf_hsts.specs.declared.hosts.KnownHost.{KnownHost}
@@ -26,7 +27,6 @@ use Rattle.wf_book_text.specs.Texts.{host_line, number_field}
 use Rattle.wf_book_text.specs.declared.refusal.Refusal.{Refusal}
 use Rattle.wf_book_text.proofs.FieldLemmas.{number-reads, prefix-complete, prefix-sound}
 use Rattle.wf_book_text.proofs.LineLemmas.{Lines, MayAll, entry-reads, host-reads, lines-complete, lines-sound}
-use Rattle.wf_decimal.proofs.TestLemmas.{done}
 
 all-front : {A : Type 0} (P : A → Type 0) (a b : List A) → AllByRecursion P (a ++ b) → AllByRecursion P a
 all-front P [] b all = tt
@@ -118,7 +118,7 @@ module _ (label : List ℕ) (most : ℕ) (few : most ≤ greatest) where
   count-sound : (text : List ℕ) (n : ℕ) (rest : List ℕ) → count_at label most text ≡ Some (n, rest)
       → (text ≡ count_line label n ++ rest) × (n ≤ most)
   count-sound text n rest e =
-      let found = done (number_at most 10) (after_prefix label text) (n, rest) e in
+      let found = option_and_then-some (number_at most 10) (after_prefix label text) (n, rest) e in
       let is = (number-reads most 10 few line-apart).sound found.0 n rest found.2 in (
         prefix-sound label text found.0 found.1 ∙ ap (λ (l : List ℕ). label ++ l) is.0
             ∙ sym (append_assoc label (number_field 10 n) rest),

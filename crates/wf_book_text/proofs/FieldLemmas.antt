@@ -2,16 +2,19 @@
 use Rattle.std.proofs.Common.{◌≡◌, ◌≤◌, ◌<◌, ◌+◌, ℕ, Bool, true, false, List, [], ◌∷◌, ◌++◌, length, take}
 use Rattle.std.proofs.Common.{drop, get_or, refl, ap, sym, subst, ◌∙◌, arith, Option, Some, None, ◌⊎◌, inr, cond}
 use Rattle.std.proofs.Common.{append_assoc, length-append, length-take}
-use Rattle.std.proofs.lemmas.Bool.Decides.{nat_tests, Decides-eqb}
+use Rattle.std.proofs.lemmas.Option.{same_Some}
+use Rattle.std.proofs.lemmas.Bool.{and_parts, le-ltb, lt-ltb, ltb-false}
+use Rattle.std.proofs.lemmas.Bool.Decides.{Decides-eqb}
 use Rattle.std.proofs.lemmas.Grind.{common_steps}
 use Rattle.std.proofs.lemmas.List.{take-append-drop, take_at, drop_at}
 use Rattle.std.proofs.lemmas.List.Sums.{passes_at_first, split_at_first}
 use Rattle.std.proofs.lemmas.Slice.Eq.{bytes_eq-Decides}
 use Rattle.std.specs.Prelude.{◌==◌, nat_lt, not, decimal, option_and_then, option_map, if◌then◌else◌, bytes_eq}
 use Rattle.std.specs.List.{position, position_or_len}
+use Rattle.value_lemmas.proofs.Options.{if-parts, option_and_then-some, option_map-some}
+use Rattle.value_lemmas.proofs.Tests.{eqb-self}
 use Rattle.wf_decimal.specs.Decimals.{number_up_to}
 use Rattle.wf_decimal.proofs.DecimalLemmas.{lacks, number-lacks, number-read, number-writes}
-use Rattle.wf_decimal.proofs.TestLemmas.{and-right, chosen, done, mapped}
 use Rattle.wf_book_text.specs.Reading.{after_prefix, both_at, bytes_at, made_at, number_at, stopped, text_at}
 use Rattle.wf_book_text.specs.Texts.{greatest, number_field, text_field}
 
@@ -19,23 +22,6 @@ use Rattle.wf_book_text.specs.Texts.{greatest, number_field, text_field}
 pub record Reads {A : Type 0} (spell : A → List ℕ) (Fits : A → Type 0) (read : List ℕ → Option (A × List ℕ)) : Type 0 where
   pub sound : (text : List ℕ) (x : A) (rest : List ℕ) → read text ≡ Some (x, rest) → (text ≡ spell x ++ rest) × Fits x
   pub complete : (x : A) (rest : List ℕ) → Fits x → read (spell x ++ rest) ≡ Some (x, rest)
-
--- ---- tests
-
-pub lt-true : (a b : ℕ) → a < b → nat_lt a b ≡ true
-lt-true a b e = grind (arith, nat_tests)
-
-pub lt-false : (a b : ℕ) → b ≤ a → nat_lt a b ≡ false
-lt-false a b e = grind (arith, nat_tests)
-
-pub not-lt : (a b : ℕ) → nat_lt a b ≡ false → b ≤ a
-not-lt a b e = grind (arith, nat_tests)
-
-pub same-eqb : (a : ℕ) → (a == a) ≡ true
-same-eqb a = (Decides-eqb a a).1 refl
-
-pub some-is : {X : Type 0} (a b : X) → Some a ≡ Some b → a ≡ b
-some-is a b e = cc
 
 -- ---- numbers
 
@@ -46,7 +32,7 @@ module _ (stop : ℕ) where
   place : (front rest : List ℕ) → lacks stop front ≡ true → length front ≡ position_or_len is_stop (front ++ stop ∷ rest)
   place [] rest none = grind (arith, common_steps)
   place (byte ∷ front) rest none =
-      grind (arith, common_steps, place front rest (and-right (not (byte == stop)) (lacks stop front) none))
+      grind (arith, common_steps, place front rest (and_parts (not (byte == stop)) (lacks stop front) none).1)
 
   place-there : (front rest : List ℕ) → lacks stop front ≡ true
       → position is_stop (front ++ stop ∷ rest) ≡ Some (length front)
@@ -54,7 +40,7 @@ module _ (stop : ℕ) where
       let text : List ℕ = front ++ stop ∷ rest in
       let at : position_or_len is_stop text ≡ length front = sym (place front rest none) in
       let within : nat_lt (length front) (length text) ≡ true =
-      lt-true (length front) (length text) (omega (arith, length-append front (stop ∷ rest))) in
+      lt-ltb (length front) (length text) (omega (arith, length-append front (stop ∷ rest))) in
       rw at (ap (λ (b : Bool). cond b (Some (length front)) None) within)
 
   cut-there : (text : List ℕ) (end : ℕ) → position is_stop text ≡ Some end
@@ -79,9 +65,9 @@ module _ (most stop : ℕ) (few : most ≤ greatest) (apart : (stop < 48) ⊎ (5
   number-sound : (text : List ℕ) (n : ℕ) (rest : List ℕ) → number_at most stop text ≡ Some (n, rest)
       → (text ≡ number_field stop n ++ rest) × (n ≤ most)
   number-sound text n rest e =
-      let found = done (λ end. option_map (λ (number : ℕ). (number, drop (end + 1) text)) (number_up_to most (take end text)))
+      let found = option_and_then-some (λ end. option_map (λ (number : ℕ). (number, drop (end + 1) text)) (number_up_to most (take end text)))
       (position (λ byte. byte == stop) text) (n, rest) e in
-      let word = mapped (λ (number : ℕ). (number, drop (found.0 + 1) text)) (number_up_to most (take found.0 text))
+      let word = option_map-some (λ (number : ℕ). (number, drop (found.0 + 1) text)) (number_up_to most (take found.0 text))
       (n, rest) found.2 in
       let written = number-writes most (take found.0 text) word.0 word.1 in
       let value : word.0 ≡ n = ap (λ p. p.0) word.2 in
@@ -115,9 +101,9 @@ stop-sound : (stop : ℕ) (front after x rest : List ℕ) → stopped stop front
     → (front ≡ x) × (after ≡ stop ∷ rest)
 stop-sound stop front [] x rest e = absurd (cc)
 stop-sound stop front (byte ∷ after) x rest e =
-    let is = chosen (byte == stop) (Some (front, after)) (x, rest) e in
+    let is = if-parts (byte == stop) (Some (front, after)) (x, rest) e in
     let same : byte ≡ stop = (Decides-eqb byte stop).0 is.0 in
-    let pair : (front, after) ≡ (x, rest) = some-is (front, after) (x, rest) is.1 in
+    let pair : (front, after) ≡ (x, rest) = same_Some (front, after) (x, rest) is.1 in
     (ap (λ p. p.0) pair, (λ i. same i ∷ ap (λ p. p.1) pair i))
 
 bytes-sound : (stop n : ℕ) (text x rest : List ℕ) → bytes_at stop n text ≡ Some (x, rest)
@@ -130,7 +116,7 @@ bytes-sound stop n text x rest e = by (nat_lt (length text) n) refl e
     by true short e = absurd (cc)
     by false long e =
         let is = stop-sound stop (take n text) (drop n text) x rest e in
-        let enough : n ≤ length text = not-lt (length text) n long in (
+        let enough : n ≤ length text = ltb-false (length text) n long in (
           sym (take-append-drop n text) ∙ (λ i. is.0 i ++ is.1 i),
           ap length (sym is.0) ∙ omega (arith, enough, length-take n text),
         )
@@ -138,11 +124,11 @@ bytes-sound stop n text x rest e = by (nat_lt (length text) n) refl e
 bytes-complete : (stop : ℕ) (x rest : List ℕ) → bytes_at stop (length x) (x ++ (stop ∷ rest)) ≡ Some (x, rest)
 bytes-complete stop x rest =
     let long : nat_lt (length (x ++ (stop ∷ rest))) (length x) ≡ false =
-    lt-false (length (x ++ (stop ∷ rest))) (length x) (omega (arith, length-append x (stop ∷ rest))) in
+    le-ltb (length (x ++ (stop ∷ rest))) (length x) (omega (arith, length-append x (stop ∷ rest))) in
     ap (λ (b : Bool). if b then None else stopped stop (take (length x) (x ++ (stop ∷ rest)))
     (drop (length x) (x ++ (stop ∷ rest)))) long
     ∙ (λ i. stopped stop (take_at x (stop ∷ rest) (length x) refl i) (drop_at x (stop ∷ rest) (length x) refl i))
-    ∙ ap (λ (b : Bool). if b then Some (x, rest) else None) (same-eqb stop)
+    ∙ ap (λ (b : Bool). if b then Some (x, rest) else None) (eqb-self stop)
 
 colon-apart : (58 < 48) ⊎ (57 < 58)
 colon-apart = inr (omega arith)
@@ -154,7 +140,7 @@ module _ (stop : ℕ) where
   text-sound : (text x rest : List ℕ) → text_at stop text ≡ Some (x, rest)
       → (text ≡ text_field stop x ++ rest) × (length x ≤ greatest)
   text-sound text x rest e =
-      let found = done (λ (f : ℕ × List ℕ). bytes_at stop f.0 f.1) (number_at greatest 58 text) (x, rest) e in
+      let found = option_and_then-some (λ (f : ℕ × List ℕ). bytes_at stop f.0 f.1) (number_at greatest 58 text) (x, rest) e in
       let number = number-sound greatest 58 (omega arith) colon-apart text found.0.0 found.0.1 found.1 in
       let bytes = bytes-sound stop found.0.0 found.0.1 x rest found.2 in (
         number.0 ∙ (λ i. number_field 58 (sym bytes.1 i) ++ bytes.0 i) ∙ sym (regrouped x rest),
@@ -178,8 +164,8 @@ module _ {A B : Type 0} {s : A → List ℕ} {t : B → List ℕ} {F : A → Typ
   both-sound : (text : List ℕ) (x : A × B) (rest : List ℕ) → both_at r q text ≡ Some (x, rest)
       → (text ≡ (s x.0 ++ t x.1) ++ rest) × (F x.0 × G x.1)
   both-sound text x rest e =
-      let first = done (λ (a : A × List ℕ). option_map (λ (b : B × List ℕ). ((a.0, b.0), b.1)) (q a.1)) (r text) (x, rest) e in
-      let second = mapped (λ (b : B × List ℕ). ((first.0.0, b.0), b.1)) (q first.0.1) (x, rest) first.2 in
+      let first = option_and_then-some (λ (a : A × List ℕ). option_map (λ (b : B × List ℕ). ((a.0, b.0), b.1)) (q a.1)) (r text) (x, rest) e in
+      let second = option_map-some (λ (b : B × List ℕ). ((first.0.0, b.0), b.1)) (q first.0.1) (x, rest) first.2 in
       let a = one.sound text first.0.0 first.0.1 first.1 in
       let b = two.sound first.0.1 second.0.0 second.0.1 second.1 in
       let is_a : first.0.0 ≡ x.0 = ap (λ p. p.0.0) second.2 in
@@ -206,7 +192,7 @@ module _ {A B : Type 0} {s : A → List ℕ} {F : A → Type 0} {r : List ℕ �
   made-sound : (text : List ℕ) (x : B) (rest : List ℕ) → made_at make r text ≡ Some (x, rest)
       → (text ≡ s (back x) ++ rest) × F (back x)
   made-sound text x rest e =
-      let found = mapped (λ (a : A × List ℕ). (make a.0, a.1)) (r text) (x, rest) e in
+      let found = option_map-some (λ (a : A × List ℕ). (make a.0, a.1)) (r text) (x, rest) e in
       let a = one.sound text found.0.0 found.0.1 found.1 in
       let is : found.0.0 ≡ back x = sym (over found.0.0 a.1) ∙ ap (λ p. back p.0) found.2 in
       let is_rest : found.0.1 ≡ rest = ap (λ p. p.1) found.2 in
@@ -229,15 +215,15 @@ prefix-sound prefix text rest e = by (nat_lt (length text) (length prefix)) e
         then Some (drop (length prefix) text) else None) ≡ Some rest → text ≡ prefix ++ rest
     by true e = absurd (cc)
     by false e =
-        let is = chosen (bytes_eq (take (length prefix) text) prefix) (Some (drop (length prefix) text)) rest e in
+        let is = if-parts (bytes_eq (take (length prefix) text) prefix) (Some (drop (length prefix) text)) rest e in
         let front : take (length prefix) text ≡ prefix = (bytes_eq-Decides (take (length prefix) text) prefix).0 is.0 in
         sym (take-append-drop (length prefix) text)
-        ∙ (λ i. front i ++ some-is (drop (length prefix) text) rest is.1 i)
+        ∙ (λ i. front i ++ same_Some (drop (length prefix) text) rest is.1 i)
 
 pub prefix-complete : (prefix rest : List ℕ) → after_prefix prefix (prefix ++ rest) ≡ Some rest
 prefix-complete prefix rest =
     let long : nat_lt (length (prefix ++ rest)) (length prefix) ≡ false =
-    lt-false (length (prefix ++ rest)) (length prefix) (omega (arith, length-append prefix rest)) in
+    le-ltb (length (prefix ++ rest)) (length prefix) (omega (arith, length-append prefix rest)) in
     let front : bytes_eq (take (length prefix) (prefix ++ rest)) prefix ≡ true =
     (bytes_eq-Decides (take (length prefix) (prefix ++ rest)) prefix).1 (take_at prefix rest (length prefix) refl) in
     ap (λ (b : Bool). if b then None else if bytes_eq (take (length prefix) (prefix ++ rest)) prefix

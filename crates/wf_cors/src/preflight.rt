@@ -25,7 +25,7 @@ const MOST_LINES: usize = 9;
 const SAME_BYTES: usize = 107;
 
 // The names in a row, with a comma between each two.
-#[tactic(auto, using(crate::proofs::JoinLemmas::joined_first))]
+#[tactic(auto, using(value_lemmas::proofs::Lists::join_with_byte_cons))]
 fn comma_joined(alloc: Global, first: &Bytes, names: &[Bytes]) -> Result<Bytes, OutOfMemory>
     ensures { IfOk result (λ text. text ≡ join_with_byte comma (first.now ∷ names.now)) }
 {

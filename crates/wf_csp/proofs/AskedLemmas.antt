@@ -1,19 +1,16 @@
 -- Where no policy is asked there is no violation.
-use Rattle.std.proofs.Common.{◌≡◌, ◌+◌, ◌||◌, ℕ, Bool, true, false, List, [], ◌∷◌, Option, refl}
+use Rattle.std.proofs.Common.{◌≡◌, ◌+◌, ℕ, Bool, false, List, [], ◌∷◌, Option, refl}
+use Rattle.std.proofs.lemmas.Bool.{or_parts}
 use Rattle.std.specs.List.{list_any}
 use Rattle.wf_origin.specs.declared.origin.Origin.{Origin}
 use Rattle.wf_types.specs.declared.request.Request.{Request}
 use Rattle.wf_csp.specs.declared.compiled.CompiledPolicy.{CompiledPolicy}
 use Rattle.wf_csp.specs.Violations.{is_asked, violations_from}
 
-or-none : (a b : Bool) → (a || b) ≡ false → (a ≡ false) × (b ≡ false)
-or-none true b none = absurd (cc)
-or-none false b none = (refl, none)
-
 pub none_asked : (number : ℕ) (asked : Option Bool) (policies : List CompiledPolicy) (request : Request)
     (document : Origin) → list_any (is_asked asked) policies ≡ false
     → violations_from number asked policies request document ≡ []
 none_asked number asked [] request document none = refl
 none_asked number asked (policy ∷ policies) request document none =
-    let each = or-none (is_asked asked policy) (list_any (is_asked asked) policies) none in
+    let each = or_parts (is_asked asked policy) (list_any (is_asked asked) policies) none in
     rw each.0 (none_asked (number + 1) asked policies request document each.1)

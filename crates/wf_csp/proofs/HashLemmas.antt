@@ -6,13 +6,10 @@ use Rattle.std.specs.Cmp.{unsigned_ties, tied_then}
 use Rattle.std.specs.List.{list_any}
 use Rattle.std.specs.Ordering.{is_eq, nat_cmp, ordering_then}
 use Rattle.std.specs.declared.cmp.Ordering.{Ordering}
+use Rattle.value_lemmas.proofs.Tests.{cond-or}
 use Rattle.wf_text.specs.Orders.{text_cmp}
 use Rattle.wf_csp.specs.Private.Hashes.{is_in}
 use Rattle.wf_integrity.specs.declared.metadata.HashExpression.{HashExpression}
-
-cond-or : (b c : Bool) → cond b true c ≡ (b || c)
-cond-or true c = refl
-cond-or false c = refl
 
 -- the key of a hash-source
 abbrev pub Key : Type 0

@@ -1,7 +1,7 @@
 -- What is asked of the directives that are kept is the same as of all.
 use Rattle.std.proofs.Common.{◌≡◌, ◌∙◌, ◌+◌, ◌∷◌, ◌&&◌, ◌||◌, [], ℕ, Bool, true, false, not, List, Option, Some, None}
 use Rattle.std.proofs.Common.{refl, ap, sym, map, filter, codes, inl, inr, true≢false}
-use Rattle.std.proofs.lemmas.Bool.{cases_Bool}
+use Rattle.std.proofs.lemmas.Bool.{and_parts, cases_Bool}
 use Rattle.std.proofs.lemmas.Slice.Eq.{bytes_eq-Decides}
 use Rattle.std.specs.List.{list_all, list_any}
 use Rattle.std.specs.Option.{option_map_or, option_or}
@@ -17,10 +17,6 @@ use Rattle.wf_csp.specs.Private.Kept.{is_asked_for, kept_policy}
 use Rattle.wf_csp.specs.Reading.{read_directive, read_policy}
 use Rattle.wf_csp.specs.SourceLists.{passes}
 use Rattle.wf_csp.specs.Violations.{is_violated, upgrades_policy, violations_from}
-
-both : (a b : Bool) → (a && b) ≡ true → (a ≡ true) × (b ≡ true)
-both true b is = (refl, is)
-both false b is = absurd (cc)
 
 -- whatever names are kept
 module _ (keeps : List ℕ → Bool) where
@@ -50,7 +46,7 @@ module _ (keeps : List ℕ → Bool) where
       ≡ deciding_sources names (map read_directive directives)
   deciding-kept [] are directives = refl
   deciding-kept (name ∷ names) are directives =
-      let each = both (keeps name) (list_all keeps names) are in
+      let each = and_parts (keeps name) (list_all keeps names) are in
       rw (named-kept name each.0 directives, deciding-kept names each.1 directives) refl
 
   has-kept : (name : List ℕ) → keeps name ≡ true → (directives : List Directive)

@@ -1,6 +1,6 @@
 -- Pieces of paths: two that decode to the same bytes, the first one, all but the last, and two paths walked through
 -- together.
-use Rattle.std.proofs.Common.{◌≡◌, ◌∙◌, ◌&&◌, ◌==◌, ◌<◌, ◌≤◌, ◌+◌, ◌-◌, ℕ, Bool, true, false, cond, nat_eq}
+use Rattle.std.proofs.Common.{◌≡◌, ◌∙◌, ◌&&◌, ◌==◌, ◌<◌, ◌+◌, ◌-◌, ℕ, Bool, true, false, cond, nat_eq}
 use Rattle.std.proofs.Common.{List, [], ◌∷◌, ◌++◌, bytes_eq, length, take, drop, refl, sym, ap, arith}
 use Rattle.std.proofs.Common.{Option, Some, None, MatchOption, IfSome}
 use Rattle.std.proofs.lemmas.Grind.{common_steps}
@@ -11,6 +11,7 @@ use Rattle.std.proofs.lemmas.List.Splits.{length-slice_split, slice_split_first}
 use Rattle.std.specs.Cmp.Lexicographic.{pointwise}
 use Rattle.std.specs.Iterator.{ComparesItemsByEq, YieldsFirst, YieldsThen}
 use Rattle.std.specs.List.{AllZip, onto_first, position, position_or_len, slice_split}
+use Rattle.value_lemmas.proofs.Lists.{slice_split-whole}
 use Rattle.wf_text.specs.Ascii.{slash}
 use Rattle.wf_csp_match.specs.Paths.{goes_on, path_part_matches, pieces, same_piece, without_last}
 use Rattle.wf_csp_match.specs.Private.Walking.{walks}
@@ -48,14 +49,9 @@ module _ {S : Type 0} (shown : S → List ℕ) (r : Bool) where
 
 -- ---- the first piece
 
--- a list that no element cuts is one part
-uncut : (p : ℕ → Bool) (xs : List ℕ) → length xs ≤ position_or_len p xs → slice_split p xs ≡ xs ∷ []
-uncut p [] h = refl
-uncut p (x ∷ xs) h = grind (arith, common_steps, uncut p xs)
-
 -- where there is no slash, the path is one piece
 pub pieces_uncut : (path : List ℕ) → position (λ byte. byte == slash) path ≡ None → pieces path ≡ path ∷ []
-pieces_uncut path none = uncut (λ byte. byte == slash) path (grind (arith, common_steps))
+pieces_uncut path none = slice_split-whole (λ byte. byte == slash) path (grind (arith, common_steps))
 
 -- else the first piece ends at the first slash
 pub pieces_cut : (path : List ℕ) (index : ℕ) → position (λ byte. byte == slash) path ≡ Some index

@@ -6,33 +6,23 @@ use Rattle.std.proofs.lemmas.List.Elements.{filter_map-append}
 use Rattle.std.proofs.lemmas.List.Folds.{list_any-append}
 use Rattle.std.specs.Prelude.{bytes_eq, option_map}
 use Rattle.std.specs.BTreeSet.{insert_key}
-use Rattle.std.specs.Cmp.Lexicographic.{bytes_decides, texts_ties}
+use Rattle.std.specs.Cmp.Lexicographic.{texts_ties}
 use Rattle.std.specs.List.{cons_option, list_any}
 use Rattle.std.specs.Ordering.{is_eq, match_ordering}
 use Rattle.std.specs.declared.cmp.Ordering.{Ordering}
 use Rattle.std.specs.declared.cmp.Ordering.TheVariants.{Equal, Greater, Less}
+use Rattle.value_lemmas.proofs.Tests.{or-again, or-left_comm}
+use Rattle.value_lemmas.proofs.Bytes.{slice_cmp-equal}
 use Rattle.wf_text.specs.Orders.{text_cmp}
 use Rattle.wf_csp_text.specs.Private.Collecting.{AreNames, directives_in, is_key, is_new, key_cmp, with_found}
 use Rattle.wf_csp_text.specs.Policies.{directive_of}
 use Rattle.wf_csp_text.specs.declared.policy.Directive.{Directive}
-
-twice : (b c : Bool) → (b || c) ≡ (b || (b || c))
-twice true c = refl
-twice false c = refl
-
-swapped : (a b c : Bool) → (a || (b || c)) ≡ (b || (a || c))
-swapped true true c = refl
-swapped true false c = refl
-swapped false b c = refl
 
 at-end : (a b : Bool) → (a || b) ≡ (b || (a || false))
 at-end true true = refl
 at-end true false = refl
 at-end false true = refl
 at-end false false = refl
-
-text-equal : (a b : List ℕ) → is_eq (text_cmp a b) ≡ true → a ≡ b
-text-equal a b same = (bytes_decides a b).0 (texts_ties a b ∙ same)
 
 module _ {K : Type 0} (bytes : K → List ℕ) where
   inserted-by : (name : List ℕ) (k x : K) (keys : List K) (o : Ordering) → text_cmp (bytes k) (bytes x) ≡ o
@@ -44,11 +34,11 @@ module _ {K : Type 0} (bytes : K → List ℕ) where
   inserted-by name k x keys Less is rest = refl
   inserted-by name k x keys Equal is rest =
       let same : is_key bytes name k ≡ is_key bytes name x =
-      ap (λ (b : List ℕ). is_eq (text_cmp name b)) (text-equal (bytes k) (bytes x) (ap is_eq is)) in
-      rw same (twice (is_key bytes name x) (list_any (is_key bytes name) keys))
+      ap (λ (b : List ℕ). is_eq (text_cmp name b)) (slice_cmp-equal (bytes k) (bytes x) (ap is_eq is)) in
+      rw same (or-again (is_key bytes name x) (list_any (is_key bytes name) keys))
   inserted-by name k x keys Greater is rest =
       ap (λ (b : Bool). is_key bytes name x || b) rest
-      ∙ swapped (is_key bytes name x) (is_key bytes name k) (list_any (is_key bytes name) keys)
+      ∙ or-left_comm (is_key bytes name x) (is_key bytes name k) (list_any (is_key bytes name) keys)
 
   any-inserted : (name : List ℕ) (k : K) (keys : List K)
       → list_any (is_key bytes name) (insert_key (key_cmp bytes) keys k)

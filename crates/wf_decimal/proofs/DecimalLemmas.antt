@@ -1,7 +1,7 @@
 -- Words are read as the numbers that they write.
 use Rattle.std.proofs.Common.{◌≡◌, ◌≤◌, ◌<◌, ◌^◌, ℕ, suc, zero, Bool, true, List, [], ◌∷◌, length, get_or}
 use Rattle.std.proofs.Common.{refl, ap, sym, ◌∙◌, arith, Some, ◌⊎◌}
-use Rattle.std.proofs.lemmas.Bool.{and_parts, le-leb, leb-true}
+use Rattle.std.proofs.lemmas.Bool.{and_from, and_parts, le-leb, leb-true}
 use Rattle.std.proofs.lemmas.Bool.Decides.{nat_tests}
 use Rattle.std.proofs.lemmas.Fmt.{decimal-digits_value, decimal_nonempty, digits_decimal, digits_value-decimal}
 use Rattle.std.proofs.lemmas.Fmt.{decimal_digit, first_decimal}
@@ -11,10 +11,10 @@ use Rattle.std.specs.Char.{is_ascii_digit}
 use Rattle.std.specs.Int.{IsInRange}
 use Rattle.std.specs.List.{list_all}
 use Rattle.std.specs.Str.Parse.{digits_value}
+use Rattle.value_lemmas.proofs.Options.{if-from, if-parts}
 use Rattle.wf_text.specs.Digits.{is_digits}
 use Rattle.wf_decimal.specs.Decimals.{begins_with_zero, is_number}
 use Rattle.wf_decimal.specs.Laws.{ReadsDecimals, ReadsOnlyDecimals}
-use Rattle.wf_decimal.proofs.TestLemmas.{and-both, and-left, and-right, choose, chosen}
 
 -- ---- numbers
 
@@ -31,10 +31,10 @@ digits-test : IsDigitsTest AreDigits
 digits-test = record {
   empty = refl;
   parts = λ byte text e. (
-    in-range byte (and-left (is_ascii_digit byte) (list_all is_ascii_digit text) e),
-    and-right (is_ascii_digit byte) (list_all is_ascii_digit text) e,
+    in-range byte (and_parts (is_ascii_digit byte) (list_all is_ascii_digit text) e).0,
+    (and_parts (is_ascii_digit byte) (list_all is_ascii_digit text) e).1,
   );
-  more = λ byte text in_range e. and-both (is_ascii_digit byte) (list_all is_ascii_digit text)
+  more = λ byte text in_range e. and_from (is_ascii_digit byte) (list_all is_ascii_digit text)
       (is-in-range byte in_range) e;
 }
 
@@ -69,7 +69,7 @@ number-text word e =
 
 pub number-writes : ReadsOnlyDecimals
 number-writes most word n e =
-    let is = chosen (is_number word && nat_le (digits_value 10 word) most) (Some (digits_value 10 word)) n e in
+    let is = if-parts (is_number word && nat_le (digits_value 10 word) most) (Some (digits_value 10 word)) n e in
     let value : digits_value 10 word ≡ n = cc in
     let fits = and_parts (is_number word) (nat_le (digits_value 10 word) most) is.0 in
     let text = number-text word fits.0 in
@@ -98,13 +98,13 @@ pub number-read : ReadsDecimals
 number-read most n few small =
     let text = decimal n in
     let value : digits_value 10 text ≡ n = digits_value-decimal model n small in
-    let digits = and-both (not (length text == 0)) (list_all is_ascii_digit text)
+    let digits = and_from (not (length text == 0)) (list_all is_ascii_digit text)
     (some-length text (decimal_nonempty n small)) (digits-of n small) in
-    let plain = and-both (is_digits text) (is_plain text) digits (plain-start n small) in
-    let is = and-both (is_digits text && is_plain text) (is_small text) plain
+    let plain = and_from (is_digits text) (is_plain text) digits (plain-start n small) in
+    let is = and_from (is_digits text && is_plain text) (is_small text) plain
     (le-leb (digits_value 10 text) 18446744073709551615 (omega (arith, value, small))) in
-    choose (is_number text && nat_le (digits_value 10 text) most) (Some (digits_value 10 text)) n
-    (and-both (is_number text) (nat_le (digits_value 10 text) most) is
+    if-from (is_number text && nat_le (digits_value 10 text) most) (Some (digits_value 10 text)) n
+    (and_from (is_number text) (nat_le (digits_value 10 text) most) is
     (le-leb (digits_value 10 text) most (omega (arith, value, few)))) (ap Some value)
 
 -- a number has digits alone
@@ -114,9 +114,9 @@ lacks byte text = list_all (λ other. not (other == byte)) text
 digits-lack : (byte : ℕ) → (byte < 48) ⊎ (57 < byte) → (text : List ℕ) → AreDigits text → lacks byte text ≡ true
 digits-lack byte other [] e = refl
 digits-lack byte other (digit ∷ text) e =
-    let in_range = in-range digit (and-left (is_ascii_digit digit) (list_all is_ascii_digit text) e) in
-    let rest = digits-lack byte other text (and-right (is_ascii_digit digit) (list_all is_ascii_digit text) e) in
-    and-both (not (digit == byte)) (lacks byte text) (grind (arith, nat_tests, in_range, other)) rest
+    let in_range = in-range digit (and_parts (is_ascii_digit digit) (list_all is_ascii_digit text) e).0 in
+    let rest = digits-lack byte other text (and_parts (is_ascii_digit digit) (list_all is_ascii_digit text) e).1 in
+    and_from (not (digit == byte)) (lacks byte text) (grind (arith, nat_tests, in_range, other)) rest
 
 pub number-lacks : (byte : ℕ) → (byte < 48) ⊎ (57 < byte) → (n : ℕ) → n < 2 ^ 64 → lacks byte (decimal n) ≡ true
 number-lacks byte other n small = digits-lack byte other (decimal n) (digits-of n small)

@@ -1,6 +1,7 @@
 -- The request after a redirect is a request.
-use Rattle.std.proofs.Common.{◌≡◌, ◌∙◌, ◌<◌, ◌&&◌, ◌∷◌, ◌++◌, [], ℕ, Bool, true, false, List}
+use Rattle.std.proofs.Common.{◌≡◌, ◌∙◌, ◌<◌, ◌∷◌, ◌++◌, [], ℕ, Bool, true, false, List}
 use Rattle.std.proofs.Common.{refl, ap, sym, subst, arith, cond, length}
+use Rattle.std.proofs.lemmas.Bool.{and_from, and_parts}
 use Rattle.std.specs.Prelude.{IsTrue, unwrap_or, Some, None}
 use Rattle.std.specs.List.{last_or}
 use Rattle.url.specs.Parts.{Parts}
@@ -58,25 +59,13 @@ policy_stays headers request next before = record {
 
 -- ---- one URL more
 
-both : (a b : Bool) → IsTrue a → IsTrue b → IsTrue (a && b)
-both true b first second = second
-both false b first second = first
-
-first-of : (a b : Bool) → IsTrue (a && b) → IsTrue a
-first-of true b e = refl
-first-of false b e = e
-
-second-of : (a b : Bool) → IsTrue (a && b) → IsTrue b
-second-of true b e = e
-second-of false b e = absurd (grind arith)
-
 were_http-more : (one : Parts) (urls : List Parts) (url : Parts) → IsTrue (were_http (one ∷ urls))
     → IsTrue (is_http_url (unwrap_or (last_or (Some one) urls) no_url))
     → IsTrue (were_http (one ∷ (urls ++ url ∷ [])))
-were_http-more one [] url were last = both (is_http_url one) true last refl
+were_http-more one [] url were last = and_from (is_http_url one) true last refl
 were_http-more one (two ∷ urls) url were last =
-    both (is_http_url one) _ (first-of (is_http_url one) _ were)
-    (were_http-more two urls url (second-of (is_http_url one) _ were) last)
+    and_from (is_http_url one) _ (and_parts (is_http_url one) _ were).0
+    (were_http-more two urls url (and_parts (is_http_url one) _ were).1 last)
 
 were_http-and : (urls : List Parts) (url : Parts) → IsTrue (were_http urls)
     → IsTrue (is_http_url (unwrap_or (last_or None urls) no_url)) → IsTrue (were_http (urls ++ url ∷ []))

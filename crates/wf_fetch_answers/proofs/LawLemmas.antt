@@ -1,7 +1,7 @@
 -- Each rule that looks at a head comes to the same on the head's permitted view.
 use Rattle.std.proofs.Common.{◌≡◌, ◌≢◌, ◌∙◌, ◌&&◌, ◌||◌, ◌==◌, ◌∷◌, [], ℕ, Bool, true, false, not, cond, List, codes}
 use Rattle.std.proofs.Common.{arith, refl, ap, sym, Option, Some, None, inl, inr}
-use Rattle.std.proofs.lemmas.Bool.{cases_Bool, true≢false}
+use Rattle.std.proofs.lemmas.Bool.{cases_Bool, not-true, or_left, or_right, true≢false}
 use Rattle.std.proofs.lemmas.Grind.{common_steps}
 use Rattle.std.specs.Option.{option_or}
 use Rattle.std.specs.Prelude.{IsTrue}
@@ -51,10 +51,6 @@ use Rattle.wf_fetch_answers.specs.Redirects.{redirection_where, shows_credential
 denied : (a : Bool) → a ≡ false → IsTrue (not a)
 denied a e = rw e refl
 
-negated : (a : Bool) → IsTrue (not a) → a ≡ false
-negated true e = absurd (grind arith)
-negated false e = refl
-
 -- ---- refusals
 
 -- no error is there where the test fails
@@ -98,7 +94,7 @@ checks-same tainting.Opaque request hop head is sent =
 pub keeps_refusal : KeepsRefusal
 keeps_refusal request hop head sent =
     let view = permitted_view request hop head in
-    let checks = checks-same request.tainting request hop head refl (negated hop.preflight sent) in
+    let checks = checks-same request.tainting request hop head refl (not-true hop.preflight sent) in
     let after =
     λ (w : Head) (check : Option NetError). option_or check (then_some (is_error request w) RedirectMode) in
     elim (cases_Bool (is_refused request head.headers)) [
@@ -291,13 +287,6 @@ body-same request view head manual same responses =
     (coded-same view head same.coding)
     ∙ ap (unblocked request (is_bodiless request head) (is_coded head)) responses
 
-first-or : (a b : Bool) → a ≡ true → (a || b) ≡ true
-first-or a b e = rw e refl
-
-second-or : (a b : Bool) → b ≡ true → (a || b) ≡ true
-second-or true b e = refl
-second-or false b e = e
-
 unblocked-same : (request : Request) (hop : Hop) (head : Head) → IsResponse request hop head
     → ended_unblocked request (permitted_view request hop head) ≡ ended_unblocked request head
 unblocked-same request hop head response =
@@ -308,18 +297,18 @@ unblocked-same request hop head response =
     elim (cases_Bool opaque) [
       | inl is ↦
           bodiless-same request view head
-          (first-or (opaque || is_manual request view) (has_null_body request view)
-          (first-or opaque (is_manual request view) is))
-          (first-or (opaque || is_manual request head) (has_null_body request head)
-          (first-or opaque (is_manual request head) is))
+          (or_left (opaque || is_manual request view) (has_null_body request view)
+          (or_left opaque (is_manual request view) is))
+          (or_left (opaque || is_manual request head) (has_null_body request head)
+          (or_left opaque (is_manual request head) is))
           responses
       | inr plain ↦ elim (cases_Bool (is_manual request head)) [
         | inl is ↦
             bodiless-same request view head
-            (first-or (opaque || is_manual request view) (has_null_body request view)
-            (second-or opaque (is_manual request view) (manual ∙ is)))
-            (first-or (opaque || is_manual request head) (has_null_body request head)
-            (second-or opaque (is_manual request head) is))
+            (or_left (opaque || is_manual request view) (has_null_body request view)
+            (or_right opaque (is_manual request view) (manual ∙ is)))
+            (or_left (opaque || is_manual request head) (has_null_body request head)
+            (or_right opaque (is_manual request head) is))
             responses
         | inr not ↦
             body-same request view head manual

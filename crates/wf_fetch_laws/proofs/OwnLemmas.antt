@@ -1,8 +1,7 @@
 -- What a fetch asks of the shared book is in range and of its client's key, and not too much.
-use Rattle.std.proofs.Common.{◌≡◌, ◌≤◌, ◌<◌, ◌^◌, ℕ, true, List, Option, Some, None, refl, arith}
+use Rattle.std.proofs.Common.{◌≤◌, ◌<◌, ◌^◌, ℕ, List, Option, Some, None, refl, arith}
 use Rattle.std.specs.Prelude.{IfSome, option_and_then, option_map}
-use Rattle.std.specs.Str.{bytes_eq}
-use Rattle.std.specs.Cmp.Lexicographic.{bytes_decides}
+use Rattle.value_lemmas.proofs.Bytes.{bytes_eq-self}
 use Rattle.wf_book.specs.declared.op.Op.{Op}
 use Rattle.wf_book.specs.declared.op.Op.TheVariants.{Match, Note}
 use Rattle.wf_book.specs.Ops.{InRange}
@@ -46,9 +45,6 @@ any-within prices context request = within-fetch prices context AnyAct (any-kept
 
 -- ---- its own acts
 
-same-key : (key : List ℕ) → bytes_eq key key ≡ true
-same-key key = (bytes_decides key key).1 refl
-
 own-match : (context : Context) (host : Option (List ℕ))
     → IfSome (option_map (λ name. Match name context.now) host) InRange
     → IfSome (option_map (λ name. Match name context.now) host) (IsOwnOp context)
@@ -65,11 +61,11 @@ own-note context (Some name) (Some sts) fits = (fits, refl)
 own-kept : (context : Context) → context.now < 2 ^ 48 → Keeps context (IsOwnAct context)
 own-kept context early = record {
   known = λ request. own-match context (host_to_match request) (match-in-range context.now request early);
-  covers = λ request. ((early, tt), same-key context.client.key);
+  covers = λ request. ((early, tt), bytes_eq-self context.client.key);
   note = λ request head.
       own-note context (host_to_note request) (sts_of head) (note-in-range context.now request head early);
-  learn = λ request age methods names small. ((early, small), same-key context.client.key);
-  clear = λ request. ((early, tt), same-key context.client.key);
+  learn = λ request age methods names small. ((early, small), bytes_eq-self context.client.key);
+  clear = λ request. ((early, tt), bytes_eq-self context.client.key);
   send = λ request hop. tt;
   head = λ request. tt;
   body = λ request. tt;

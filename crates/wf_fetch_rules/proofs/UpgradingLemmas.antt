@@ -3,11 +3,12 @@ use Rattle.std.proofs.Common.{◌≡◌, ◌≢◌, ◌∙◌, ◌<◌, ◌^◌,
 use Rattle.std.proofs.Common.{refl, sym, ap, arith}
 use Rattle.std.specs.Prelude.{codes, IsTrue, IfSome, Option, Some, None, Ok, unwrap_or}
 use Rattle.std.specs.List.{last_or}
+use Rattle.wf_types.proofs.TargetLemmas.{https-kind}
 use Rattle.url.specs.declared.scheme.SchemeType.TheVariants.{SpecialNotFile}
 use Rattle.url.specs.Input.{split_once, strip_tabs_and_new_lines}
 use Rattle.url.specs.Parser.{without_default_port}
 use Rattle.url.specs.Parts.{Parts, IsValid}
-use Rattle.url.specs.Scheme.{default_port, scheme_len, scheme_type}
+use Rattle.url.specs.Scheme.{default_port, scheme_len}
 use Rattle.url.specs.Setters as setters
 use Rattle.wf_fetch_rules.specs.Upgrading.{secured, with_https, with_last}
 use Rattle.wf_types.specs.declared.request.Request.{Request}
@@ -15,10 +16,6 @@ use Rattle.wf_types.specs.Requests.{IsAtHttp, IsRequest, current_url, no_url, we
 use Rattle.wf_types.specs.Urls.{IsWeb}
 
 -- ---- the setter
-
-https-kind : scheme_type (codes "https") ≡ SpecialNotFile
-unfolding scheme_type default_port
-https-kind = refl
 
 https-port : default_port (codes "https") ≡ Some 443
 unfolding default_port

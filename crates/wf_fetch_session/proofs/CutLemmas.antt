@@ -1,7 +1,8 @@
 -- How an answer is cut does not matter.
-use Rattle.std.proofs.Common.{◌≡◌, ℕ, ◌+◌, ◌≤◌, ◌<◌, List, [], ◌++◌, length, refl, ap, sym, ◌∙◌, subst, append_assoc}
+use Rattle.std.proofs.Common.{◌≡◌, ℕ, ◌+◌, List, [], ◌++◌, length, refl, ap, sym, ◌∙◌, subst, append_assoc}
 use Rattle.std.proofs.Common.{length-append, inl, inr, arith}
 use Rattle.std.specs.Prelude.{Option, Some, None}
+use Rattle.wf_http1.proofs.AnswerLemmas.{long-not-short}
 use Rattle.wf_fetch_acts.specs.declared.act.Act.{Act}
 use Rattle.wf_fetch_acts.specs.declared.act.Act.TheVariants as acts
 use Rattle.wf_fetch_acts.specs.declared.act.Input.TheVariants.{BodyIs, HeadBad, HeadIs, HeadLong}
@@ -51,12 +52,6 @@ no_bad bytes found unfinished = unfinished.undecided found.0 found.1.decided.dec
 no_final : (bytes : List ℕ) (h : Head) (n : ℕ) → IsFinal bytes h n → IsUnfinished bytes → ⊥
 no_final bytes h n found unfinished = unfinished.undecided n found.decided.decides
 
-no_long : (bytes : List ℕ) → IsTooLong bytes → IsUnfinished bytes → ⊥
-no_long bytes found unfinished =
-    let many : 65536 < length bytes = found.long in
-    let few : length bytes ≤ 65536 = unfinished.short in
-    omega arith
-
 -- the ends of one answer's head are one
 apart_bad : HasOneEnd → (bytes : List ℕ) (h : Head) (n : ℕ) → IsFinal bytes h n → HasBadBlock bytes → ⊥
 apart_bad one bytes h n found block = let e : final h n ≡ bad = one bytes (final h n) bad found (inl block) in cc
@@ -83,7 +78,7 @@ heads_join one end standing next joined front back bytes used all (head.More a) 
 heads_join one end standing next joined front back bytes used all (head.More a) head.Bad says_a says_b goes_a goes_b =
     absurd (no_bad bytes says_b says_a.1)
 heads_join one end standing next joined front back bytes used all (head.More a) head.TooBig says_a says_b goes_a goes_b =
-    absurd (no_long bytes says_b says_a.1)
+    absurd (long-not-short bytes says_b says_a.1)
 heads_join one end standing next joined front back bytes used all (head.Final h n) (head.More b) says_a says_b goes_a goes_b =
     absurd (no_final bytes h (length standing.read + length front + n) says_a says_b.1)
 heads_join one end standing next joined front back bytes used all (head.Final h n) (head.Final i m) says_a says_b goes_a goes_b =
@@ -105,7 +100,7 @@ heads_join one end standing next joined front back bytes used all head.Bad head.
 heads_join one end standing next joined front back bytes used all head.Bad head.TooBig says_a says_b goes_a goes_b =
     absurd (apart_two end bytes says_a says_b)
 heads_join one end standing next joined front back bytes used all head.TooBig (head.More b) says_a says_b goes_a goes_b =
-    absurd (no_long bytes says_a says_b.1)
+    absurd (long-not-short bytes says_a says_b.1)
 heads_join one end standing next joined front back bytes used all head.TooBig (head.Final h n) says_a says_b goes_a goes_b =
     absurd (apart_long end bytes h (length standing.read + n) says_b says_a)
 heads_join one end standing next joined front back bytes used all head.TooBig head.Bad says_a says_b goes_a goes_b =

@@ -1,7 +1,8 @@
 -- Each rule of a fetch that looks at a head comes to the same on its permitted view.
 use Rattle.std.proofs.Common.{◌≡◌, ◌&&◌, ◌||◌, ◌∷◌, [], ℕ, Bool, true, false, not, List, codes, filter}
 use Rattle.std.proofs.Common.{arith, refl, ap, sym, ◌∙◌, subst, Option, Some, None, inl, inr}
-use Rattle.std.proofs.lemmas.Bool.{cases_Bool}
+use mathlib.Core.Bool.{and-false}
+use Rattle.std.proofs.lemmas.Bool.{and_parts, cases_Bool, not-true}
 use Rattle.std.proofs.lemmas.Slice.Eq.{bytes_eq-Decides}
 use Rattle.std.specs.Prelude.{IsTrue, bytes_eq}
 use Rattle.wf_headers.specs.declared.headers.Header.{Header}
@@ -22,7 +23,7 @@ use Rattle.wf_types.specs.declared.request.Request.{Request}
 use Rattle.wf_types.specs.Modes.{is_cors_tainted, is_error_mode, is_follow, is_manual_mode}
 use Rattle.policy_checks.specs.PermittedNames.{preflight_names}
 use Rattle.wf_types.specs.Statuses.{is_redirect_status}
-use Rattle.wf_filter.proofs.OwnViewLemmas.{both-second, cors-checked, cors-safelisted, fewer, view_by}
+use Rattle.wf_filter.proofs.OwnViewLemmas.{cors-checked, cors-safelisted, fewer, view_by}
 use Rattle.wf_filter.proofs.ViewLemmas.{IsOneOf, Keeps, KeepsChecked, basic-named, contains-fewer, contains-kept}
 use Rattle.wf_filter.proofs.ViewLemmas.{cors-told, filter-twice, told-checked, told-named}
 use Rattle.wf_filter.specs.Blocks.{is_nosniff_blocked, is_script, is_style, is_type_blocked}
@@ -36,16 +37,6 @@ use Rattle.policy_checks.specs.ResourcePolicy.{is_blocked}
 use Rattle.wf_filter.specs.Views.{is_refused, is_told, is_told_cors, is_unfollowed}
 use Rattle.policy_checks.specs.CorsCheck.{passes_check}
 use Rattle.wf_filter.specs.Views.{permitted_view, redirect_names, response_names, response_view, type_names}
-
--- ---- tests
-
-negated : (a : Bool) → IsTrue (not a) → a ≡ false
-negated true e = absurd (grind arith)
-negated false e = refl
-
-both-first : (a b : Bool) → (a && b) ≡ true → a ≡ true
-both-first true b e = refl
-both-first false b e = absurd (grind arith)
 
 -- ---- what the checks rest on
 
@@ -163,8 +154,8 @@ blocked-same request a b policies = rw policies refl
 pub keeps_resource_policy : KeepsResourcePolicy
 keeps_resource_policy request hop head asked =
     let policy = codes "Cross-Origin-Resource-Policy" in
-    let sent = negated hop.preflight (both-first (not hop.preflight) (is_opaque_tainted request.tainting) asked) in
-    let opaque = both-second (not hop.preflight) (is_opaque_tainted request.tainting) asked in
+    let sent = not-true hop.preflight (and_parts (not hop.preflight) (is_opaque_tainted request.tainting) asked).0 in
+    let opaque = (and_parts (not hop.preflight) (is_opaque_tainted request.tainting) asked).1 in
     blocked-same request (permitted_view request hop head).headers head.headers
     (checked-values request hop head policy sent (opaque-within request.tainting policy opaque refl))
 
@@ -230,9 +221,9 @@ redirect-by : (unfollowed followed : Bool) (request : Request) (head : Head)
     → is_unfollowed request head ≡ unfollowed → is_followed request head ≡ followed
     → IsSameRedirect request (view_by false unfollowed followed request head) head
 redirect-by true followed request head u f =
-    let is = both-first (is_redirect_status head.status) (not (is_follow request.redirect)) u in
-    let not_followed = negated (is_follow request.redirect)
-    (both-second (is_redirect_status head.status) (not (is_follow request.redirect)) u) in
+    let is = (and_parts (is_redirect_status head.status) (not (is_follow request.redirect)) u).0 in
+    let not_followed = not-true (is_follow request.redirect)
+    (and_parts (is_redirect_status head.status) (not (is_follow request.redirect)) u).1 in
     record {
       error = rw is refl;
       manual = rw is refl;
@@ -250,7 +241,7 @@ redirect-by false false request head u f = response-redirect request.tainting re
 
 pub keeps_redirect : KeepsRedirect
 keeps_redirect request hop head allowed =
-    rw (negated hop.preflight allowed.sent, negated (is_refused request head.headers) allowed.allowed)
+    rw (not-true hop.preflight allowed.sent, not-true (is_refused request head.headers) allowed.allowed)
     (redirect-by (is_unfollowed request head) (is_followed request head) request head refl refl)
 
 pub keeps_target : KeepsTarget
@@ -259,8 +250,8 @@ keeps_target request hop head allowed followed =
     let location = codes "Location" in
     let policy = codes "Referrer-Policy" in
     rw (
-      negated hop.preflight allowed.sent,
-      negated (is_refused request head.headers) allowed.allowed,
+      not-true hop.preflight allowed.sent,
+      not-true (is_refused request head.headers) allowed.allowed,
       followed-not_unfollowed (is_redirect_status head.status) (is_follow request.redirect)
           (contains location head.headers)
           followed,
@@ -306,14 +297,14 @@ filtered-by_tests false request head u f no_error =
 
 pub keeps_filtered : KeepsFiltered
 keeps_filtered request hop head response =
-    let followed = negated (is_followed request head) response.last in
+    let followed = not-true (is_followed request head) response.last in
     rw (
-      negated hop.preflight response.allowed.sent,
-      negated (is_refused request head.headers) response.allowed.allowed,
+      not-true hop.preflight response.allowed.sent,
+      not-true (is_refused request head.headers) response.allowed.allowed,
       followed,
     )
     (filtered-by_tests (is_unfollowed request head) request head refl followed
-    (negated (is_error request head) response.no_error))
+    (not-true (is_error request head) response.no_error))
 
 -- ---- what a response is blocked for
 
@@ -330,13 +321,9 @@ types-same : (destination : Destination) (a b : List Header)
     → SameBlock destination a b
 types-same destination a b types options = (rw types refl, rw (types, options) refl)
 
-not-script : (essence : Option (List ℕ)) → mime_blocked essence false ≡ false
+pub not-script : (essence : Option (List ℕ)) → mime_blocked essence false ≡ false
 not-script None = refl
 not-script (Some essence) = refl
-
-and-false : (a : Bool) → (a && false) ≡ false
-and-false true = refl
-and-false false = refl
 
 -- another destination than script and style blocks nothing
 types-none : (destination : Destination) (a b : List Header) → is_script destination ≡ false
@@ -394,8 +381,8 @@ blocks-by : (unfollowed : Bool) (request : Request) (head : Head) → is_unfollo
     → IsTrue (is_follow request.redirect || is_fetch request.destination)
     → SameBlock request.destination (view_by false unfollowed false request head).headers head.headers
 blocks-by true request head u plain =
-    let not_followed = negated (is_follow request.redirect)
-    (both-second (is_redirect_status head.status) (not (is_follow request.redirect)) u) in
+    let not_followed = not-true (is_follow request.redirect)
+    (and_parts (is_redirect_status head.status) (not (is_follow request.redirect)) u).1 in
     fetch-none request.destination (view_by false true false request head).headers head.headers
     (rw not_followed at plain)
 blocks-by false request head u plain = response-types request.tainting request head
@@ -404,9 +391,9 @@ pub keeps_blocking : KeepsBlocking
 keeps_blocking request hop head response plain =
     let same = blocks-by (is_unfollowed request head) request head refl plain in
     rw (
-      negated hop.preflight response.allowed.sent,
-      negated (is_refused request head.headers) response.allowed.allowed,
-      negated (is_followed request head) response.last,
+      not-true hop.preflight response.allowed.sent,
+      not-true (is_refused request head.headers) response.allowed.allowed,
+      not-true (is_followed request head) response.last,
     )
     (record { kind = same.0; nosniff = same.1 })
 
@@ -442,9 +429,9 @@ body-by false request head u no_error no_manual other = response-body request.ta
 pub keeps_body : KeepsBody
 keeps_body request hop head response no_manual other =
     rw (
-      negated hop.preflight response.allowed.sent,
-      negated (is_refused request head.headers) response.allowed.allowed,
-      negated (is_followed request head) response.last,
+      not-true hop.preflight response.allowed.sent,
+      not-true (is_refused request head.headers) response.allowed.allowed,
+      not-true (is_followed request head) response.last,
     )
-    (body-by (is_unfollowed request head) request head refl (negated (is_error request head) response.no_error)
-    (negated (is_manual request head) no_manual) other)
+    (body-by (is_unfollowed request head) request head refl (not-true (is_error request head) response.no_error)
+    (not-true (is_manual request head) no_manual) other)

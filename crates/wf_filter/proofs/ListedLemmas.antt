@@ -1,11 +1,12 @@
 -- What is found in a set of exposed names is what is found in the list of them.
 use Rattle.std.proofs.Common.{◌≡◌, ◌||◌, ◌&&◌, ◌∷◌, [], ℕ, Bool, true, false, List, filter, refl, ◌∙◌}
 use Rattle.std.proofs.Common.{inl, inr}
-use Rattle.std.proofs.lemmas.Bool.{cases_Bool}
+use Rattle.std.proofs.lemmas.Bool.{cases_Bool, or_right}
 use Rattle.std.specs.Prelude.{bytes_eq}
 use Rattle.std.specs.Cmp.Lexicographic.{bytes_decides, nat_list_eq_equiv}
 use Rattle.std.specs.List.{list_any}
 use Rattle.std.specs.Str.{str_eq_ignore_ascii_case, str_to_ascii_lowercase}
+use Rattle.value_lemmas.proofs.Bytes.{bytes_eq-self}
 use Rattle.wf_headers.specs.declared.headers.Header.{Header}
 use Rattle.policy_checks.specs.PermittedNames.{has_name_among}
 use Rattle.wf_types.specs.TextSets.{has_text}
@@ -65,22 +66,15 @@ found-named lower names found headers lowered are header there =
 
 -- ---- filters
 
-name-itself : (name : List ℕ) → bytes_eq name name ≡ true
-name-itself name = nat_list_eq_equiv.refl name
-
-or-true : (a b : Bool) → b ≡ true → (a || b) ≡ true
-or-true true b is = refl
-or-true false b is = is
-
 -- two tests that come to the same of the headers of a list, each beside a third
 pub filter-there : (p q r : Header → Bool) (headers : List Header)
     → ((header : Header) → is_there headers header.name ≡ true → p header ≡ q header)
     → filter (λ header. p header || r header) headers ≡ filter (λ header. q header || r header) headers
 filter-there p q r [] same = refl
 filter-there p q r (header ∷ headers) same =
-    let here : p header ≡ q header = same header (rw (name-itself header.name) refl) in
+    let here : p header ≡ q header = same header (rw (bytes_eq-self header.name) refl) in
     let rest : filter (λ header. p header || r header) headers ≡ filter (λ header. q header || r header) headers =
-    filter-there p q r headers (λ other there. same other (or-true _ _ there)) in
+    filter-there p q r headers (λ other there. same other (or_right _ _ there)) in
     rw (here, rest) refl
 
 -- the same of the tests alone
@@ -89,7 +83,7 @@ pub filter-alone : (p q : Header → Bool) (headers : List Header)
     → filter p headers ≡ filter q headers
 filter-alone p q [] same = refl
 filter-alone p q (header ∷ headers) same =
-    let here : p header ≡ q header = same header (rw (name-itself header.name) refl) in
+    let here : p header ≡ q header = same header (rw (bytes_eq-self header.name) refl) in
     let rest : filter p headers ≡ filter q headers =
-    filter-alone p q headers (λ other there. same other (or-true _ _ there)) in
+    filter-alone p q headers (λ other there. same other (or_right _ _ there)) in
     rw (here, rest) refl

@@ -1,8 +1,8 @@
 -- A permitted view is its own permitted view.
 use Rattle.std.proofs.Common.{◌≡◌, ◌&&◌, [], ℕ, Bool, true, false, not, List, codes, cond, filter, refl, ap}
 use Rattle.std.proofs.Common.{sym, ◌∙◌}
-use Rattle.std.proofs.Common.{arith, inl, inr}
-use Rattle.std.proofs.lemmas.Bool.{cases_Bool}
+use Rattle.std.proofs.Common.{inl, inr}
+use Rattle.std.proofs.lemmas.Bool.{and_parts, cases_Bool, or_left}
 use Rattle.wf_headers.specs.declared.extract.Extracted.{Extracted}
 use Rattle.wf_headers.specs.declared.extract.Extracted.TheVariants.{Absent, Failure, Items}
 use Rattle.wf_headers.specs.declared.extract.Rule.TheVariants.{Tokens}
@@ -20,7 +20,7 @@ use Rattle.wf_types.specs.Statuses.{is_ok_status, is_redirect_status}
 use Rattle.wf_filter.proofs.ExposureLemmas.{safelisted_if, told_if}
 use Rattle.wf_filter.proofs.ViewLemmas.{KeepsChecked, basic-named, contains-fewer, contains-kept, cors-told}
 use Rattle.wf_filter.proofs.ViewLemmas.{filter-all_named}
-use Rattle.wf_filter.proofs.ViewLemmas.{filter-twice, filter-within, first-passes, refused-kept, told-checked}
+use Rattle.wf_filter.proofs.ViewLemmas.{filter-twice, filter-within, refused-kept, told-checked}
 use Rattle.wf_filter.proofs.ViewLemmas.{told-named}
 use Rattle.wf_filter.specs.Exposed.{exposed_by, header_names}
 use Rattle.wf_text.specs.Wildcards.{has_wildcard}
@@ -37,7 +37,7 @@ use Rattle.wf_filter.specs.Views.{type_names, unfollowed_view}
 -- what is safelisted is told
 safelisted-told : (exposed : List (List ℕ)) (header : Header) → is_safelisted exposed header ≡ true
     → is_told_cors exposed header ≡ true
-safelisted-told exposed header e = first-passes _ (is_told tainting.Cors response_names header) e
+safelisted-told exposed header e = or_left _ (is_told tainting.Cors response_names header) e
 
 -- what a view keeps, kept once more by the names that it exposes itself, by whether all are exposed
 again-by : (star : Bool) (names : List (List ℕ)) (headers : List Header)
@@ -61,7 +61,7 @@ safelisted-by true names headers =
     let all : view ≡ filter (told_if true) headers = filter-all_named told_if headers in
     filter-all_named safelisted_if view ∙ ap (filter (safelisted_if true)) all
     ∙ filter-within (safelisted_if true) (told_if true)
-    (λ header e. first-passes _ (is_told tainting.Cors response_names header) e) headers
+    (λ header e. or_left _ (is_told tainting.Cors response_names header) e) headers
     ∙ sym (filter-all_named safelisted_if headers)
 
 -- the same by what was extracted
@@ -133,11 +133,6 @@ refused-told request names headers =
     refused-kept request.tainting request (is_told request.tainting names) headers
     (told-checked request.tainting names)
 
--- both of two
-pub both-second : (a b : Bool) → (a && b) ≡ true → b ≡ true
-both-second true b e = e
-both-second false b e = absurd (grind arith)
-
 -- a preflight's view
 preflight-again : (head : Head) → preflight_view (preflight_view head) ≡ preflight_view head
 preflight-again head =
@@ -202,7 +197,7 @@ again-by_tests true unfollowed followed request head r u f =
 again-by_tests false true followed request head r u f =
     rw (
       refused-told request [] head.headers ∙ r,
-      both-second (is_redirect_status head.status) (not (is_follow request.redirect)) u,
+      (and_parts (is_redirect_status head.status) (not (is_follow request.redirect)) u).1,
     )
     (twice 302 (is_told request.tainting []) head.headers)
 again-by_tests false false true request head r u f =

@@ -1,18 +1,19 @@
 -- What the views keep of a head: the values that the rules of a fetch look at.
 use Rattle.std.proofs.Common.{◌≡◌, ◌||◌, ◌∷◌, [], ℕ, Bool, true, false, not, List, codes, filter, refl, ap}
 use Rattle.std.proofs.Common.{arith, inl, inr}
-use Rattle.std.proofs.lemmas.Bool.{cases_Bool}
+use Rattle.std.proofs.lemmas.Bool.{cases_Bool, or_left, or_right}
 use Rattle.std.proofs.lemmas.Grind.{common_steps}
 use Rattle.std.specs.List.{list_all, list_any}
 use Rattle.std.specs.Prelude.{IsTrue, bytes_eq}
 use Rattle.std.proofs.lemmas.Slice.Eq.{bytes_eq-Decides}
 use Rattle.std.specs.Str.{str_eq_ignore_ascii_case, str_to_ascii_lowercase}
+use Rattle.wf_headers.proofs.ValueLemmas.{no-values}
 use Rattle.wf_headers.proofs.SpellingLemmas.{fold-sym, fold-trans}
 use Rattle.wf_headers.specs.declared.headers.Header.{Header}
 use Rattle.wf_headers.specs.declared.extract.Extracted.TheVariants.{Absent}
 use Rattle.wf_headers.specs.declared.extract.Rule.{Rule}
 use Rattle.wf_headers.specs.Extract.{extracted, extracted_of}
-use Rattle.wf_headers.specs.Headers.{contains, is_named, values_of}
+use Rattle.wf_headers.specs.Headers.{contains, is_named}
 use Rattle.policy_checks.proofs.NameLemmas.{among-named, values-kept}
 use Rattle.wf_types.specs.declared.mode.Tainting.{Tainting}
 use Rattle.wf_types.specs.declared.mode.Tainting.TheVariants as tainting
@@ -72,37 +73,25 @@ contains-fewer keep name [] none = refl
 contains-fewer keep name (header ∷ headers) none =
     grind (arith, common_steps, contains-fewer keep name headers)
 
--- a name that is not there has no values, and nothing is extracted of it
-no-values : (name : List ℕ) (headers : List Header) → contains name headers ≡ false → values_of name headers ≡ []
-no-values name [] none = refl
-no-values name (header ∷ headers) none = grind (arith, common_steps, no-values name headers)
-
+-- nothing is extracted of a name that is not there
 pub absent-extracted : (rule : Rule) (name : List ℕ) (headers : List Header) → contains name headers ≡ false
     → extracted rule name headers ≡ Absent
 absent-extracted rule name headers none = ap (extracted_of rule) (no-values name headers none)
 
 -- ---- what each view keeps
 
--- one of two tests passes
-pub first-passes : (a b : Bool) → a ≡ true → (a || b) ≡ true
-first-passes a b e = rw e refl
-
-pub second-passes : (a b : Bool) → b ≡ true → (a || b) ≡ true
-second-passes true b e = refl
-second-passes false b e = e
-
 pub told-checked : (tainting : Tainting) (names : List (List ℕ)) → KeepsChecked (is_told tainting names) tainting
 told-checked tainting names name within header named =
-    first-passes _ (has_name_among names header) (among-named (checked_names tainting) name within header named)
+    or_left _ (has_name_among names header) (among-named (checked_names tainting) name within header named)
 
 pub told-named : (tainting : Tainting) (names : List (List ℕ)) (name : List ℕ) → IsOneOf name names
     → Keeps (is_told tainting names) name
 told-named tainting names name within header named =
-    second-passes (has_name_among (checked_names tainting) header) _ (among-named names name within header named)
+    or_right (has_name_among (checked_names tainting) header) _ (among-named names name within header named)
 
 pub cors-told : (exposed : List (List ℕ)) (name : List ℕ) → Keeps (is_told tainting.Cors response_names) name
     → Keeps (is_told_cors exposed) name
-cors-told exposed name keeps header named = second-passes _ _ (keeps header named)
+cors-told exposed name keeps header named = or_right _ _ (keeps header named)
 
 -- a name that is not forbidden
 pub basic-named : (name : List ℕ) → str_eq_ignore_ascii_case name (codes "Set-Cookie") ≡ false
@@ -145,8 +134,8 @@ among-cut (name ∷ names) header other e =
     elim (cases_Bool (is_named name other)) [
       | inl here ↦ elim (cases_Bool (is_named name header)) [
         | inl same ↦
-            first-passes _ _ (fold-trans other.name name header.name here (fold-sym header.name name same))
-        | inr differs ↦ rw differs (second-passes (is_named header.name other) _ (rw here refl))
+            or_left _ _ (fold-trans other.name name header.name here (fold-sym header.name name same))
+        | inr differs ↦ rw differs (or_right (is_named header.name other) _ (rw here refl))
       ]
       | inr away ↦ elim (cases_Bool (is_named name header)) [
         | inl same ↦ rw same (among-cut names header other (rw away at e))

@@ -4,18 +4,13 @@ use Rattle.std.proofs.Common.{filter, ap, refl, sym, ◌∙◌, Bool, true, fals
 use Rattle.std.proofs.Common.{drop-cons, add-one, append_assoc}
 use Rattle.std.specs.List.{flat_map, list_all, list_any, position, position_or_len, slice_get}
 use Rattle.std.proofs.lemmas.Grind.{common_steps}
-use Rattle.std.proofs.lemmas.Option.{slice_get_within, get_or_from_slice_get}
+use Rattle.std.proofs.lemmas.Option.{cond_some, get_or_from_slice_get, slice_get_within}
 use Rattle.wf_text.specs.Trims.{tab_or_space, trimmed}
 use Rattle.wf_headers.specs.Headers.{is_named, values_of}
 use Rattle.wf_headers.specs.declared.headers.Header.{Header}
 use Rattle.wf_headers.specs.Extract.{between_commas, extracted_of, items, token_list}
 use Rattle.wf_text.specs.Words.{is_filled}
 use Rattle.wf_headers.specs.declared.extract.Rule.TheVariants.{Tokens}
-
--- a choice that gives something
-chosen : (b : Bool) (n at : ℕ) → (let o : Option ℕ = cond b (Some n) None in o ≡ Some at) → (b ≡ true) × (at ≡ n)
-chosen true n at e = (refl, grind arith)
-chosen false n at e = grind arith
 
 -- a choice that gives nothing
 not-chosen : (b : Bool) (n : ℕ) → (let o : Option ℕ = cond b (Some n) None in o ≡ None) → b ≡ false
@@ -39,9 +34,9 @@ between_commas-whole (byte ∷ text) e = grind (arith, common_steps, between_com
 pub items-cut : (text : List ℕ) (at : ℕ) → position (λ byte. byte == 44) text ≡ Some at → items text
     ≡ filter is_filled (trimmed tab_or_space (take at text) ∷ []) ++ items (drop 1 (drop at text))
 items-cut text at e =
-    let found = chosen _ _ at e in
+    let found = cond_some _ _ at e in
     let cut : between_commas text ≡ take at text ∷ between_commas (drop 1 (drop at text)) =
-    between_commas-cut text at found.1 (grind (arith, found.0, found.1)) in
+    between_commas-cut text at (sym found.1) (grind (arith, found.0, found.1)) in
     rw cut (grind (arith, common_steps))
 
 -- the item where there is no comma

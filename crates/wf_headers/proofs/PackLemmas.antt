@@ -6,19 +6,13 @@ use Rattle.std.specs.Char.{to_ascii_lowercase}
 use Rattle.std.specs.Cmp.Lexicographic.{unequal}
 use Rattle.std.specs.Str.{str_eq_ignore_ascii_case, str_to_ascii_lowercase}
 use Rattle.std.proofs.Math.Seq.{drop-append_seam, take-length}
-use Rattle.std.proofs.lemmas.List.{at_drop_more, drop-append-le, drop-drop, drop-take, length-drop, length-map, length-take-le, take-append-le, take-take}
+use Rattle.std.proofs.lemmas.List.{at_drop_more, drop-drop, drop-take, length-drop, length-map, length-take-le, take-take}
 use Rattle.std.proofs.lemmas.List.Elements.{All-append, All-cons, All-head, All-nil, All-tail}
+use Rattle.value_lemmas.proofs.Lists.{take-drop-append}
 use Rattle.wf_headers.specs.Headers.{is_named, values_of}
 use Rattle.wf_headers.specs.Private.Packs.{IsWithin, header_at}
 use Rattle.wf_headers.specs.declared.headers.Header.{Header}
 use Rattle.wf_headers.specs.declared.packed.Place.{Place}
-
--- a part stays where bytes are added behind it
-part-stays : (bytes more : List ℕ) (start end : ℕ) → start ≤ end → end ≤ length bytes
-    → take (end - start) (drop start (bytes ++ more)) ≡ take (end - start) (drop start bytes)
-part-stays bytes more start end from to =
-    ap (take (end - start)) (drop-append-le start bytes more (omega arith))
-    ∙ take-append-le (end - start) (drop start bytes) more (omega (arith, length-drop start bytes))
 
 -- the bytes that are added are the last part
 last-part : (bytes part : List ℕ) (start end : ℕ) → start ≡ length bytes → end ≡ length bytes + length part
@@ -32,8 +26,8 @@ header-stays : (bytes more : List ℕ) (place : Place) → IsWithin (length byte
     → header_at (bytes ++ more) place ≡ header_at bytes place
 header-stays bytes more place within =
     rw (
-      part-stays bytes more place.start place.middle within.0 (omega (arith, within.1.0, within.1.1)),
-      part-stays bytes more place.middle place.end within.1.0 within.1.1,
+      take-drop-append bytes more place.start place.middle within.0 (omega (arith, within.1.0, within.1.1)),
+      take-drop-append bytes more place.middle place.end within.1.0 within.1.1,
     ) refl
 
 -- headers stay where bytes are added behind them
@@ -71,7 +65,7 @@ added bytes name value place starts turns ends =
     let middle : place.middle ≡ length bytes + length name = turns ∙ length-append bytes name in
     let end : place.end ≡ length (bytes ++ name) + length value = ends ∙ length-append (bytes ++ name) value in
     rw (
-      part-stays (bytes ++ name) value place.start place.middle (omega arith) (omega arith),
+      take-drop-append (bytes ++ name) value place.start place.middle (omega arith) (omega arith),
       last-part bytes name place.start place.middle starts middle,
       last-part (bytes ++ name) value place.middle place.end turns end,
     ) refl

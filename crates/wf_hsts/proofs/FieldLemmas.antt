@@ -2,7 +2,8 @@
 use Rattle.std.proofs.Common.{◌≡◌, ◌==◌, ◌&&◌, not, ℕ, Bool, true, false, List, [], ◌∷◌, ◌++◌, length, Option, Some}
 use Rattle.std.proofs.Common.{None, cond, option_map, refl, ap, sym, subst, ◌∙◌, if◌then◌else◌}
 use Rattle.std.proofs.Common.{append_assoc, append-nil}
-use Rattle.std.proofs.lemmas.Bool.{eqb-true}
+use mathlib.Core.Bool.{and-false}
+use Rattle.std.proofs.lemmas.Bool.{eqb-true, ne_eqb}
 use Rattle.std.proofs.lemmas.List.Folds.{list_all-append}
 use Rattle.std.specs.Cmp.{first_so, second_so}
 use Rattle.std.specs.List.{before_first, list_all}
@@ -19,7 +20,7 @@ use Rattle.wf_hsts.specs.declared.pieces.Place.TheVariants.{Escaped, Outside, Qu
 use Rattle.wf_hsts.proofs.BlankLemmas.{IsSolid, padded-trimmed, quoted-solid, token-solid, trimmed-padded}
 use Rattle.wf_hsts.proofs.CuttingLemmas.{pieces-cut, with_more-nothing}
 use Rattle.wf_hsts.proofs.EqualsLemmas.{after_equals, after_equals-is, until_equals, until_equals-is}
-use Rattle.wf_hsts.proofs.QuotedLemmas.{read-value, unequal, value-read}
+use Rattle.wf_hsts.proofs.QuotedLemmas.{read-value, value-read}
 
 -- neither a quote nor a semicolon nor an equals sign
 abbrev is_plain : ℕ → Bool
@@ -30,7 +31,7 @@ plain-by : (p : ℕ → Bool) → p 34 ≡ false → p 59 ≡ false → p 61 ≡
     ≡ true
 plain-by p a b c byte taken =
     let apart-from : (k : ℕ) → p k ≡ false → (byte == k) ≡ false =
-    λ k refused. unequal byte k (λ same.
+    λ k refused. ne_eqb byte k (λ same.
     let there : p k ≡ true = subst (λ n. p n ≡ true) same taken in
     cc) in
     rw (apart-from 34 a, apart-from 59 b, apart-from 61 c) refl
@@ -65,7 +66,7 @@ padded-plain name text token p =
 
 -- is no equals sign
 not-equals : (byte : ℕ) → is_plain byte ≡ true → (byte == 61) ≡ false
-not-equals byte plain = unequal byte 61 (λ same.
+not-equals byte plain = ne_eqb byte 61 (λ same.
     let there : is_plain 61 ≡ true = subst (λ b. is_plain b ≡ true) same plain in
     cc)
 
@@ -154,10 +155,10 @@ passes-both a b p q = record {
 
 plain-next : (byte : ℕ) → is_plain byte ≡ true → (cuts Outside byte ≡ false) × (next_place Outside byte ≡ Outside)
 plain-next byte plain =
-    let quote : (byte == 34) ≡ false = unequal byte 34 (λ same.
+    let quote : (byte == 34) ≡ false = ne_eqb byte 34 (λ same.
     let there : is_plain 34 ≡ true = subst (λ b. is_plain b ≡ true) same plain in
     cc) in
-    let semicolon : (byte == 59) ≡ false = unequal byte 59 (λ same.
+    let semicolon : (byte == 59) ≡ false = ne_eqb byte 59 (λ same.
     let there : is_plain 59 ≡ true = subst (λ b. is_plain b ≡ true) same plain in
     cc) in
     (semicolon, rw quote refl)
@@ -187,7 +188,7 @@ quoted-over : (written value : List ℕ) → IsQuoted written value → (rest : 
     ≡ onto written (pieces Outside rest)
 quoted-over _ _ IsQuoted.closed rest = refl
 quoted-over _ _ (IsQuoted.plain byte written value quote backslash q) rest =
-    goes-on Quoted Quoted byte (written ++ rest) refl (rw (unequal byte 34 quote, unequal byte 92 backslash) refl)
+    goes-on Quoted Quoted byte (written ++ rest) refl (rw (ne_eqb byte 34 quote, ne_eqb byte 92 backslash) refl)
     ∙ ap (with_front byte) (quoted-over written value q rest)
 quoted-over _ _ (IsQuoted.escaped byte written value q) rest =
     ap (λ ps. with_front 92 (with_front byte ps)) (quoted-over written value q rest)
@@ -215,10 +216,6 @@ piece-passes _ _ (IsPiece.blank text blank) = plain-passes text (blank-plain tex
 piece-passes _ _ (IsPiece.written text found d) = directive-passes text found d
 
 -- ---- a directive is not blank
-
-and-false : (b : Bool) → (b && false) ≡ false
-and-false true = refl
-and-false false = refl
 
 solid-byte : (a : List ℕ) (byte : ℕ) (b : List ℕ) → is_blank byte ≡ false → list_all is_blank (a ++ byte ∷ b) ≡ false
 solid-byte [] byte b solid = rw solid refl

@@ -7,12 +7,13 @@ use Rattle.std.specs.Ordering.{is_eq, is_gt, is_lt, nat_cmp, ordering_reverse, o
 use Rattle.std.specs.Str.{bytes_eq}
 use Rattle.std.specs.declared.cmp.Ordering.{Ordering}
 use Rattle.std.specs.declared.cmp.Ordering.TheVariants.{Equal, Greater, Less}
+use Rattle.value_lemmas.proofs.Bytes.{bytes_eq-self, bytes_eq-true}
 use Rattle.wf_hsts.specs.Hosts.{AreSorted, ends_before, holds, without, without_first_to_end}
 use Rattle.wf_text.specs.Orders.{text_cmp}
 use Rattle.wf_hsts.specs.Private.Terms.{term_in}
 use Rattle.wf_hsts.specs.declared.hosts.KnownHost.{KnownHost}
 use Rattle.wf_hsts.specs.declared.index.Term.{Term}
-use Rattle.wf_hsts.proofs.OrderLemmas.{bytes-equal, bytes-flip, bytes-order, bytes-self, flipped, less-apart}
+use Rattle.wf_hsts.proofs.OrderLemmas.{bytes-flip, bytes-order, flipped, less-apart}
 use Rattle.wf_hsts.proofs.SortedLemmas.{term_from}
 
 -- ---- what holds of each host
@@ -31,7 +32,7 @@ pub each-term : (hosts : List KnownHost) → AreSorted hosts
     → AllByRecursion (λ known. term_in known.host hosts ≡ Some (term_from known)) hosts
 each-term [] sorted = tt
 each-term (known ∷ hosts) sorted = (
-  rw (bytes-self known.host) refl,
+  rw (bytes_eq-self known.host) refl,
   each-both (λ other. pass-over known other hosts (Some (term_from other))) hosts sorted.0 (each-term hosts sorted.1),
 )
 
@@ -61,7 +62,7 @@ any-from test host (known ∷ hosts) term e passes =
         → (test known || list_any test hosts) ≡ true
     by-here true same h f =
         let until : known.until ≡ term.until = cc in
-        rw (passes known (bytes-equal known.host host same) until) refl
+        rw (passes known (bytes_eq-true known.host host same) until) refl
     by-here false same h f = rw (h f) (or-true (test known))
       where
         or-true : (b : Bool) → (b || true) ≡ true
@@ -129,7 +130,7 @@ kept-by : (host : List ℕ) (term : Term) (hosts : List KnownHost) (known : Know
     → term_in known.host hosts ≡ Some (term_from known) → is_gt (end_order term.until host known) ≡ false
     → list_any (λ other. ends_before other known) hosts ≡ not here
 kept-by host term hosts known true same there each found late =
-    let named : known.host ≡ host = bytes-equal known.host host same in
+    let named : known.host ≡ host = bytes_eq-true known.host host same in
     let both : Some (term_from known) ≡ Some term = sym found ∙ ap (λ text. term_in text hosts) named ∙ there in
     let until : known.until ≡ term.until = cc in
     none-from (λ other. ends_before other known) hosts

@@ -1,6 +1,6 @@
 -- The two indexes of known hosts, and the list that they hold.
 use Rattle.std.proofs.Common.{◌≡◌, ◌<◌, length, ◌==◌, ◌&&◌, ℕ, Bool, true, false, cond, List, [], ◌∷◌, map, Option}
-use Rattle.std.proofs.Common.{Some, None, refl, ap, sym, subst, ◌∙◌, if◌then◌else◌, arith, eq-eqb}
+use Rattle.std.proofs.Common.{Some, None, refl, ap, sym, subst, ◌∙◌, if◌then◌else◌, arith}
 use Rattle.std.proofs.lemmas.Bool.{eqb-true}
 use Rattle.std.proofs.lemmas.Grind.{common_steps}
 use Rattle.std.proofs.lemmas.Map.Keys.{sorted_head, sorted_tail}
@@ -11,6 +11,8 @@ use Rattle.std.specs.Map.{remove_entry}
 use Rattle.std.specs.Ordering.{is_eq, is_gt, match_ordering, nat_cmp, ordering_then}
 use Rattle.std.specs.declared.cmp.Ordering.{Ordering}
 use Rattle.std.specs.declared.cmp.Ordering.TheVariants.{Equal, Greater, Less}
+use Rattle.value_lemmas.proofs.Tests.{eqb-comm, eqb-self}
+use Rattle.value_lemmas.proofs.Bytes.{bytes_eq-self}
 use Rattle.wf_hsts.specs.Hosts.{AreSorted, holds, with_host, without, without_first_to_end}
 use Rattle.wf_text.specs.Orders.{text_cmp}
 use Rattle.wf_hsts.specs.Private.Index.{end_cmp, ends_at, known_of, listed, name_cmp, term_of}
@@ -18,7 +20,7 @@ use Rattle.wf_hsts.specs.Private.Terms.{term_in}
 use Rattle.wf_hsts.specs.declared.hosts.KnownHost.{KnownHost}
 use Rattle.wf_hsts.specs.declared.index.Term.{Term}
 use Rattle.wf_hsts.proofs.FirstLemmas.{each-term, end_order, first-goes, term-holds}
-use Rattle.wf_hsts.proofs.OrderLemmas.{bytes-order, bytes-order-back, bytes-self, text-equal}
+use Rattle.wf_hsts.proofs.OrderLemmas.{bytes-order, bytes-order-back, text-equal}
 use Rattle.wf_hsts.proofs.SortedLemmas.{ComeAfter, insert-with, insert_known, remove-without, remove_known, term_from}
 
 -- ---- tests of ends
@@ -27,12 +29,6 @@ eq-then : (o p : Ordering) → is_eq (ordering_then o p) ≡ (is_eq o && is_eq p
 eq-then Less p = refl
 eq-then Equal p = refl
 eq-then Greater p = refl
-
-pub eq-flip : (a b : ℕ) → (a == b) ≡ (b == a)
-eq-flip a b = grind (arith, common_steps)
-
-eqb-self : (n : ℕ) → (n == n) ≡ true
-eqb-self n = eq-eqb n n refl
 
 eq-nat : (a b : ℕ) → is_eq (nat_cmp a b) ≡ (a == b)
 eq-nat a b = grind (arith, common_steps)
@@ -257,7 +253,7 @@ module _ {V : Type 0} (items : V → List ℕ) where
           sym (apart-from here)
         where
           apart-from : old ≡ at → (new == at) ≡ false
-          apart-from e = subst (λ n. (new == n) ≡ false) e (eq-flip new old ∙ other)
+          apart-from e = subst (λ n. (new == n) ≡ false) e (eqb-comm new old ∙ other)
       moves false e c = plain (new == at)
         where
           plain : (b : Bool) → cond (b && true) true false ≡ b
@@ -383,7 +379,7 @@ module _ {V : Type 0} (items : V → List ℕ) where
   none-first [] [] agree none = refl
   none-first (e ∷ es) [] agree none =
       let there : term_of items (items e.0) (e ∷ es) ≡ Some e.1 =
-      rw (← bytes-order (items e.0) (items e.0), bytes-self (items e.0)) refl in
+      rw (← bytes-order (items e.0) (items e.0), bytes_eq-self (items e.0)) refl in
       let held : false ≡ true = agree (e.1.until, e.0) ∙ ap (λ o. ends_at items e.1.until o) there
       ∙ eqb-self e.1.until in
       absurd (cc)

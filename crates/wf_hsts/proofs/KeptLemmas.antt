@@ -5,6 +5,7 @@ use Rattle.std.specs.declared.cmp.Ordering.{Ordering}
 use Rattle.std.specs.declared.cmp.Ordering.TheVariants.{Equal, Greater, Less}
 use Rattle.wf_hsts.specs.Hosts.{AreSorted, with_host}
 use Rattle.std.specs.List.{AllByRecursion}
+use Rattle.value_lemmas.proofs.Tests.{is_lt-true}
 use Rattle.wf_text.specs.Orders.{text_cmp}
 use Rattle.wf_hsts.specs.declared.hosts.KnownHost.{KnownHost}
 use Rattle.wf_hsts.proofs.OrderLemmas.{chained, flipped}
@@ -66,11 +67,6 @@ sorted-joined new (known ∷ a) b front back before behind = (
   sorted-joined new a b front.1 back before.1 behind,
 )
 
-lt-less : (o : Ordering) → is_lt o ≡ true → o ≡ Less
-lt-less Less e = refl
-lt-less Equal e = absurd (cc)
-lt-less Greater e = absurd (cc)
-
 gt-less : (o : Ordering) → is_gt o ≡ true → ordering_reverse o ≡ Less
 gt-less Less e = absurd (cc)
 gt-less Equal e = absurd (cc)
@@ -83,6 +79,6 @@ sorted-with new hosts sorted =
     (sorted-kept (λ known. is_lt (text_cmp known.host new.host)) hosts sorted)
     (sorted-kept (λ known. is_gt (text_cmp known.host new.host)) hosts sorted)
     (each-passing (λ known. text_cmp known.host new.host ≡ Less) (λ known. is_lt (text_cmp known.host new.host))
-    (λ known e. lt-less (text_cmp known.host new.host) e) hosts)
+    (λ known e. is_lt-true (text_cmp known.host new.host) e) hosts)
     (each-passing (λ known. text_cmp new.host known.host ≡ Less) (λ known. is_gt (text_cmp known.host new.host))
     (λ known e. flipped new.host known.host ∙ gt-less (text_cmp known.host new.host) e) hosts)

@@ -2,12 +2,13 @@
 use Rattle.std.proofs.Common.{◌≡◌, ◌==◌, ◌||◌, ◌<◌, ◌≤◌, ◌+◌, not, ℕ, Bool, true, false, cond, List, [], ◌∷◌, ◌++◌}
 use Rattle.std.proofs.Common.{filter, length, Option, Some, None, is_some, nat_lt, refl, ap, sym, subst, ◌∙◌}
 use Rattle.std.proofs.Common.{if◌then◌else◌, arith, length-append}
-use Rattle.std.proofs.lemmas.Bool.{le-ltb, lt-ltb, ltb-false, ltb-true}
+use Rattle.std.proofs.lemmas.Bool.{le-ltb, lt-ltb, ltb-false, ltb-true, ne_eqb}
 use Rattle.std.proofs.lemmas.List.Filters.{length-filter_both}
 use Rattle.std.specs.Ordering.{is_eq, is_gt, is_lt}
 use Rattle.std.specs.Str.{bytes_eq}
 use Rattle.std.specs.declared.cmp.Ordering.{Ordering}
 use Rattle.std.specs.declared.cmp.Ordering.TheVariants.{Equal, Greater, Less}
+use Rattle.value_lemmas.proofs.Bytes.{bytes_eq-true}
 use Rattle.wf_hsts.specs.Hosts.{AreHosts, holds, known_host, noted, with_host, with_room, without, without_first_to_end}
 use Rattle.wf_text.specs.Orders.{text_cmp}
 use Rattle.wf_hsts.specs.Private.Terms.{IsLeaving, term_in}
@@ -16,8 +17,7 @@ use Rattle.wf_hsts.specs.declared.index.Term.{Term}
 use Rattle.wf_hsts.specs.declared.sts.Sts.{Sts}
 use Rattle.wf_hsts.proofs.KeptLemmas.{sorted-kept, sorted-with}
 use Rattle.wf_hsts.proofs.FirstLemmas.{term-holds}
-use Rattle.wf_hsts.proofs.OrderLemmas.{bytes-equal, bytes-order}
-use Rattle.wf_hsts.proofs.QuotedLemmas.{unequal}
+use Rattle.wf_hsts.proofs.OrderLemmas.{bytes-order}
 
 -- ---- lengths
 
@@ -55,24 +55,18 @@ absent-without host (known ∷ hosts) e = by-here (bytes_eq known.host host) (λ
     by-here true h f = cc
     by-here false h f = ap (λ l. known ∷ l) (h f)
 
-below-true : (a b : ℕ) → a < b → nat_lt a b ≡ true
-below-true a b h = lt-ltb a b h
-
-below-false : (a b : ℕ) → b ≤ a → nat_lt a b ≡ false
-below-false a b h = le-ltb a b h
-
 room-by : (host : List ℕ) (hosts : List KnownHost) (found : Option Term) → term_in host hosts ≡ found → length hosts
     ≡ 4096 → is_some found ≡ nat_lt (length (without host hosts)) 4096
 room-by host hosts None e full =
-    sym (ap (λ l. nat_lt (length l) 4096) (absent-without host hosts e) ∙ below-false (length hosts) 4096 (omega arith))
+    sym (ap (λ l. nat_lt (length l) 4096) (absent-without host hosts e) ∙ le-ltb (length hosts) 4096 (omega arith))
 room-by host hosts (Some term) e full =
-    sym (below-true (length (without host hosts)) 4096
+    sym (lt-ltb (length (without host hosts)) 4096
     (omega (arith, holds-fewer host hosts (term-holds host hosts term e))))
 
 -- with fewer hosts there is room
 pub room-few : (host : List ℕ) (hosts : List KnownHost) → length hosts < 4096
     → nat_lt (length (without host hosts)) 4096 ≡ true
-room-few host hosts few = below-true (length (without host hosts)) 4096 (omega (arith, without-length host hosts))
+room-few host hosts few = lt-ltb (length (without host hosts)) 4096 (omega (arith, without-length host hosts))
 
 -- with as many there is room for a host that is there
 pub room-full : (host : List ℕ) (hosts : List KnownHost) → length hosts ≤ 4096 → 4096 ≤ length hosts
@@ -219,7 +213,7 @@ other-name : (host name : List ℕ) (hosts : List KnownHost) (same : Bool) → b
     → holds host hosts ≡ false → holds name hosts ≡ true → same ≡ false
 other-name host name hosts false e absent there = refl
 other-name host name hosts true e absent there =
-    let held : holds name hosts ≡ false = subst (λ text. holds text hosts ≡ false) (bytes-equal host name e) absent in
+    let held : holds name hosts ≡ false = subst (λ text. holds text hosts ≡ false) (bytes_eq-true host name e) absent in
     sym there ∙ held
 
 -- without room
@@ -270,7 +264,7 @@ put-kept host again leaving sts now hosts new aged_some are a none told put =
     let new_host = known_host host sts.subdomains (now + sts.age) in
     let room : IsLeaving None host hosts =
     subst (λ h. IsLeaving None h hosts) a (subst (λ l. IsLeaving l again hosts) none told) in (
-      put ∙ sym (noted-kept host sts now hosts (unequal sts.age 0 aged_some) room),
+      put ∙ sym (noted-kept host sts now hosts (ne_eqb sts.age 0 aged_some) room),
       subst AreHosts (sym put) (record {
         sorted = sorted-with new_host hosts are.sorted;
         few = kept-few host sts.subdomains (now + sts.age) hosts room;
@@ -287,7 +281,7 @@ put-left host again name gone leaving sts now hosts put new aged_some are a g so
     let new_host = known_host host sts.subdomains (now + sts.age) in
     let going : IsLeaving (Some name) host hosts =
     subst (λ h. IsLeaving (Some name) h hosts) a (subst (λ l. IsLeaving l again hosts) some told) in
-    let left = noted-left host name sts now hosts (unequal sts.age 0 aged_some) are.few going.0 going.1 going.2 in
+    let left = noted-left host name sts now hosts (ne_eqb sts.age 0 aged_some) are.few going.0 going.1 going.2 in
     let same : new ≡ without name (with_host new_host hosts) =
     f ∙ ap (λ n. without n put) g ∙ ap (without name) e in (
       same ∙ sym left.0,

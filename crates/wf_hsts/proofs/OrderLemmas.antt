@@ -1,5 +1,5 @@
 -- Texts by their order.
-use Rattle.std.proofs.Common.{◌≡◌, ℕ, true, false, List, refl, ap, sym, ◌∙◌}
+use Rattle.std.proofs.Common.{◌≡◌, ℕ, false, List, refl, ap, sym, ◌∙◌}
 use Rattle.std.specs.Cmp.Lexicographic.{bytes_decides, nat_list_cmp_total, texts_ties}
 use Rattle.std.specs.Ordering.{is_eq, ordering_reverse}
 use Rattle.std.specs.Str.{bytes_eq}
@@ -9,12 +9,6 @@ use Rattle.wf_text.specs.Orders.{text_cmp}
 
 pub text-equal : (a b : List ℕ) → text_cmp a b ≡ Equal → a ≡ b
 text-equal a b e = (bytes_decides a b).0 (texts_ties a b ∙ ap is_eq e)
-
-pub bytes-self : (a : List ℕ) → bytes_eq a a ≡ true
-bytes-self a = (bytes_decides a a).1 refl
-
-pub bytes-equal : (a b : List ℕ) → bytes_eq a b ≡ true → a ≡ b
-bytes-equal a b e = (bytes_decides a b).0 e
 
 -- a test for equal texts is one of their order
 pub bytes-order : (a b : List ℕ) → bytes_eq a b ≡ is_eq (text_cmp a b)

@@ -1,7 +1,7 @@
 -- Quoted strings and values: the grammar and its reading agree.
 use Rattle.std.proofs.Common.{◌≡◌, ◌==◌, not, ℕ, Bool, true, false, List, [], ◌∷◌, length, Option, Some, None}
 use Rattle.std.proofs.Common.{option_map, refl, sym, subst, if◌then◌else◌, arith}
-use Rattle.std.proofs.lemmas.Bool.{eqb-false, eqb-true}
+use Rattle.std.proofs.lemmas.Bool.{eqb-false, eqb-true, ne_eqb}
 use Rattle.wf_text.specs.Tokens.{is_tchar, is_token}
 use Rattle.wf_hsts.specs.Grammar.{IsQuoted, IsValue}
 use Rattle.wf_hsts.specs.Reading.{behind_backslash, unquoted, value_in}
@@ -12,14 +12,11 @@ unequal-by : (a b : ℕ) (same : Bool) → (a == b) ≡ same → (a ≡ b → �
 unequal-by a b false e other = refl
 unequal-by a b true e other = absurd (other (eqb-true a b e))
 
-pub unequal : (a b : ℕ) → (a ≡ b → ⊥) → (a == b) ≡ false
-unequal a b other = unequal-by a b (a == b) refl other
-
 -- a quoted string is read as its value
 pub quoted-read : (written value : List ℕ) → IsQuoted written value → unquoted written ≡ Some value
 quoted-read _ _ IsQuoted.closed = refl
 quoted-read _ _ (IsQuoted.plain byte written value quote backslash q) =
-    rw (unequal byte 34 quote, unequal byte 92 backslash, quoted-read written value q) refl
+    rw (ne_eqb byte 34 quote, ne_eqb byte 92 backslash, quoted-read written value q) refl
 quoted-read _ _ (IsQuoted.escaped byte written value q) = rw (quoted-read written value q) refl
 
 record Added (byte : ℕ) (found : Option (List ℕ)) (value : List ℕ) : Type 0 where
@@ -43,7 +40,7 @@ read-step byte [] value true backslash e f plain escaped found =
     subst (λ b. IsQuoted (b ∷ []) value) (sym (eqb-true byte 34 e))
     (subst (λ v. IsQuoted (34 ∷ []) v) empty IsQuoted.closed)
 read-step byte (next ∷ text) value true backslash e f plain escaped found =
-    let longer : (length (next ∷ text) == 0) ≡ false = unequal (length (next ∷ text)) 0 (λ h. omega (arith, h)) in
+    let longer : (length (next ∷ text) == 0) ≡ false = ne_eqb (length (next ∷ text)) 0 (λ h. omega (arith, h)) in
     let never = rw longer at found in
     absurd (cc)
 read-step byte text value false true e f plain escaped found =
@@ -71,7 +68,7 @@ mutual
 -- a token does not begin with a quote
 token-unquoted : (byte : ℕ) (text : List ℕ) → is_token (byte ∷ text) ≡ true → (byte == 34) ≡ false
 token-unquoted byte text token =
-    unequal byte 34 (λ same.
+    ne_eqb byte 34 (λ same.
     let taken : is_tchar byte ≡ true =
     first_so (is_tchar byte) (list_all is_tchar text)
     (second_so (not (length (byte ∷ text) == 0)) (list_all is_tchar (byte ∷ text)) token) in

@@ -1,17 +1,19 @@
 -- Sorted lists of known hosts: a host looked up, taken out and put in.
 use Rattle.std.proofs.Common.{◌≡◌, ◌&&◌, ◌||◌, not, ℕ, Bool, true, false, cond, List, [], ◌∷◌, ◌++◌, filter, Some}
 use Rattle.std.proofs.Common.{refl, ap, sym, subst, ◌∙◌, if◌then◌else◌}
+use mathlib.Core.Bool.{or-false}
 use Rattle.std.specs.List.{AllByRecursion, list_any}
 use Rattle.std.specs.Ordering.{is_gt, is_lt, match_ordering, ordering_reverse}
 use Rattle.std.specs.Str.{bytes_eq}
 use Rattle.std.specs.declared.cmp.Ordering.{Ordering}
 use Rattle.std.specs.declared.cmp.Ordering.TheVariants.{Equal, Greater, Less}
+use Rattle.value_lemmas.proofs.Bytes.{bytes_eq-true}
 use Rattle.wf_hsts.specs.Hosts.{AreSorted, with_host, without}
 use Rattle.wf_text.specs.Orders.{text_cmp}
 use Rattle.wf_hsts.specs.Private.Terms.{passes, term_in}
 use Rattle.wf_hsts.specs.declared.hosts.KnownHost.{KnownHost}
 use Rattle.wf_hsts.specs.declared.index.Term.{Term}
-use Rattle.wf_hsts.proofs.OrderLemmas.{bytes-equal, chained, flipped, less-apart-back, text-equal}
+use Rattle.wf_hsts.proofs.OrderLemmas.{chained, flipped, less-apart-back, text-equal}
 
 -- each of the hosts comes after this text
 abbrev pub ComeAfter : List ℕ → List KnownHost → Type 0
@@ -28,10 +30,6 @@ after-without text [] after = refl
 after-without text (known ∷ hosts) after =
     rw (less-apart-back text known.host after.0) (ap (λ l. known ∷ l) (after-without text hosts after.1))
 
-or-false : (b : Bool) → (b || false) ≡ b
-or-false true = refl
-or-false false = refl
-
 -- ---- a host looked up
 
 abbrev pub term_from : KnownHost → Term
@@ -44,7 +42,7 @@ found-step : (test : Term → Bool) (host : List ℕ) (known : KnownHost) (hosts
     ≡ ((here && test (term_from known))
     || list_any (λ other. bytes_eq other.host host && test (term_from other)) hosts)
 found-step test host known hosts true e after h =
-    let same : known.host ≡ host = bytes-equal known.host host e in
+    let same : known.host ≡ host = bytes_eq-true known.host host e in
     let none = after-none (λ other. test (term_from other)) host hosts
     (subst (λ text. ComeAfter text hosts) same after) in
     rw none (sym (or-false (test (term_from known))))
@@ -68,7 +66,7 @@ remove-step : (host : List ℕ) (known : KnownHost) (hosts : List KnownHost) (he
     → (if here then hosts else known ∷ remove_known host hosts)
     ≡ cond (not here) (known ∷ without host hosts) (without host hosts)
 remove-step host known hosts true e after h =
-    let same : known.host ≡ host = bytes-equal known.host host e in
+    let same : known.host ≡ host = bytes_eq-true known.host host e in
     sym (after-without host hosts (subst (λ text. ComeAfter text hosts) same after))
 remove-step host known hosts false e after h = ap (λ l. known ∷ l) h
 

@@ -6,6 +6,7 @@ use Rattle.std.specs.List.{list_any}
 use Rattle.std.specs.Str.{bytes_eq}
 use Rattle.std.specs.Cmp.Lexicographic.{slice_cmp, texts_ties}
 use Rattle.std.specs.Ordering.{is_eq, nat_cmp}
+use Rattle.value_lemmas.proofs.Tests.{cond-or}
 use Rattle.wf_hsts.specs.Field.{has_twice}
 use Rattle.wf_hsts.specs.declared.directives.Directive.{Directive}
 
@@ -51,10 +52,6 @@ moved keys more name h (directive ∷ directives) =
     (is_seen keys directive.name) (list_any (λ other. bytes_eq directive.name other.name) directives)
     (names_twice keys directives)
     ∙ rw (← h directive.name, moved keys more name h directives) refl
-
-cond-or : (b c : Bool) → cond b true c ≡ (b || c)
-cond-or true c = refl
-cond-or false c = refl
 
 -- a directive whose name is new
 pub names_twice-more : (keys more : List (Bor (List ℕ))) (key : Bor (List ℕ)) (directive : Directive)

@@ -1,23 +1,20 @@
 -- Names under a known host, by the texts after their dots.
 use Rattle.std.proofs.Common.{◌≡◌, ◌==◌, ◌&&◌, ◌||◌, ◌<◌, ◌≤◌, ◌-◌, ◌+◌, inl, inr, get_or, ℕ, zero, suc, Bool, true}
 use Rattle.std.proofs.Common.{false, List, [], ◌∷◌, drop, length, nat_eq, nat_lt, refl, ap, sym, ◌∙◌, arith}
+use mathlib.Core.Bool.{or-false}
 use Rattle.std.proofs.lemmas.Bool.{cases_lt}
 use Rattle.std.proofs.lemmas.List.{drop_all, drop_more}
 use Rattle.std.specs.Cmp.Lexicographic.{unequal}
 use Rattle.std.specs.List.{ends_with, list_any}
 use Rattle.std.specs.Str.{bytes_eq}
+use Rattle.value_lemmas.proofs.Tests.{eqb-comm}
 use Rattle.wf_hsts.specs.Hosts.{matches_host}
-use Rattle.wf_hsts.proofs.IndexLemmas.{eq-flip}
 use Rattle.wf_hsts.specs.Private.Terms.{begins_under, covers, is_dot_and, is_under}
 use Rattle.wf_hsts.specs.declared.hosts.KnownHost.{KnownHost}
 
 drop-nothing : (n : ℕ) → drop n (let none : List ℕ = [] in none) ≡ []
 drop-nothing zero = refl
 drop-nothing (suc n) = refl
-
-or-false : (b : Bool) → (b || false) ≡ b
-or-false true = refl
-or-false false = refl
 
 -- a text that ends in another is it, or ends in it after the first byte
 ends-short : (byte : ℕ) (rest needle : List ℕ) → length needle ≤ length rest → ends_with nat_eq (byte ∷ rest) needle
@@ -78,7 +75,7 @@ under-step [] byte rest now = nothing (byte == 46)
     nothing true = refl
     nothing false = refl
 under-step (known ∷ hosts) byte rest now =
-    rw (ends-step byte rest (46 ∷ known.host), under-step hosts byte rest now, eq-flip 46 byte)
+    rw (ends-step byte rest (46 ∷ known.host), under-step hosts byte rest now, eqb-comm 46 byte)
     (shuffled known.subdomains (byte == 46) (bytes_eq known.host rest) (ends_with nat_eq rest (46 ∷ known.host))
     (nat_lt now known.until) (covers hosts rest now) (is_under hosts rest now))
 
@@ -131,7 +128,7 @@ under-ended hosts name now at past = ap (λ l. is_under hosts l now) (drop_all a
 -- the text is a dot and a host where the two are equal
 dot-and : (host text : List ℕ) → is_dot_and host text ≡ bytes_eq (46 ∷ host) text
 dot-and host [] = refl
-dot-and host (byte ∷ text) = rw (eq-flip 46 byte) refl
+dot-and host (byte ∷ text) = rw (eqb-comm 46 byte) refl
 
 -- a name ends in a dot and a host where its last bytes are these
 pub ends_there : (name host : List ℕ) (at : ℕ) → length host < length name → at ≡ length name - length host - 1

@@ -1,8 +1,8 @@
 -- Hosts in order: which may stand last.
-use Rattle.std.proofs.Common.{◌≡◌, ◌<◌, ◌&&◌, ℕ, zero, suc, Bool, true, false, List, [], ◌∷◌}
+use Rattle.std.proofs.Common.{◌≡◌, ◌&&◌, ℕ, zero, suc, Bool, true, false, List, [], ◌∷◌}
 use Rattle.std.proofs.Common.{◌++◌, length, filter, arith, refl, ap, sym, subst, ◌∙◌, Some, if◌then◌else◌}
 use Rattle.std.proofs.Common.{length-append}
-use Rattle.std.proofs.lemmas.Bool.Decides.{nat_tests}
+use Rattle.std.proofs.lemmas.Bool.{and_from, and_parts, lt-ltb, ltb-true}
 use Rattle.std.proofs.lemmas.List.Elements.{recursion_from_All}
 use Rattle.std.specs.List.{All, AllByRecursion, list_all, slice_get}
 use Rattle.std.specs.Map.{keys_of}
@@ -10,6 +10,7 @@ use Rattle.std.specs.Ordering.{is_gt, is_lt, ordering_reverse}
 use Rattle.std.specs.Prelude.{nat_lt}
 use Rattle.std.specs.declared.cmp.Ordering.{Ordering}
 use Rattle.std.specs.declared.cmp.Ordering.TheVariants.{Equal, Greater, Less}
+use Rattle.value_lemmas.proofs.Tests.{is_lt-true}
 use Rattle.wf_hsts.specs.Hosts.{AreHosts, AreSorted, ExtendsExactly, extended, may_stand_last, with_host}
 use Rattle.wf_hsts.specs.Private.Index.{known_of, listed}
 use Rattle.wf_hsts.specs.declared.hosts.KnownHost.{KnownHost}
@@ -21,11 +22,6 @@ use Rattle.wf_hsts.proofs.OrderLemmas.{chained, flipped, text-equal}
 
 abbrev pub is_before : List ℕ → KnownHost → Bool
 is_before host known = is_lt (text_cmp known.host host)
-
-less : (o : Ordering) → is_lt o ≡ true → o ≡ Less
-less Less e = refl
-less Equal e = absurd (cc)
-less Greater e = absurd (cc)
 
 -- what is not after a text that comes before another comes before that
 not-after : (a b c : List ℕ) (o : Ordering) → text_cmp a b ≡ o → is_lt o ≡ false → text_cmp a c ≡ Less
@@ -78,30 +74,22 @@ module _ {V : Type 0} (items : V → List ℕ) where
 
 -- ---- a host behind all
 
-pub and-left : (a b : Bool) → (a && b) ≡ true → a ≡ true
-and-left true b e = refl
-and-left false b e = absurd (cc)
-
-pub and-right : (a b : Bool) → (a && b) ≡ true → b ≡ true
-and-right true b e = e
-and-right false b e = absurd (cc)
-
 all-kept : (new : KnownHost) (hosts : List KnownHost) → list_all (is_before new.host) hosts ≡ true
     → filter (is_before new.host) hosts ≡ hosts
 all-kept new [] all = refl
 all-kept new (known ∷ hosts) all =
-    rw (and-left (is_before new.host known) (list_all (is_before new.host) hosts) all)
+    rw (and_parts (is_before new.host known) (list_all (is_before new.host) hosts) all).0
     (ap (λ l. known ∷ l)
-    (all-kept new hosts (and-right (is_before new.host known) (list_all (is_before new.host) hosts) all)))
+    (all-kept new hosts (and_parts (is_before new.host known) (list_all (is_before new.host) hosts) all).1))
 
 none-behind : (new : KnownHost) (hosts : List KnownHost) → list_all (is_before new.host) hosts ≡ true
     → filter (λ known. is_gt (text_cmp known.host new.host)) hosts ≡ []
 none-behind new [] all = refl
 none-behind new (known ∷ hosts) all =
     let is : text_cmp known.host new.host ≡ Less =
-    less (text_cmp known.host new.host)
-    (and-left (is_before new.host known) (list_all (is_before new.host) hosts) all) in
-    rw is (none-behind new hosts (and-right (is_before new.host known) (list_all (is_before new.host) hosts) all))
+    is_lt-true (text_cmp known.host new.host)
+    (and_parts (is_before new.host known) (list_all (is_before new.host) hosts) all).0 in
+    rw is (none-behind new hosts (and_parts (is_before new.host known) (list_all (is_before new.host) hosts) all).1)
 
 pub put-last : (new : KnownHost) (hosts : List KnownHost) → list_all (is_before new.host) hosts ≡ true
     → with_host new hosts ≡ hosts ++ new ∷ []
@@ -115,12 +103,12 @@ pub sorted-more : (new : KnownHost) (hosts : List KnownHost) → AreSorted hosts
 sorted-more new [] sorted all = (tt, tt)
 sorted-more new (known ∷ hosts) sorted all = (
   add hosts sorted.0,
-  sorted-more new hosts sorted.1 (and-right (is_before new.host known) (list_all (is_before new.host) hosts) all),
+  sorted-more new hosts sorted.1 (and_parts (is_before new.host known) (list_all (is_before new.host) hosts) all).1,
 )
   where
     here : text_cmp known.host new.host ≡ Less
-    here = less (text_cmp known.host new.host)
-        (and-left (is_before new.host known) (list_all (is_before new.host) hosts) all)
+    here = is_lt-true (text_cmp known.host new.host)
+        (and_parts (is_before new.host known) (list_all (is_before new.host) hosts) all).0
 
     add : (others : List KnownHost) → AllByRecursion (λ other. text_cmp known.host other.host ≡ Less) others
         → AllByRecursion (λ other. text_cmp known.host other.host ≡ Less) (others ++ new ∷ [])
@@ -141,31 +129,22 @@ sorted-back new (known ∷ hosts) sorted =
 
 -- ---- and few
 
-lt-true : (a b : ℕ) → nat_lt a b ≡ true → a < b
-lt-true a b e = grind (arith, nat_tests)
-
-true-lt : (a b : ℕ) → a < b → nat_lt a b ≡ true
-true-lt a b e = grind (arith, nat_tests)
-
-both : (a b : Bool) → a ≡ true → b ≡ true → (a && b) ≡ true
-both a b e f = rw (e, f) refl
-
 pub hosts-more : (new : KnownHost) (hosts : List KnownHost) → AreHosts hosts → may_stand_last new hosts ≡ true
     → AreHosts (hosts ++ new ∷ [])
 hosts-more new hosts are may =
-    let few = lt-true (length hosts) 4096
-    (and-left (nat_lt (length hosts) 4096) (list_all (is_before new.host) hosts) may) in
+    let few = ltb-true (length hosts) 4096
+    (and_parts (nat_lt (length hosts) 4096) (list_all (is_before new.host) hosts) may).0 in
     record {
       sorted = sorted-more new hosts are.sorted
-          (and-right (nat_lt (length hosts) 4096) (list_all (is_before new.host) hosts) may);
+          (and_parts (nat_lt (length hosts) 4096) (list_all (is_before new.host) hosts) may).1;
       few = omega (arith, few, length-append hosts (new ∷ []));
     }
 
 hosts-back : (new : KnownHost) (hosts : List KnownHost) → AreHosts (hosts ++ new ∷ [])
     → may_stand_last new hosts ≡ true
 hosts-back new hosts are =
-    both (nat_lt (length hosts) 4096) (list_all (is_before new.host) hosts)
-    (true-lt (length hosts) 4096 (omega (arith, are.few, length-append hosts (new ∷ []))))
+    and_from (nat_lt (length hosts) 4096) (list_all (is_before new.host) hosts)
+    (lt-ltb (length hosts) 4096 (omega (arith, are.few, length-append hosts (new ∷ []))))
     (sorted-back new hosts are.sorted)
 
 pub extends-exactly : ExtendsExactly
@@ -184,5 +163,5 @@ extended-hosts new hosts are = by-may (may_stand_last new hosts) new hosts are (
 pub extended-last : (new : KnownHost) (hosts : List KnownHost) → true ≡ may_stand_last new hosts
     → with_host new hosts ≡ extended new hosts
 extended-last new hosts stands =
-    put-last new hosts (and-right (nat_lt (length hosts) 4096) (list_all (is_before new.host) hosts) (sym stands))
+    put-last new hosts (and_parts (nat_lt (length hosts) 4096) (list_all (is_before new.host) hosts) (sym stands)).1
     ∙ ap (λ (b : Bool). if b then hosts ++ new ∷ [] else hosts) stands

@@ -81,7 +81,7 @@ final-not-bad bytes head n is other =
     let same : n ≡ other.0 = decided-one bytes n other.0 is.decided other.1.decided in
     other.1.no_head head (subst (λ (k : ℕ). EndsFinal (take k bytes) head) same is.final)
 
-long-not-short : (bytes : List ℕ) → IsTooLong bytes → IsUnfinished bytes → ⊥
+pub long-not-short : (bytes : List ℕ) → IsTooLong bytes → IsUnfinished bytes → ⊥
 long-not-short bytes is none = absurd (omega (arith, is.long, none.short))
 
 -- what the head of an answer comes to is one

@@ -1,12 +1,13 @@
 -- What ends in an empty line, and lines that do not.
-use Rattle.std.proofs.Common.{◌≡◌, ◌||◌, ◌⊎◌, inl, inr, ℕ, zero, suc, Bool, true, false, true≢false, List, [], ◌∷◌}
+use Rattle.std.proofs.Common.{◌≡◌, ◌⊎◌, inl, inr, ℕ, zero, suc, Bool, true, false, true≢false, List, [], ◌∷◌}
 use Rattle.std.proofs.Common.{◌++◌, length, take, reverse, refl, ap, sym, ◌∙◌, subst, arith, append_assoc}
+use Rattle.std.proofs.lemmas.Bool.{and_parts, or_cases, or_right}
 use Rattle.std.proofs.lemmas.Bool.Decides.{Decides-eqb}
 use Rattle.std.proofs.lemmas.List.{append-nil, reverse-append, take_all}
 use Rattle.std.proofs.lemmas.List.Folds.{list_any-append}
 use Rattle.std.proofs.lemmas.Slice.Eq.{ends_is}
 use Rattle.std.specs.List.{ends_with, list_any}
-use Rattle.std.specs.Prelude.{codes, nat_eq, ◌&&◌}
+use Rattle.std.specs.Prelude.{codes, nat_eq}
 use Rattle.wf_http1.specs.Blocks.{is_block, is_line_byte}
 
 -- ---- the end of a block
@@ -15,25 +16,13 @@ use Rattle.wf_http1.specs.Blocks.{is_block, is_line_byte}
 abbrev pub EndsEmpty : List ℕ → Type 0
 EndsEmpty back = (rest : List ℕ) × ((back ≡ 10 ∷ 10 ∷ rest) ⊎ (back ≡ 10 ∷ 13 ∷ 10 ∷ rest))
 
-and-true : (a b : Bool) → (a && b) ≡ true → (a ≡ true) × (b ≡ true)
-and-true true b h = (refl, h)
-and-true false b h = absurd (true≢false (sym h))
-
-or-true : (a b : Bool) → (a || b) ≡ true → (a ≡ true) ⊎ (b ≡ true)
-or-true true b h = inl refl
-or-true false b h = inr h
-
-pub or-right : (a b : Bool) → b ≡ true → (a || b) ≡ true
-or-right true b h = refl
-or-right false b h = h
-
 ends : (text end : List ℕ) → (ends_with nat_eq text end ≡ true → (front : List ℕ) × (text ≡ front ++ end))
     × ((front : List ℕ) → text ≡ front ++ end → ends_with nat_eq text end ≡ true)
 ends text end = let is = ends_is Decides-eqb text end (ends_with nat_eq text end) refl in ((λ h. (_, is.0 h)), is.1)
 
 -- a block ends in an empty line
 pub block-ends : (text : List ℕ) → is_block text ≡ true → EndsEmpty (reverse text)
-block-ends text block = by_cases (or-true _ _ (and-true _ _ block).1)
+block-ends text block = by_cases (or_cases _ _ (and_parts _ _ block).1)
   where
     by_cases : (ends_with nat_eq text (codes "\n\n") ≡ true) ⊎ (ends_with nat_eq text (codes "\n\r\n") ≡ true)
         → EndsEmpty (reverse text)
@@ -54,7 +43,7 @@ pub is-block-crlf : (front : List ℕ) → list_any is_line_byte front ≡ true 
 is-block-crlf front some = rw (
   list_any-append is_line_byte front (codes "\n\r\n"),
   some,
-  or-right (ends_with nat_eq (front ++ codes "\n\r\n") (codes "\n\n"))
+  or_right (ends_with nat_eq (front ++ codes "\n\r\n") (codes "\n\n"))
       (ends_with nat_eq (front ++ codes "\n\r\n") (codes "\n\r\n"))
       ((ends (front ++ codes "\n\r\n") (codes "\n\r\n")).1 front refl),
 ) refl

@@ -2,6 +2,8 @@
 use Rattle.std.proofs.Common.{arith, inl, inr, ◌≡◌, ◌≢◌, ◌≤◌, ◌<◌, ◌⊎◌, ◌+◌, ◌*◌, ◌-◌, ◌==◌, ◌&&◌, ◌||◌, ℕ, zero, suc}
 use Rattle.std.proofs.Common.{List, [], ◌∷◌, take, drop, length, refl, sym, ap, ◌∙◌, Bool, true, false, not, nat_le}
 use Rattle.std.proofs.Common.{Option, Some, None, option_map, length-drop, if◌then◌else◌}
+use mathlib.Core.Bool.{and-false}
+use Rattle.std.proofs.lemmas.Bool.{le-leb, lt-leb}
 use Rattle.std.specs.Option.{option_and_then}
 use Rattle.std.proofs.lemmas.Bool.Decides.{eqb_tells, leb_tells}
 use Rattle.std.proofs.lemmas.Grind.{common_steps}
@@ -25,12 +27,6 @@ use Rattle.wf_http1.proofs.PlaceLemmas.{choice}
 
 pub fails_eq : (m n : ℕ) → m ≢ n → (m == n) ≡ false
 fails_eq m n other = elim (eqb_tells m n) [ inl h ↦ absurd (other h.1) | inr h ↦ h.0 ]
-
-holds_le : (m n : ℕ) → m ≤ n → nat_le m n ≡ true
-holds_le m n within = elim (leb_tells m n) [ inl h ↦ h.0 | inr h ↦ absurd (omega (arith, h.1, within)) ]
-
-fails_le : (m n : ℕ) → n < m → nat_le m n ≡ false
-fails_le m n beyond = elim (leb_tells m n) [ inl h ↦ absurd (omega (arith, h.1, beyond)) | inr h ↦ h.0 ]
 
 -- ---- lines
 
@@ -145,7 +141,7 @@ too-long n most byte line (Some rest) full = from (trailers_length most rest) re
   where
     from : (o : Option ℕ) → trailers_length most rest ≡ o → are_short (plus (n + length (byte ∷ line) + 2) o) ≡ false
     from None e = refl
-    from (Some m) e = fails_le (n + length (byte ∷ line) + 2 + m) 8192 (omega (arith, full, trailers-two most rest m e))
+    from (Some m) e = lt-leb (n + length (byte ∷ line) + 2 + m) 8192 (omega (arith, full, trailers-two most rest m e))
 
 -- a byte of a line counts as one before it
 one-more : (n most : ℕ) (byte : ℕ) (line : List ℕ) (o : Option (List ℕ))
@@ -178,7 +174,7 @@ last-decoded : (n most : ℕ) (rest : List ℕ) → n ≤ 8190
 last-decoded n most [] within = refl
 last-decoded n most (byte ∷ rest) within =
     elim (eqb_tells byte 10) [
-      | inl lf ↦ let short : nat_le (n + 2) 8192 ≡ true = holds_le (n + 2) 8192 (omega (arith, within)) in
+      | inl lf ↦ let short : nat_le (n + 2) 8192 ≡ true = le-leb (n + 2) 8192 (omega (arith, within)) in
           rw (lf.0, short) refl
       | inr other ↦ rw other.0 refl
     ]
@@ -187,11 +183,11 @@ last-decoded n most (byte ∷ rest) within =
 trailer-goes : (byte n : ℕ) (end : Place) → byte ≢ 13 → byte ≢ 10 → n < 8188 → at_trailer byte n end
     ≡ To (Trailer (n + 1))
 trailer-goes byte n end no_cr no_lf free =
-    rw (fails_eq byte 13 no_cr, fails_eq byte 10 no_lf, fails_le 8188 n free) refl
+    rw (fails_eq byte 13 no_cr, fails_eq byte 10 no_lf, lt-leb 8188 n free) refl
 
 trailer-full : (byte n : ℕ) (end : Place) → byte ≢ 13 → byte ≢ 10 → 8188 ≤ n → at_trailer byte n end ≡ Broken
 trailer-full byte n end no_cr no_lf full =
-    rw (fails_eq byte 13 no_cr, fails_eq byte 10 no_lf, holds_le 8188 n full) refl
+    rw (fails_eq byte 13 no_cr, fails_eq byte 10 no_lf, le-leb 8188 n full) refl
 
 -- what is decoded after a turn, where these bytes follow
 abbrev behind : List ℕ → Turn → Decoded
@@ -368,14 +364,10 @@ room-more line byte text = let same : line + length (byte ∷ text) + 2 ≡ line
     ap (λ n. nat_le n 4096) same
 
 room-none : (line : ℕ) (byte : ℕ) (text : List ℕ) → 4094 ≤ line → nat_le (line + length (byte ∷ text) + 2) 4096 ≡ false
-room-none line byte text full = fails_le (line + length (byte ∷ text) + 2) 4096 (omega (arith, full))
+room-none line byte text full = lt-leb (line + length (byte ∷ text) + 2) 4096 (omega (arith, full))
 
 room-end : (line : ℕ) → line ≤ 4094 → nat_le (line + 0 + 2) 4096 ≡ true
-room-end line within = holds_le (line + 0 + 2) 4096 (omega (arith, within))
-
-false-right : (b : Bool) → (b && false) ≡ false
-false-right true = refl
-false-right false = refl
+room-end line within = le-leb (line + 0 + 2) 4096 (omega (arith, within))
 
 in_line-more : (size line byte : ℕ) (text r : List ℕ) → in_line size line (byte ∷ text, r)
     ≡ in_line size (line + 1) (text, r)
@@ -386,12 +378,12 @@ in_line-none size line byte text r full = ap (λ b. if b then Some (size, r) els
 
 in_extension-full : (size line byte : ℕ) → byte ≢ 13 → byte ≢ 10 → 4094 ≤ line → in_extension size line byte ≡ Broken
 in_extension-full size line byte no_cr no_lf full =
-    rw (fails_eq byte 13 no_cr, fails_eq byte 10 no_lf, holds_le 4094 line full) refl
+    rw (fails_eq byte 13 no_cr, fails_eq byte 10 no_lf, le-leb 4094 line full) refl
 
 in_extension-goes : (size line byte : ℕ) → byte ≢ 13 → byte ≢ 10 → line < 4094 → in_extension size line byte
     ≡ To (Extension size (line + 1))
 in_extension-goes size line byte no_cr no_lf free =
-    rw (fails_eq byte 13 no_cr, fails_eq byte 10 no_lf, fails_le 4094 line free) refl
+    rw (fails_eq byte 13 no_cr, fails_eq byte 10 no_lf, lt-leb 4094 line free) refl
 
 extension-decoded : (bytes : List ℕ) (size line : ℕ) → line ≤ 4094 → decoded_at (Extension size line) bytes
     ≡ behind_size chunks (option_and_then (in_line size line) (cut_line bytes))
@@ -457,18 +449,18 @@ blanks-other size line byte text r no_tab no_space no_semicolon =
 blanks-none : (size line byte : ℕ) (text r : List ℕ) → 4094 ≤ line → in_blanks size line (byte ∷ text, r) ≡ None
 blanks-none size line byte text r full =
     ap (given size r) (ap (λ b. is_extension (trimmed_start tab_or_space (byte ∷ text))
-    && b) (room-none line byte text full) ∙ false-right (is_extension (trimmed_start tab_or_space (byte ∷ text))))
+    && b) (room-none line byte text full) ∙ and-false (is_extension (trimmed_start tab_or_space (byte ∷ text))))
 
 digits-full : (size line byte : ℕ) → byte ≢ 13 → 4094 ≤ line → behind_digits size line byte ≡ Broken
-digits-full size line byte no_cr full = rw (fails_eq byte 13 no_cr, holds_le 4094 line full) refl
+digits-full size line byte no_cr full = rw (fails_eq byte 13 no_cr, le-leb 4094 line full) refl
 
 digits-blank : (size line byte : ℕ) → byte ≢ 13 → line < 4094 → (byte ≡ 9) ⊎ (byte ≡ 32)
     → behind_digits size line byte ≡ To (Blanks size (line + 1))
-digits-blank size line byte no_cr free (inl tab) = rw (tab, fails_le 4094 line free) refl
-digits-blank size line byte no_cr free (inr space) = rw (space, fails_le 4094 line free) refl
+digits-blank size line byte no_cr free (inl tab) = rw (tab, lt-leb 4094 line free) refl
+digits-blank size line byte no_cr free (inr space) = rw (space, lt-leb 4094 line free) refl
 
 digits-semicolon : (size line : ℕ) → line < 4094 → behind_digits size line 59 ≡ To (Extension size (line + 1))
-digits-semicolon size line free = rw (fails_le 4094 line free) refl
+digits-semicolon size line free = rw (lt-leb 4094 line free) refl
 
 digits-other : (size line byte : ℕ) → byte ≢ 13 → byte ≢ 9 → byte ≢ 32 → byte ≢ 59 → behind_digits size line byte
     ≡ Broken
@@ -477,7 +469,7 @@ digits-other size line byte no_cr no_tab no_space no_semicolon =
       | inl full ↦ digits-full size line byte no_cr full.1
       | inr free ↦ rw (
         fails_eq byte 13 no_cr,
-        fails_le 4094 line free.1,
+        lt-leb 4094 line free.1,
         fails_eq byte 9 no_tab,
         fails_eq byte 32 no_space,
         fails_eq byte 59 no_semicolon,
@@ -568,19 +560,19 @@ digit-none value byte text r digit =
     let front : List ℕ = size_digits text in
     let test : Bool = is_extension (trimmed_start tab_or_space (drop (length front) text)) in
     let more : Bool = nat_le (16 + length (byte ∷ text) + 2) 4096 in
-    let full : nat_le (16 + length (byte ∷ front)) 16 ≡ false = fails_le (16 + length (byte ∷ front)) 16 (omega arith)
+    let full : nat_le (16 + length (byte ∷ front)) 16 ≡ false = lt-leb (16 + length (byte ∷ front)) 16 (omega arith)
     in
     ap (λ d. with_digits 16 value d (byte ∷ text, r)) (size_digits-more byte text digit)
     ∙ ap (given (digits_value_after 16 (value * 16 + digit_value byte) front) r)
     (ap (λ b. nat_le 1 (16 + length (byte ∷ front)) && b && test && more) full
-    ∙ ap (λ b. b && test && more) (false-right (nat_le 1 (16 + length (byte ∷ front)))))
+    ∙ ap (λ b. b && test && more) (and-false (nat_le 1 (16 + length (byte ∷ front)))))
 
 -- after one digit or more, what follows is read as after blanks
 no-digit : (digits value : ℕ) (text r : List ℕ) → 1 ≤ digits → digits ≤ 16 → size_digits text ≡ []
     → in_digits digits value (text, r) ≡ in_blanks value digits (text, r)
 no-digit digits value text r some few none =
-    let first : nat_le 1 (digits + 0) ≡ true = holds_le 1 (digits + 0) (omega (arith, some)) in
-    let second : nat_le (digits + 0) 16 ≡ true = holds_le (digits + 0) 16 (omega (arith, few)) in
+    let first : nat_le 1 (digits + 0) ≡ true = le-leb 1 (digits + 0) (omega (arith, some)) in
+    let second : nat_le (digits + 0) 16 ≡ true = le-leb (digits + 0) 16 (omega (arith, few)) in
     ap (λ d. with_digits digits value d (text, r)) none
     ∙ ap (given value r) (ap (λ b. b && nat_le (digits + 0) 16 && is_extension (trimmed_start tab_or_space text)
     && nat_le (digits + length text + 2) 4096) first

@@ -1,8 +1,8 @@
 -- The bytes of a response head: they are a shortest block, and one head only.
-use Rattle.std.proofs.Common.{◌≡◌, ◌==◌, ◌||◌, ◌≤◌, ◌<◌, ◌+◌, ◌⊎◌, inl, inr, ℕ, zero, suc, Bool, true, false}
+use Rattle.std.proofs.Common.{◌≡◌, ◌==◌, ◌≤◌, ◌<◌, ◌+◌, ◌⊎◌, inl, inr, ℕ, zero, suc, Bool, true, false}
 use Rattle.std.proofs.Common.{true≢false, List, [], ◌∷◌, ◌++◌, length, take, refl, ap, sym, ◌∙◌, subst, arith}
 use Rattle.std.proofs.Common.{append_assoc, Option, Some, None}
-use Rattle.std.proofs.lemmas.Bool.{cases_order, eqb-true}
+use Rattle.std.proofs.lemmas.Bool.{cases_order, eqb-true, or_parts}
 use Rattle.std.proofs.lemmas.List.{append-nil, take_at, take-append-le}
 use Rattle.std.proofs.lemmas.List.Elements.{recursion_from_All}
 use Rattle.std.specs.Char.{is_ascii_digit}
@@ -58,15 +58,11 @@ blank-none [] = refl
 blank-none (crlf ∷ ends) = blank-none ends
 blank-none (lf ∷ ends) = blank-none ends
 
-pub or-false : (a b : Bool) → (a || b) ≡ false → (a ≡ false) × (b ≡ false)
-or-false true b none = absurd (true≢false none)
-or-false false b none = (refl, none)
-
 take-none : (n : ℕ) (text : List ℕ) → list_any is_line_byte text ≡ false → list_any is_line_byte (take n text) ≡ false
 take-none zero text none = refl
 take-none (suc n) [] none = refl
 take-none (suc n) (byte ∷ text) none =
-    let both = or-false (is_line_byte byte) (list_any is_line_byte text) none in
+    let both = or_parts (is_line_byte byte) (list_any is_line_byte text) none in
     rw both.0 (take-none n text both.1)
 
 -- no block ends in the empty lines before a head

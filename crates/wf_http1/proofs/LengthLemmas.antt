@@ -1,12 +1,12 @@
 -- A Content-Length that is digits alone is one piece, which nothing is trimmed of.
-use Rattle.std.proofs.Common.{arith, ◌≡◌, ◌^◌, ◌-◌, ◌∷◌, [], ℕ, List, refl, ap, ◌∙◌, Bool}
+use Rattle.std.proofs.Common.{arith, ◌≡◌, ◌^◌, ◌-◌, ◌∷◌, [], ℕ, List, refl, ap, ◌∙◌}
 use Rattle.std.proofs.Common.{true, codes, reverse, Option, Some, None, option_map, IfSome}
 use Rattle.std.proofs.lemmas.Grind.{common_steps}
 use Rattle.std.proofs.lemmas.Bool.Decides.{nat_tests}
-use Rattle.std.proofs.lemmas.List.{reverse-append, reverse-reverse}
-use Rattle.std.proofs.lemmas.List.Folds.{list_all-append}
+use Rattle.std.proofs.lemmas.List.{reverse-reverse}
 use Rattle.std.specs.Char.{is_ascii_digit}
 use Rattle.std.specs.List.{list_all}
+use Rattle.value_lemmas.proofs.Lists.{list_all-reverse}
 use Rattle.wf_headers.specs.Headers.{combined}
 use Rattle.wf_headers.specs.Split.{pieces, split}
 use Rattle.wf_headers.specs.declared.headers.Header.{Header}
@@ -25,17 +25,10 @@ start-digits : (text : List ℕ) → list_all is_ascii_digit text ≡ true → t
 start-digits [] each = refl
 start-digits (byte ∷ text) each = grind (arith, nat_tests, common_steps)
 
-all-reverse : (test : ℕ → Bool) (text : List ℕ) → list_all test text ≡ true → list_all test (reverse text) ≡ true
-all-reverse test [] each = refl
-all-reverse test (byte ∷ text) each =
-    ap (list_all test) (reverse-append (byte ∷ []) text)
-    ∙ (list_all-append test (reverse text) (byte ∷ [])
-    ∙ grind (arith, common_steps, all-reverse test text))
-
 trimmed-digits : (text : List ℕ) → list_all is_ascii_digit text ≡ true → trimmed tab_or_space text ≡ text
 trimmed-digits text each =
     ap (λ (l : List ℕ). reverse (trimmed_start tab_or_space (reverse l))) (start-digits text each)
-    ∙ (ap (λ (l : List ℕ). reverse l) (start-digits (reverse text) (all-reverse is_ascii_digit text each))
+    ∙ (ap (λ (l : List ℕ). reverse l) (start-digits (reverse text) (list_all-reverse is_ascii_digit text each))
     ∙ reverse-reverse text)
 
 split-digits : (text : List ℕ) → list_all is_ascii_digit text ≡ true → split text ≡ text ∷ []

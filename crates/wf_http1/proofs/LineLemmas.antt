@@ -1,13 +1,14 @@
 -- Lines of a head: no block ends in them, and one ends in the empty line after them.
 use Rattle.std.proofs.Common.{◌≡◌, ◌==◌, ◌||◌, ◌⊎◌, inl, inr, ℕ, Bool, true, false, true≢false, List, [], ◌∷◌, ◌++◌}
 use Rattle.std.proofs.Common.{length, take, reverse, refl, ap, sym, ◌∙◌, subst, arith, append_assoc, length-append}
+use Rattle.std.proofs.lemmas.Bool.{or_right}
 use Rattle.std.proofs.lemmas.List.{take-append-le}
 use Rattle.std.proofs.lemmas.List.Folds.{list_any-append}
 use Rattle.std.specs.List.{AllByRecursion, list_any}
 use Rattle.httparse.specs.Grammar.{LineEnd, crlf, lf, print_end}
 use Rattle.wf_http1.specs.Blocks.{is_block, is_line_byte, IsShortestBlock}
 use Rattle.wf_http1.proofs.BlockLemmas.{back-push, IsQuiet, is-block-crlf, is-block-lf, is-line, no-block}
-use Rattle.wf_http1.proofs.BlockLemmas.{no-block-line, no-block-push, or-right, quiet-append, quiet-cons, quiet-end}
+use Rattle.wf_http1.proofs.BlockLemmas.{no-block-line, no-block-push, quiet-append, quiet-cons, quiet-end}
 use Rattle.wf_http1.proofs.BlockLemmas.{quiet-nil}
 
 -- a text that ends in a byte of a line and a line end
@@ -90,11 +91,11 @@ ends_line-none text end =
 
 some : (front : List ℕ) (byte : ℕ) → is_line_byte byte ≡ true → list_any is_line_byte (front ++ byte ∷ []) ≡ true
 some front byte line = list_any-append is_line_byte front (byte ∷ [])
-    ∙ or-right (list_any is_line_byte front) (list_any is_line_byte (byte ∷ [])) (ap (λ (b : Bool). b || false) line)
+    ∙ or_right (list_any is_line_byte front) (list_any is_line_byte (byte ∷ [])) (ap (λ (b : Bool). b || false) line)
 
 some-2 : (front : List ℕ) (byte : ℕ) → is_line_byte byte ≡ true → list_any is_line_byte (front ++ byte ∷ 13 ∷ []) ≡ true
 some-2 front byte line = list_any-append is_line_byte front (byte ∷ 13 ∷ [])
-    ∙ or-right (list_any is_line_byte front) (list_any is_line_byte (byte ∷ 13 ∷ []))
+    ∙ or_right (list_any is_line_byte front) (list_any is_line_byte (byte ∷ 13 ∷ []))
     (ap (λ (b : Bool). b || false) line)
 
 block-behind : (front : List ℕ) (byte : ℕ) (end last : LineEnd) → is_line_byte byte ≡ true

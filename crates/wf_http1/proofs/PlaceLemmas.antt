@@ -1,7 +1,8 @@
 -- The places of a reader of chunks stay within their limits.
 use Rattle.std.proofs.Common.{arith, inl, inr, ◌≡◌, ◌≢◌, ◌≤◌, ◌<◌, ◌+◌, ◌*◌, ◌^◌, ◌==◌, ℕ, refl, Bool, true, false}
 use Rattle.std.proofs.Common.{nat_le, lit<, ◌||◌, if◌then◌else◌}
-use Rattle.std.proofs.lemmas.Bool.Decides.{eqb_tells, leb_tells, nat_tests}
+use Rattle.std.proofs.lemmas.Bool.{leb-false}
+use Rattle.std.proofs.lemmas.Bool.Decides.{eqb_tells, nat_tests}
 use Rattle.std.proofs.lemmas.Grind.{common_steps, pow_more}
 use Rattle.std.proofs.Math.Nat.{pow-le-pow_right}
 use Rattle.std.specs.Char.{digit_value, is_ascii_hexdigit}
@@ -47,18 +48,13 @@ differs m n test = elim (eqb_tells m n) [
       other.1
 ]
 
-pub exceeds : (m n : ℕ) → nat_le m n ≡ false → n < m
-exceeds m n test = elim (leb_tells m n) [
-  | inl less ↦ absurd (grind (arith, nat_tests, test, less.0))
-  | inr more ↦
-      more.1
 ]
 
 behind_digits-live : (size line byte : ℕ) → IsTurnLive (behind_digits size line byte)
 behind_digits-live size line byte =
     choice IsTurnLive (byte == 13) _ _ (λ _. tt) (λ _.
     choice IsTurnLive (nat_le 4094 line) _ _ (λ _. tt) (λ room.
-    let within : line + 1 ≤ 4094 = omega (arith, exceeds 4094 line room) in
+    let within : line + 1 ≤ 4094 = omega (arith, leb-false 4094 line room) in
     choice IsTurnLive (byte == 9 || byte == 32) _ _ (λ _. within)
     (λ _. choice IsTurnLive (byte == 59) _ _ (λ _. within) (λ _. tt))))
 
@@ -72,12 +68,12 @@ in_size-live digits value byte live =
 in_extension-live : (size line byte : ℕ) → IsTurnLive (in_extension size line byte)
 in_extension-live size line byte =
     choice IsTurnLive (byte == 13) _ _ (λ _. tt) (λ _. choice IsTurnLive (byte == 10) _ _ (λ _. tt) (λ _.
-    choice IsTurnLive (nat_le 4094 line) _ _ (λ _. tt) (λ room. omega (arith, exceeds 4094 line room))))
+    choice IsTurnLive (nat_le 4094 line) _ _ (λ _. tt) (λ room. omega (arith, leb-false 4094 line room))))
 
 at_trailer-live : (byte bytes : ℕ) (end : Place) → IsLive end → IsTurnLive (at_trailer byte bytes end)
 at_trailer-live byte bytes end live =
     choice IsTurnLive (byte == 13) _ _ (λ _. live) (λ _. choice IsTurnLive (byte == 10) _ _ (λ _. tt) (λ _.
-    choice IsTurnLive (nat_le 8188 bytes) _ _ (λ _. tt) (λ room. omega (arith, exceeds 8188 bytes room))))
+    choice IsTurnLive (nat_le 8188 bytes) _ _ (λ _. tt) (λ room. omega (arith, leb-false 8188 bytes room))))
 
 behind_line-live : (size : ℕ) → IsLive (behind_line size)
 behind_line-live size = choice IsLive (size == 0) _ _ (λ _. omega arith) (λ _. tt)

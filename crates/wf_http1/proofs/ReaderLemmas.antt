@@ -2,7 +2,7 @@
 use Rattle.std.proofs.Common.{◌≡◌, ◌==◌, ◌||◌, ◌≤◌, ◌<◌, ◌+◌, ◌-◌, ◌⊎◌, inl, inr, ℕ, zero, suc, Bool, true, false}
 use Rattle.std.proofs.Common.{List, [], ◌∷◌, ◌++◌, length, take, drop, get_or, reverse, refl, ap, sym, ◌∙◌, subst}
 use Rattle.std.proofs.Common.{arith, append_assoc, length-append, length-take, Some, None}
-use Rattle.std.proofs.lemmas.Bool.{cases_lt, eqb-false, lt-ltb}
+use Rattle.std.proofs.lemmas.Bool.{cases_lt, eqb-false, lt-ltb, or_parts}
 use Rattle.std.proofs.lemmas.List.{append-nil, reverse-append, reverse-reverse, same_from_push, take-append-drop}
 use Rattle.std.proofs.lemmas.List.{take-append-le, take_all, take_at, take_more}
 use Rattle.std.proofs.lemmas.Grind.{flat_map-append}
@@ -23,7 +23,7 @@ use Rattle.wf_http1.specs.declared.block.Judged.TheVariants.{Final, NoHead, Skip
 use Rattle.wf_http1.specs.Heads.{EndsBlock, EndsFinal, IsSkippedHead, Skips}
 use Rattle.wf_http1.proofs.BlockLemmas.{block-ends, IsQuiet, no-block-push, quiet-append, quiet-cons, quiet-end}
 use Rattle.wf_http1.proofs.BlockLemmas.{quiet-nil}
-use Rattle.wf_http1.proofs.HeadLemmas.{head-shortest, or-false}
+use Rattle.wf_http1.proofs.HeadLemmas.{head-shortest}
 use Rattle.wf_http1.proofs.SkipLemmas.{block-ends-there, no-final-there, skips-more, undecided}
 
 -- ---- lines
@@ -84,7 +84,7 @@ no_end-quiet : (before text : List ℕ) → is_block before ≡ false → list_a
     → IsQuiet before text
 no_end-quiet before [] none free = quiet-nil before none
 no_end-quiet before (byte ∷ text) none free =
-    let both = or-false (byte == 10) (list_any (λ (byte : ℕ). byte == 10) text) free in
+    let both = or_parts (byte == 10) (list_any (λ (byte : ℕ). byte == 10) text) free in
     quiet-cons before byte text none
     (no_end-quiet (before ++ byte ∷ []) text (no-block-push before byte (eqb-false byte 10 both.0)) both.1)
 
@@ -164,7 +164,7 @@ undecided-more : (bytes text : List ℕ) → IsUndecided bytes → list_any (λ 
     → IsUndecided (bytes ++ text)
 undecided-more bytes [] none free = subst IsUndecided (sym (append-nil bytes)) none
 undecided-more bytes (byte ∷ text) none free =
-    let both = or-false (byte == 10) (list_any (λ (byte : ℕ). byte == 10) text) free in
+    let both = or_parts (byte == 10) (list_any (λ (byte : ℕ). byte == 10) text) free in
     subst IsUndecided (append_assoc bytes (byte ∷ []) text)
     (undecided-more (bytes ++ byte ∷ []) text (undecided-push bytes byte none both.0) both.1)
 
@@ -296,7 +296,7 @@ take-free : (n : ℕ) (text : List ℕ) → list_any (λ byte. byte == 10) text 
 take-free zero text free = refl
 take-free (suc n) [] free = refl
 take-free (suc n) (byte ∷ text) free =
-    let both = or-false (byte == 10) (list_any (λ (byte : ℕ). byte == 10) text) free in
+    let both = or_parts (byte == 10) (list_any (λ (byte : ℕ). byte == 10) text) free in
     rw both.0 (take-free n text both.1)
 
 -- the limit falls within a line

@@ -62,7 +62,7 @@ skips-meet bytes p q one other =
 -- ---- a head at the front
 
 -- where a final head begins, no skipped one does
-final-not-skipped : (head : ResponseHead) (rest : List ℕ) → IsHead head → is_skipped (status_code head) ≡ false
+pub final-not-skipped : (head : ResponseHead) (rest : List ℕ) → IsHead head → is_skipped (status_code head) ≡ false
     → BeginsSkipped (print_response head ++ rest) → ⊥
 final-not-skipped head rest is final begins =
     let one : head ≡ begins.0 = head-one head begins.0 rest begins.1 is.head begins.2.head.head begins.3 in

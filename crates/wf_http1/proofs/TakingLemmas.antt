@@ -2,6 +2,7 @@
 use Rattle.std.proofs.Common.{arith, inl, inr, ◌≡◌, ◌≤◌, ◌<◌, ◌+◌, ◌-◌, ◌==◌, ℕ, zero, suc, List, [], ◌∷◌, ◌++◌, take}
 use Rattle.std.proofs.Common.{drop, length, refl, sym, ap, subst, ◌∙◌, Bool, true, false, nat_le, min, get_or}
 use Rattle.std.proofs.Common.{true≢false, append_assoc, length-append, if◌then◌else◌}
+use Rattle.std.proofs.lemmas.Bool.{leb-false}
 use Rattle.std.proofs.lemmas.Bool.Decides.{eqb_tells, leb_tells}
 use Rattle.std.proofs.lemmas.List.{length-take-le, take-append-drop}
 use Rattle.std.proofs.Math.Seq.{take-length}
@@ -18,7 +19,7 @@ use Rattle.wf_http1.specs.declared.place.Place.TheVariants.{Trailer, TrailerEnd,
 use Rattle.wf_http1.specs.declared.place.Turn.{Turn}
 use Rattle.wf_http1.specs.declared.place.Turn.TheVariants.{To}
 use Rattle.wf_http1.proofs.ChunkLemmas.{data-byte}
-use Rattle.wf_http1.proofs.PlaceLemmas.{IsTurnLive, exceeds, turn-live}
+use Rattle.wf_http1.proofs.PlaceLemmas.{IsTurnLive, turn-live}
 
 -- ---- ends
 
@@ -151,7 +152,7 @@ taken-length limit held bytes front test same =
 over-length : (limit : ℕ) (held bytes front : List ℕ) → nat_le (length held + length bytes) limit ≡ false → bytes
     ≡ front → limit < length (held ++ front)
 over-length limit held bytes front test same =
-    omega (arith, exceeds (length held + length bytes) limit test, ap length same, length-append held front)
+    omega (arith, leb-false (length held + length bytes) limit test, ap length same, length-append held front)
 
 pub data-exceeds : (limit count left : ℕ) (after : List ℕ → BodyEnd) (held rest bytes : List ℕ) (room : ℕ)
     (place : Place) (fits : Bool) → IsOn Chunked limit after held room place rest

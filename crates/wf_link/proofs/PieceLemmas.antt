@@ -1,20 +1,12 @@
 -- Going over the pieces of an answer.
-use Rattle.std.proofs.Common.{◌≡◌, ◌<◌, ◌+◌, ℕ, suc, min, List, [], ◌∷◌, ◌++◌, length, take, drop, refl, ap, sym}
+use Rattle.std.proofs.Common.{◌≡◌, ◌<◌, ◌+◌, ℕ, min, List, [], ◌∷◌, ◌++◌, length, take, drop, refl, ap, sym}
 use Rattle.std.proofs.Common.{◌∙◌, arith, Some, append_assoc}
-use Rattle.std.proofs.Math.Numerals.{add-one}
-use Rattle.std.proofs.Math.Seq.{drop-cons, drop-length, take-nil}
+use Rattle.std.proofs.Math.Seq.{drop-length, take-nil}
 use Rattle.std.proofs.lemmas.List.{length-drop, length-take-le, take-append-drop, take_at}
-use Rattle.std.proofs.lemmas.Option.{get_or_from_slice_get, slice_get_within}
 use Rattle.std.specs.Prelude.{slice_get}
 use Rattle.std.specs.List.{concat}
+use Rattle.value_lemmas.proofs.Lists.{drop-slice_get}
 use Rattle.wf_link.specs.MemoryLink.{behind, front, skipped}
-
--- the piece at an index, and those after it
-pub pieces-at : (answer : List (List ℕ)) (piece : ℕ) (text : List ℕ) → slice_get answer piece ≡ Some text
-    → drop piece answer ≡ text ∷ drop (piece + 1) answer
-pieces-at answer piece text e = drop-cons answer piece text (slice_get_within answer piece text e)
-    ∙ ap (λ (l : List ℕ). l ∷ drop (suc piece) answer) (get_or_from_slice_get answer piece text text e)
-    ∙ rw (add-one piece) refl
 
 -- nothing is given of the first piece
 pub behind-none : (pieces : List (List ℕ)) → behind 0 pieces ≡ pieces
@@ -25,13 +17,13 @@ behind-none (piece ∷ pieces) = refl
 pub skip-given : (answer : List (List ℕ)) (piece at : ℕ) (text : List ℕ) → slice_get answer piece ≡ Some text → at
     ≡ length text → skipped (behind 0 (drop (piece + 1) answer)) ≡ skipped (behind at (drop piece answer))
 skip-given answer piece at text e given =
-    rw (pieces-at answer piece text e, given, drop-length text, behind-none (drop (piece + 1) answer)) refl
+    rw (drop-slice_get answer piece text e, given, drop-length text, behind-none (drop (piece + 1) answer)) refl
 
 -- a piece with bytes left is not skipped
 pub skip-left : (answer : List (List ℕ)) (piece at : ℕ) (text : List ℕ) → slice_get answer piece ≡ Some text
     → at < length text → skipped (behind at (drop piece answer)) ≡ behind at (drop piece answer)
 skip-left answer piece at text e left =
-    rw (pieces-at answer piece text e)
+    rw (drop-slice_get answer piece text e)
     (kept (drop at text) (drop (piece + 1) answer) (omega (arith, length-drop at text)))
   where
     kept : (rest : List ℕ) (pieces : List (List ℕ)) → 0 < length rest → skipped (rest ∷ pieces) ≡ rest ∷ pieces
@@ -44,12 +36,12 @@ skip-left answer piece at text e left =
 -- the piece at an index is in front
 pub front-at : (answer : List (List ℕ)) (piece : ℕ) (text : List ℕ) → slice_get answer piece ≡ Some text
     → front (drop piece answer) ≡ text
-front-at answer piece text e = rw (pieces-at answer piece text e) refl
+front-at answer piece text e = rw (drop-slice_get answer piece text e) refl
 
 -- and what is left of it is in front of what is to come
 pub front-left : (answer left : List (List ℕ)) (piece at : ℕ) (text : List ℕ) → slice_get answer piece ≡ Some text
     → behind at (drop piece answer) ≡ left → front left ≡ drop at text
-front-left answer left piece at text e same = rw (← same, pieces-at answer piece text e) refl
+front-left answer left piece at text e same = rw (← same, drop-slice_get answer piece text e) refl
 
 -- what is given and what is then to come are what was to come
 pub concat-given : (pieces : List (List ℕ)) (n : ℕ) → concat pieces ≡ take n (front (skipped pieces))

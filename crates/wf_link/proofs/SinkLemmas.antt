@@ -1,6 +1,6 @@
 -- What several writes come to.
 use Rattle.std.proofs.Common.{◌≡◌, ℕ, ◌+◌, ◌≤◌, List, ◌++◌, take, drop, length, Option, Some, None, refl, ap, sym}
-use Rattle.std.proofs.Common.{◌∙◌, arith, append_assoc, length-drop, min, Result, Ok, Err, OnOk, OnErr}
+use Rattle.std.proofs.Common.{[], ◌∙◌, arith, append_assoc, append-nil, length-drop, min, Result, Ok, Err, OnOk, OnErr}
 use Rattle.std.proofs.Math.Seq.{take-add, take-append-add}
 use Rattle.std.proofs.lemmas.List.{drop-drop, take-append-le, take_min}
 use Rattle.wf_link.specs.Sinks.{Took, TookPart}
@@ -11,6 +11,11 @@ pub record Wrote (old new : Option (List ℕ)) (text rest : List ℕ) : Type 0 w
   pub within : count ≤ length text
   pub left : rest ≡ drop count text
   pub taken : Took old new (take count text)
+
+-- nothing
+pub took-nothing : (taken : Option (List ℕ)) → Took taken taken []
+took-nothing None = tt
+took-nothing (Some bytes) = ap (λ (l : List ℕ). Some l) (sym (append-nil bytes))
 
 -- two texts, one after the other
 pub took-again : (a b c : Option (List ℕ)) (x y z : List ℕ) → Took a b x → Took b c y → z ≡ x ++ y → Took a c z

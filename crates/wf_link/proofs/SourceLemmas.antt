@@ -1,8 +1,8 @@
 -- What several reads come to.
 use Rattle.std.proofs.Common.{◌≡◌, ◌≤◌, ◌+◌, ◌-◌, ℕ, List, ◌++◌, length, take, drop, Option, Some, None, refl, ap}
-use Rattle.std.proofs.Common.{sym, ◌∙◌, append_assoc, arith, length-append}
+use Rattle.std.proofs.Common.{[], sym, subst, ◌∙◌, append_assoc, append-nil, arith, length-append}
 use Rattle.std.proofs.lemmas.List.{drop-drop, length-take-le, take-append-drop, take_at}
-use Rattle.wf_link.specs.Sources.{Gave, GaveAtMost, GaveJust}
+use Rattle.wf_link.specs.Sources.{Gave, GaveAtMost, GaveJust, IsAtEnd}
 
 -- what a reading loop keeps: the buffer's size, and the text that was given so far, within the limit
 pub record Reading (buffer : ℕ) (old new : Option (List ℕ)) (text : List ℕ) (most before now : ℕ) : Type 0 where
@@ -10,6 +10,11 @@ pub record Reading (buffer : ℕ) (old new : Option (List ℕ)) (text : List ℕ
   pub gave : Gave old new text
   pub within : length text ≤ most
   pub faults : before ≤ now
+
+-- nothing
+pub gave-nothing : (left : Option (List ℕ)) → Gave left left []
+gave-nothing None = tt
+gave-nothing (Some rest) = (rest, refl, refl)
 
 -- two texts, one after the other
 pub gave-again : (a b c : Option (List ℕ)) (x y z : List ℕ) → Gave a b x → Gave b c y → z ≡ x ++ y → Gave a c z
@@ -57,3 +62,21 @@ gave-front at n text left rest front more e whole within same =
       ← drop-drop n at text,
       ← whole,
     ) (sym (take-append-drop n rest))
+
+-- where it is told what was left, all that was given to the end is that
+pub gave-all : (bytes given : List ℕ) (old new : Option (List ℕ)) → old ≡ Some bytes → Gave old new given → IsAtEnd new
+    → given ≡ bytes
+gave-all bytes given None new tells gave end = cc
+gave-all bytes given (Some left) new tells gave end =
+    let nothing : gave.0 ≡ [] = subst (λ (o : Option (List ℕ)). IsAtEnd o) gave.1 end in
+    let all : left ≡ given = gave.2 ∙ ap (λ (l : List ℕ). given ++ l) nothing ∙ append-nil given in
+    let same : left ≡ bytes = cc (tells) in
+    sym all ∙ same
+
+-- and what was given is no longer than that
+pub gave-short : (bytes given : List ℕ) (old new : Option (List ℕ)) → old ≡ Some bytes → Gave old new given
+    → length given ≤ length bytes
+gave-short bytes given None new tells gave = cc
+gave-short bytes given (Some left) new tells gave =
+    let same : left ≡ bytes = cc (tells) in
+    omega (arith, ap length same, ap length gave.2, length-append given gave.0)

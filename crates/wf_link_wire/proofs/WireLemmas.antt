@@ -9,7 +9,7 @@ use Rattle.std.proofs.Math.Seq.{drop-append-add}
 use Rattle.wf_link.specs.Links.{Received}
 use Rattle.wf_link.specs.Sources.{Gave, GaveJust, IsAtEnd}
 use Rattle.wf_link.proofs.ReceivedLemmas.{received-none, received-on}
-use Rattle.wf_link.proofs.SourceLemmas.{gave-again}
+use Rattle.wf_link.proofs.SourceLemmas.{gave-again, gave-nothing}
 use Rattle.wf_fetch_acts.specs.declared.act.Input.{Input}
 use Rattle.wf_link_wire.specs.Exchanges.{AreToCome, Exchange, Gives, IsCaused, ExchangeRefused, Waited, WaitedFor}
 use Rattle.wf_link_wire.specs.Exchanges.{ends_answer}
@@ -43,10 +43,6 @@ pub record Receives (window : List ℕ) (left : Option (List ℕ)) (read now : L
   pub given : List ℕ
   pub gave : Gave left left' given
   pub whole : read ++ now ≡ window ++ given
-
-pub gave-nothing : (left : Option (List ℕ)) → Gave left left []
-gave-nothing None = tt
-gave-nothing (Some rest) = (rest, refl, refl)
 
 -- nothing yet
 pub receives-none : (window : List ℕ) (left : Option (List ℕ)) → Receives window left [] window left

@@ -1,9 +1,7 @@
 -- Every cache is sorted by its keys, and bounded for each.
 use Rattle.std.proofs.Common.{arith, ◌≡◌, ◌≤◌, ◌-◌, ◌++◌, ◌∷◌, [], ℕ, List, Bool, true, false, cond, not, ◌&&◌}
-use Rattle.std.proofs.Common.{length, map, filter, refl, sym, ap, ◌∙◌, Result, Ok, Err, OnOk, OnErr}
-use mathlib.Core.Bool.{true≢false}
-use Rattle.std.specs.declared.cmp.Ordering.{Ordering}
-use Rattle.std.specs.declared.cmp.Ordering.TheVariants.{Less, Equal, Greater}
+use Rattle.std.proofs.Common.{length, map, filter, refl, ap, ◌∙◌, Result, Ok, Err, OnOk, OnErr}
+use Rattle.std.specs.declared.cmp.Ordering.TheVariants.{Less}
 use Rattle.std.specs.Ordering.{is_lt, nat_cmp, ordering_reverse}
 use Rattle.std.specs.Cmp.Lexicographic.{slice_cmp, nat_list_cmp_total}
 use Rattle.std.specs.List.{AllByRecursion, fold, list_any}
@@ -11,6 +9,8 @@ use Rattle.std.specs.Str.{bytes_eq}
 use Rattle.std.proofs.lemmas.Cmp.{tied_itself}
 use Rattle.std.proofs.lemmas.List.{length-drop, length-map}
 use Rattle.std.proofs.lemmas.List.Filters.{length-filter_both}
+use Rattle.value_lemmas.proofs.Lists.{AllByRecursion-append}
+use Rattle.value_lemmas.proofs.Tests.{is_lt-true}
 use Rattle.wf_precache.specs.declared.entry.Allowed.{Allowed}
 use Rattle.wf_precache.specs.declared.entry.CacheEntry.{CacheEntry}
 use Rattle.wf_precache.specs.declared.question.Lesson.{Lesson}
@@ -77,11 +77,6 @@ all-kept P test (x ∷ xs) all = by (test x) (all-kept P test xs all.1)
     by true rest = (all.0, rest)
     by false rest = rest
 
-all-append : {X : Type 0} (P : X → Type 0) (xs ys : List X) → AllByRecursion P xs → AllByRecursion P ys
-    → AllByRecursion P (xs ++ ys)
-all-append P [] ys xs_all ys_all = ys_all
-all-append P (x ∷ xs) ys xs_all ys_all = (xs_all.0, all-append P xs ys xs_all.1 ys_all)
-
 sorted-kept : (test : Keyed → Bool) (ks : List Keyed) → AreSorted ks → AreSorted (filter test ks)
 sorted-kept test [] sorted = tt
 sorted-kept test (k ∷ ks) sorted = by (test k) (sorted-kept test ks sorted.1)
@@ -95,14 +90,9 @@ sorted-append : (xs ys : List Keyed) → AreSorted xs → AreSorted ys
     → AllByRecursion (λ x. AllByRecursion (λ y. stands_before y.key x.key ≡ false) ys) xs → AreSorted (xs ++ ys)
 sorted-append [] ys xs_sorted ys_sorted apart = ys_sorted
 sorted-append (x ∷ xs) ys xs_sorted ys_sorted apart = (
-  all-append (λ y. stands_before y.key x.key ≡ false) xs ys xs_sorted.0 apart.0,
+  AllByRecursion-append (λ y. stands_before y.key x.key ≡ false) xs ys xs_sorted.0 apart.0,
   sorted-append xs ys xs_sorted.1 ys_sorted apart.1,
 )
-
-pub less-is : (o : Ordering) → is_lt o ≡ true → o ≡ Less
-less-is Less is = refl
-less-is Equal is = absurd (true≢false (sym is))
-less-is Greater is = absurd (true≢false (sym is))
 
 -- a text that comes after another doesn't come before it
 not-back : (a b : List ℕ) → slice_cmp nat_cmp a b ≡ Less → stands_before b a ≡ false
@@ -131,11 +121,11 @@ module _ (key : List ℕ) (entries : List CacheEntry) (cache : List Keyed) where
       → AllByRecursion (λ (y : Keyed). stands_before y.key x ≡ false) (behind key cache)
   behind-apart x less = all-passing (λ (y : Keyed). stands_before y.key x
       ≡ false) (λ k. stands_before key k.key)
-      (λ y is. not-back x y.key (nat_list_cmp_total.trans x key y.key less (less-is _ is))) cache
+      (λ y is. not-back x y.key (nat_list_cmp_total.trans x key y.key less (is_lt-true _ is))) cache
 
   behind-own : AllByRecursion (λ (y : Keyed). stands_before y.key key ≡ false) (behind key cache)
   behind-own = all-passing (λ (y : Keyed). stands_before y.key key
-      ≡ false) (λ k. stands_before key k.key) (λ y is. not-back key y.key (less-is _ is)) cache
+      ≡ false) (λ k. stands_before key k.key) (λ y is. not-back key y.key (is_lt-true _ is)) cache
 
   own-behind : (es : List CacheEntry)
       → AllByRecursion (λ (x : Keyed). AllByRecursion (λ (y : Keyed). stands_before y.key x.key
@@ -151,8 +141,8 @@ module _ (key : List ℕ) (entries : List CacheEntry) (cache : List Keyed) where
       (sorted-kept (λ k. stands_before key k.key) cache sorted) (own-behind entries))
       (all-passing (λ (x : Keyed). AllByRecursion (λ (y : Keyed). stands_before y.key x.key
       ≡ false) (map (keyed key) entries ++ behind key cache)) (λ k. stands_before k.key key)
-      (λ x is. let less = less-is _ is in
-      all-append (λ (y : Keyed). stands_before y.key x.key ≡ false) (map (keyed key) entries) (behind key cache)
+      (λ x is. let less = is_lt-true _ is in
+      AllByRecursion-append (λ (y : Keyed). stands_before y.key x.key ≡ false) (map (keyed key) entries) (behind key cache)
       (own-apart x.key (not-back x.key key less) entries) (behind-apart x.key less)) cache)
 
 learned-bounded : (lesson : Lesson) (now : ℕ) (cache : List Keyed)

@@ -1,20 +1,12 @@
 -- Steps of loops over lists.
 use Rattle.std.proofs.Common.{arith, add-one, ◌≡◌, ◌<◌, ◌++◌, ◌+◌, ◌∷◌, [], ℕ, zero, suc, List, length, take, drop}
-use Rattle.std.proofs.Common.{get_or, set, map, Bool, false, true, cond, ◌&&◌, ◌||◌, ◌==◌, Some, refl, subst, sym, ap}
+use Rattle.std.proofs.Common.{get_or, set, map, Bool, false, true, cond, ◌||◌, ◌==◌, Some, refl, subst, sym, ap}
 use Rattle.std.proofs.Common.{◌∙◌}
-use Rattle.std.specs.List.{fold, list_all, list_any, slice_get}
+use Rattle.std.specs.List.{fold, list_any, slice_get}
 use Rattle.std.proofs.lemmas.List.{at_drop_more, get_or_default, take_more}
 use Rattle.std.proofs.lemmas.List.Folds.{list_any_more}
 use Rattle.std.proofs.lemmas.Option.{slice_get_within, get_or_from_slice_get}
 use Rattle.std.proofs.lemmas.Grind.{common_steps}
-
--- a test of what is left of a list, one item on
-pub list_all-from : {X : Type 0} (test : X → Bool) (xs : List X) (i : ℕ) (x : X) → slice_get xs i ≡ Some x
-    → list_all test (drop i xs) ≡ (test x && list_all test (drop (i + 1) xs))
-list_all-from test xs i x at =
-    let within = slice_get_within xs i x at in
-    let is = get_or_from_slice_get xs i x x at in
-    at_drop_more (list_all test) xs i x within ∙ ap (λ y. test y && list_all test (drop (i + 1) xs)) is
 
 -- a list that is mapped in place: the item that comes is as it was, and is then mapped
 pub mapped-item : {X : Type 0} (f : X → X) (xs : List X) (i : ℕ) (x : X) → get_or (map f (take i xs) ++ drop i xs) i x

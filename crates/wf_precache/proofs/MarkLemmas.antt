@@ -1,11 +1,12 @@
 -- A lesson that is learnt over marks is the lesson learnt over the entries.
 use Rattle.std.proofs.Common.{◌≡◌, ◌++◌, ◌-◌, ◌∷◌, [], ℕ, List, Bool, true, false, cond, map, length}
-use Rattle.std.proofs.Common.{filter, refl, sym, ap, ◌∙◌, ◌+◌, ◌&&◌, ◌||◌, not, nat_lt, true≢false, Some, None}
+use Rattle.std.proofs.Common.{filter, refl, sym, ap, ◌∙◌, ◌+◌, ◌&&◌, ◌||◌, not, nat_lt, Some, None}
+use Rattle.std.proofs.lemmas.Bool.{and_parts}
 use Rattle.std.proofs.lemmas.List.{drop-map, length-map, map-append}
 use Rattle.std.proofs.lemmas.List.Sums.{fold-append}
-use Rattle.std.proofs.lemmas.Slice.Eq.{bytes_eq-Decides}
 use Rattle.std.specs.List.{fold, list_any}
 use Rattle.std.specs.Str.{bytes_eq}
+use Rattle.value_lemmas.proofs.Bytes.{bytes_eq-self, bytes_eq-true}
 use Rattle.wf_precache.specs.declared.entry.Allowed.{Allowed}
 use Rattle.wf_precache.specs.declared.entry.CacheEntry.{CacheEntry}
 use Rattle.wf_precache.specs.declared.lessons.Mark.{Mark}
@@ -15,13 +16,6 @@ use Rattle.wf_precache.specs.Entries.{allows, is_alive, is_of}
 use Rattle.wf_precache.specs.Private.Marks as marks
 use Rattle.wf_precache.specs.Private.Marks.{marked, unmarked}
 use Rattle.wf_precache.specs.Teaching.{created, is_known, methods_of, names_of, newest, renewed, taught, with_item}
-
--- a text is equal to itself, and two equal ones are one
-same-text : (a : List ℕ) → bytes_eq a a ≡ true
-same-text a = (bytes_eq-Decides a a).1 refl
-
-one-text : (a b : List ℕ) → bytes_eq a b ≡ true → a ≡ b
-one-text a b equal = (bytes_eq-Decides a b).0 equal
 
 own-place : (own : Bool) (place : Place) → marks.is_own (cond own None (Some place)) ≡ own
 own-place true place = refl
@@ -46,7 +40,7 @@ module _ (lesson : Lesson) (now : ℕ) where
       by false = refl
 
   marked-created : (item : Allowed) → marks.created lesson now item ≡ marked lesson (created lesson now item)
-  marked-created item = rw (same-text lesson.origin, same-text lesson.url) refl
+  marked-created item = rw (bytes_eq-self lesson.origin, bytes_eq-self lesson.url) refl
 
   any-known : (item : Allowed) (entries : List CacheEntry)
       → list_any (marks.is_known lesson now item) (map (marked lesson) entries)
@@ -89,15 +83,11 @@ module _ (lesson : Lesson) (now : ℕ) where
       ∙ items-marked items (with_item lesson now entries item)
 
 -- a place that is not told is the lesson's
-both-true : (a b : Bool) → (a && b) ≡ true → (a ≡ true) × (b ≡ true)
-both-true true b e = (refl, e)
-both-true false b e = absurd (true≢false (sym e))
-
 own-same : (lesson : Lesson) (entry : CacheEntry) → is_of lesson.origin lesson.url entry ≡ true
     → (entry.origin ≡ lesson.origin) × (entry.url ≡ lesson.url)
 own-same lesson entry is =
-    let both = both-true (bytes_eq entry.origin lesson.origin) (bytes_eq entry.url lesson.url) is in
-    (one-text entry.origin lesson.origin both.0, one-text entry.url lesson.url both.1)
+    let both = and_parts (bytes_eq entry.origin lesson.origin) (bytes_eq entry.url lesson.url) is in
+    (bytes_eq-true entry.origin lesson.origin both.0, bytes_eq-true entry.url lesson.url both.1)
 
 place-back : (lesson : Lesson) (own : Bool) (origin url : List ℕ)
     → (own ≡ true → (origin ≡ lesson.origin) × (url ≡ lesson.url))

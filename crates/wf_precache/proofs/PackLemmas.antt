@@ -1,10 +1,10 @@
 -- Texts that stand one behind the other: where each of them is, and what one more makes of them.
 use Rattle.std.proofs.Common.{◌≡◌, ℕ, ◌<◌, ◌≤◌, ◌+◌, ◌-◌, List, [], ◌∷◌, ◌++◌, length, take, drop, get_or, refl, ap}
-use Rattle.std.proofs.Common.{◌∙◌, arith, suc, zero}
+use Rattle.std.proofs.Common.{arith, suc, zero}
 use Rattle.std.proofs.Math.Seq.{drop-append_seam, take-length}
-use Rattle.std.proofs.lemmas.List.{drop-append-le, length-drop, take-append-le}
 use Rattle.std.specs.List.{slice_get}
 use Rattle.std.specs.Prelude.{Some}
+use Rattle.value_lemmas.proofs.Lists.{take-drop-append}
 use Rattle.wf_precache.specs.Private.Packs.{AreEnds, texts_of}
 
 -- there are as many texts as ends
@@ -38,13 +38,6 @@ pub ends-more : (start last more : ℕ) (ends : List ℕ) → AreEnds start last
 ends-more start last more [] are = (omega arith, refl)
 ends-more start last more (end ∷ ends) are = (are.0, ends-more end last more ends are.1)
 
--- a text stays where bytes are added behind it
-text-stays : (bytes more : List ℕ) (start end : ℕ) → start ≤ end → end ≤ length bytes
-    → take (end - start) (drop start (bytes ++ more)) ≡ take (end - start) (drop start bytes)
-text-stays bytes more start end from to =
-    ap (take (end - start)) (drop-append-le start bytes more (omega arith))
-    ∙ take-append-le (end - start) (drop start bytes) more (omega (arith, length-drop start bytes))
-
 -- the bytes that are added are the last text
 last-text : (bytes text : List ℕ) (start : ℕ) → start ≡ length bytes
     → take (length bytes + length text - start) (drop start (bytes ++ text)) ≡ text
@@ -58,4 +51,4 @@ pub texts-more : (bytes text : List ℕ) (start : ℕ) (ends : List ℕ) → Are
 texts-more bytes text start [] are = ap (λ (last : List ℕ). last ∷ []) (last-text bytes text start are)
 texts-more bytes text start (end ∷ ends) are =
     let to : end ≤ length bytes = start-within end (length bytes) ends are.1 in
-    rw (text-stays bytes text start end are.0 to, texts-more bytes text end ends are.1) refl
+    rw (take-drop-append bytes text start end are.0 to, texts-more bytes text end ends are.1) refl

@@ -1,10 +1,11 @@
 -- Entries in order: which may stand last.
-use Rattle.std.proofs.Common.{◌≡◌, ◌<◌, ◌≤◌, ◌&&◌, not, ℕ, zero, suc, Bool, true, false, cond, List, [], ◌∷◌, ◌++◌}
-use Rattle.std.proofs.Common.{length, filter, map, arith, refl, ap, sym, subst, ◌∙◌, Some, length-append, Result, Ok}
-use Rattle.std.proofs.Common.{Err, OnErr, Option, None, IfSome, IfNone}
+use Rattle.std.proofs.Common.{◌≡◌, ◌<◌, ◌≤◌, not, ℕ, zero, suc, Bool, true, false, cond, List, [], ◌∷◌, ◌++◌}
+use Rattle.std.proofs.Common.{length, filter, map, arith, refl, ap, sym, subst, ◌∙◌, Some, length-append}
+use Rattle.std.proofs.Common.{Option, None, IfSome, IfNone}
 use Rattle.std.proofs.Common.{◌-◌, ◌==◌}
 use Rattle.std.proofs.Common.{if◌then◌else◌}
-use Rattle.std.proofs.lemmas.Bool.Decides.{nat_tests}
+use mathlib.Core.Bool.{and-false}
+use Rattle.std.proofs.lemmas.Bool.{and_from, and_parts, lt-ltb, ltb-true}
 use Rattle.std.proofs.lemmas.List.Elements.{recursion_from_All}
 use Rattle.std.specs.Cmp.Lexicographic.{bytes_decides, nat_list_cmp_total, slice_cmp}
 use Rattle.std.specs.List.{All, AllByRecursion, list_all, slice_get}
@@ -28,18 +29,6 @@ use Rattle.wf_precache.proofs.KeyLemmas.{equal-keys, high-by, low-by, same-by}
 
 abbrev pub is_not_after : List ℕ → Keyed → Bool
 is_not_after key k = not (stands_before key k.key)
-
-pub and-left : (a b : Bool) → (a && b) ≡ true → a ≡ true
-and-left true b e = refl
-and-left false b e = absurd (cc)
-
-pub and-right : (a b : Bool) → (a && b) ≡ true → b ≡ true
-and-right true b e = e
-and-right false b e = absurd (cc)
-
-never : (b : Bool) → (b && false) ≡ false
-never true = refl
-never false = refl
 
 -- a is not after b, which is not before c: c is not after a... then a does not come before c
 through : (last key other : List ℕ) (o p : Ordering) → slice_cmp nat_cmp last key ≡ o → slice_cmp nat_cmp key other ≡ p
@@ -65,8 +54,8 @@ module _ {K : Type 0} (bytes : K → List ℕ) where
       → list_all test (xs ++ ys) ≡ true
   all-append test [] ys e f = f
   all-append test (x ∷ xs) ys e f =
-      rw (and-left (test x) (list_all test xs) e)
-      (all-append test xs ys (and-right (test x) (list_all test xs) e) f)
+      rw (and_parts (test x) (list_all test xs) e).0
+      (all-append test xs ys (and_parts (test x) (list_all test xs) e).1 f)
 
   none-at-all : (last key : List ℕ) (ps : List (K × List CacheEntry))
       → AllByRecursion (λ q. is_lt (slice_cmp nat_cmp last (bytes q)) ≡ false) (keys_of ps)
@@ -79,7 +68,7 @@ module _ {K : Type 0} (bytes : K → List ℕ) where
 
   any-append : (test : Keyed → Bool) (xs ys : List Keyed) → list_all test ys ≡ false → list_all test (xs ++ ys) ≡ false
   any-append test [] ys e = e
-  any-append test (x ∷ xs) ys e = rw (any-append test xs ys e) (never (test x))
+  any-append test (x ∷ xs) ys e = rw (any-append test xs ys e) (and-false (test x))
 
   first-fails : (key other : List ℕ) (entries : List CacheEntry) (rest : List Keyed) → 0 < length entries
       → stands_before key other ≡ true → list_all (is_not_after key) (map (keyed other) entries ++ rest) ≡ false
@@ -155,21 +144,7 @@ pub unchanged : {K X : Type 0} (test : K → Bool) (ps new : List (K × X)) (old
     → new ≡ set_value test ps after → after ≡ old → lookup test ps ≡ Some old → new ≡ ps
 unchanged test ps new old after is same there = is ∙ ap (set_value test ps) same ∙ set_value_same test ps old there
 
--- what holds anyway holds of an error
-pub on-err : {A E P : Type 0} (r : Result A E) → P → OnErr r P
-on-err (Ok x) p = tt
-on-err (Err e) p = p
-
 -- ---- an entry behind all
-
-lt-true : (a b : ℕ) → nat_lt a b ≡ true → a < b
-lt-true a b e = grind (arith, nat_tests)
-
-true-lt : (a b : ℕ) → a < b → nat_lt a b ≡ true
-true-lt a b e = grind (arith, nat_tests)
-
-both : (a b : Bool) → a ≡ true → b ≡ true → (a && b) ≡ true
-both a b e f = rw (e, f) refl
 
 module _ (new : Keyed) where
   none-before : (key : List ℕ) (ks : List Keyed) → AllByRecursion (λ other. stands_before other.key key ≡ false) ks
@@ -195,7 +170,7 @@ module _ (new : Keyed) where
   with-last-by k ks Less is sorted none rest =
       let after : stands_before new.key k.key ≡ true = high-by new.key k.key Less is in
       let not_after : not (stands_before new.key k.key) ≡ true =
-      and-left (is_not_after new.key k) (list_all (is_not_after new.key) ks) none in
+      (and_parts (is_not_after new.key k) (list_all (is_not_after new.key) ks) none).0 in
       absurd (cc (ap not after))
   with-last-by k ks Equal is sorted none rest =
       let same : k.key ≡ new.key = equal-keys new.key k.key is in
@@ -217,7 +192,7 @@ module _ (new : Keyed) where
   with-last [] sorted none = refl
   with-last (k ∷ ks) sorted none =
       with-last-by k ks (slice_cmp nat_cmp new.key k.key) refl sorted none
-      (with-last ks sorted.1 (and-right (is_not_after new.key k) (list_all (is_not_after new.key) ks) none))
+      (with-last ks sorted.1 (and_parts (is_not_after new.key k) (list_all (is_not_after new.key) ks) none).1)
 
   -- ---- and what the list is then
 
@@ -243,13 +218,13 @@ module _ (new : Keyed) where
   more-few cache room = omega (arith, room, length-append (entries_of new.key cache) (new.entry ∷ []))
 
   room-there : (cache : List Keyed) → may_stand_last new cache ≡ true → length (entries_of new.key cache) < 64
-  room-there cache may = lt-true (length (entries_of new.key cache)) 64
-      (and-left (nat_lt (length (entries_of new.key cache)) 64) (list_all (is_not_after new.key) cache) may)
+  room-there cache may = ltb-true (length (entries_of new.key cache)) 64
+      (and_parts (nat_lt (length (entries_of new.key cache)) 64) (list_all (is_not_after new.key) cache) may).0
 
   pub stands-last : (cache : List Keyed) → AreSorted cache → may_stand_last new cache ≡ true
       → with_entries new.key (with-more cache) cache ≡ cache ++ new ∷ []
   stands-last cache sorted may = with-last cache sorted
-      (and-right (nat_lt (length (entries_of new.key cache)) 64) (list_all (is_not_after new.key) cache) may)
+      (and_parts (nat_lt (length (entries_of new.key cache)) 64) (list_all (is_not_after new.key) cache) may).1
 
   with-bounded : (cache : List Keyed) → IsCache cache → length (entries_of new.key cache) < 64 → (other : List ℕ)
       → length (entries_of other (with_entries new.key (with-more cache) cache)) ≤ 64
@@ -278,8 +253,8 @@ module _ (new : Keyed) where
   cache-back cache is =
       let most : length (entries_of new.key (cache ++ new ∷ [])) ≤ 64 = is.bounded new.key in
       let most_with : length (with-more cache) ≤ 64 = subst (λ (l : List CacheEntry). length l ≤ 64) (own-more cache) most in
-      both (nat_lt (length (entries_of new.key cache)) 64) (list_all (is_not_after new.key) cache)
-      (true-lt (length (entries_of new.key cache)) 64
+      and_from (nat_lt (length (entries_of new.key cache)) 64) (list_all (is_not_after new.key) cache)
+      (lt-ltb (length (entries_of new.key cache)) 64
       (omega (arith, most_with, length-append (entries_of new.key cache) (new.entry ∷ []))))
       (back-none cache is.sorted)
 

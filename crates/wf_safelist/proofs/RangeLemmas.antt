@@ -1,18 +1,14 @@
 -- A span is cut at its first dash.
-use Rattle.std.proofs.Common.{arith, ◌≡◌, ◌+◌, ◌==◌, ◌&&◌, ℕ, List, refl, Bool, true, false, cond, take, drop, Option}
-use Rattle.std.proofs.Common.{Some, None}
+use Rattle.std.proofs.Common.{◌≡◌, ◌+◌, ◌==◌, ◌&&◌, ℕ, List, refl, take, drop}
+use Rattle.std.proofs.Common.{Some}
+use Rattle.std.proofs.lemmas.Option.{cond_some}
 use Rattle.std.specs.List.{position}
 use Rattle.wf_text.specs.Digits.{is_digits}
 use Rattle.wf_safelist.specs.Ranges.{is_end_of, is_span}
-
--- a choice that gives something
-chosen : (b : Bool) (n at : ℕ) → (let o : Option ℕ = cond b (Some n) None in o ≡ Some at) → (b ≡ true) × (at ≡ n)
-chosen true n at e = (refl, grind arith)
-chosen false n at e = grind arith
 
 -- what is before the first dash and after it
 pub is_span-cut : (text : List ℕ) (at : ℕ) → position (λ byte. byte == 45) text ≡ Some at → is_span text
     ≡ (is_digits (take at text) && is_end_of (take at text) (drop (at + 1) text))
 is_span-cut text at e =
-    let found = chosen _ _ at e in
+    let found = cond_some _ _ at e in
     rw (e, found.1) refl

@@ -1,8 +1,7 @@
 -- Strictly ascending lists of texts: adding a text in its place, and that their members make them.
-use Rattle.std.proofs.Common.{arith, ◌≡◌, ◌∷◌, [], ℕ, List, map, ap, refl, sym, subst, ◌∙◌, Bool, true, false, cond}
+use Rattle.std.proofs.Common.{◌≡◌, ◌∷◌, [], ℕ, List, map, ap, refl, sym, subst, ◌∙◌, Bool, true, false, cond}
 use Rattle.std.proofs.Common.{◌||◌}
 use Rattle.std.proofs.lemmas.Cmp.{nat_list_cmp_total}
-use Rattle.std.proofs.lemmas.Grind.{common_steps}
 use Rattle.std.proofs.lemmas.List.Sorted.{list_any-IsPermutation}
 use Rattle.std.proofs.lemmas.Map.Text.{is_eq-slice_cmp}
 use Rattle.std.proofs.lemmas.Slice.Eq.{bytes_eq-Decides}
@@ -15,6 +14,8 @@ use Rattle.std.specs.Ordering.{is_eq, match_ordering, nat_cmp, on, ordering_reve
 use Rattle.std.specs.Str.{bytes_eq, str_to_ascii_lowercase}
 use Rattle.std.specs.declared.cmp.Ordering.{Ordering}
 use Rattle.std.specs.declared.cmp.Ordering.TheVariants.{Less, Equal, Greater}
+use Rattle.value_lemmas.proofs.Tests.{or-again, or-left_comm}
+use Rattle.value_lemmas.proofs.Bytes.{bytes_eq-self}
 use Rattle.wf_safelist.specs.Sets.{IsSortedLowercaseSet, sorted_lowercase_set}
 
 -- the order of texts
@@ -33,10 +34,6 @@ same-from_Equal a b e = slice_cmp-IsAntisymmetric nat_cmp-IsAntisymmetric a b e
 
 Less-from_Greater : (a b : List ℕ) → order a b ≡ Greater → order b a ≡ Less
 Less-from_Greater a b e = nat_list_cmp_total.antisymm b a ∙ ap ordering_reverse e
-
-bytes_eq-itself : (a : List ℕ) → bytes_eq a a ≡ true
-bytes_eq-itself [] = refl
-bytes_eq-itself (x ∷ a) = grind (arith, common_steps, bytes_eq-itself a)
 
 bytes_eq-Less : (a b : List ℕ) → order a b ≡ Less → bytes_eq a b ≡ false
 bytes_eq-Less a b e = sym (is_eq-slice_cmp a b) ∙ ap is_eq e
@@ -77,15 +74,6 @@ IsAscending-inserted b (text ∷ texts) up =
       )
     ] refl
 
-or-again : (a b : Bool) → (a || b) ≡ (a || (a || b))
-or-again true b = refl
-or-again false b = refl
-
-or-swapped : (a b c : Bool) → (a || (b || c)) ≡ (b || (a || c))
-or-swapped true true c = refl
-or-swapped true false c = refl
-or-swapped false b c = refl
-
 -- the members of a list with a text more
 members-inserted : (query b : List ℕ) (texts : List (List ℕ)) → list_any (bytes_eq query) (insert_key order texts b)
     ≡ (bytes_eq query b || list_any (bytes_eq query) texts)
@@ -97,7 +85,7 @@ members-inserted query b (text ∷ texts) =
       | Less ↦ λ e. refl
       | Equal ↦ λ e. rw (same-from_Equal b text e) (or-again (bytes_eq query text) (list_any (bytes_eq query) texts))
       | Greater ↦ λ e. ap (λ v. bytes_eq query text || v) (members-inserted query b texts)
-          ∙ or-swapped (bytes_eq query text) (bytes_eq query b) (list_any (bytes_eq query) texts)
+          ∙ or-left_comm (bytes_eq query text) (bytes_eq query b) (list_any (bytes_eq query) texts)
     ] refl
 
 -- the set of names is as it is described
@@ -118,7 +106,7 @@ SameMembers a b = (text : List ℕ) → list_any (bytes_eq text) a ≡ list_any 
 
 -- a list has its first
 has-first : (text : List ℕ) (texts : List (List ℕ)) → list_any (bytes_eq text) (text ∷ texts) ≡ true
-has-first text texts = rw (bytes_eq-itself text) refl
+has-first text texts = rw (bytes_eq-self text) refl
 
 same-behind : (text query : List ℕ) (a b : List (List ℕ)) → IsBelow text a → IsBelow text b
     → SameMembers (text ∷ a) (text ∷ b) → list_any (bytes_eq query) a ≡ list_any (bytes_eq query) b

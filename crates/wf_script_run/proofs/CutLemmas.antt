@@ -1,7 +1,9 @@
 -- Header values that are cut: what is cut is a header value where the whole is.
 use Rattle.std.proofs.Common.{◌≡◌, ℕ, zero, suc, ◌<◌, Bool, true, false, cond, ◌&&◌, not, List, [], ◌∷◌, ◌++◌, length}
 use Rattle.std.proofs.Common.{take}
-use Rattle.std.proofs.Common.{refl, ap, sym, ◌∙◌, arith, true≢false}
+use Rattle.std.proofs.Common.{refl, ap, ◌∙◌, arith}
+use mathlib.Core.Bool.{and-false}
+use Rattle.std.proofs.lemmas.Bool.{and_parts}
 use Rattle.std.proofs.lemmas.List.{length-take, length-append}
 use Rattle.std.proofs.lemmas.Slice.Eq.{bytes_eq-Decides}
 use Rattle.std.specs.Prelude.{◌==◌, bytes_eq, nat_lt}
@@ -15,23 +17,14 @@ use Rattle.wf_script_run.specs.Filling.{cut_value, mark}
 abbrev fits : ℕ → Bool
 fits byte = not (is_nul_or_newline byte)
 
-both : (a b : Bool) → (a && b) ≡ true → (a ≡ true) × (b ≡ true)
-both true true is = (refl, refl)
-both true false is = absurd (true≢false (sym is))
-both false b is = absurd (true≢false (sym is))
-
 -- with one more at its end that fits, what is taken of a text that fits does
 all-taken : (n : ℕ) (text : List ℕ) (last : ℕ) → list_all fits text ≡ true → fits last ≡ true
     → list_all fits (take n text ++ last ∷ []) ≡ true
 all-taken zero text last all ends = ap (λ (b : Bool). b && true) ends
 all-taken (suc n) [] last all ends = ap (λ (b : Bool). b && true) ends
 all-taken (suc n) (byte ∷ text) last all ends =
-    let parts = both (fits byte) (list_all fits text) all in
+    let parts = and_parts (fits byte) (list_all fits text) all in
     ap (λ (b : Bool). b && list_all fits (take n text ++ last ∷ [])) parts.0 ∙ all-taken n text last parts.1 ends
-
-and-false : (b : Bool) → (b && false) ≡ false
-and-false true = refl
-and-false false = refl
 
 -- with one that does not, it does not
 none-fits : (text : List ℕ) (last : ℕ) → fits last ≡ false → list_all fits (text ++ last ∷ []) ≡ false
@@ -45,7 +38,7 @@ still-value : (n : ℕ) (value : List ℕ) → 0 < n → 0 < length value → is
 still-value zero value some long is = absurd (omega (arith, some))
 still-value (suc n) [] some long is = absurd (omega (arith, long))
 still-value (suc n) (byte ∷ text) some long is =
-    let parts = both (bytes_eq (trimmed tab_or_space (byte ∷ text)) (byte ∷ text)) (list_all fits (byte ∷ text)) is in
+    let parts = and_parts (bytes_eq (trimmed tab_or_space (byte ∷ text)) (byte ∷ text)) (list_all fits (byte ∷ text)) is in
     let begins : list_any (λ (blank : ℕ). blank == byte) tab_or_space ≡ false =
     begins-unblank tab_or_space byte text
     ((bytes_eq-Decides (trimmed tab_or_space (byte ∷ text)) (byte ∷ text)).0 parts.0) in

@@ -1,6 +1,7 @@
 -- Texts without placeholders, and header values and bodies that are cut.
 use Rattle.std.proofs.Common.{◌≡◌, ℕ, ◌+◌, ◌≤◌, ◌<◌, Bool, true, false, cond, List, [], ◌∷◌, ◌++◌, length, take}
 use Rattle.std.proofs.Common.{Option, Some, None, refl, ap, sym, subst, inl, inr, ◌∙◌, arith, take_all}
+use Rattle.std.proofs.lemmas.Bool.{or_parts}
 use Rattle.std.proofs.lemmas.List.{append-nil, length-take, take-append-le}
 use Rattle.std.proofs.lemmas.List.Sums.{sum_by-cons}
 use Rattle.std.specs.Prelude.{◌==◌, ◌&&◌, ◌||◌, ◌⊎◌, not, nat_lt, min, map, is_some, option_map, sum_by}
@@ -220,11 +221,6 @@ faults-same init url =
 
 -- ---- what is not cut
 
-neither : (a b : Bool) → (a || b) ≡ false → (a ≡ false) × (b ≡ false)
-neither true b is = absurd (cc)
-neither false true is = absurd (cc)
-neither false false is = (refl, refl)
-
 pair-uncut : (pair : Pair) → length pair.value ≤ 16384 → cut_pair pair ≡ pair
 pair-uncut pair short =
     ap (λ (v : List ℕ). let p : Pair = record { name = pair.name; value = v } in p)
@@ -244,7 +240,7 @@ body-uncut (Some body) short =
 
 uncut : (init : Init) → is_too_long init ≡ false → with_cuts init ≡ init
 uncut init short =
-    let both = neither (nat_lt 16384 (given_size init)) (is_long_body init.body) short in
+    let both = or_parts (nat_lt 16384 (given_size init)) (is_long_body init.body) short in
     let size : given_size init ≤ 16384 = grind (arith, both.0) in
     ap (λ (hs : List Pair). let r : Init = record init { headers = hs; body = option_map cut_body init.body } in r)
     (pairs-uncut init.headers (omega (arith, size)))

@@ -1,6 +1,8 @@
 -- Header values that are squeezed while they are filled: whatever follows, they are cut to the same.
 use Rattle.std.proofs.Common.{◌≡◌, ℕ, zero, suc, ◌<◌, Bool, true, false, cond, ◌&&◌, not, List, [], ◌∷◌, ◌++◌, length}
 use Rattle.std.proofs.Common.{take, drop, refl, ap, sym, subst, ◌∙◌, arith, append_assoc, take_all, true≢false}
+use mathlib.Core.Bool.{and-false}
+use Rattle.std.proofs.lemmas.Bool.{and_parts, not-true}
 use Rattle.std.proofs.lemmas.List.{length-append, length-take, reverse-append, take-append-drop}
 use Rattle.std.proofs.lemmas.List.{take-append-le}
 use Rattle.std.proofs.lemmas.Slice.Eq.{bytes_eq-Decides}
@@ -54,10 +56,6 @@ abbrev core : List ℕ → List ℕ → List ℕ
 core blanks [] = []
 core blanks (byte ∷ text) = cond (is_blank blanks byte && none (core blanks text)) [] (byte ∷ core blanks text)
 
-and-false : (b : Bool) → (b && false) ≡ false
-and-false true = refl
-and-false false = refl
-
 none-append : (text : List ℕ) (byte : ℕ) → none (text ++ byte ∷ []) ≡ false
 none-append [] byte = refl
 none-append (first ∷ text) byte = refl
@@ -110,11 +108,6 @@ abbrev ended : List ℕ → List ℕ
 ended text = core http_whitespace text
 
 -- what may stand in a header value does so without the blanks at its end
-both : (a b : Bool) → (a && b) ≡ true → (a ≡ true) × (b ≡ true)
-both true true is = (refl, refl)
-both true false is = absurd (true≢false (sym is))
-both false b is = absurd (true≢false (sym is))
-
 fit-by : (byte : ℕ) (e : List ℕ) (is : Bool) → all_fit (byte ∷ e) ≡ true → all_fit (cond is [] (byte ∷ e)) ≡ true
 fit-by byte e true fit = refl
 fit-by byte e false fit = fit
@@ -122,7 +115,7 @@ fit-by byte e false fit = fit
 ended-fit : (text : List ℕ) → all_fit text ≡ true → all_fit (ended text) ≡ true
 ended-fit [] fit = refl
 ended-fit (byte ∷ text) fit =
-    let parts = both (not (is_nul_or_newline byte)) (all_fit text) fit in
+    let parts = and_parts (not (is_nul_or_newline byte)) (all_fit text) fit in
     fit-by byte (ended text) (is_blank http_whitespace byte && none (ended text))
     (ap (λ (b : Bool). b && all_fit (ended text)) parts.0 ∙ ended-fit text parts.1)
 
@@ -224,10 +217,6 @@ begins-take (suc n) (byte ∷ text) is = is
 begins-append : (x y : List ℕ) → begins x ≡ true → none x ≡ false → begins (x ++ y) ≡ true
 begins-append [] y is some = absurd (true≢false some)
 begins-append (byte ∷ x) y is some = is
-
-not-true : (b : Bool) → not b ≡ true → b ≡ false
-not-true true is = absurd (true≢false (sym is))
-not-true false is = refl
 
 start-keeps : (text : List ℕ) → begins text ≡ true → trimmed_start http_whitespace text ≡ text
 start-keeps [] is = refl

@@ -2,6 +2,7 @@
 use Rattle.std.proofs.Common.{◌≡◌, ℕ, Bool, true, false, ◌&&◌, ◌==◌, not, length, List, [], ◌∷◌, Option}
 use Rattle.std.proofs.Common.{None, sym, subst}
 use Rattle.std.proofs.Common.{refl, arith}
+use Rattle.std.proofs.lemmas.Bool.{and_parts, not-false}
 use Rattle.std.proofs.lemmas.Grind.{common_steps}
 use Rattle.std.proofs.lemmas.List.{length-map}
 use Rattle.std.specs.Char.{to_ascii_uppercase}
@@ -41,14 +42,10 @@ all-mapped test f keeps (byte ∷ text) all = split (test byte) refl (all-mapped
     split true is more rest = rw (keeps byte is) (more rest)
     split false is more rest = cc
 
-both : (a b : Bool) → (a && b) ≡ true → (a ≡ true) × (b ≡ true)
-both true b is = (refl, is)
-both false b is = absurd (cc)
-
 -- a token in upper case is one
 token-upper : (text : List ℕ) → IsTrue (is_token text) → IsTrue (is_token (str_to_ascii_uppercase text))
 token-upper text is =
-    let parts = both (not (length text == 0)) (list_all is_tchar text) is in
+    let parts = and_parts (not (length text == 0)) (list_all is_tchar text) is in
     rw (length-map text to_ascii_uppercase, parts.0)
     (all-mapped is_tchar to_ascii_uppercase tchar-upper text parts.1)
 
@@ -63,10 +60,6 @@ first-clear : (is : Bool) (fault : TypeFault) (more : List (Option TypeFault))
     → first_fault (then_some is fault ∷ more) ≡ None → (is ≡ false) × (first_fault more ≡ None)
 first-clear true fault more none = absurd (cc)
 first-clear false fault more none = (refl, none)
-
-not-false : (b : Bool) → not b ≡ false → IsTrue b
-not-false true is = refl
-not-false false is = cc
 
 pub method-token : (init : Init) (url : Parts) → first_fault (faults init url) ≡ None → IsTrue (is_token init.method)
 method-token init url none =

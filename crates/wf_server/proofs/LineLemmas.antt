@@ -8,6 +8,7 @@ use Rattle.std.proofs.lemmas.Bool.{le-leb, lt-leb}
 use Rattle.std.proofs.lemmas.Grind.{common_steps}
 use Rattle.std.proofs.lemmas.List.Splits.{length-slice_split, slice_split_first}
 use Rattle.std.specs.List.{list_all, position, position_or_len, slice_split}
+use Rattle.value_lemmas.proofs.Lists.{slice_split-whole}
 use Rattle.wf_text.specs.Ascii.{line_feed, space}
 use Rattle.wf_server.specs.Reading.{may_be_listed, numbered_row, row_before, row_in, row_of_parts, rows_from}
 use Rattle.wf_server.specs.Reading.{where_listed}
@@ -20,11 +21,6 @@ is_end byte = byte == line_feed
 
 abbrev pub lines : List ℕ → List (List ℕ)
 lines text = slice_split is_end text
-
--- a list that no element cuts is one part
-uncut : (p : ℕ → Bool) (xs : List ℕ) → length xs ≤ position_or_len p xs → slice_split p xs ≡ xs ∷ []
-uncut p [] h = refl
-uncut p (x ∷ xs) h = grind (arith, common_steps, uncut p xs)
 
 cut : (text : List ℕ) (index : ℕ) → position is_end text ≡ Some index
     → lines text ≡ take index text ∷ lines (drop (index + 1) text)
@@ -59,7 +55,7 @@ pub line-open : (text : List ℕ) (n : ℕ) → position is_end text ≡ None �
     → rows_from n (lines text) ≡ Err (record { line = n })
 line-open [] n none some = absurd (omega (arith, some))
 line-open (byte ∷ text) n none some =
-    ap (rows_from n) (uncut is_end (byte ∷ text) (grind (arith, common_steps)))
+    ap (rows_from n) (slice_split-whole is_end (byte ∷ text) (grind (arith, common_steps)))
 
 -- ---- one line after another
 

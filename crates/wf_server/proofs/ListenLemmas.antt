@@ -7,6 +7,7 @@ use Rattle.std.proofs.lemmas.Bool.{leb-false, leb-true}
 use Rattle.std.proofs.lemmas.List.{length-take, take-append-drop, take-append-le, take_min}
 use Rattle.std.proofs.lemmas.List.Folds.{list_any_more}
 use Rattle.std.specs.List.{list_any}
+use Rattle.wf_link.proofs.SourceLemmas.{gave-nothing}
 use Rattle.httparse.specs.Grammar.{print_request, RequestHead}
 use Rattle.wf_link.specs.Counts.{Rose}
 use Rattle.wf_link.specs.Sinks.{SinkTold}
@@ -28,10 +29,6 @@ gave-both (Some old) b c xs ys one two =
     let next = subst (λ (o : Option (List ℕ)). Gave o c ys) one.1 two in
     (next.0, next.1, one.2 ∙ ap (λ (l : List ℕ). xs ++ l) next.2 ∙ sym (append_assoc xs ys next.0))
 
-gave-none : (a : Option (List ℕ)) → Gave a a []
-gave-none None = tt
-gave-none (Some old) = (old, refl, refl)
-
 pub gives-both : (a b c : PeerTold) (xs ys : List ℕ) → Gives a b xs → Gives b c ys → Gives a c (xs ++ ys)
 gives-both a b c xs ys one two = record {
   gave = gave-both a.source.left b.source.left c.source.left xs ys one.gave two.gave;
@@ -39,7 +36,7 @@ gives-both a b c xs ys one two = record {
 }
 
 pub gives-none : (a : PeerTold) → Gives a a []
-gives-none a = record { gave = gave-none a.source.left; sink = refl }
+gives-none a = record { gave = gave-nothing a.source.left; sink = refl }
 
 -- a read that gave nothing
 pub gives-same : (a b c : PeerTold) (xs : List ℕ) → Gives a b xs → c.source.left ≡ b.source.left → c.sink ≡ b.sink

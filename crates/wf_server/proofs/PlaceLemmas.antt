@@ -11,6 +11,7 @@ use Rattle.std.specs.Map.{lookup}
 use Rattle.std.specs.Ordering.{is_eq, match_ordering}
 use Rattle.std.specs.declared.cmp.Ordering.{Ordering}
 use Rattle.std.specs.declared.cmp.Ordering.TheVariants.{Equal, Greater, Less}
+use Rattle.value_lemmas.proofs.Bytes.{slice_cmp-equal}
 use Rattle.wf_text.specs.Orders.{text_cmp}
 use Rattle.wf_server.specs.Private.Places.{ArePlaced, is_key, key_cmp, place_of}
 use Rattle.wf_server.specs.Tables.{row_of}
@@ -101,9 +102,6 @@ row-at origin rows place row is at =
 
 -- ---- the map
 
-text-equal : (a b : List ℕ) → is_eq (text_cmp a b) ≡ true → a ≡ b
-text-equal a b same = (bytes_decides a b).0 (texts_ties a b ∙ same)
-
 text-self : (a b : List ℕ) → a ≡ b → is_eq (text_cmp a b) ≡ true
 text-self a b same = sym (texts_ties a b) ∙ (bytes_decides a b).1 same
 
@@ -128,14 +126,14 @@ module _ {K : Type 0} (bytes : K → List ℕ) (text : List ℕ) (k : K) (v : �
       ≡ cond (is_key bytes text k) (Some v) (lookup (is_key bytes text) (e ∷ es))
   inserted-by e es Less is rest = refl
   inserted-by e es Equal is rest =
-      let equal : bytes k ≡ bytes e.0 = text-equal (bytes k) (bytes e.0) (ap is_eq is) in
+      let equal : bytes k ≡ bytes e.0 = slice_cmp-equal (bytes k) (bytes e.0) (ap is_eq is) in
       let same : is_key bytes text k ≡ is_key bytes text e.0 = ap (λ (b : List ℕ). is_eq (text_cmp text b)) equal in
       rw same (twice (is_key bytes text e.0) v e.1 (lookup (is_key bytes text) es))
   inserted-by e es Greater is rest =
       ap (λ (found : Option ℕ). cond (is_key bytes text e.0) (Some e.1) found) rest
       ∙ apart (is_key bytes text k) (is_key bytes text e.0) v e.1 (lookup (is_key bytes text) es)
       (λ both. true≢false (sym (text-self (bytes k) (bytes e.0)
-      (sym (text-equal text (bytes k) both.0) ∙ text-equal text (bytes e.0) both.1)) ∙ ap is_eq is))
+      (sym (slice_cmp-equal text (bytes k) both.0) ∙ slice_cmp-equal text (bytes e.0) both.1)) ∙ ap is_eq is))
 
   pub looked-up : (es : List (K × ℕ)) → lookup (is_key bytes text) (inserted es)
       ≡ cond (is_key bytes text k) (Some v) (lookup (is_key bytes text) es)
@@ -163,7 +161,7 @@ bytes-flip a b = by_both (is_eq (text_cmp a b)) (bytes_eq b a) refl refl
     by_both true true one two = refl
     by_both false false one two = refl
     by_both true false one two =
-        absurd (true≢false (sym ((bytes_decides b a).1 (sym (text-equal a b one))) ∙ two))
+        absurd (true≢false (sym ((bytes_decides b a).1 (sym (slice_cmp-equal a b one))) ∙ two))
     by_both false true one two =
         absurd (true≢false (sym (text-self a b (sym ((bytes_decides b a).0 two))) ∙ one))
 

@@ -1,12 +1,12 @@
 -- The bytes of answers, part by part as they are written.
-use Rattle.std.proofs.Common.{◌≡◌, ◌∙◌, ap, sym, refl, ℕ, Bool, true, false, List, [], ◌∷◌, ◌++◌, append_assoc, arith}
+use Rattle.std.proofs.Common.{◌≡◌, ◌∙◌, ap, sym, refl, ℕ, Bool, true, false, List, [], ◌∷◌, ◌++◌, append_assoc}
 use Rattle.std.proofs.Common.{codes}
 use Rattle.std.proofs.Common.{if◌then◌else◌}
-use Rattle.std.proofs.lemmas.Grind.{common_steps}
 use Rattle.std.proofs.lemmas.List.{append-nil}
 use Rattle.std.specs.Fmt.{digits}
 use Rattle.std.specs.List.{flat_map, join_with_byte, list_all}
 use Rattle.std.specs.Prelude.{map}
+use Rattle.value_lemmas.proofs.Lists.{append-three}
 use Rattle.wf_text.specs.Ascii.{comma}
 use Rattle.wf_headers.specs.declared.headers.Header.{Header}
 use Rattle.wf_http1.specs.Requests.{header_line}
@@ -18,12 +18,6 @@ use Rattle.wf_server.specs.declared.table.Row.{Row}
 
 -- ---- lists
 
--- texts joined by a byte: the first, and then the byte and a text for each other
-pub joined_first : (byte : ℕ) (first : List ℕ) (texts : List (List ℕ))
-    → join_with_byte byte (first ∷ texts) ≡ first ++ flat_map (λ text. byte ∷ text) texts
-joined_first byte first [] = grind (arith, common_steps)
-joined_first byte first (text ∷ texts) = grind (arith, common_steps, joined_first byte text texts)
-
 flat-both : (f : Header → List ℕ) (xs ys : List Header) → flat_map f (xs ++ ys) ≡ flat_map f xs ++ flat_map f ys
 flat-both f [] ys = refl
 flat-both f (x ∷ xs) ys =
@@ -34,16 +28,10 @@ pub all-mapped : {X Y : Type 0} (test : Y → Bool) (f : X → Y) (xs : List X)
 all-mapped test f [] = refl
 all-mapped test f (x ∷ xs) = rw (all-mapped test f xs) refl
 
--- parts added one after another
-pub in-three : (start a b c s t u : List ℕ) → s ≡ start ++ a → t ≡ s ++ b → u ≡ t ++ c → u ≡ start ++ (a ++ (b ++ c))
-in-three start a b c s t u one two three =
-    three ∙ ap (λ (l : List ℕ). l ++ c) (two ∙ ap (λ (l : List ℕ). l ++ b) one)
-    ∙ append_assoc (start ++ a) b c ∙ append_assoc start a (b ++ c)
-
 pub in-four : (start a b c d s t u w : List ℕ) → s ≡ start ++ a → t ≡ s ++ b → u ≡ t ++ c → w ≡ u ++ d
     → w ≡ start ++ (a ++ (b ++ (c ++ d)))
 in-four start a b c d s t u w one two three four =
-    four ∙ ap (λ (l : List ℕ). l ++ d) (in-three start a b c s t u one two three)
+    four ∙ ap (λ (l : List ℕ). l ++ d) (append-three start a b c s t u one two three)
     ∙ append_assoc start (a ++ (b ++ c)) d
     ∙ ap (λ (l : List ℕ). start ++ l) (append_assoc a (b ++ c) d ∙ ap (λ (l : List ℕ). a ++ l) (append_assoc b c d))
 

@@ -23,7 +23,7 @@ pub(crate) struct Reply {
 }
 
 // Adds texts with a comma between each two.
-#[tactic(auto, using(crate::proofs::ReplyLemmas::joined_first))]
+#[tactic(auto, using(value_lemmas::proofs::Lists::join_with_byte_cons))]
 fn add_joined(text: &mut Vec<u8>, first: &Bytes, rest: &[Bytes]) -> Result<(), OutOfMemory>
     ensures { OnOk result (text.new.items ≡ text.old.items ++ join_with_byte comma (first.now ∷ rest.now)) }
 {

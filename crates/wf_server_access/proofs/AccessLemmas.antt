@@ -2,6 +2,7 @@
 use Rattle.std.proofs.Common.{◌≡◌, ℕ, Bool, true, false, List, [], ◌∷◌, Option, Some, None, refl, ap}
 use Rattle.std.proofs.Common.{subst, ◌∙◌, if◌then◌else◌, option_map}
 use Rattle.std.proofs.Common.{sym}
+use Rattle.std.proofs.lemmas.Option.{same_Some}
 use Rattle.std.specs.List.{list_all}
 use Rattle.std.specs.Prelude.{IfSome}
 use Rattle.wf_origin.specs.Origins.{is_origin_of, serialized}
@@ -53,7 +54,7 @@ use Rattle.wf_server_access.proofs.MadeLemmas.{IsAway, IsMade, made-away, made-i
 use Rattle.wf_server_access.proofs.MainLemmas.{main-is, switched-is}
 use Rattle.wf_server_access.proofs.RealLemmas.{IsOnWay, Lasts, otherwise, real}
 use Rattle.wf_server_access.proofs.TableLemmas.{IsByRow, by-behind, by-real}
-use Rattle.wf_server_access.proofs.TraceLemmas.{AllSent, called, replied, same-state}
+use Rattle.wf_server_access.proofs.TraceLemmas.{AllSent, called, replied}
 
 module _ {State : Type 0} (table : List Row) (by : Answering State) (ends : AreEnds table) (limit document : ℕ)
     (outcome : Outcome) (last : World State) (legal : Legal empty last.own) where
@@ -221,6 +222,6 @@ access State once requests replies heads table by limit document context init re
       faultless = came.faultless;
       sends = λ first told.
           subst (λ (s : State). AllSent by (IsServedSo table by) s events)
-          (same-state state first (sym came.told ∙ told))
+          (same_Some state first (sym came.told ∙ told))
           (all-served table by state events answers readable);
     })

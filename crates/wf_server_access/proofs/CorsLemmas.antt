@@ -1,11 +1,12 @@
 -- The CORS check and the verdict on the answer to a preflight, over the values of the headers that count.
 use Rattle.std.proofs.Common.{◌≡◌, ℕ, Bool, true, false, not, ◌&&◌, ◌||◌, List, [], ◌∷◌, map, find}
 use Rattle.std.proofs.Common.{Option, Some, codes, refl, ap, sym, ◌∙◌, if◌then◌else◌}
+use mathlib.Core.Bool.{and-false, or-false}
 use Rattle.std.proofs.lemmas.Bool.{or_right}
 use Rattle.std.proofs.lemmas.List.{append-nil}
-use Rattle.std.proofs.lemmas.Slice.Eq.{bytes_eq-Decides}
 use Rattle.std.specs.List.{AllByRecursion, list_all, list_any}
 use Rattle.std.specs.Str.{bytes_eq, str_to_ascii_lowercase}
+use Rattle.value_lemmas.proofs.Bytes.{bytes_eq-self}
 use Rattle.wf_text.specs.Mime.{is_text}
 use Rattle.wf_text.specs.Tokens.{is_token}
 use Rattle.wf_text.specs.Wildcards.{authorization, has_wildcard}
@@ -27,7 +28,7 @@ use Rattle.wf_cors.specs.declared.answer.Checked.TheVariants.{Pass, Refused}
 use Rattle.wf_cors.specs.Verdict.{age_of, allows_authorization, allows_method, allows_name, covers_all, first_refused}
 use Rattle.wf_cors.specs.Verdict.{has_name, methods_of, names_of, unless_refused, verdict}
 use Rattle.wf_cors.specs.Verdict.{verdict_of, verdict_where}
-use Rattle.wf_server_access.proofs.ListLemmas.{and-false, find-alike, or-false}
+use Rattle.wf_server_access.proofs.ListLemmas.{find-alike}
 use Rattle.wf_server_access.proofs.NameLemmas.{IsLowered, names-lowered}
 use Rattle.wf_server_access.proofs.TokenLemmas.{extracted-list, found_in, list_value}
 
@@ -44,9 +45,6 @@ allow_credentials = codes "Access-Control-Allow-Credentials"
 abbrev pub credentials_value : Bool → List (List ℕ)
 credentials_value credentials = if credentials then codes "true" ∷ [] else []
 
-pub same-text : (text : List ℕ) → bytes_eq text text ≡ true
-same-text text = (bytes_eq-Decides text text).1 refl
-
 -- What an answer says that allows an origin, and credentials or not.
 pub record Grants (origin : List ℕ) (credentials : Bool) (headers : List Header) : Type 0 where
   pub origin_is : values_of allow_origin headers ≡ origin ∷ []
@@ -56,7 +54,7 @@ origin-allowed : (origin : List ℕ) (headers : List Header) → values_of allow
     → allows_origin origin headers ≡ true
 origin-allowed origin headers is =
     ap (λ (values : List (List ℕ)). is_text origin (joined values)) is
-    ∙ ap (λ (text : List ℕ). bytes_eq text origin) (append-nil origin) ∙ same-text origin
+    ∙ ap (λ (text : List ℕ). bytes_eq text origin) (append-nil origin) ∙ bytes_eq-self origin
 
 credentials-by : (credentials : Bool)
     → is_text (codes "true") (joined (credentials_value credentials)) ≡ credentials
@@ -156,7 +154,7 @@ method-by request [] none = by-flag request.use_preflight
         ≡ (is_safelisted_method request.method || (flag && true))
     by-flag true =
         ap (λ (b : Bool). (b || false) || is_safelisted_method request.method
-        || covers_all request.credentials (request.method ∷ [])) (same-text request.method)
+        || covers_all request.credentials (request.method ∷ [])) (bytes_eq-self request.method)
         ∙ sym (or_right (is_safelisted_method request.method) true refl)
     by-flag false =
         ap (λ (b : Bool). is_safelisted_method request.method || b) (covers-none request.credentials [] refl)

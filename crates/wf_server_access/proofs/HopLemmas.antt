@@ -1,5 +1,6 @@
 -- The headers of a hop that a server looks at: Origin, and Access-Control-Request-Method.
 use Rattle.std.proofs.Common.{◌≡◌, ℕ, true, List, [], ◌∷◌, ◌++◌, codes, Some, None, ap, ◌∙◌, if◌then◌else◌}
+use Rattle.wf_headers.proofs.ValueLemmas.{values-all_appended}
 use Rattle.wf_headers.specs.Headers.{all_appended, values_of}
 use Rattle.wf_types.specs.declared.client.Cookie.{Cookie}
 use Rattle.wf_types.specs.declared.mode.Tainting.{Tainting}
@@ -14,7 +15,7 @@ use Rattle.policy_checks.specs.RequestOrigins.{serialized_request_origin}
 use Rattle.wf_types.specs.Targets.{host_value}
 use Rattle.wf_cors.specs.Preflight.{preflight_lines, preflight_of}
 use Rattle.wf_send.specs.Heads.{added_lines, hop_of}
-use Rattle.wf_server_access.proofs.ValueLemmas.{line_value, line_values, values-all_appended, values-lines}
+use Rattle.wf_server_access.proofs.ValueLemmas.{line_value, line_values, values-lines}
 
 -- the name of the header by which a preflight is known
 abbrev pub request_method : List ℕ

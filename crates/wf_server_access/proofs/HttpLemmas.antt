@@ -3,8 +3,10 @@
 use Rattle.std.proofs.Common.{◌≡◌, ℕ, Bool, true, false, not, ◌&&◌, ◌||◌, ◌==◌, List, [], length}
 use Rattle.std.proofs.Common.{Option, Some, None, Ok, Err, codes, bytes_eq, refl, ap, ◌∙◌, option_map}
 use Rattle.std.proofs.Common.{option_and_then, if◌then◌else◌}
+use mathlib.Core.Bool.{and-false, or-false}
 use Rattle.std.specs.Bool.{then_some}
 use Rattle.std.specs.Option.{option_or}
+use Rattle.wf_filter.proofs.LawLemmas.{not-script}
 use Rattle.wf_headers.specs.declared.extract.Rule.TheVariants.{Single}
 use Rattle.wf_headers.specs.declared.headers.Header.{Header}
 use Rattle.wf_headers.specs.Extract.{extracted}
@@ -12,7 +14,6 @@ use Rattle.wf_headers.specs.Headers.{joined, values_of}
 use Rattle.wf_headers.specs.Split.{split}
 use Rattle.wf_hsts.specs.declared.sts.Sts.{Sts}
 use Rattle.wf_hsts.specs.Reading.{sts_in}
-use Rattle.wf_mime.specs.Blocking.{mime_blocked}
 use Rattle.wf_mime.specs.Essence.{essence_of}
 use Rattle.wf_mime.specs.Nosniff.{nosniff}
 use Rattle.wf_types.specs.declared.error.NetError.{NetError}
@@ -52,7 +53,6 @@ use Rattle.wf_fetch_answers.specs.Redirects.{redirection, redirection_by}
 use Rattle.wf_fetch.specs.Fetch.{after_body, ends, finished}
 use Rattle.wf_fetch.specs.HttpFetch.{after_head, judged, redirected}
 use Rattle.wf_fetch.specs.Then.{Context, Onward, Then, tell_all, then_ask_where}
-use Rattle.wf_server_access.proofs.ListLemmas.{and-false, or-false}
 
 -- the name of the field that known hosts are noted by
 abbrev pub sts : List ℕ
@@ -120,16 +120,12 @@ pub record IsAtEnd (context : Context) (request : Request) (head : Head) : Type 
   pub status_is : head.status ≡ 200
   pub uncoded : values_of (codes "Content-Encoding") head.headers ≡ []
 
-mime-quiet : (essence : Option (List ℕ)) → mime_blocked essence false ≡ false
-mime-quiet None = refl
-mime-quiet (Some essence) = refl
-
 -- a `fetch` is blocked for no type
 no-block : (kind : Destination) (headers : List Header) → kind ≡ destination.Fetch → type_error kind headers ≡ None
 no-block kind headers is =
     ap (λ (d : Destination). type_error d headers) is
     ∙ ap (λ (b : Bool). if b then Some error.Mime
-    else if nosniff headers && false then Some error.NoSniff else None) (mime-quiet (essence_of headers))
+    else if nosniff headers && false then Some error.NoSniff else None) (not-script (essence_of headers))
     ∙ ap (λ (b : Bool). if b then Some error.NoSniff else None) (and-false (nosniff headers))
 
 module _ (context : Context) (request : Request) (head : Head) (is : IsAtEnd context request head) where

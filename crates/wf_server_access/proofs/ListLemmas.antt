@@ -1,5 +1,5 @@
 -- Lists and tests that the proofs on fetches share.
-use Rattle.std.proofs.Common.{◌≡◌, ℕ, zero, suc, ◌<◌, Bool, true, false, not, ◌&&◌, ◌||◌, cond, List, [], ◌∷◌, ◌++◌}
+use Rattle.std.proofs.Common.{◌≡◌, ℕ, zero, suc, ◌<◌, Bool, true, false, not, ◌&&◌, cond, List, [], ◌∷◌, ◌++◌}
 use Rattle.std.proofs.Common.{length, All, Contains, find, Option, Some, None, is_some, refl, ap, sym, subst}
 use Rattle.std.proofs.Common.{◌∙◌, arith}
 use Rattle.std.proofs.Common.{true≢false, slice_index_or}
@@ -18,12 +18,6 @@ pub each-more : {X : Type 0} (P : X → Type 0) (xs : List X) (x : X) → AllByR
     → AllByRecursion P (xs ++ x ∷ [])
 each-more P [] x all here = (here, tt)
 each-more P (y ∷ ys) x all here = (all.0, each-more P ys x all.1 here)
-
--- items more
-pub each-append : {X : Type 0} (P : X → Type 0) (a b : List X) → AllByRecursion P a → AllByRecursion P b
-    → AllByRecursion P (a ++ b)
-each-append P [] b x y = y
-each-append P (one ∷ a) b x y = (x.0, each-append P a b x.1 y)
 
 -- an item of the list is as all are
 pub each-contained : {X : Type 0} (P : X → Type 0) (xs : List X) → AllByRecursion P xs → (x : X) → Contains xs x → P x
@@ -76,15 +70,6 @@ some-not test (y ∷ ys) x same = by-test (some-not test ys x) (test y) same
         → cond (not b) (Some y) (find (λ z. not (test z)) ys) ≡ Some x → (b && list_all test ys) ≡ false
     by-test rest true later = rest later
     by-test rest false here = refl
-
--- tests with a constant
-pub and-false : (b : Bool) → (b && false) ≡ false
-and-false true = refl
-and-false false = refl
-
-pub or-false : (b : Bool) → (b || false) ≡ b
-or-false true = refl
-or-false false = refl
 
 pub and-true : (b : Bool) → (b && true) ≡ b
 and-true true = refl

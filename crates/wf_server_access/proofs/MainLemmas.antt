@@ -1,6 +1,7 @@
 -- Main fetch of a `fetch` in mode cors of a document without policies: it comes to the switch.
 use Rattle.std.proofs.Common.{◌≡◌, Bool, true, false, not, ◌&&◌, List, []}
 use Rattle.std.proofs.Common.{None, Err, ap, ◌∙◌, if◌then◌else◌}
+use mathlib.Core.Bool.{and-false}
 use Rattle.wf_origin.specs.Origins.{is_origin_of}
 use Rattle.wf_types.specs.declared.error.NetError.TheVariants.{Scheme}
 use Rattle.wf_types.specs.declared.mode.Mode.{Mode}
@@ -25,7 +26,6 @@ use Rattle.wf_fetch.specs.MainFetch.{checked, main_fetch, matched, switched, swi
 use Rattle.wf_fetch.specs.MainFetch.{unless_violated}
 use Rattle.wf_fetch.specs.PreflightFetch.{with_preflight}
 use Rattle.wf_fetch.specs.Then.{Context, Onward, Then, tell_all}
-use Rattle.wf_server_access.proofs.ListLemmas.{and-false}
 
 module _ (onward : Onward) (context : Context) (next : Then) where
   -- nothing is told, upgraded or blocked: the book is asked for the host

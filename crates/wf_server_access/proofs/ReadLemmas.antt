@@ -9,6 +9,7 @@ use Rattle.std.proofs.lemmas.Slice.Eq.{bytes_eq-Decides}
 use Rattle.std.specs.Cmp.{first_so, second_so}
 use Rattle.std.specs.List.{AllByRecursion, list_all, list_any}
 use Rattle.std.specs.Str.{bytes_eq}
+use Rattle.value_lemmas.proofs.Lists.{list_all-reverse}
 use Rattle.httparse.specs.Grammar.{Field, IsField, is_value_byte}
 use Rattle.wf_text.proofs.TrimLemmas.{trimmed_end-rest, trimmed_start-rest}
 use Rattle.wf_text.specs.Ascii.{carriage_return, line_feed, space, tab}
@@ -22,7 +23,7 @@ use Rattle.wf_http1.specs.RequestHeads.{IsRead}
 use Rattle.wf_http1.specs.declared.request_head.Asked.{Asked}
 use Rattle.wf_server_heard.specs.Heard.{as_read}
 use Rattle.wf_server_access.proofs.ListLemmas.{all-each, each-more}
-use Rattle.wf_server_access.proofs.TokenLemmas.{all-joined, all-reverse, is_solid, list_value, solid-trimmed}
+use Rattle.wf_server_access.proofs.TokenLemmas.{all-joined, is_solid, list_value, solid-trimmed}
 use Rattle.wf_server_access.proofs.TokenLemmas.{tchar-solid}
 use Rattle.wf_server_access.proofs.ValueLemmas.{value_if, values, values-appended}
 
@@ -124,7 +125,7 @@ header-read text is =
     (first_so (bytes_eq (trimmed tab_or_space text) text) (list_all is_inner text) is) in
     ap (trimmed_end http_whitespace) (start-same text inner)
     ∙ ap (λ (l : List ℕ). reverse l) (start-same (reverse (trimmed_start tab_or_space text))
-    (all-reverse is_inner (trimmed_start tab_or_space text) (start-all is_inner tab_or_space text inner)))
+    (list_all-reverse is_inner (trimmed_start tab_or_space text) (start-all is_inner tab_or_space text inner)))
     ∙ same
 
 -- ---- the bytes of what a server reads

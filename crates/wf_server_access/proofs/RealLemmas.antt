@@ -1,6 +1,7 @@
 -- The request itself: what it comes to, by the row of its origin in the table.
 use Rattle.std.proofs.Common.{◌≡◌, ℕ, Bool, true, false, not, ◌&&◌, ◌||◌, List, [], map}
 use Rattle.std.proofs.Common.{Option, Some, None, Ok, Err, codes, bytes_eq, refl, ap, sym, subst, ◌∙◌, if◌then◌else◌}
+use mathlib.Core.Bool.{and-false}
 use Rattle.std.specs.List.{AllByRecursion}
 use Rattle.wf_text.specs.Tokens.{is_token}
 use Rattle.wf_text.specs.Values.{is_header_value}
@@ -40,7 +41,6 @@ use Rattle.wf_server_access.proofs.CorsLemmas.{check-fails, check-grants}
 use Rattle.wf_server_access.proofs.HopLemmas.{hop-method, hop-origin, request_method}
 use Rattle.wf_server_access.proofs.HttpLemmas.{IsAtEnd, body-is, finished-is, http-fails, http-passes, response}
 use Rattle.wf_server_access.proofs.LineLemmas.{HasLines, IsCookie, hop-lines}
-use Rattle.wf_server_access.proofs.ListLemmas.{and-false}
 use Rattle.wf_server_access.proofs.ReadLemmas.{header-read, read_value, values-read}
 use Rattle.wf_server_access.proofs.ReplyLemmas.{head_by, ok_end, refused-origin, refused-silent, served-framing}
 use Rattle.wf_server_access.proofs.ReplyLemmas.{served-grants, served-silent, served-uncoded}

@@ -6,6 +6,7 @@ use Rattle.std.proofs.Common.{if◌then◌else◌, option_map, length-append, fl
 use Rattle.std.proofs.lemmas.Fmt.{length-decimal-le_succ}
 use Rattle.std.proofs.lemmas.Grind.{common_steps}
 use Rattle.std.specs.List.{AllByRecursion, join_with_byte, list_all}
+use Rattle.value_lemmas.proofs.Lists.{AllByRecursion-append}
 use Rattle.httparse.specs.Grammar.{is_value_byte}
 use Rattle.wf_text.specs.Ascii.{comma}
 use Rattle.wf_text.specs.Tokens.{is_tchar, is_token}
@@ -30,7 +31,7 @@ use Rattle.wf_server_access.specs.Access.{IsRow}
 use Rattle.wf_server_access.proofs.CorsLemmas.{Allows, AreListed, Grants, allow_credentials, allow_methods, allow_names}
 use Rattle.wf_server_access.proofs.CorsLemmas.{allow_origin, credentials_value}
 use Rattle.wf_server_access.proofs.HttpLemmas.{sts}
-use Rattle.wf_server_access.proofs.ListLemmas.{each-append, each-contained}
+use Rattle.wf_server_access.proofs.ListLemmas.{each-contained}
 use Rattle.wf_server_access.proofs.ReadLemmas.{list-read, read_value, values-read}
 use Rattle.wf_server_access.proofs.TokenLemmas.{all-joined, list_value}
 
@@ -235,7 +236,7 @@ module _ (row : Row) (is : IsRow row) (plain : list_all is_value_byte row.origin
     few = few-lines row.credentials row.methods row.names row.origin;
     lines = each-contained IsPlainLine (allowed row).headers
         (granting-plain row.origin row.credentials _ plain
-        (each-append IsPlainLine (list_header (codes "Access-Control-Allow-Methods") row.methods)
+        (AllByRecursion-append IsPlainLine (list_header (codes "Access-Control-Allow-Methods") row.methods)
         (list_header (codes "Access-Control-Allow-Headers") row.names)
         (list-plain (codes "Access-Control-Allow-Methods") row.methods refl (row-methods row is).tokens)
         (list-plain (codes "Access-Control-Allow-Headers") row.names refl (row-names row is).tokens)));

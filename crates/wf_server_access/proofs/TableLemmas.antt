@@ -1,6 +1,7 @@
 -- What a request comes to by the row of its origin is what the table tells.
 use Rattle.std.proofs.Common.{◌≡◌, ℕ, Bool, true, false, not, ◌&&◌, ◌||◌, ◌==◌, List, [], ◌∷◌, length, find}
 use Rattle.std.proofs.Common.{Option, Some, None, refl, ap, sym, subst, ◌∙◌, true≢false, if◌then◌else◌, eqb-true, arith}
+use mathlib.Core.Bool.{and-false}
 use Rattle.std.proofs.lemmas.Bool.{or_parts}
 use Rattle.std.specs.List.{list_all}
 use Rattle.wf_text.specs.Wildcards.{authorization}
@@ -18,7 +19,7 @@ use Rattle.wf_server.specs.declared.table.Row.{Row}
 use Rattle.wf_server.specs.Tables.{lists, row_allows}
 use Rattle.wf_server_access.specs.Access.{IsReadOr, name_error, passes_method, refused_name, row_error}
 use Rattle.wf_server_access.proofs.BehindLemmas.{IsBehind, IsJudged}
-use Rattle.wf_server_access.proofs.ListLemmas.{and-false, and-true, none-not, some-not}
+use Rattle.wf_server_access.proofs.ListLemmas.{and-true, none-not, some-not}
 use Rattle.wf_server_access.proofs.NameLemmas.{all-but, authorization-among}
 use Rattle.wf_server_access.proofs.RealLemmas.{IsReal}
 

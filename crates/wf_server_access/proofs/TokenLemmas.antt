@@ -1,11 +1,12 @@
 -- Lists of tokens with commas between, and texts without white space.
-use Rattle.std.proofs.Common.{◌≡◌, ◌==◌, ℕ, Bool, true, false, not, ◌&&◌, ◌||◌, cond, List, [], ◌∷◌, ◌++◌, length}
+use Rattle.std.proofs.Common.{◌≡◌, ◌==◌, ℕ, Bool, true, false, not, ◌||◌, cond, List, [], ◌∷◌, ◌++◌, length}
 use Rattle.std.proofs.Common.{map, filter, reverse, refl, ap, sym, ◌∙◌, true≢false, if◌then◌else◌, eqb-true}
 use Rattle.std.proofs.lemmas.Bool.{and_from}
-use Rattle.std.proofs.lemmas.List.{append-nil, reverse-append, reverse-reverse}
+use Rattle.std.proofs.lemmas.List.{append-nil, reverse-reverse}
 use Rattle.std.proofs.lemmas.List.Folds.{list_all-append}
 use Rattle.std.specs.Cmp.{first_so, second_so}
 use Rattle.std.specs.List.{join_with_byte, list_all, list_any}
+use Rattle.value_lemmas.proofs.Lists.{list_all-reverse}
 use Rattle.wf_text.specs.Ascii.{comma}
 use Rattle.wf_text.specs.Pieces.{with_front}
 use Rattle.wf_text.specs.Tokens.{is_tchar, is_token}
@@ -53,15 +54,6 @@ tchar-solid (blank ∷ blanks) none byte is =
 
 -- ---- texts without blanks
 
-pub all-reverse : (test : ℕ → Bool) (text : List ℕ) → list_all test text ≡ true → list_all test (reverse text) ≡ true
-all-reverse test [] all = refl
-all-reverse test (byte ∷ text) all =
-    ap (list_all test) (reverse-append (byte ∷ []) text)
-    ∙ list_all-append test (reverse text) (byte ∷ [])
-    ∙ and_from (list_all test (reverse text)) (test byte && true)
-    (all-reverse test text (second_so (test byte) (list_all test text) all))
-    (and_from (test byte) true (first_so (test byte) (list_all test text) all) refl)
-
 start-solid : (blanks text : List ℕ) → list_all (is_solid blanks) text ≡ true → trimmed_start blanks text ≡ text
 start-solid blanks [] all = refl
 start-solid blanks (byte ∷ text) all =
@@ -77,7 +69,7 @@ start-solid blanks (byte ∷ text) all =
 pub solid-trimmed : (blanks text : List ℕ) → list_all (is_solid blanks) text ≡ true → trimmed blanks text ≡ text
 solid-trimmed blanks text all =
     ap (trimmed_end blanks) (start-solid blanks text all)
-    ∙ ap reverse (start-solid blanks (reverse text) (all-reverse (is_solid blanks) text all))
+    ∙ ap reverse (start-solid blanks (reverse text) (list_all-reverse (is_solid blanks) text all))
     ∙ reverse-reverse text
 
 -- each byte of a token is as all tchars are

@@ -1,6 +1,7 @@
 -- What is left of a fetch in a world that answers it: its next act, and what comes of that.
 use Rattle.std.proofs.Common.{◌≡◌, ℕ, ◌+◌, false, List, [], ◌∷◌, ◌++◌, Option, Some, None, is_some, refl}
 use Rattle.std.proofs.Common.{ap, sym, subst, ◌∙◌, append_assoc, IsTrue, true≢false, option_map}
+use Rattle.std.proofs.lemmas.Option.{same_Some}
 use Rattle.std.proofs.lemmas.Bool.{or_parts}
 use Rattle.std.proofs.lemmas.List.{append-nil}
 use Rattle.std.specs.Bool.{⊤}
@@ -158,13 +159,6 @@ AllSent by Fine state [] = ⊤
 AllSent by Fine state (event.Sent hop ∷ events) = Fine state hop × AllSent by Fine (by.next state hop) events
 AllSent by Fine state (one ∷ events) = AllSent by Fine state events
 
-pub same-state : {State : Type 0} (a b : State) → Some a ≡ Some b → a ≡ b
-same-state {State} a b same = ap state_in same
-  where
-    state_in : Option State → State
-    state_in None = a
-    state_in (Some state) = state
-
 -- and so it is from the state that is told
 abbrev pub AllToldSent : {State : Type 0} → Answering State → (State → Hop → Type 0) → Option State → List Event
     → Type 0
@@ -177,7 +171,7 @@ module _ {State : Type 0} (by : Answering State) (Fine : State → Hop → Type 
       → AllToldSent by Fine after more
   behind-sent hop more None after is all state told = absurd (true≢false (ap is_some (sym told ∙ is)))
   behind-sent hop more (Some first) after is all state told =
-      subst (λ (s : State). AllSent by Fine s more) (same-state (by.next first hop) state (sym is ∙ told))
+      subst (λ (s : State). AllSent by Fine s more) (same_Some (by.next first hop) state (sym is ∙ told))
       (all first refl).1
 
   -- behind an act it is so of what is left

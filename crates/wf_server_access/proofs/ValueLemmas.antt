@@ -1,13 +1,14 @@
 -- The values of a name in header lists that are made by appending, and in the lists of a hop.
-use Rattle.std.proofs.Common.{◌≡◌, ℕ, suc, Bool, true, false, ◌||◌, cond, List, [], ◌∷◌, ◌++◌, length}
+use Rattle.std.proofs.Common.{◌≡◌, ℕ, suc, Bool, true, false, cond, List, [], ◌∷◌, ◌++◌, length}
 use Rattle.std.proofs.Common.{Contains, Option, Some, None, map, filter, refl, ap, sym, ◌∙◌, arith}
-use Rattle.std.proofs.Common.{append_assoc, true≢false, if◌then◌else◌}
+use Rattle.std.proofs.Common.{append_assoc, if◌then◌else◌}
 use Rattle.std.proofs.lemmas.List.{append-nil, map-append}
 use Rattle.std.proofs.lemmas.List.Elements.{filter-append}
-use Rattle.std.proofs.lemmas.Slice.Eq.{bytes_eq-Decides}
 use Rattle.std.specs.List.{AllByRecursion, list_all}
 use Rattle.std.specs.Prelude.{IfSome}
-use Rattle.std.specs.Str.{bytes_eq, str_eq_ignore_ascii_case, str_to_ascii_lowercase}
+use Rattle.std.specs.Str.{str_eq_ignore_ascii_case}
+use Rattle.wf_headers.proofs.ValueLemmas.{no-values}
+use Rattle.value_lemmas.proofs.Bytes.{eq_ignore_case-alike}
 use Rattle.wf_text.specs.Tokens.{is_token}
 use Rattle.wf_headers.proofs.ExtractLemmas.{named-some}
 use Rattle.wf_headers.proofs.SpellingLemmas.{spelling-folds}
@@ -17,13 +18,6 @@ use Rattle.wf_types.specs.Lines.{Line, all_appended_where, appended_where}
 use Rattle.wf_http1.specs.Blocks.{is_line_byte}
 use Rattle.wf_server_heard.specs.Heard.{IsLine}
 use Rattle.wf_server_access.proofs.ListLemmas.{each-more}
-
--- names that are one, case aside, are among the same names
-pub folds-alike : (a b other : List ℕ) → str_eq_ignore_ascii_case a b ≡ true
-    → str_eq_ignore_ascii_case a other ≡ str_eq_ignore_ascii_case b other
-folds-alike a b other same =
-    ap (λ (lowered : List ℕ). bytes_eq lowered (str_to_ascii_lowercase other))
-    ((bytes_eq-Decides (str_to_ascii_lowercase a) (str_to_ascii_lowercase b)).0 same)
 
 -- the values of some headers
 abbrev pub values : List Header → List (List ℕ)
@@ -54,23 +48,7 @@ values-appended name other value headers =
     ∙ ap (λ (more : List (List ℕ)). values_of name headers ++ more)
     (single-value (is_named name new) new
     ∙ ap (λ (b : Bool). value_if b value)
-    (folds-alike (spelling other headers) other name (spelling-folds other headers)))
-
-first-value : (b : Bool) (one : Header) (rest : List Header)
-    → value_if b one.value ++ values rest ≡ values (cond b (one ∷ rest) rest)
-first-value true one rest = refl
-first-value false one rest = refl
-
--- once some were
-pub values-all_appended : (name : List ℕ) (more before : List Header)
-    → values_of name (all_appended more before) ≡ values_of name before ++ values_of name more
-values-all_appended name [] before = sym (append-nil (values_of name before))
-values-all_appended name (one ∷ more) before =
-    values-all_appended name more (appended one.name one.value before)
-    ∙ ap (λ (l : List (List ℕ)). l ++ values_of name more) (values-appended name one.name one.value before)
-    ∙ append_assoc (values_of name before) (value_if (is_named name one) one.value) (values_of name more)
-    ∙ ap (λ (l : List (List ℕ)). values_of name before ++ l)
-    (first-value (is_named name one) one (filter (is_named name) more))
+    (eq_ignore_case-alike (spelling other headers) other name (spelling-folds other headers)))
 
 -- the value of a line, where the name is asked for and there is one
 abbrev pub line_value : Bool → Option (List ℕ) → List (List ℕ)
@@ -124,16 +102,6 @@ not-there name headers none = by-test (contains name headers) refl
         absurd (omega (arith, named-some name headers is, ap (λ (l : List (List ℕ)). length l) none))
     by-test false is = is
 
-none-left : (name : List ℕ) (headers : List Header) → contains name headers ≡ false → values_of name headers ≡ []
-none-left name [] none = refl
-none-left name (one ∷ more) none = by-test (none-left name more) (is_named name one) none
-  where
-    by-test : (contains name more ≡ false → values_of name more ≡ []) → (b : Bool)
-        → (b || contains name more) ≡ false
-        → values (cond b (one ∷ filter (is_named name) more) (filter (is_named name) more)) ≡ []
-    by-test rest true is = absurd (true≢false is)
-    by-test rest false is = rest is
-
 -- and one with a value is
 pub there : (name value : List ℕ) (rest : List (List ℕ)) (headers : List Header)
     → values_of name headers ≡ value ∷ rest → contains name headers ≡ true
@@ -142,7 +110,7 @@ there name value rest headers some = by-test (contains name headers) refl
     by-test : (b : Bool) → contains name headers ≡ b → contains name headers ≡ true
     by-test true is = is
     by-test false is =
-        let same : [] ≡ value ∷ rest = sym (none-left name headers is) ∙ some in absurd (cc)
+        let same : [] ≡ value ∷ rest = sym (no-values name headers is) ∙ some in absurd (cc)
 
 -- the first value of a name is that of a header in the list
 pub first-at : (name value : List ℕ) (rest : List (List ℕ)) (headers : List Header)

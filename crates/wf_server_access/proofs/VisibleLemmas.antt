@@ -8,11 +8,11 @@ use Rattle.std.proofs.lemmas.Grind.{common_steps}
 use Rattle.std.proofs.lemmas.List.Folds.{list_all-append}
 use Rattle.std.proofs.lemmas.Slice.Eq.{bytes_eq-Decides}
 use Rattle.std.proofs.NetLemmas.Alphabet.{All-hex_groups_text, All-ipv4_text, IsDigitOrDot, IsHexOrColon}
-use Rattle.std.specs.Cmp.{first_so, second_so}
 use Rattle.std.specs.Fmt.{digit_glyph, digits, digits_onto}
 use Rattle.std.specs.List.{AllByRecursion, concat, list_all}
 use Rattle.std.specs.Net.Addr.{ipv4_octets, ipv6_segments}
 use Rattle.std.specs.Net.Text.{hex_groups_text, ipv4_text}
+use Rattle.value_lemmas.proofs.Lists.{list_all-weaker}
 use Rattle.percent_encoding.specs.Percent.{IsKept}
 use Rattle.percent_encoding.specs.declared.ascii_set.AsciiSet.{AsciiSet}
 use Rattle.url.proofs.SetLemmas.{outside_pass, passes_from_kept}
@@ -55,25 +55,17 @@ visible-inner byte is = grind (arith, common_steps)
 visible-line : (byte : ℕ) → is_visible byte ≡ true → is_line_byte byte ≡ true
 visible-line byte is = grind (arith, common_steps)
 
--- each byte passes another test
-all-weaker : (test other : ℕ → Bool) → ((byte : ℕ) → test byte ≡ true → other byte ≡ true) → (text : List ℕ)
-    → list_all test text ≡ true → list_all other text ≡ true
-all-weaker test other so [] all = refl
-all-weaker test other so (byte ∷ text) all =
-    and_from (other byte) (list_all other text) (so byte (first_so (test byte) (list_all test text) all))
-    (all-weaker test other so text (second_so (test byte) (list_all test text) all))
-
 -- it has no line end
 pub visible-text : (text : List ℕ) → AreVisible text → list_all is_line_byte text ≡ true
-visible-text text all = all-weaker is_visible is_line_byte visible-line text all
+visible-text text all = list_all-weaker is_visible is_line_byte visible-line text all
 
 -- it is a header value
 pub visible-value : (text : List ℕ) → AreVisible text → is_header_value text ≡ true
 visible-value text all =
     and_from (bytes_eq (trimmed tab_or_space text) text) (list_all (λ byte. not (is_nul_or_newline byte)) text)
     ((bytes_eq-Decides (trimmed tab_or_space text) text).1
-    (solid-trimmed tab_or_space text (all-weaker is_visible (is_solid tab_or_space) visible-solid text all)))
-    (all-weaker is_visible (λ byte. not (is_nul_or_newline byte)) visible-inner text all)
+    (solid-trimmed tab_or_space text (list_all-weaker is_visible (is_solid tab_or_space) visible-solid text all)))
+    (list_all-weaker is_visible (λ byte. not (is_nul_or_newline byte)) visible-inner text all)
 
 -- ---- parts
 

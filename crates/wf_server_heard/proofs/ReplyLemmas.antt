@@ -1,5 +1,5 @@
 -- Where the bytes to come are those of a reply, its status and headers are read of them.
-use Rattle.std.proofs.Common.{◌≡◌, ◌≤◌, ◌<◌, ◌+◌, ◌/◌, ◌%◌, ◌⊎◌, inl, inr, ℕ, true, false, true≢false, List, [], ◌∷◌}
+use Rattle.std.proofs.Common.{◌≡◌, ◌≤◌, ◌<◌, ◌+◌, ◌/◌, ◌%◌, ◌⊎◌, inl, inr, ℕ, true, false, List, [], ◌∷◌}
 use Rattle.std.proofs.Common.{◌++◌, length, take, drop, map, refl, ap, sym, ◌∙◌, subst, arith, append_assoc}
 use Rattle.std.proofs.Common.{length-append, length-take, Contains, Some}
 use Rattle.std.proofs.lemmas.Bool.{cases_lt}
@@ -26,7 +26,7 @@ use Rattle.wf_http1.specs.Heads.{BeginsSkipped, EndsFinal, head_of, is_skipped, 
 use Rattle.wf_http1.specs.Requests.{header_line}
 use Rattle.wf_http1.proofs.AnswerLemmas.{head-end-one}
 use Rattle.wf_http1.proofs.HeadLemmas.{field-parts, head-one, head-shortest}
-use Rattle.wf_http1.proofs.SkipLemmas.{skips-meet, skips-more, skips-none, undecided}
+use Rattle.wf_http1.proofs.SkipLemmas.{final-not-skipped, skips-meet, skips-more, skips-none, undecided}
 use Rattle.wf_server_heard.specs.Heard.{as_read, IsPlainReply, RepliesAreHeard, RepliesHaveHeads}
 use Rattle.wf_server.specs.Served.{Reply, reply_bytes}
 use Rattle.wf_server_heard.proofs.TextLemmas.{passes, token}
@@ -142,13 +142,6 @@ head-is reply is = λ i. record { status = status-is reply is i; headers = lines
 
 -- ---- a head at the front that is final
 
--- where a final head begins, no skipped one does
-final-alone : (head : ResponseHead) (rest : List ℕ) → IsHead head → is_skipped (status_code head) ≡ false
-    → BeginsSkipped (print_response head ++ rest) → ⊥
-final-alone head rest is ends begins =
-    let one : head ≡ begins.0 = head-one head begins.0 rest begins.1 is.head begins.2.head.head begins.3 in
-    true≢false (sym begins.2.skipped ∙ ap (λ (k : ResponseHead). is_skipped (status_code k)) (sym one) ∙ ends)
-
 -- what ends in a final head is the head that the bytes begin with
 final-is : (bytes body : List ℕ) (printed : ResponseHead) (head : Head) (n : ℕ)
     → bytes ≡ print_response printed ++ body → IsHead printed → is_skipped (status_code printed) ≡ false
@@ -171,9 +164,9 @@ final-is bytes body printed head n same is passed ends =
               (take-append-drop n bytes ∙ one
               ∙ ap (λ (k : ResponseHead). print_response k ++ drop n bytes) (sym heads)),
         )
-    by_meeting (inr (inl begins)) = absurd (final-alone printed body is passed (subst BeginsSkipped same begins))
+    by_meeting (inr (inl begins)) = absurd (final-not-skipped printed body is passed (subst BeginsSkipped same begins))
     by_meeting (inr (inr begins)) =
-        absurd (final-alone ends.printed (drop n bytes) ends.valid ends.final begins)
+        absurd (final-not-skipped ends.printed (drop n bytes) ends.valid ends.final begins)
 
 pub reply-heard : RepliesAreHeard
 reply-heard reply head behind is has =

@@ -12,6 +12,7 @@ use mathlib.Core.Logic.{dite}
 use native.Mathlib.Decide.{ℕ_discrete}
 use mathlib.Core.Option.{some, some-injective}
 use lib.ListN.{get_elem?}
+use Rattle.value_lemmas.proofs.Tests.{eqb-comm}
 use Rattle.wf_book.specs.declared.book.Book.{Book}
 use Rattle.wf_book.specs.declared.entry.Entry.{Entry}
 use Rattle.wf_book.specs.Entries.{book_after, Legal, entries_of, AllTurnsBelow, StartsWith}
@@ -26,7 +27,7 @@ use Rattle.wf_turn.specs.declared.desk.Desk.{Desk}
 use Rattle.wf_turn.specs.declared.view.View.{View}
 use Rattle.wf_turn.specs.declared.view.Ended.{Ended}
 use Rattle.wf_turn.proofs.Ends.{Closes}
-use Rattle.wf_turn.proofs.Sums.{at-most, eqb-sym, sum-total, often-here, times-often, total-plus, total-same}
+use Rattle.wf_turn.proofs.Sums.{at-most, sum-total, often-here, times-often, total-plus, total-same}
 use Rattle.wf_turn.proofs.Sums.{total-zero}
 use Rattle.wf_turn.proofs.Turns.{some_desk}
 
@@ -84,7 +85,7 @@ met-once docs (p ∷ ps) once =
     total-plus (λ (d : ℕ). one (is_of d p)) (met ps) docs in
     let same : total (λ (d : ℕ). one (is_of d p)) docs ≡ often p.document docs =
     total-same (λ (d : ℕ). one (is_of d p)) (λ (d : ℕ). one (eqb d p.document)) docs
-    (λ d. ap one (eqb-sym p.document d)) in
+    (λ d. ap one (eqb-comm p.document d)) in
     omega (arith, once p.document, met-once docs ps once)
 
 met-none : (docs : List ℕ) (ps : List TurnPass) (d : ℕ) → often d docs ≡ 0 → All (λ p. 0 < often p.document docs) ps

@@ -8,13 +8,14 @@ use mathlib.Core.Logic.{dite}
 use native.Mathlib.Decide.{ℕ_discrete}
 use mathlib.Core.Option.{some, some-injective, some-ne-none}
 use lib.ListN.{get_elem?}
+use Rattle.value_lemmas.proofs.Tests.{eqb-comm}
 use Rattle.wf_book.specs.declared.book.Book.{Book}
 use Rattle.wf_book.specs.declared.entry.Entry.{Entry}
 use Rattle.wf_book.specs.Book.{after}
 use Rattle.wf_book.specs.Entries.{AllTurnsBelow, Legal, LegalFrom, book_after, entries_of}
 use Rattle.wf_turn.specs.Private.Sums.{one, total}
 use Rattle.wf_turn.specs.Laws.{TurnsArePlaces}
-use Rattle.wf_turn.proofs.Sums.{eqb-sym, sum-total, total-alike, total-plus, total-same, total-zero}
+use Rattle.wf_turn.proofs.Sums.{sum-total, total-alike, total-plus, total-same, total-zero}
 use Rattle.wf_turn.specs.Passes.{calls_of, is_of, opening_of, own_of}
 use Rattle.wf_turn.specs.declared.pass.TurnPass.{TurnPass}
 
@@ -47,7 +48,7 @@ mine h p = length (entries_of p.document h)
 
 one-mine : (e : Entry) (es : List Entry) (p : TurnPass) → mine (e ∷ es) p ≡ one (is_of e.document p) + mine es p
 one-mine e es p = one-more (eqb e.document p.document) e (entries_of p.document es)
-    ∙ ap (λ (b : Bool). one b + mine es p) (eqb-sym e.document p.document)
+    ∙ ap (λ (b : Bool). one b + mine es p) (eqb-comm e.document p.document)
 
 entries-counted : (ps : List TurnPass) (h : List Entry) → ((d : ℕ) → count_by (is_of d) ps ≤ 1)
     → All (λ e. 0 < count_by (is_of e.document) ps) h → total (mine h) ps ≡ length h

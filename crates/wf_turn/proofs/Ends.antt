@@ -1,6 +1,7 @@
 -- The rule at the opening, and what it gives once all passes have come back.
 use Rattle.std.proofs.Common.{◌≡◌, ◌≢◌, ℕ, zero, suc, ◌<◌, ◌≤◌, true, false, eqb, List, [], ◌∷◌, length, get_or, sym}
 use Rattle.std.proofs.Common.{refl, ap, ◌∙◌, subst, ⊎_elim, arith, Some, eq-eqb, ne_eqb}
+use Rattle.std.proofs.lemmas.Bool.{cases_Bool}
 use Rattle.std.specs.declared.option.Option.{Option}
 use mathlib.Core.Logic.{dite}
 use mathlib.Core.Option.{some, some-injective, some-ne-none}
@@ -16,7 +17,7 @@ use Rattle.wf_turn.specs.Private.Rule.{desk, first_view, drawn, passes_of, HasDo
 use Rattle.wf_turn.specs.declared.desk.Desk.{Desk}
 use Rattle.wf_turn.specs.declared.view.View.{View}
 use Rattle.wf_turn.specs.declared.view.Ended.{Ended}
-use Rattle.wf_turn.proofs.Keeping.{no, either_way}
+use Rattle.wf_turn.proofs.Keeping.{no}
 
 lone_at : (v u : View) (i : ℕ) → get_elem? (v ∷ []) i ≡ some u → (i ≡ 0) × (v ≡ u)
 lone_at v u zero e = (refl, some-injective v u e)
@@ -100,13 +101,13 @@ closes id v ws xs final live first unserved whole =
     ap one (ne_eqb 4294967295 u.document (λ h. not-first (sym h))) in
     let some-made : 0 < often u.document v.made = let q = ap (often u.document) was in omega arith in
     let r = whole u.document not-first some-made in
-    absurd (a.ended z r.0 r.1 r.2 (sym r.3))) (λ (z : u.live ≡ false). z) (either_way u.live) in
+    absurd (a.ended z r.0 r.1 r.2 (sym r.3))) (λ (z : u.live ≡ false). z) (cases_Bool u.live) in
     let none-served : (j : ℕ) (u : View) → get_elem? s.views j ≡ some u → u.served ≡ false =
     λ j u e. dite (ℕ_discrete j id)
     (λ (is-me : j ≡ id). let same : u ≡ v = some-injective u v (sym e ∙ (ap (get_elem? s.views) is-me ∙ me)) in
     ap (λ (y : View). y.served) same ∙ unserved)
     (λ (other : j ≢ id). ⊎_elim (λ (z : u.served ≡ true). no u.live ((o.fits j u e).served z).live_is
-    (dead j u other e)) (λ (z : u.served ≡ false). z) (either_way u.served)) in
+    (dead j u other e)) (λ (z : u.served ≡ false). z) (cases_Bool u.served)) in
     let home = o.home none-served in
     let alone : total drawn s.views ≡ drawn v =
     total-only drawn s.views id v me (λ j u ne e. let g = o.fits j u e in let z : one u.live ≡ 0 =

@@ -2,6 +2,7 @@
 use Rattle.std.proofs.Common.{◌≡◌, ◌≢◌, ℕ, ◌+◌, ◌*◌, ◌^◌, ◌%◌, ◌<◌, ◌≤◌, true, false, List, [], ◌∷◌, ◌++◌, get_or}
 use Rattle.std.proofs.Common.{set, sym, refl, ap, ◌∙◌, subst, inl, inr, ⊎_elim, arith, length-set, get_or-set_other}
 use Rattle.std.proofs.Common.{get_or-set_same, Some}
+use Rattle.std.proofs.lemmas.Bool.{cases_Bool}
 use Rattle.std.specs.declared.option.Option.{Option}
 use mathlib.Core.Logic.{dite}
 use mathlib.Core.Option.{some, none, some-injective}
@@ -23,7 +24,7 @@ use Rattle.wf_turn.specs.Private.Rule.{desk, HasDocument, Fits, Keeps}
 use Rattle.wf_turn.specs.Private.Steps.{Sat, drew, Draws, Looks, held, noting, Notes, passed, Passes}
 use Rattle.wf_turn.specs.declared.desk.Desk.{Desk}
 use Rattle.wf_turn.specs.declared.view.View.{View}
-use Rattle.wf_turn.proofs.Keeping.{St, no, either_way, set_at, moved, unmoved, roomy}
+use Rattle.wf_turn.proofs.Keeping.{St, no, set_at, moved, unmoved, roomy}
 
 fits_wider : (t t' n : ℕ) (opening : Book) (h : List Entry) (docs : List ℕ) (u : View) → t ≤ t'
     → Fits t n opening h docs u → Fits t' n opening h docs u
@@ -87,7 +88,7 @@ draws slots id m live idle unserved room s o wide me _ =
           some-injective u v (sym e ∙ (ap (get_elem? s.views) is-me ∙ me)) in ap (λ (x : View). x.served) same
           ∙ unserved)
           (λ (other : j ≢ id). none-served j u (Rattle.atomic_table.proofs.Lists.set_else s.views id j w other ∙ e))
-          (dite (ℕ_discrete j id) inl inr)) (λ (z : u.served ≡ false). z) (either_way u.served))),
+          (dite (ℕ_discrete j id) inl inr)) (λ (z : u.served ≡ false). z) (cases_Bool u.served))),
       (lt, refl),
     )
 
@@ -101,7 +102,7 @@ none-served s o id v me waits unserved mine j u e = ⊎_elim (λ (z : u.served �
     some-injective u v (sym e ∙ (ap (get_elem? s.views) (sym is-me) ∙ me)) in ap (λ (x : View). x.served) same
     ∙ unserved)
     (λ (other : id ≢ j). absurd ((o.apart id j v u other me e).tickets waits g.waits_is (sym mine
-    ∙ sym g.ticket_is)))) (λ (z : u.served ≡ false). z) (either_way u.served)
+    ∙ sym g.ticket_is)))) (λ (z : u.served ≡ false). z) (cases_Bool u.served)
 
 pub looks : (z id : ℕ) (m : Sat) → m.0.live ≡ true → m.0.waits ≡ true → m.0.served ≡ false
     → Allows Keeps z id m 1 (λ n. n) (Looks (step z 1 0 0 none) m)

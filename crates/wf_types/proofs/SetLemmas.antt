@@ -1,27 +1,17 @@
 -- Sets of texts: what one has once a text was added.
-use Rattle.std.proofs.Common.{◌≡◌, ◌∷◌, [], ℕ, Bool, true, false, ◌||◌, List, map, refl, ap, sym, ◌∙◌}
+use Rattle.std.proofs.Common.{◌≡◌, ◌∷◌, [], ℕ, Bool, ◌||◌, List, map, refl, ap, ◌∙◌}
 use Rattle.std.proofs.lemmas.Map.Text.{is_eq-slice_cmp}
 use Rattle.std.specs.Prelude.{bytes_eq}
 use Rattle.std.specs.BTreeSet.{insert_key}
-use Rattle.std.specs.Cmp.Lexicographic.{bytes_decides, nat_list_eq_equiv}
+use Rattle.std.specs.Cmp.Lexicographic.{nat_list_eq_equiv}
 use Rattle.std.specs.List.{list_any}
 use Rattle.std.specs.Ordering.{is_eq, match_ordering}
 use Rattle.std.specs.declared.cmp.Ordering.{Ordering}
 use Rattle.std.specs.declared.cmp.Ordering.TheVariants.{Equal, Greater, Less}
+use Rattle.value_lemmas.proofs.Tests.{or-again, or-left_comm}
+use Rattle.value_lemmas.proofs.Bytes.{slice_cmp-equal}
 use Rattle.wf_text.specs.Orders.{text_cmp}
 use Rattle.wf_types.specs.TextSets.{has_text}
-
-twice : (b c : Bool) → (b || c) ≡ (b || (b || c))
-twice true c = refl
-twice false c = refl
-
-swapped : (a b c : Bool) → (a || (b || c)) ≡ (b || (a || c))
-swapped true true c = refl
-swapped true false c = refl
-swapped false b c = refl
-
-text-equal : (a b : List ℕ) → is_eq (text_cmp a b) ≡ true → a ≡ b
-text-equal a b same = (bytes_decides a b).0 (sym (is_eq-slice_cmp a b) ∙ same)
 
 module _ {K : Type 0} (bytes : K → List ℕ) where
   -- the order of keys by their bytes
@@ -36,11 +26,11 @@ module _ {K : Type 0} (bytes : K → List ℕ) where
   inserted-by text k x keys Less is rest = refl
   inserted-by text k x keys Equal is rest =
       let same : bytes_eq (bytes k) text ≡ bytes_eq (bytes x) text =
-      ap (λ (b : List ℕ). bytes_eq b text) (text-equal (bytes k) (bytes x) (ap is_eq is)) in
-      rw same (twice (bytes_eq (bytes x) text) (has_text (map bytes keys) text))
+      ap (λ (b : List ℕ). bytes_eq b text) (slice_cmp-equal (bytes k) (bytes x) (ap is_eq is)) in
+      rw same (or-again (bytes_eq (bytes x) text) (has_text (map bytes keys) text))
   inserted-by text k x keys Greater is rest =
       ap (λ (b : Bool). bytes_eq (bytes x) text || b) rest
-      ∙ swapped (bytes_eq (bytes x) text) (bytes_eq (bytes k) text) (has_text (map bytes keys) text)
+      ∙ or-left_comm (bytes_eq (bytes x) text) (bytes_eq (bytes k) text) (has_text (map bytes keys) text)
 
   -- a key was added
   pub has-inserted : (text : List ℕ) (k : K) (keys : List K)

@@ -32,7 +32,7 @@ http-kind : scheme_type (codes "http") ≡ SpecialNotFile
 unfolding scheme_type default_port
 http-kind = refl
 
-https-kind : scheme_type (codes "https") ≡ SpecialNotFile
+pub https-kind : scheme_type (codes "https") ≡ SpecialNotFile
 unfolding scheme_type default_port
 https-kind = refl
 

@@ -1,6 +1,7 @@
 use Rattle.std.proofs.Common.{sym}
+use Rattle.value_lemmas.proofs.Options.{OnErr-from}
 use Rattle.wf_precache.proofs.KeyLemmas.{entries-begun, entries-pushed, found-few}
-use Rattle.wf_precache.proofs.WalkLemmas.{on-err, unchanged}
+use Rattle.wf_precache.proofs.WalkLemmas.{unchanged}
 use Rattle.wf_precache.proofs.walk.add.Goals as goal
 
 pub push-requires : goal.push-requires
@@ -17,7 +18,7 @@ returns-in-Some-clause-ok c =
 
 pub returns-in_err-push-clause-err : goal.returns-in_err-push-clause-err
 returns-in_err-push-clause-err c =
-    on-err c.from_residual.result
+    OnErr-from c.from_residual.result
     (unchanged _ c.args.partitions.now.entries (c.get_mut.follows.lender c.push.new.self).entries
     c.in-Some.partition.now c.push.new.self (c.get_mut.follows.holds c.push.new.self).0 c.in_err-push.ensures.err
     (sym c.in-Some.ensures.value))

@@ -1,9 +1,10 @@
 use Rattle.std.proofs.Common.{ap, sym, ◌∙◌, ◌++◌, ◌≡◌, Bool, List, ℕ, codes}
 use Rattle.std.specs.List.{flat_map}
+use Rattle.value_lemmas.proofs.Lists.{append-three}
 use Rattle.wf_http1.specs.Requests.{header_line}
 use Rattle.wf_server.specs.Served.{granted}
 use Rattle.wf_server.specs.declared.table.Row.{Row}
-use Rattle.wf_server.proofs.ReplyLemmas.{credentials_bytes, granted-bytes, in-four, in-three}
+use Rattle.wf_server.proofs.ReplyLemmas.{credentials_bytes, granted-bytes, in-four}
 use Rattle.wf_server.proofs.replies.add_granted.Goals as goal
 
 -- the parts are the headers that are granted
@@ -27,7 +28,7 @@ returns-in_ok-extend_from_slice-4 c =
 
 pub returns-else-row : goal.returns-else-row
 returns-else-row c =
-    in-three c.args.text.now.items _ c.args.row.now.origin _ c.extend_from_slice.new.self.items
+    append-three c.args.text.now.items _ c.args.row.now.origin _ c.extend_from_slice.new.self.items
     c.extend_from_slice-2.new.self.items c.extend_from_slice-3.new.self.items
     c.in_ok-extend_from_slice.ensures.items
     (c.in_ok-extend_from_slice-2.ensures.items

@@ -1,7 +1,7 @@
 use Rattle.std.proofs.Common.{◌∙◌, ap, sym, append_assoc, ◌++◌, ◌∷◌, List, ℕ}
 use Rattle.std.specs.List.{flat_map}
+use Rattle.value_lemmas.proofs.Lists.{join_with_byte_cons}
 use Rattle.wf_text.specs.Ascii.{comma}
-use Rattle.wf_server.proofs.ReplyLemmas.{joined_first}
 use Rattle.wf_server.proofs.replies.add_joined.Goals as goal
 
 pub loop-one-init : goal.loop-one-init
@@ -10,4 +10,4 @@ loop-one-init c =
     ap (λ (l : List ℕ). l ++ behind) (c.in_ok-extend_from_slice.ensures.items
     ∙ ap (λ (l : List ℕ). c.args.text.now.items ++ l) c.as_slice.ensures)
     ∙ append_assoc c.args.text.now.items c.args.first.now behind
-    ∙ ap (λ (l : List ℕ). c.args.text.now.items ++ l) (sym (joined_first comma c.args.first.now c.args.rest.now))
+    ∙ ap (λ (l : List ℕ). c.args.text.now.items ++ l) (sym (join_with_byte_cons comma c.args.first.now c.args.rest.now))

@@ -1,7 +1,8 @@
 use Rattle.std.proofs.Common.{◌∙◌, ap, length, arith, refl}
 use Rattle.std.proofs.lemmas.List.{with_items_is}
+use Rattle.wf_link.proofs.SourceLemmas.{gave-nothing}
 use Rattle.wf_link.proofs.ReceivedLemmas.{received-none}
-use Rattle.wf_link_wire.proofs.WireLemmas.{gathered-counted, gathered-more, gathers, gathers-same, gave-nothing}
+use Rattle.wf_link_wire.proofs.WireLemmas.{gathered-counted, gathered-more, gathers, gathers-same}
 use Rattle.wf_link_wire.proofs.wire.Wire.gather.Goals as goal
 
 pub returns-then-count-eq0-clause-gave : goal.returns-then-count-eq0-clause-gave
