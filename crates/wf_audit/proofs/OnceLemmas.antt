@@ -30,8 +30,6 @@ use Rattle.wf_audit.specs.declared.verdict.Verdict.TheVariants as verdict
 
 -- ---- numbers and lists
 
-]
-
 -- where neither of two numbers can be the smaller, they are one
 only-one : (a b : ℕ) → ¬ (a < b) → ¬ (b < a) → a ≡ b
 only-one a b x y = elim (cases_order a b) [

@@ -46,8 +46,6 @@ fails-behind play count more first later below =
     (subst (λ (l : List (List ℕ)). slice_get l count ≡ Some first.text) same first.next)) in
     first.bad one.0 one.1
 
-]
-
 one-fault : (play : List ℕ) (number other : ℕ) → HasFault play number → HasFault play other → number ≡ other
 one-fault play zero zero one two = refl
 one-fault play zero (suc other) one two = absurd (one two.before two.lines two.has)

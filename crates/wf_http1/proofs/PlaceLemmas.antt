@@ -48,8 +48,6 @@ differs m n test = elim (eqb_tells m n) [
       other.1
 ]
 
-]
-
 behind_digits-live : (size line byte : ℕ) → IsTurnLive (behind_digits size line byte)
 behind_digits-live size line byte =
     choice IsTurnLive (byte == 13) _ _ (λ _. tt) (λ _.
