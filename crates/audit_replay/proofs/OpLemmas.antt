@@ -82,7 +82,8 @@ question-itself a =
     and_from (key && origin && url && include && method) (texts_eq a.names a.names)
     (and_from (key && origin && url && include) method
     (and_from (key && origin && url) include
-    (and_from (key && origin) url (and_from key origin (bytes_eq-self a.key) (bytes_eq-self a.origin)) (bytes_eq-self a.url))
+    (and_from (key && origin) url (and_from key origin (bytes_eq-self a.key) (bytes_eq-self a.origin))
+    (bytes_eq-self a.url))
     (bool-itself a.include)) (method-itself a.method)) (texts-itself a.names)
 
 lesson-same : (a b : Lesson) → lesson_eq a b ≡ true → a ≡ b
@@ -120,7 +121,8 @@ lesson-itself a =
     (and_from (key && origin && url && include && age) methods
     (and_from (key && origin && url && include) age
     (and_from (key && origin && url) include
-    (and_from (key && origin) url (and_from key origin (bytes_eq-self a.key) (bytes_eq-self a.origin)) (bytes_eq-self a.url))
+    (and_from (key && origin) url (and_from key origin (bytes_eq-self a.key) (bytes_eq-self a.origin))
+    (bytes_eq-self a.url))
     (bool-itself a.include)) (eqb-self a.age)) (texts-itself a.methods)) (texts-itself a.names)
 
 pub op-same : (a b : Op) → op_eq a b ≡ true → a ≡ b
@@ -143,7 +145,8 @@ op-same (Clear key origin url now) (Clear key' origin' url' then) e =
     let two = (and_parts (bytes_eq key key' && bytes_eq origin origin') (bytes_eq url url') front).0 in
     let k = bytes_eq-true key key' (and_parts (bytes_eq key key') (bytes_eq origin origin') two).0 in
     let o = bytes_eq-true origin origin' (and_parts (bytes_eq key key') (bytes_eq origin origin') two).1 in
-    let u = bytes_eq-true url url' (and_parts (bytes_eq key key' && bytes_eq origin origin') (bytes_eq url url') front).1 in
+    let u = bytes_eq-true url url' (and_parts (bytes_eq key key' && bytes_eq origin origin')
+    (bytes_eq url url') front).1 in
     let n = eqb-true now then (and_parts (bytes_eq key key' && bytes_eq origin origin' && bytes_eq url url')
     (now == then) e).1 in
     cc (k, o, u, n)
@@ -163,7 +166,8 @@ op-itself (Learn lesson now) =
 op-itself (Clear key origin url now) =
     and_from (bytes_eq key key && bytes_eq origin origin && bytes_eq url url) (now == now)
     (and_from (bytes_eq key key && bytes_eq origin origin) (bytes_eq url url)
-    (and_from (bytes_eq key key) (bytes_eq origin origin) (bytes_eq-self key) (bytes_eq-self origin)) (bytes_eq-self url))
+    (and_from (bytes_eq key key) (bytes_eq origin origin) (bytes_eq-self key) (bytes_eq-self origin))
+    (bytes_eq-self url))
     (eqb-self now)
 
 and-no : (a b : Bool) → false ≡ b → false ≡ (a && b)

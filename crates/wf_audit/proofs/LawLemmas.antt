@@ -59,7 +59,8 @@ named-one : (count : ℕ) (e : Entry) (history : List Entry) (b : Bool) → nat_
     → (length history ≤ position_or_len (is_stranger count) history
     → AllByRecursion (λ (e : Entry). e.document < count) history)
     → AllByRecursion (λ (e : Entry). e.document < count) (e ∷ history)
-named-one count e history true is far more = absurd (omega (arith, far, position_or_len-yes (is_stranger count) e history is))
+named-one count e history true is far more =
+    absurd (omega (arith, far, position_or_len-yes (is_stranger count) e history is))
 named-one count e history false is far more =
     (grind (arith, nat_tests), more (omega (arith, far, position_or_len-no (is_stranger count) e history is)))
 

@@ -426,7 +426,8 @@ covers-writes (key ∷ origin ∷ credentials ∷ method ∷ names ∷ url ∷ r
     (list_in names) in
     let second = λ (include : Bool) (end : Tail). option_and_then (third include end) (method_in method) in
     let first = λ (include : Bool). option_and_then (second include) (tail_in rest) in
-    let is = if-parts (is_word key && is_word origin && is_word url) (option_and_then first (credentials_in credentials))
+    let is = if-parts (is_word key && is_word origin && is_word url)
+    (option_and_then first (credentials_in credentials))
     said e in
     let mode = option_and_then-some first (credentials_in credentials) said is.1 in
     let end = option_and_then-some (second mode.0) (tail_in rest) said mode.2 in
@@ -468,7 +469,8 @@ learn-writes (key ∷ origin ∷ credentials ∷ age ∷ methods ∷ names ∷ u
     let third = λ (include : Bool) (age : ℕ) (end : Tail). option_and_then (fourth include age end) (list_in methods) in
     let second = λ (include : Bool) (age : ℕ). option_and_then (third include age) (tail_in rest) in
     let first = λ (include : Bool). option_and_then (second include) (number_up_to 7200 age) in
-    let is = if-parts (is_word key && is_word origin && is_word url) (option_and_then first (credentials_in credentials))
+    let is = if-parts (is_word key && is_word origin && is_word url)
+    (option_and_then first (credentials_in credentials))
     said e in
     let mode = option_and_then-some first (credentials_in credentials) said is.1 in
     let number = option_and_then-some (second mode.0) (number_up_to 7200 age) said mode.2 in

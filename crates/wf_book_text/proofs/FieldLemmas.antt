@@ -65,9 +65,11 @@ module _ (most stop : ℕ) (few : most ≤ greatest) (apart : (stop < 48) ⊎ (5
   number-sound : (text : List ℕ) (n : ℕ) (rest : List ℕ) → number_at most stop text ≡ Some (n, rest)
       → (text ≡ number_field stop n ++ rest) × (n ≤ most)
   number-sound text n rest e =
-      let found = option_and_then-some (λ end. option_map (λ (number : ℕ). (number, drop (end + 1) text)) (number_up_to most (take end text)))
+      let found = option_and_then-some (λ end. option_map (λ (number : ℕ). (number, drop (end + 1) text))
+      (number_up_to most (take end text)))
       (position (λ byte. byte == stop) text) (n, rest) e in
-      let word = option_map-some (λ (number : ℕ). (number, drop (found.0 + 1) text)) (number_up_to most (take found.0 text))
+      let word = option_map-some (λ (number : ℕ). (number, drop (found.0 + 1) text))
+      (number_up_to most (take found.0 text))
       (n, rest) found.2 in
       let written = number-writes most (take found.0 text) word.0 word.1 in
       let value : word.0 ≡ n = ap (λ p. p.0) word.2 in
@@ -140,7 +142,8 @@ module _ (stop : ℕ) where
   text-sound : (text x rest : List ℕ) → text_at stop text ≡ Some (x, rest)
       → (text ≡ text_field stop x ++ rest) × (length x ≤ greatest)
   text-sound text x rest e =
-      let found = option_and_then-some (λ (f : ℕ × List ℕ). bytes_at stop f.0 f.1) (number_at greatest 58 text) (x, rest) e in
+      let found = option_and_then-some (λ (f : ℕ × List ℕ). bytes_at stop f.0 f.1) (number_at greatest 58 text)
+      (x, rest) e in
       let number = number-sound greatest 58 (omega arith) colon-apart text found.0.0 found.0.1 found.1 in
       let bytes = bytes-sound stop found.0.0 found.0.1 x rest found.2 in (
         number.0 ∙ (λ i. number_field 58 (sym bytes.1 i) ++ bytes.0 i) ∙ sym (regrouped x rest),
@@ -164,7 +167,8 @@ module _ {A B : Type 0} {s : A → List ℕ} {t : B → List ℕ} {F : A → Typ
   both-sound : (text : List ℕ) (x : A × B) (rest : List ℕ) → both_at r q text ≡ Some (x, rest)
       → (text ≡ (s x.0 ++ t x.1) ++ rest) × (F x.0 × G x.1)
   both-sound text x rest e =
-      let first = option_and_then-some (λ (a : A × List ℕ). option_map (λ (b : B × List ℕ). ((a.0, b.0), b.1)) (q a.1)) (r text) (x, rest) e in
+      let first = option_and_then-some (λ (a : A × List ℕ). option_map (λ (b : B × List ℕ). ((a.0, b.0), b.1))
+      (q a.1)) (r text) (x, rest) e in
       let second = option_map-some (λ (b : B × List ℕ). ((first.0.0, b.0), b.1)) (q first.0.1) (x, rest) first.2 in
       let a = one.sound text first.0.0 first.0.1 first.1 in
       let b = two.sound first.0.1 second.0.0 second.0.1 second.1 in

@@ -6,7 +6,8 @@ use Rattle.std.specs.Char.{to_ascii_lowercase}
 use Rattle.std.specs.Cmp.Lexicographic.{unequal}
 use Rattle.std.specs.Str.{str_eq_ignore_ascii_case, str_to_ascii_lowercase}
 use Rattle.std.proofs.Math.Seq.{drop-append_seam, take-length}
-use Rattle.std.proofs.lemmas.List.{at_drop_more, drop-drop, drop-take, length-drop, length-map, length-take-le, take-take}
+use Rattle.std.proofs.lemmas.List.{at_drop_more, drop-drop, drop-take}
+use Rattle.std.proofs.lemmas.List.{length-drop, length-map, length-take-le, take-take}
 use Rattle.std.proofs.lemmas.List.Elements.{All-append, All-cons, All-head, All-nil, All-tail}
 use Rattle.value_lemmas.proofs.Lists.{take-drop-append}
 use Rattle.wf_headers.specs.Headers.{is_named, values_of}

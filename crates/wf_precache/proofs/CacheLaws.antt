@@ -142,7 +142,8 @@ module _ (key : List ℕ) (entries : List CacheEntry) (cache : List Keyed) where
       (all-passing (λ (x : Keyed). AllByRecursion (λ (y : Keyed). stands_before y.key x.key
       ≡ false) (map (keyed key) entries ++ behind key cache)) (λ k. stands_before k.key key)
       (λ x is. let less = is_lt-true _ is in
-      AllByRecursion-append (λ (y : Keyed). stands_before y.key x.key ≡ false) (map (keyed key) entries) (behind key cache)
+      AllByRecursion-append (λ (y : Keyed). stands_before y.key x.key ≡ false) (map (keyed key) entries)
+      (behind key cache)
       (own-apart x.key (not-back x.key key less) entries) (behind-apart x.key less)) cache)
 
 learned-bounded : (lesson : Lesson) (now : ℕ) (cache : List Keyed)

@@ -38,7 +38,8 @@ still-value : (n : ℕ) (value : List ℕ) → 0 < n → 0 < length value → is
 still-value zero value some long is = absurd (omega (arith, some))
 still-value (suc n) [] some long is = absurd (omega (arith, long))
 still-value (suc n) (byte ∷ text) some long is =
-    let parts = and_parts (bytes_eq (trimmed tab_or_space (byte ∷ text)) (byte ∷ text)) (list_all fits (byte ∷ text)) is in
+    let parts = and_parts (bytes_eq (trimmed tab_or_space (byte ∷ text)) (byte ∷ text))
+    (list_all fits (byte ∷ text)) is in
     let begins : list_any (λ (blank : ℕ). blank == byte) tab_or_space ≡ false =
     begins-unblank tab_or_space byte text
     ((bytes_eq-Decides (trimmed tab_or_space (byte ∷ text)) (byte ∷ text)).0 parts.0) in
