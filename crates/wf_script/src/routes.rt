@@ -2,8 +2,8 @@
 ghost use Rattle.wf_script.specs.Scenarios as spec;
 
 use crate::texts::OriginText;
+use play_links::Route;
 use std::alloc::Global;
-use wf_link::Route;
 use wf_script_tables::{AnyText, Form, PairOf, Refused, TextThat};
 use wf_script_tree::Tree;
 
