@@ -3,7 +3,6 @@ pub mod Counts
 pub mod Links
 pub mod MemoryAccepts
 pub mod MemoryLink
-pub mod MemoryLinks
 pub mod MemorySink
 pub mod MemorySource
 pub mod Private

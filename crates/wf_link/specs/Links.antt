@@ -1,5 +1,6 @@
 -- What a link was asked, how much of each answer it gave, and which links were made and taken back, where it is told.
-use Rattle.std.specs.Prelude.{◌≡◌, ◌⊎◌, ℕ, ◌+◌, ◌-◌, ◌<◌, List, [], ◌∷◌, ◌++◌, Option, Some, None, option_map}
+use Rattle.std.specs.Prelude.{◌≡◌, ◌⊎◌, ℕ, ◌+◌, ◌-◌, ◌<◌, ◌==◌, List, [], ◌∷◌, ◌++◌, Option, Some, None, option_map}
+use Rattle.std.specs.Prelude.{if◌then◌else◌}
 use Rattle.wf_link.specs.Counts.{counted_on}
 use Rattle.wf_link.specs.declared.target.Ask.{Ask}
 
@@ -68,6 +69,10 @@ one_out lent = record lent { out = lent.out + 1 }
 -- of those out, this one is back
 abbrev pub one_back : {Link : Type 0} → Lendings Link → Link → Lendings Link
 one_back lent link = record { back = lent.back ++ link ∷ []; out = lent.out - 1 }
+
+-- a link is kept where one is out
+abbrev pub kept_back : {Link : Type 0} → Lendings Link → Link → Lendings Link
+kept_back lent link = if lent.out == 0 then lent else one_back lent link
 
 -- a link came back: where one was out, it is this one
 abbrev pub TookBack : {Link : Type 0} → Option (Lendings Link) → Option (Lendings Link) → Link → Type 0

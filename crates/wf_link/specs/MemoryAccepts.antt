@@ -2,8 +2,7 @@
 use Rattle.std.specs.Prelude.{ℕ, nat_le, length, List, drop, slice_get, Option, Some, Result, Ok, Err, ok_or, ⊤}
 use Rattle.std.specs.Prelude.{if◌then◌else◌}
 use Rattle.wf_link.specs.Counts.{is_next_in, one_more}
-use Rattle.wf_link.specs.Links.{Lendings, one_out}
-use Rattle.wf_link.specs.MemoryLinks.{kept_back}
+use Rattle.wf_link.specs.Links.{Lendings, kept_back, one_out}
 use Rattle.wf_link.specs.MemorySink.{SinkState}
 use Rattle.wf_link.specs.MemorySource.{SourceState}
 use Rattle.wf_link.specs.Sinks.{SinkTold}

@@ -1,5 +1,5 @@
-// Whom a request is for, what a link was asked, and where servers listen.
-use wf_text::{Bytes, Items};
+// Whom a request is for, and what a link was asked.
+use wf_text::Bytes;
 
 /// Whom a request is for: its serialised origin.
 #[derive(Drop)]
@@ -13,13 +13,3 @@ pub struct Ask {
     pub origin: Bytes,
     pub request: Bytes,
 }
-
-/// Where the server of an origin listens: the text of the origin, and that of the address.
-#[derive(Drop)]
-pub struct Route {
-    pub origin: Bytes,
-    pub address: Bytes,
-}
-
-/// The routes, in order.
-pub type Routes = Items<Route>;

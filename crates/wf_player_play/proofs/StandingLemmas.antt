@@ -18,7 +18,7 @@ use Rattle.wf_script_values.specs.declared.servers.Server.{Server}
 use Rattle.wf_sim.specs.Sim.{SimState}
 use Rattle.wf_player.specs.Playing.{RunPlayed}
 use Rattle.wf_link.specs.Links.{IsForetold}
-use Rattle.wf_link.specs.declared.target.Route.{Route}
+use Rattle.play_links.specs.declared.routes.Route.{Route}
 use Rattle.wf_player_seats.specs.Links.{way_of}
 use Rattle.wf_player_seats.proofs.ServerLemmas.{by_bytes, ran-by-rules, ran-state, sim_told}
 use Rattle.wf_player_play.specs.Links.{IsPlayOverLinks, Maker}

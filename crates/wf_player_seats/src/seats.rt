@@ -5,8 +5,8 @@ ghost use Rattle.wf_player_seats.specs.Links.{AreOpened, for_documents, grown_by
 ghost use Rattle.wf_player_seats.specs.Lendings.{AreTaken, out_more};
 ghost use Rattle.wf_player_seats.specs.Seated.{links_in};
 
+use play_links::{Links, Routes};
 use std::alloc::Global;
-use wf_link::{Links, Routes};
 use wf_player::Seating;
 use wf_text::OutOfMemory;
 use wf_turn::TurnPass;

@@ -12,7 +12,7 @@ use Rattle.wf_book.specs.Entries.{Legal, book_after, entries_of}
 use Rattle.wf_iso.specs.Plays.{HasTurnsFrom, IsPlay, IsPlayOver, IsTranscript, RunsOver, Way, by_rules, opening_book}
 use Rattle.wf_iso.specs.Plays.{outside_on, way_to_servers}
 use Rattle.wf_link.specs.Links.{IsForetold, LinkTold}
-use Rattle.wf_link.specs.declared.target.Route.{Route}
+use Rattle.play_links.specs.declared.routes.Route.{Route}
 use Rattle.wf_link_wire.specs.Exchanges.{Answering}
 use Rattle.wf_player.specs.Playing.{RunPlayed}
 use Rattle.wf_player.specs.Seats.{DocumentCameTo, Seat}

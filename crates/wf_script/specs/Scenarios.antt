@@ -12,7 +12,7 @@ use Rattle.wf_types.specs.declared.init.Pair.{Pair}
 use Rattle.wf_types.specs.declared.mode.ReferrerPolicy.{ReferrerPolicy}
 use Rattle.wf_types.specs.declared.mode.ReferrerPolicy.TheVariants as policy
 use Rattle.wf_types.specs.Urls.{utf8_text}
-use Rattle.wf_link.specs.declared.target.Route.{Route}
+use Rattle.play_links.specs.declared.routes.Route.{Route}
 use Rattle.value_json.specs.Reading.{Read, ◌>>=◌, given, number_of, truth_of, text_that, any, some_of}
 use Rattle.value_json.specs.Reading.{has_key, only_keys, required, optional, items_of, list_of, pair_of}
 use Rattle.wf_script_steps.specs.Scripts.{document_script_of}

@@ -5,11 +5,11 @@ ghost use Rattle.wf_script.specs.Generated as spec;
 ghost use Rattle.wf_script_values.specs.Valid.{IsValid};
 
 use crate::answers::answer_bytes;
+use play_links::Routes;
 use std::alloc::Global;
 use url::Url;
 use value_places::Boxed;
 use wf_csp_text::Policies;
-use wf_link::Routes;
 use wf_script_commands::{Command, Script};
 use wf_script_values::{Document, Documents, Hosts, Rule, Rules, Scenario, Server, Servers};
 use wf_text::{Bytes, OutOfMemory};

@@ -2,9 +2,9 @@
 ghost use Rattle.wf_script.specs.Scenarios as spec;
 
 use crate::texts::OriginText;
+use play_links::Route;
 use std::alloc::Global;
 use value_json::{AnyText, Form, PairOf, Refused, TextThat, Tree};
-use wf_link::Route;
 
 const ROUTE: PairOf<TextThat<OriginText>, TextThat<AnyText>> = PairOf {
     first: TextThat { test: OriginText },

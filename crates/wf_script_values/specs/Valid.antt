@@ -4,7 +4,7 @@ use Rattle.std.specs.List.{All}
 use Rattle.wf_text.specs.Tokens.{is_token}
 use Rattle.wf_types.specs.declared.client.Cookie.{Cookie}
 use Rattle.wf_types.specs.Requests.{is_policy}
-use Rattle.wf_link.specs.declared.target.Route.{Route}
+use Rattle.play_links.specs.declared.routes.Route.{Route}
 use Rattle.wf_script_commands.specs.Valid.{IsValidScript}
 use Rattle.wf_script_values.specs.declared.hosts.KnownHost.{KnownHost}
 use Rattle.wf_script_values.specs.declared.servers.Rule.{Rule}

@@ -2,7 +2,7 @@
 use crate::document::Documents;
 use crate::hosts::Hosts;
 use crate::servers::Servers;
-use wf_link::Routes;
+use play_links::Routes;
 use wf_types::Cookies;
 
 /// A scenario: the second in which it begins, the hosts that are known then, the cookies that are

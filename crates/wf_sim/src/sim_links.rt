@@ -1,14 +1,14 @@
 // The links of a play's documents to scripted servers.
 ghost use Rattle.std.specs.Prelude.{◌≡◌, ◌+◌, ℕ, List, [], Ok, Some, IfOk, OnErr, option_map};
 ghost use Rattle.wf_link.specs.Links.{IsForetold, one_out};
-ghost use Rattle.wf_link.specs.declared.target.Route.{Route};
+ghost use Rattle.play_links.specs.declared.routes.Route.{Route};
 ghost use Rattle.wf_script_values.specs.Valid.{IsValid};
 ghost use Rattle.wf_sim.specs.Sim.{fault_count, not_lent};
 
 use crate::sim_link::SimLink;
+use play_links::{Links, Routes};
 use std::alloc::Global;
 use std::marker::Model;
-use wf_link::{Links, Routes};
 use wf_script_values::{Scenario, Servers};
 use wf_text::OutOfMemory;
 

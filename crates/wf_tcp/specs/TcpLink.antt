@@ -2,7 +2,7 @@
 use Rattle.std.specs.Prelude.{ℕ, Bool, true, false, List, Result, Ok, Err, ⊤, is_some, if◌then◌else◌}
 use Rattle.wf_link.specs.Counts.{one_more}
 use Rattle.wf_link.specs.declared.source.Failed.{Failed}
-use Rattle.wf_link.specs.declared.target.Route.{Route}
+use Rattle.play_links.specs.declared.routes.Route.{Route}
 use Rattle.wf_tcp.specs.Routes.{address_of}
 
 -- the number of the document that it is for, its routes, whether a connection is open, how often one was tried, and how

@@ -7,13 +7,14 @@ ghost use Rattle.wf_tcp.specs.Routes.{address_of};
 ghost use Rattle.wf_tcp.specs.TcpLink.{after_ask, after_receive, opened};
 
 use crate::routes::address_of;
+use play_links::Routes;
 use std::io::{Read, Write};
 use std::marker::Model;
 use std::net::{Net, OpenStream, TcpStream, ToSocketAddrs};
 use std::str;
 use std::sync::Arc;
 use std::time::Duration;
-use wf_link::{Failed, Faults, Link, Routes, Target};
+use wf_link::{Failed, Faults, Link, Target};
 
 /// A link over TCP. Each request is sent on a connection of its own, to the address of the first route
 /// of its target's origin. It tells nothing of what a peer sends.

@@ -5,11 +5,11 @@ ghost use Rattle.wf_tcp.specs.TcpLink.{opened};
 
 use crate::link::TcpLink;
 use crate::routes::shared;
+use play_links::{Links, Routes};
 use std::alloc::Global;
 use std::marker::Model;
 use std::net::Net;
 use std::sync::Arc;
-use wf_link::{Links, Routes};
 use wf_text::OutOfMemory;
 
 /// Links over TCP, seen as how often those taken back had failed. It tells each link that

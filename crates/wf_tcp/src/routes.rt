@@ -3,9 +3,9 @@ ghost use Rattle.std.specs.Arc.{arc_value};
 ghost use Rattle.std.specs.Prelude.{◌≡◌, IfOk, IsTrue, option_copied};
 ghost use Rattle.wf_tcp.specs.Routes as spec;
 
+use play_links::{Route, Routes};
 use std::alloc::Global;
 use std::sync::Arc;
-use wf_link::{Route, Routes};
 use wf_text::OutOfMemory;
 
 // The address of the first route of the origin.

@@ -1,15 +1,13 @@
 // Tests of links and of accepted connections, over the loopback.
 use super::*;
+use play_links::{Links, Route, Routes};
 use std::alloc::Global;
 use std::io::{Read, Write};
 use std::net::{SocketAddr, TcpListener, TcpStream};
 use std::process::Abort;
 use std::test::Fail;
 use std::{io, thread};
-use wf_link::{
-    Accepts, Clock, Failed, Link, Links, Route, Routes, Sink, Source, SystemClock, Target,
-    write_whole,
-};
+use wf_link::{Accepts, Clock, Failed, Link, Sink, Source, SystemClock, Target, write_whole};
 use wf_text::{Bytes, OutOfMemory};
 
 const REQUEST: &[u8] = b"GET / HTTP/1.1\r\nHost: a.test\r\nConnection: close\r\n\r\n";

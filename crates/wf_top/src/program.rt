@@ -15,12 +15,13 @@ ghost use Rattle.wf_top.specs.Streams.{net_of};
 ghost use Rattle.wf_top.specs.Words as spec;
 
 use crate::words::{Subcommand, subcommand_of};
+use play_links::Links;
 use std::alloc::Global;
 use std::mem::forget;
 use std::sync::Wait;
 use std::thread::Threads;
 use wf_iso::law_isolated;
-use wf_link::{Clock, Links, Sink, Source};
+use wf_link::{Clock, Sink, Source};
 use wf_player_play::{Played, play_over, play_scripted};
 use wf_print::{write_play, write_summary};
 use wf_program::{Status, scenario_in, status_of, tell};

@@ -3,10 +3,10 @@
 // was taken back, how often all failed, what was complained, and what was written.
 use crate::links::{link_in, tell};
 use crate::streams::Streams;
+use play_links::MemoryLinks;
 use std::alloc::Global;
 use std::sync::Wait;
 use std::thread::Threads;
-use wf_link::MemoryLinks;
 use wf_text::{after_byte, before_byte};
 use worked_rows::{Failed, Held, Shown, number};
 

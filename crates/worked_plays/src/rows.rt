@@ -11,10 +11,10 @@
 //     joint           only whether the history is one that two documents under one page may have: `histories.rt`
 use crate::histories::{show_joint, show_shared};
 use crate::streams::{Streams, text_of};
+use play_links::MemoryLinks;
 use std::alloc::Global;
 use std::sync::Wait;
 use std::thread::Threads;
-use wf_link::MemoryLinks;
 use wf_text::{Bytes, after_byte, before_byte};
 use worked_rows::{Failed, Held, Shown, has_word, named, number, texts_between, value_of};
 

@@ -2,10 +2,11 @@
 //
 //     reads=N         the Nth read fails; likewise `writes=N`, and `complaints=N` for those of complaints
 //     zeros=N         the Nth write takes nothing
+use play_links::Links;
 use std::alloc::Global;
 use std::sync::Wait;
 use std::thread::Threads;
-use wf_link::{FixedClock, Links, MemorySink, MemorySource};
+use wf_link::{FixedClock, MemorySink, MemorySource};
 use wf_text::{Bytes, after_byte, before_byte};
 use wf_top::fetchplay;
 use worked_rows::{Failed, Held, Shown, number, value_of};

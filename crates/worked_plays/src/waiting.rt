@@ -1,10 +1,11 @@
 // Links that wait for each other.
 ghost use Rattle.std.specs.Prelude.{◌≡◌, [], None};
 
+use play_links::{Links, Routes};
 use std::alloc::Global;
 use std::sync::atomic::{AtomicBool, Ordering};
 use std::thread;
-use wf_link::{Failed, Link, Links, Routes, Target};
+use wf_link::{Failed, Link, Target};
 use wf_text::OutOfMemory;
 
 /// What each link answers to a preflight.

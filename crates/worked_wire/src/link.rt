@@ -1,8 +1,9 @@
 // Links in memory. A row is `link ROOM ASK RECEIVE ANSWERS CALLS`: how many bytes of room there are for
 // asks, which ask and which receive fails, counted from 1, the answers, with `/` between them and `,`
 // between the pieces of one, and the calls: `ask=TEXT`, `receive=COUNT` or `hang_up`.
+use play_links::{Links, MemoryLinks, Routes};
 use std::alloc::Global;
-use wf_link::{Link, Links, MemoryLink, MemoryLinks, Routes, Target};
+use wf_link::{Link, MemoryLink, Target};
 use wf_text::{Bytes, BytesList, after_byte, before_byte};
 use worked_rows::{Failed, Held, Row, Shown, named, number, texts_between};
 

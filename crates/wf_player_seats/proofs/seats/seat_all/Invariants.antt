@@ -1,6 +1,6 @@
 use Rattle.std.proofs.Common.{◌≡◌, ℕ, ◌+◌, ◌≤◌, List, length, map, option_map, vec_capacity, vec_len}
 use Rattle.std.specs.Vec.Iter.{into_iter_len}
-use Rattle.wf_link.specs.declared.target.Route.{Route}
+use Rattle.play_links.specs.declared.routes.Route.{Route}
 use Rattle.wf_player_seats.specs.Links.{AreOpened, for_documents}
 use Rattle.wf_player_seats.specs.Lendings.{out_more}
 use Rattle.wf_player_seats.proofs.seats.seat_all.Given as goal

@@ -2,11 +2,11 @@
 ghost use Rattle.std.specs.Prelude.{◌≡◌, ◌+◌, ℕ, List, Option, IfOk, OnErr, option_map};
 ghost use Rattle.wf_link.specs.Counts.{grown_by};
 ghost use Rattle.wf_link.specs.Links.{IsForetold, Lendings, TookBack, one_out};
-ghost use Rattle.wf_link.specs.declared.target.Route.{Route};
+ghost use Rattle.play_links.specs.declared.routes.Route.{Route};
 
-use crate::link::Link;
-use crate::target::Routes;
+use crate::routes::Routes;
 use std::alloc::Global;
+use wf_link::Link;
 use wf_text::OutOfMemory;
 
 /// What makes the link of each document, and takes it back at the end. It counts the faults of the

@@ -2,16 +2,16 @@
 ghost use Rattle.std.specs.Prelude.{◌≡◌, ◌+◌, ℕ, List, [], drop, slice_get, ok_or, Some, IfOk, OnOk, OnErr, option_map};
 ghost use Rattle.wf_link.specs.Counts.{grown_by};
 ghost use Rattle.wf_link.specs.Links.{IsForetold, TookBack, one_out};
-ghost use Rattle.wf_link.specs.MemoryLinks.{after_make, after_take_back};
-ghost use Rattle.wf_link.specs.declared.target.Route.{Route};
+ghost use Rattle.play_links.specs.MemoryLinks.{after_make, after_take_back};
+ghost use Rattle.play_links.specs.declared.routes.Route.{Route};
 ghost use Rattle.wf_text.specs.declared.memory.OutOfMemory.{OutOfMemory};
 
 use crate::links::Links;
-use crate::memory_link::MemoryLink;
-use crate::target::Routes;
+use crate::routes::Routes;
 use std::alloc::Global;
 use std::collections::VecDeque;
 use std::marker::Model;
+use wf_link::MemoryLink;
 use wf_text::OutOfMemory;
 
 /// Links in memory, which are handed out in order, whatever document they are for. It keeps those
@@ -26,7 +26,7 @@ pub struct MemoryLinks {
 
 impl Model for MemoryLinks {
     ghost use Rattle.std.specs.Prelude.{◌+◌, ◌≤◌, length, vec_capacity, vec_len};
-    ghost use Rattle.wf_link.specs.MemoryLinks.{LinksState};
+    ghost use Rattle.play_links.specs.MemoryLinks.{LinksState};
 
     ghost Value = { LinksState };
 

@@ -1,7 +1,7 @@
 -- Links in memory: what their calls answer, and what they leave.
-use Rattle.std.specs.Prelude.{ℕ, ◌==◌, List, drop, if◌then◌else◌}
+use Rattle.std.specs.Prelude.{ℕ, List, drop}
 use Rattle.wf_link.specs.Counts.{grown_by}
-use Rattle.wf_link.specs.Links.{Lendings, one_back, one_out}
+use Rattle.wf_link.specs.Links.{Lendings, kept_back, one_out}
 use Rattle.wf_link.specs.MemoryLink.{MemoryLinkState}
 
 -- the links that are not handed out yet, those taken back with how many are out, and how often those
@@ -14,10 +14,6 @@ pub record LinksState : Type 0 where
 -- what a make leaves: the next link is out
 abbrev pub after_make : LinksState → LinksState
 after_make links = record links { waiting = drop 1 links.waiting; lent = one_out links.lent }
-
--- a link is kept where one is out
-abbrev pub kept_back : {Link : Type 0} → Lendings Link → Link → Lendings Link
-kept_back lent link = if lent.out == 0 then lent else one_back lent link
 
 -- what a take_back leaves: its faults are counted in any case
 abbrev pub after_take_back : LinksState → MemoryLinkState → LinksState
