@@ -1,5 +1,6 @@
 // Who plays the fetches of a run.
 ghost use Rattle.std.specs.Prelude.{◌+◌, ◌<◌, ◌^◌, ◌≤◌};
+ghost use Rattle.std.specs.Thread.{IsSync};
 ghost use Rattle.wf_play.specs.Fetched.{FetchCameTo};
 ghost use Rattle.wf_play.specs.Standings.{IsReady, Keeps, lent_setting, standing, world};
 ghost use Rattle.wf_play.specs.Words.{IsRequest, at_time, fetch, most_asks, over_link};
@@ -24,6 +25,7 @@ pub trait Fetcher {
         request: Request,
         now: u64,
     ) -> Result<Boxed<Outcome>, OutOfMemory>
+        requires sync { IsSync R.row }
         requires ready { IsReady S.belongs player.old }
         requires request { IsRequest request }
         requires timely { now < 2 ^ 48 }
