@@ -4,9 +4,6 @@ use Rattle.std.proofs.Common.{refl, suc, slice_get, Some, ap, sym, ◌∙◌, ar
 use Rattle.std.proofs.lemmas.List.{get_or-drop}
 use Rattle.std.proofs.lemmas.Option.{get_or_from_slice_get, slice_get_within}
 use Rattle.wf_script_events.specs.Calls.{comma_texts, list_text}
-use Rattle.wf_script_events.specs.Private.Sums.{length_of, together}
-use Rattle.wf_script_events.specs.declared.length.Length.{Length}
-use Rattle.wf_script_events.proofs.SumLemmas.{one_more}
 
 -- the first text, and the others after commas, are the list
 pub list-of : (texts : List (List ℕ)) (text : List ℕ) → slice_get texts 0 ≡ Some text
@@ -24,19 +21,3 @@ comma-from texts index text is =
     ∙ ap (λ (t : List ℕ). (codes "," ++ t) ++ comma_texts (drop (suc index) texts))
     (get_or_from_slice_get texts index text text is)
     ∙ rw (add-one index) refl
-
--- the length of one text more
-pub comma-more : (texts : List (List ℕ)) (index : ℕ) (text : List ℕ) (before piece after : Length) → 1 ≤ index
-    → slice_get texts index ≡ Some text → before ≡ length_of (comma_texts (take (index - 1) (drop 1 texts)))
-    → piece ≡ length_of (codes "," ++ text) → after ≡ together before piece
-    → after ≡ length_of (comma_texts (take (index + 1 - 1) (drop 1 texts)))
-comma-more texts index text before piece after from is so one both =
-    let below : index - 1 < length (drop 1 texts) =
-    omega (arith, slice_get_within texts index text is, length-drop 1 texts) in
-    let place : 1 + (index - 1) ≡ index = omega arith in
-    let found : text ≡ get_or (drop 1 texts) (index - 1) text =
-    sym (get_or-drop 1 texts (index - 1) text ∙ ap (λ (n : ℕ). get_or texts n text) place
-    ∙ get_or_from_slice_get texts index text text is) in
-    let next : index + 1 - 1 ≡ index - 1 + 1 = omega arith in
-    rw next (one_more (λ (t : List ℕ). codes "," ++ t) (drop 1 texts) (index - 1) text before piece after below found so
-    one both)

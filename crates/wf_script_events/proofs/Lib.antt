@@ -1,4 +1,6 @@
 pub mod CommaLemmas
 pub mod DigitLemmas
 pub mod EscapeLemmas
-pub mod SumLemmas
+pub mod HeaderLemmas
+pub mod KeptLemmas
+pub mod LengthLemmas
