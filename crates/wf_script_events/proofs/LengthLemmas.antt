@@ -9,9 +9,6 @@ use Rattle.wf_book.specs.declared.op.Op.TheVariants.{Match, Note, Covers, Learn,
 use Rattle.wf_book.specs.declared.op.Reply.{Reply}
 use Rattle.wf_book.specs.declared.op.Reply.TheVariants.{Yes, No, Done}
 use Rattle.wf_headers.specs.declared.headers.Header.{Header}
-use Rattle.wf_hsts.specs.declared.sts.Sts.{Sts}
-use Rattle.wf_precache.specs.declared.question.Lesson.{Lesson}
-use Rattle.wf_precache.specs.declared.question.Question.{Question}
 use Rattle.wf_types.specs.declared.error.NetError.{NetError}
 use Rattle.wf_types.specs.declared.error.NetError.TheVariants.{PreflightHeader}
 use Rattle.wf_types.specs.declared.fault.TypeFault.{TypeFault}

@@ -45,7 +45,8 @@ fn tell_headers<R: Receiver>(receiver: &mut R, headers: &PackedHeaders) -> Resul
     ensures { OnOk result (Told (R.kept receiver.old) (R.kept receiver.new) (spec.header_lines headers.now)) }
 {
     for index in 0..headers.len() {
-        tell_header(receiver, headers.name_at(index), headers.value_at(index))?;
+        let (name, value) = headers.at(index);
+        tell_header(receiver, name, value)?;
     }
     Ok(())
 }

@@ -1,9 +1,9 @@
-use Rattle.std.proofs.Common.{◌≡◌, ℕ, List, ◌++◌, codes, ap, sym, ◌∙◌}
-use Rattle.std.proofs.Common.{drop, arith, length, ◌≤◌}
+use Rattle.std.proofs.Common.{◌≡◌, ℕ, List, ◌++◌, codes, ap, ◌∙◌}
+use Rattle.std.proofs.Common.{drop, arith}
 use Rattle.std.proofs.lemmas.List.{drop_all}
 use Rattle.wf_script_events.specs.Calls as spec
 use Rattle.wf_script_events.specs.Kept.{Kept, told}
-use Rattle.wf_script_events.proofs.CommaLemmas.{comma-from}
+use Rattle.wf_script_events.proofs.ItemLemmas.{texts_from}
 use Rattle.wf_script_events.proofs.KeptLemmas.{all_told, one_told, told_both}
 use Rattle.wf_script_events.proofs.calls.tell_comma_texts.Goals as goal
 
@@ -16,7 +16,7 @@ two-told kept mid new comma item first second =
 pub loop-index-preserved : goal.loop-index-preserved
 loop-index-preserved g c =
     one_told _ _ _ _ (codes "," ++ c.at.result.now) _ c.loop-index.invariant
-    (comma-from c.args.texts.now c.loop-index.index c.at.result.now c.at.ensures)
+    (texts_from (λ (text : List ℕ). codes "," ++ text) c.args.texts.now c.loop-index.index c.at.result.now c.at.ensures)
     (two-told _ _ _ (codes ",") c.at.result.now c.in_ok-text.ensures c.in_ok-text-2.ensures)
 
 pub returns : goal.returns
