@@ -1,24 +1,21 @@
--- What loops over headers, events, transcripts and entries come to.
-use Rattle.std.proofs.Common.{length, take, ◌≡◌, ℕ, List, [], ◌∷◌, ◌++◌, drop, zero, suc}
-use Rattle.std.proofs.Common.{◌==◌, true, ap, arith, refl, sym, ◌∙◌, codes, option_map, Some}
-use Rattle.std.specs.List.{flat_map, slice_get}
-use Rattle.std.proofs.lemmas.List.{take-append-drop}
+-- What loops over events, transcripts and entries come to.
+use Rattle.std.proofs.Common.{◌≡◌, ℕ, ◌<◌, ◌+◌, List, [], ◌∷◌, ◌++◌, length, take, drop, get_or, add-one}
+use Rattle.std.proofs.Common.{◌==◌, true, ap, arith, refl, sym, ◌∙◌}
+use Rattle.std.specs.List.{flat_map}
+use Rattle.std.proofs.Math.Seq.{take-suc}
+use Rattle.std.proofs.lemmas.List.{append-nil, take-append-drop}
 use Rattle.std.proofs.lemmas.List.Concat.{flat_map-append}
-use Rattle.wf_headers.specs.declared.headers.Header.{Header}
-use Rattle.wf_script_events.specs.Lines.{escaped_line, header_lines}
 
--- the header at an index, and those after it
-pub header_lines-drop : (headers : List Header) (i : ℕ) (name value : List ℕ)
-    → option_map (λ (header : Header). header.name) (slice_get headers i) ≡ Some name
-    → option_map (λ (header : Header). header.value) (slice_get headers i) ≡ Some value
-    → header_lines (drop i headers) ≡ escaped_line (name ++ codes ": " ++ value) ++ header_lines (drop (suc i) headers)
-header_lines-drop [] i name value n v = cc
-header_lines-drop (header ∷ headers) zero name value n v =
-    let a : header.name ≡ name = cc in
-    let b : header.value ≡ value = cc in
-    ap (λ (l : List ℕ). escaped_line (l ++ codes ": " ++ header.value) ++ header_lines headers) a
-    ∙ ap (λ (l : List ℕ). escaped_line (name ++ codes ": " ++ l) ++ header_lines headers) b
-header_lines-drop (header ∷ headers) (suc i) name value n v = header_lines-drop headers i name value n v
+-- the text of one item more
+pub flat_map-take : {X : Type 0} (f : X → List ℕ) (xs : List X) (i : ℕ) (x : X) → i < length xs → x ≡ get_or xs i x
+    → flat_map f (take (i + 1) xs) ≡ flat_map f (take i xs) ++ f x
+flat_map-take f xs i x h is =
+    rw (
+      add-one,
+      take-suc xs i x h,
+      flat_map-append f (take i xs) (get_or xs i x ∷ []),
+      append-nil (f (get_or xs i x)),
+    ) (ap (λ y. flat_map f (take i xs) ++ f y) (sym is))
 
 -- the texts of the first items, and those of the rest
 pub flat_map-split : {X : Type 0} (f : X → List ℕ) (xs : List X) (i : ℕ) → flat_map f xs ≡ flat_map f (take i xs)

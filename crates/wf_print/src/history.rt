@@ -2,8 +2,7 @@ ghost use Rattle.std.specs.Prelude.{◌≡◌, ◌++◌, IfOk, OnOk};
 ghost use Rattle.std.specs.List.{flat_map};
 ghost use Rattle.wf_print.specs.Text as spec;
 
-use crate::calls::add_call;
-use crate::lines::add_number;
+use crate::lines::{add_call, add_number};
 use crate::page::Page;
 use std::alloc::Global;
 use wf_book::Entry;

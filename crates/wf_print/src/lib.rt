@@ -1,7 +1,6 @@
 // The printed text of a play, with the history of the shared book, and its summary.
 #![tactic(auto)]
 
-mod calls;
 mod escape;
 mod failure;
 mod history;

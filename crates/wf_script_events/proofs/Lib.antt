@@ -1,4 +1,5 @@
-pub mod CommaLemmas
 pub mod DigitLemmas
 pub mod EscapeLemmas
-pub mod SumLemmas
+pub mod ItemLemmas
+pub mod KeptLemmas
+pub mod LengthLemmas

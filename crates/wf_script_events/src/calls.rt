@@ -1,172 +1,168 @@
-// The lengths of the calls of the shared book.
-#![tactic(auto, using(crate::proofs::SumLemmas::length_of_both))]
+// The calls of the shared book, told piece by piece.
+#![tactic(auto, using(crate::proofs::KeptLemmas::told_pieces))]
 
-ghost use Rattle.std.specs.Prelude.{◌≡◌, ◌++◌, codes, drop};
+ghost use Rattle.std.specs.Prelude.{◌≡◌, ◌++◌, codes, drop, OnOk};
 ghost use Rattle.wf_script_events.specs.Calls as spec;
-ghost use Rattle.wf_script_events.specs.Private.Sums.{length_of};
+ghost use Rattle.wf_script_events.specs.Kept.{Told};
 
-use crate::length::{Length, number, text};
+use crate::receiver::Receiver;
 use wf_book::{Op, Reply};
 use wf_hsts::Sts;
 use wf_precache::{Lesson, Names, Question};
 use wf_text::Bytes;
 
-// The length of a reply.
-fn reply_length(reply: Reply) -> Length
-    ensures { result ≡ length_of (spec.reply_text reply) }
+// What an operation replied.
+fn reply_text(reply: Reply) -> &'static [u8]
+    ensures { result.now ≡ spec.reply_text reply }
 {
     match reply {
-        Reply::Yes => text(b"yes"),
-        Reply::No => text(b"no"),
-        Reply::Done => text(b"done"),
+        Reply::Yes => b"yes",
+        Reply::No => b"no",
+        Reply::Done => b"done",
     }
 }
 
-// The length of what is said of the credentials mode.
-fn credentials_length(include: bool) -> Length
-    ensures { result ≡ length_of (spec.credentials_text include) }
+// Whether the credentials mode is include.
+fn credentials_text(include: bool) -> &'static [u8]
+    ensures { result.now ≡ spec.credentials_text include }
 {
-    if include {
-        text(b"include")
-    } else {
-        text(b"other")
-    }
+    if include { b"include" } else { b"other" }
 }
 
-// The length of what is said of the names under a host.
-fn subdomains_length(subdomains: bool) -> Length
-    ensures { result ≡ length_of (spec.subdomains_text subdomains) }
+// Whether the names under a host are meant too.
+fn subdomains_text(subdomains: bool) -> &'static [u8]
+    ensures { result.now ≡ spec.subdomains_text subdomains }
 {
-    if subdomains {
-        text(b"sub")
-    } else {
-        text(b"exact")
-    }
+    if subdomains { b"sub" } else { b"exact" }
 }
 
-// The length of a text after a comma.
-fn comma_text_length(item: &[u8]) -> Length
-    ensures { result ≡ length_of (codes "," ++ item.now) }
+// Tells the texts but the first, each after a comma.
+fn tell_comma_texts<R: Receiver>(receiver: &mut R, texts: &Names) -> Result<(), R::Refusal>
+    ensures { OnOk result (Told (R.kept receiver.old) (R.kept receiver.new) (spec.comma_texts (drop 1 texts.now))) }
 {
-    text(b",").plus(text(item))
-}
-
-// The length of texts but the first, each after a comma.
-fn comma_texts_length(texts: &Names) -> Length
-    ensures { result ≡ length_of (spec.comma_texts (drop 1 texts.now)) }
-{
-    let mut length = text(b"");
     for index in 1..texts.len() {
-        length = length.plus(comma_text_length(texts.at(index)));
+        receiver.text(b",")?;
+        receiver.text(texts.at(index))?;
     }
-    length
+    Ok(())
 }
 
-// The length of a list of texts.
-fn list_length(texts: &Names) -> Length
-    ensures { result ≡ length_of (spec.list_text texts.now) }
+// Tells a list of texts.
+fn tell_list<R: Receiver>(receiver: &mut R, texts: &Names) -> Result<(), R::Refusal>
+    ensures { OnOk result (Told (R.kept receiver.old) (R.kept receiver.new) (spec.list_text texts.now)) }
 {
     if texts.is_empty() {
-        text(b"()")
-    } else {
-        text(texts.at(0)).plus(comma_texts_length(texts))
+        return receiver.text(b"()");
     }
+    receiver.text(texts.at(0))?;
+    tell_comma_texts(receiver, texts)
 }
 
-// The length of the method that is asked for.
-fn method_length(method: &Option<Bytes>) -> Length
-    ensures { result ≡ length_of (spec.method_text method.now) }
+// The method that is asked for.
+fn method_text(method: &Option<Bytes>) -> &[u8]
+    ensures { result.now ≡ spec.method_text method.now }
 {
     match method {
-        None => text(b"()"),
-        Some(method) => text(method.as_slice()),
+        None => b"()",
+        Some(method) => method.as_slice(),
     }
 }
 
-// The length of what a Strict-Transport-Security field said.
-fn sts_length(sts: &Sts) -> Length
-    ensures { result ≡ length_of (spec.sts_text sts.now) }
+// Tells a word and the space after it.
+fn tell_word<R: Receiver>(receiver: &mut R, word: &[u8]) -> Result<(), R::Refusal>
+    ensures { OnOk result (Told (R.kept receiver.old) (R.kept receiver.new) (word.now ++ codes " ")) }
 {
-    number(sts.age)
-        .plus(text(b" "))
-        .plus(subdomains_length(sts.subdomains))
+    receiver.text(word)?;
+    receiver.text(b" ")
 }
 
-// The length of what a request would need of the preflight cache.
-fn question_length(question: &Question) -> Length
-    ensures { result ≡ length_of (spec.question_text question.now) }
+// Tells what a Strict-Transport-Security field said.
+fn tell_sts<R: Receiver>(receiver: &mut R, sts: &Sts) -> Result<(), R::Refusal>
+    ensures { OnOk result (Told (R.kept receiver.old) (R.kept receiver.new) (spec.sts_text sts.now)) }
 {
-    text(question.key.as_slice())
-        .plus(text(b" "))
-        .plus(text(question.origin.as_slice()))
-        .plus(text(b" "))
-        .plus(credentials_length(question.include))
-        .plus(text(b" "))
-        .plus(method_length(&question.method))
-        .plus(text(b" "))
-        .plus(list_length(&question.names))
-        .plus(text(b" "))
-        .plus(text(question.url.as_slice()))
+    receiver.number(sts.age)?;
+    receiver.text(b" ")?;
+    receiver.text(subdomains_text(sts.subdomains))
 }
 
-// The length of what a preflight taught.
-fn lesson_length(lesson: &Lesson) -> Length
-    ensures { result ≡ length_of (spec.lesson_text lesson.now) }
+// Tells what a request would need of the preflight cache.
+fn tell_question<R: Receiver>(receiver: &mut R, question: &Question) -> Result<(), R::Refusal>
+    ensures { OnOk result (Told (R.kept receiver.old) (R.kept receiver.new) (spec.question_text question.now)) }
 {
-    text(lesson.key.as_slice())
-        .plus(text(b" "))
-        .plus(text(lesson.origin.as_slice()))
-        .plus(text(b" "))
-        .plus(credentials_length(lesson.include))
-        .plus(text(b" "))
-        .plus(number(lesson.age))
-        .plus(text(b" "))
-        .plus(list_length(&lesson.methods))
-        .plus(text(b" "))
-        .plus(list_length(&lesson.names))
-        .plus(text(b" "))
-        .plus(text(lesson.url.as_slice()))
+    tell_word(receiver, question.key.as_slice())?;
+    tell_word(receiver, question.origin.as_slice())?;
+    tell_word(receiver, credentials_text(question.include))?;
+    tell_word(receiver, method_text(&question.method))?;
+    tell_list(receiver, &question.names)?;
+    receiver.text(b" ")?;
+    receiver.text(question.url.as_slice())
 }
 
-// The length of the time of an operation.
-fn time_length(now: u64) -> Length
-    ensures { result ≡ length_of (spec.time_text now) }
+// Tells what a preflight taught.
+fn tell_lesson<R: Receiver>(receiver: &mut R, lesson: &Lesson) -> Result<(), R::Refusal>
+    ensures { OnOk result (Told (R.kept receiver.old) (R.kept receiver.new) (spec.lesson_text lesson.now)) }
 {
-    text(b" at ").plus(number(now))
+    tell_word(receiver, lesson.key.as_slice())?;
+    tell_word(receiver, lesson.origin.as_slice())?;
+    tell_word(receiver, credentials_text(lesson.include))?;
+    receiver.number(lesson.age)?;
+    receiver.text(b" ")?;
+    tell_list(receiver, &lesson.methods)?;
+    receiver.text(b" ")?;
+    tell_list(receiver, &lesson.names)?;
+    receiver.text(b" ")?;
+    receiver.text(lesson.url.as_slice())
 }
 
-// The length of an operation and its time.
-fn op_length(op: &Op) -> Length
-    ensures { result ≡ length_of (spec.op_text op.now) }
+// Tells the time of an operation.
+fn tell_time<R: Receiver>(receiver: &mut R, now: u64) -> Result<(), R::Refusal>
+    ensures { OnOk result (Told (R.kept receiver.old) (R.kept receiver.new) (spec.time_text now)) }
+{
+    receiver.text(b" at ")?;
+    receiver.number(now)
+}
+
+// Tells an operation and its time.
+fn tell_op<R: Receiver>(receiver: &mut R, op: &Op) -> Result<(), R::Refusal>
+    ensures { OnOk result (Told (R.kept receiver.old) (R.kept receiver.new) (spec.op_text op.now)) }
 {
     match op {
-        Op::Match(host, now) => text(b"match ")
-            .plus(text(host.as_slice()))
-            .plus(time_length(*now)),
-        Op::Note(host, sts, now) => text(b"note ")
-            .plus(text(host.as_slice()))
-            .plus(text(b" "))
-            .plus(sts_length(sts))
-            .plus(time_length(*now)),
-        Op::Covers(question, now) => text(b"covers ")
-            .plus(question_length(question))
-            .plus(time_length(*now)),
-        Op::Learn(lesson, now) => text(b"learn ")
-            .plus(lesson_length(lesson))
-            .plus(time_length(*now)),
-        Op::Clear(key, origin, url, now) => text(b"clear ")
-            .plus(text(key.as_slice()))
-            .plus(text(b" "))
-            .plus(text(origin.as_slice()))
-            .plus(text(b" "))
-            .plus(text(url.as_slice()))
-            .plus(time_length(*now)),
+        Op::Match(host, now) => {
+            receiver.text(b"match ")?;
+            receiver.text(host.as_slice())?;
+            tell_time(receiver, *now)
+        }
+        Op::Note(host, sts, now) => {
+            receiver.text(b"note ")?;
+            tell_word(receiver, host.as_slice())?;
+            tell_sts(receiver, sts)?;
+            tell_time(receiver, *now)
+        }
+        Op::Covers(question, now) => {
+            receiver.text(b"covers ")?;
+            tell_question(receiver, question)?;
+            tell_time(receiver, *now)
+        }
+        Op::Learn(lesson, now) => {
+            receiver.text(b"learn ")?;
+            tell_lesson(receiver, lesson)?;
+            tell_time(receiver, *now)
+        }
+        Op::Clear(key, origin, url, now) => {
+            receiver.text(b"clear ")?;
+            tell_word(receiver, key.as_slice())?;
+            tell_word(receiver, origin.as_slice())?;
+            receiver.text(url.as_slice())?;
+            tell_time(receiver, *now)
+        }
     }
 }
 
-// The length of an operation, and of what it replied.
-pub(crate) fn call_length(op: &Op, reply: Reply) -> Length
-    ensures { result ≡ length_of (spec.call_text op.now reply) }
+/// Tells an operation, and what it replied. Where a piece is refused, any of it may be kept.
+pub fn tell_call<R: Receiver>(receiver: &mut R, op: &Op, reply: Reply) -> Result<(), R::Refusal>
+    ensures { OnOk result (Told (R.kept receiver.old) (R.kept receiver.new) (spec.call_text op.now reply)) }
 {
-    op_length(op).plus(text(b": ")).plus(reply_length(reply))
+    tell_op(receiver, op)?;
+    receiver.text(b": ")?;
+    receiver.text(reply_text(reply))
 }

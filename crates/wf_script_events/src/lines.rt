@@ -1,270 +1,297 @@
-// The lengths of the lines of events.
-#![tactic(auto, using(crate::proofs::SumLemmas::joined))]
+// The lines of events, told piece by piece.
+#![tactic(auto, using(crate::proofs::KeptLemmas::told_pieces, crate::proofs::EscapeLemmas::escaped_pieces))]
 
-ghost use Rattle.std.specs.Prelude.{◌≡◌, ◌++◌, codes, decimal};
+ghost use Rattle.std.specs.Prelude.{◌≡◌, ◌++◌, codes, decimal, OnOk};
 ghost use Rattle.wf_script_events.specs.Calls.{call_text};
-ghost use Rattle.wf_script_events.specs.Lengths.{event_length};
+ghost use Rattle.wf_script_events.specs.Kept.{Told};
 ghost use Rattle.wf_script_events.specs.Lines as spec;
-ghost use Rattle.wf_script_events.specs.Private.Sums.{length_of};
 ghost use Rattle.wf_types.specs.Names.{destination_name};
 
-use crate::calls::call_length;
+use crate::calls::tell_call;
 use crate::events::Event;
-use crate::length::{Length, escaped, number, text};
+use crate::receiver::Receiver;
 use wf_book::{Op, Reply};
 use wf_headers::PackedHeaders;
 use wf_text::Bytes;
 use wf_types::{BodyEnd, Destination, Hop, NetError, Outcome, Response, TypeFault, Violation};
 
-// The length of a header as a line.
-fn header_length(name: &[u8], value: &[u8]) -> Length
-    ensures { result
-        ≡ length_of (spec.escaped_line (spec.header_line (record { name = name.now; value = value.now }))) }
+// Tells a line that ends with a number.
+fn tell_number_line<R: Receiver>(
+    receiver: &mut R,
+    label: &[u8],
+    number: u32,
+) -> Result<(), R::Refusal>
+    ensures { OnOk result (Told (R.kept receiver.old) (R.kept receiver.new) (spec.line (label.now ++ decimal number))) }
 {
-    let field = escaped(name).plus(text(b": ")).plus(escaped(value));
-    text(b"  ").plus(field).plus(text(b"\n"))
+    receiver.text(label)?;
+    receiver.number(u64::from(number))?;
+    receiver.text(b"\n")
 }
 
-// The length of the lines of headers.
-fn headers_length(headers: &PackedHeaders) -> Length
-    ensures { result ≡ length_of (spec.header_lines headers.now) }
+// Tells a header as a line.
+fn tell_header<R: Receiver>(receiver: &mut R, name: &[u8], value: &[u8]) -> Result<(), R::Refusal>
+    ensures { OnOk result (Told (R.kept receiver.old) (R.kept receiver.new)
+        (spec.escaped_line (name.now ++ codes ": " ++ value.now))) }
 {
-    let mut length = text(b"");
+    receiver.text(b"  ")?;
+    receiver.escaped(name)?;
+    receiver.text(b": ")?;
+    receiver.escaped(value)?;
+    receiver.text(b"\n")
+}
+
+// Tells the lines of a header list.
+fn tell_headers<R: Receiver>(receiver: &mut R, headers: &PackedHeaders) -> Result<(), R::Refusal>
+    ensures { OnOk result (Told (R.kept receiver.old) (R.kept receiver.new) (spec.header_lines headers.now)) }
+{
     for index in 0..headers.len() {
         let (name, value) = headers.at(index);
-        length = length.plus(header_length(name, value));
+        tell_header(receiver, name, value)?;
     }
-    length
+    Ok(())
 }
 
-// The length of a body with its length before it.
-fn body_length(body: &Bytes) -> Length
-    ensures { result ≡ length_of (spec.body_text body.now) }
+// Tells the length of a body and its bytes.
+fn tell_body<R: Receiver>(receiver: &mut R, body: &Bytes) -> Result<(), R::Refusal>
+    ensures { OnOk result (Told (R.kept receiver.old) (R.kept receiver.new) (spec.body_text body.now)) }
 {
-    number(body.len() as u64)
-        .plus(text(b": "))
-        .plus(escaped(body.as_slice()))
+    receiver.number(body.len() as u64)?;
+    receiver.text(b": ")?;
+    receiver.escaped(body.as_slice())
 }
 
-// The length of a line that ends with a number.
-fn number_line_length(label: &[u8], last: u32) -> Length
-    ensures { result ≡ length_of (spec.line (label.now ++ decimal last)) }
+// Tells a line that ends with a body.
+fn tell_body_line<R: Receiver>(
+    receiver: &mut R,
+    label: &[u8],
+    body: &Bytes,
+) -> Result<(), R::Refusal>
+    ensures { OnOk result (Told (R.kept receiver.old) (R.kept receiver.new)
+        (spec.line (label.now ++ spec.body_text body.now))) }
 {
-    text(label).plus(number(u64::from(last))).plus(text(b"\n"))
+    receiver.text(label)?;
+    tell_body(receiver, body)?;
+    receiver.text(b"\n")
 }
 
-// The length of a line that ends with a body.
-fn body_line_length(label: &[u8], body: &Bytes) -> Length
-    ensures { result ≡ length_of (spec.line (label.now ++ spec.body_text body.now)) }
-{
-    text(label).plus(body_length(body)).plus(text(b"\n"))
-}
-
-// The length of the line of a request's body, where there is one.
-fn request_body_length(body: &Option<Bytes>) -> Length
-    ensures { result ≡ length_of (spec.request_body_lines body.now) }
+// Tells the line of a request's body, where there is one.
+fn tell_request_body<R: Receiver>(receiver: &mut R, body: &Option<Bytes>) -> Result<(), R::Refusal>
+    ensures { OnOk result (Told (R.kept receiver.old) (R.kept receiver.new) (spec.request_body_lines body.now)) }
 {
     match body {
-        None => text(b""),
-        Some(body) => body_line_length(b"  body ", body),
+        None => Ok(()),
+        Some(body) => tell_body_line(receiver, b"  body ", body),
     }
 }
 
-// The length of the request line.
-fn request_line_length(hop: &Hop) -> Length
-    ensures { result ≡ length_of (spec.escaped_line (spec.request_line hop.now)) }
+// Tells the request line.
+fn tell_request_line<R: Receiver>(receiver: &mut R, hop: &Hop) -> Result<(), R::Refusal>
+    ensures { OnOk result (Told (R.kept receiver.old) (R.kept receiver.new)
+        (spec.escaped_line (spec.request_line hop.now))) }
 {
-    let request = escaped(hop.method.as_slice())
-        .plus(text(b" "))
-        .plus(escaped(hop.url.as_slice()))
-        .plus(text(b" HTTP/1.1"));
-    text(b"  ").plus(request).plus(text(b"\n"))
+    receiver.text(b"  ")?;
+    receiver.escaped(hop.method.as_slice())?;
+    receiver.text(b" ")?;
+    receiver.escaped(hop.url.as_slice())?;
+    receiver.text(b" HTTP/1.1\n")
 }
 
-// The length of a request that was sent.
-fn hop_length(hop: &Hop) -> Length
-    ensures { result ≡ length_of (spec.hop_lines hop.now) }
+// Tells a request that was sent.
+fn tell_hop<R: Receiver>(receiver: &mut R, hop: &Hop) -> Result<(), R::Refusal>
+    ensures { OnOk result (Told (R.kept receiver.old) (R.kept receiver.new) (spec.hop_lines hop.now)) }
 {
-    text(b"send ")
-        .plus(text(hop.origin.as_slice()))
-        .plus(text(b"\n"))
-        .plus(request_line_length(hop))
-        .plus(headers_length(&hop.headers))
-        .plus(request_body_length(&hop.body))
+    receiver.text(b"send ")?;
+    receiver.text(hop.origin.as_slice())?;
+    receiver.text(b"\n")?;
+    tell_request_line(receiver, hop)?;
+    tell_headers(receiver, &hop.headers)?;
+    tell_request_body(receiver, &hop.body)
 }
 
-// The length of the disposition of a policy.
-fn disposition_length(enforced: bool) -> Length
-    ensures { result ≡ length_of (spec.disposition_name enforced) }
+// The disposition of a policy.
+fn disposition(enforced: bool) -> &'static [u8]
+    ensures { result.now ≡ spec.disposition_name enforced }
 {
-    if enforced {
-        text(b"enforce")
-    } else {
-        text(b"report")
-    }
+    if enforced { b"enforce" } else { b"report" }
 }
 
-// The length of a violation.
-fn violation_length(violation: &Violation) -> Length
-    ensures { result ≡ length_of (spec.violation_line violation.now) }
+// Tells a violation.
+fn tell_violation<R: Receiver>(receiver: &mut R, violation: &Violation) -> Result<(), R::Refusal>
+    ensures { OnOk result (Told (R.kept receiver.old) (R.kept receiver.new) (spec.violation_line violation.now)) }
 {
-    text(b"violation ")
-        .plus(number(u64::from(violation.policy)))
-        .plus(text(b" "))
-        .plus(disposition_length(violation.enforced))
-        .plus(text(b" "))
-        .plus(text(violation.directive.name().as_bytes()))
-        .plus(text(b" "))
-        .plus(text(violation.url.as_slice()))
-        .plus(text(b"\n"))
+    receiver.text(b"violation ")?;
+    receiver.number(u64::from(violation.policy))?;
+    receiver.text(b" ")?;
+    receiver.text(disposition(violation.enforced))?;
+    receiver.text(b" ")?;
+    receiver.text(violation.directive.name().as_bytes())?;
+    receiver.text(b" ")?;
+    receiver.text(violation.url.as_slice())?;
+    receiver.text(b"\n")
 }
 
-// The length of the line of a response's body.
-fn body_end_length(body: &BodyEnd) -> Length
-    ensures { result ≡ length_of (spec.body_line body.now) }
+// Tells the line of a response's body.
+fn tell_body_end<R: Receiver>(receiver: &mut R, body: &BodyEnd) -> Result<(), R::Refusal>
+    ensures { OnOk result (Told (R.kept receiver.old) (R.kept receiver.new) (spec.body_line body.now)) }
 {
     match body {
-        BodyEnd::Null => text(b"  body none\n"),
-        BodyEnd::Whole(bytes) => body_line_length(b"  body whole ", bytes),
-        BodyEnd::Cut(count) => number_line_length(b"  body cut ", *count),
-        BodyEnd::Fault(count) => number_line_length(b"  body fault ", *count),
-        BodyEnd::TooBig => text(b"  body toobig\n"),
+        BodyEnd::Null => receiver.text(b"  body none\n"),
+        BodyEnd::Whole(bytes) => tell_body_line(receiver, b"  body whole ", bytes),
+        BodyEnd::Cut(count) => tell_number_line(receiver, b"  body cut ", *count),
+        BodyEnd::Fault(count) => tell_number_line(receiver, b"  body fault ", *count),
+        BodyEnd::TooBig => receiver.text(b"  body toobig\n"),
     }
 }
 
-// The length of the URL of a response.
-fn url_length(url: &Option<Bytes>) -> Length
-    ensures { result ≡ length_of (spec.url_text url.now) }
+// Tells the URL of a response.
+fn tell_url<R: Receiver>(receiver: &mut R, url: &Option<Bytes>) -> Result<(), R::Refusal>
+    ensures { OnOk result (Told (R.kept receiver.old) (R.kept receiver.new) (spec.url_text url.now)) }
 {
     match url {
-        None => text(b"()"),
-        Some(url) => text(url.as_slice()),
+        None => receiver.text(b"()"),
+        Some(url) => receiver.text(url.as_slice()),
     }
 }
 
-// The length of a response.
-fn response_length(response: &Response) -> Length
-    ensures { result ≡ length_of (spec.response_lines response.now) }
+// Tells a response.
+fn tell_response<R: Receiver>(receiver: &mut R, response: &Response) -> Result<(), R::Refusal>
+    ensures { OnOk result (Told (R.kept receiver.old) (R.kept receiver.new) (spec.response_lines response.now)) }
 {
-    text(b"result ")
-        .plus(text(response.kind.name().as_bytes()))
-        .plus(text(b" "))
-        .plus(number(u64::from(response.status)))
-        .plus(text(b" "))
-        .plus(url_length(&response.url))
-        .plus(text(b"\n"))
-        .plus(headers_length(&response.headers))
-        .plus(body_end_length(&response.body))
+    receiver.text(b"result ")?;
+    receiver.text(response.kind.name().as_bytes())?;
+    receiver.text(b" ")?;
+    receiver.number(u64::from(response.status))?;
+    receiver.text(b" ")?;
+    tell_url(receiver, &response.url)?;
+    receiver.text(b"\n")?;
+    tell_headers(receiver, &response.headers)?;
+    tell_body_end(receiver, &response.body)
 }
 
-// The length of the header that a network error names.
-fn named_header_length(error: &NetError) -> Length
-    ensures { result ≡ length_of (spec.named_header error.now) }
+// Tells the header that a network error names.
+fn tell_named_header<R: Receiver>(receiver: &mut R, error: &NetError) -> Result<(), R::Refusal>
+    ensures { OnOk result (Told (R.kept receiver.old) (R.kept receiver.new) (spec.named_header error.now)) }
 {
     match error {
-        NetError::PreflightHeader(name) => text(b" ").plus(text(name.as_slice())),
-        _ => text(b""),
+        NetError::PreflightHeader(name) => {
+            receiver.text(b" ")?;
+            receiver.text(name.as_slice())
+        }
+        _ => Ok(()),
     }
 }
 
-// The length of a network error.
-fn error_length(error: &NetError) -> Length
-    ensures { result ≡ length_of (spec.error_text error.now) }
+// Tells a network error.
+fn tell_error<R: Receiver>(receiver: &mut R, error: &NetError) -> Result<(), R::Refusal>
+    ensures { OnOk result (Told (R.kept receiver.old) (R.kept receiver.new) (spec.error_text error.now)) }
 {
-    number(u64::from(error.number()))
-        .plus(text(b" "))
-        .plus(text(error.name().as_bytes()))
-        .plus(named_header_length(error))
+    receiver.number(u64::from(error.number()))?;
+    receiver.text(b" ")?;
+    receiver.text(error.name().as_bytes())?;
+    tell_named_header(receiver, error)
 }
 
-// The length of a line that ends with a network error.
-fn error_line_length(label: &[u8], error: &NetError) -> Length
-    ensures { result ≡ length_of (spec.line (label.now ++ spec.error_text error.now)) }
+// Tells a line that ends with a network error.
+fn tell_error_line<R: Receiver>(
+    receiver: &mut R,
+    label: &[u8],
+    error: &NetError,
+) -> Result<(), R::Refusal>
+    ensures { OnOk result (Told (R.kept receiver.old) (R.kept receiver.new)
+        (spec.line (label.now ++ spec.error_text error.now))) }
 {
-    text(label).plus(error_length(error)).plus(text(b"\n"))
+    receiver.text(label)?;
+    tell_error(receiver, error)?;
+    receiver.text(b"\n")
 }
 
-// The length of the index of the header that a fault names.
-fn named_index_length(fault: TypeFault) -> Length
-    ensures { result ≡ length_of (spec.named_index fault) }
+// Tells the index of the header that a fault names.
+fn tell_named_index<R: Receiver>(receiver: &mut R, fault: TypeFault) -> Result<(), R::Refusal>
+    ensures { OnOk result (Told (R.kept receiver.old) (R.kept receiver.new) (spec.named_index fault)) }
 {
     match fault {
-        TypeFault::BadHeader(index) => text(b" ").plus(number(u64::from(index))),
-        _ => text(b""),
+        TypeFault::BadHeader(index) => {
+            receiver.text(b" ")?;
+            receiver.number(u64::from(index))
+        }
+        _ => Ok(()),
     }
 }
 
-// The length of a fault of a request.
-fn fault_length(fault: TypeFault) -> Length
-    ensures { result ≡ length_of (spec.fault_text fault) }
+// Tells a fault of a request.
+fn tell_fault<R: Receiver>(receiver: &mut R, fault: TypeFault) -> Result<(), R::Refusal>
+    ensures { OnOk result (Told (R.kept receiver.old) (R.kept receiver.new) (spec.fault_text fault)) }
 {
-    number(u64::from(fault.number()))
-        .plus(text(b" "))
-        .plus(text(fault.name().as_bytes()))
-        .plus(named_index_length(fault))
+    receiver.number(u64::from(fault.number()))?;
+    receiver.text(b" ")?;
+    receiver.text(fault.name().as_bytes())?;
+    tell_named_index(receiver, fault)
 }
 
-// The length of a line that ends with a fault of a request.
-fn fault_line_length(label: &[u8], fault: TypeFault) -> Length
-    ensures { result ≡ length_of (spec.line (label.now ++ spec.fault_text fault)) }
+// Tells a line that ends with a fault of a request.
+fn tell_fault_line<R: Receiver>(
+    receiver: &mut R,
+    label: &[u8],
+    fault: TypeFault,
+) -> Result<(), R::Refusal>
+    ensures { OnOk result (Told (R.kept receiver.old) (R.kept receiver.new)
+        (spec.line (label.now ++ spec.fault_text fault))) }
 {
-    text(label).plus(fault_length(fault)).plus(text(b"\n"))
+    receiver.text(label)?;
+    tell_fault(receiver, fault)?;
+    receiver.text(b"\n")
 }
 
-// The length of what a fetch came to.
-fn outcome_length(outcome: &Outcome) -> Length
-    ensures { result ≡ length_of (spec.outcome_lines outcome.now) }
+// Tells what a fetch came to.
+fn tell_outcome<R: Receiver>(receiver: &mut R, outcome: &Outcome) -> Result<(), R::Refusal>
+    ensures { OnOk result (Told (R.kept receiver.old) (R.kept receiver.new) (spec.outcome_lines outcome.now)) }
 {
     match outcome {
-        Outcome::Answer(response) => response_length(response),
-        Outcome::Loaded => text(b"result loaded\n"),
-        Outcome::Error(error) => error_line_length(b"result error ", error),
+        Outcome::Answer(response) => tell_response(receiver, response),
+        Outcome::Loaded => receiver.text(b"result loaded\n"),
+        Outcome::Error(error) => tell_error_line(receiver, b"result error ", error),
     }
 }
 
-// The length of the start of a load.
-fn load_length(load: u32, destination: Destination) -> Length
-    ensures { result ≡ length_of
-        (spec.line (codes "load " ++ decimal load ++ codes " " ++ destination_name destination)) }
+// Tells the start of a load.
+fn tell_load<R: Receiver>(
+    receiver: &mut R,
+    number: u32,
+    destination: Destination,
+) -> Result<(), R::Refusal>
+    ensures { OnOk result (Told (R.kept receiver.old) (R.kept receiver.new)
+        (spec.line (codes "load " ++ decimal number ++ codes " " ++ destination_name destination))) }
 {
-    text(b"load ")
-        .plus(number(u64::from(load)))
-        .plus(text(b" "))
-        .plus(text(destination.name().as_bytes()))
-        .plus(text(b"\n"))
+    receiver.text(b"load ")?;
+    receiver.number(u64::from(number))?;
+    receiver.text(b" ")?;
+    receiver.text(destination.name().as_bytes())?;
+    receiver.text(b"\n")
 }
 
-// The length of an operation on the shared book.
-fn call_line_length(op: &Op, reply: Reply) -> Length
-    ensures { result ≡ length_of (spec.line (codes "call " ++ call_text op.now reply)) }
+// Tells an operation on the shared book.
+fn tell_call_line<R: Receiver>(receiver: &mut R, op: &Op, reply: Reply) -> Result<(), R::Refusal>
+    ensures { OnOk result (Told (R.kept receiver.old) (R.kept receiver.new)
+        (spec.line (codes "call " ++ call_text op.now reply))) }
 {
-    text(b"call ")
-        .plus(call_length(op, reply))
-        .plus(text(b"\n"))
+    receiver.text(b"call ")?;
+    tell_call(receiver, op, reply)?;
+    receiver.text(b"\n")
 }
 
-// The length of the lines of an event.
-fn event_lines_length(event: &Event) -> Length
-    ensures { result ≡ length_of (spec.event_text event.now) }
+/// Tells the lines of an event to a text. Where memory is refused the text is any.
+pub fn tell_event<R: Receiver>(receiver: &mut R, event: &Event) -> Result<(), R::Refusal>
+    ensures { OnOk result (Told (R.kept receiver.old) (R.kept receiver.new) (spec.event_text event.now)) }
 {
     match event {
-        Event::Fetch(fetch) => number_line_length(b"fetch ", *fetch),
-        Event::Load(load, destination) => load_length(*load, *destination),
-        Event::Call(op, reply) => call_line_length(op.get(), *reply),
-        Event::Sent(hop) => hop_length(hop.get()),
-        Event::Told(violation) => violation_length(violation.get()),
-        Event::Result(outcome) => outcome_length(outcome.get()),
-        Event::LoadFailed(error) => error_line_length(b"result failed ", error),
-        Event::TypeError(fault) => fault_line_length(b"result type-error ", *fault),
-        Event::LoadError(fault) => fault_line_length(b"result failed type-error ", *fault),
+        Event::Fetch(number) => tell_number_line(receiver, b"fetch ", *number),
+        Event::Load(number, destination) => tell_load(receiver, *number, *destination),
+        Event::Call(op, reply) => tell_call_line(receiver, op.get(), *reply),
+        Event::Sent(hop) => tell_hop(receiver, hop.get()),
+        Event::Told(violation) => tell_violation(receiver, violation.get()),
+        Event::Result(outcome) => tell_outcome(receiver, outcome.get()),
+        Event::LoadFailed(error) => tell_error_line(receiver, b"result failed ", error),
+        Event::TypeError(fault) => tell_fault_line(receiver, b"result type-error ", *fault),
+        Event::LoadError(fault) => tell_fault_line(receiver, b"result failed type-error ", *fault),
     }
-}
-
-/// How many bytes the printed lines of an event have, or the greatest `u64` where they have more. It makes
-/// no text and takes no memory.
-#[tactic(auto, unfolding(crate::specs::Private::Sums::length_of))]
-pub fn event_len(event: &Event) -> u64
-    ensures { result ≡ event_length event.now }
-{
-    event_lines_length(event).bytes
 }

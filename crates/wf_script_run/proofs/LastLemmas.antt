@@ -8,7 +8,6 @@ use Rattle.std.proofs.lemmas.Option.{slice_get-get_or}
 use Rattle.std.proofs.Math.ListN.{get_or-append}
 use Rattle.std.specs.Prelude.{◌-◌, ◌^◌, min, slice_get, cond}
 use Rattle.wf_script_events.specs.Lengths.{capped, event_length}
-use Rattle.wf_script_events.specs.Lines.{event_text}
 use Rattle.wf_script_run.specs.Runs.{text_length}
 use Rattle.std.specs.Option.{option_or}
 use Rattle.wf_script_events.specs.declared.events.Event.{Event}
@@ -85,7 +84,7 @@ last-grows last next es fs e count all is more there =
 -- ---- how long the lines are
 
 pub printed-grows : (es fs : List Event) (e : Event) (printed more now : ℕ) → printed ≡ capped (text_length es)
-    → more ≡ event_length e → now ≡ min (printed + more) (2 ^ 64 - 1) → fs ≡ es ++ e ∷ []
+    → more ≡ capped (event_length e) → now ≡ min (printed + more) (2 ^ 64 - 1) → fs ≡ es ++ e ∷ []
     → now ≡ capped (text_length fs)
 printed-grows es fs e printed more now so long sum added =
-    rw added (omega (arith, so, long, sum, sum_by-append (λ (x : Event). length (event_text x)) es (e ∷ [])))
+    rw added (omega (arith, so, long, sum, sum_by-append event_length es (e ∷ [])))

@@ -1,7 +1,8 @@
 -- A document's run: its script's commands in order, each fetch with what it shows and what it came to
 -- (Fetch, section 5.6, for each `fetch` of a script), its clock, and the limits at which a run ends early.
-use Rattle.std.specs.Prelude.{ℕ, zero, suc, ◌+◌, nat_le, nat_lt, List, [], ◌∷◌, ◌++◌, sum_by, length, Option, Some}
-use Rattle.std.specs.Prelude.{None, Result, Ok, Err, if◌then◌else◌}
+use Rattle.std.specs.Prelude.{ℕ, zero, suc, ◌+◌, nat_le, nat_lt, List, [], ◌∷◌, ◌++◌, map, sum_by, Option, Some}
+use Rattle.std.specs.Prelude.{None, option_map, Result, Ok, Err, if◌then◌else◌}
+use Rattle.wf_text.specs.Trims.{http_whitespace, trimmed}
 use Rattle.wf_types.specs.declared.client.Client.{Client}
 use Rattle.wf_types.specs.declared.client.Cookie.{Cookie}
 use Rattle.wf_types.specs.declared.fault.TypeFault.{TypeFault}
@@ -22,7 +23,7 @@ use Rattle.wf_script_events.specs.declared.events.Ending.{Ending}
 use Rattle.wf_script_events.specs.declared.events.Ending.TheVariants.{Finished, Fetches, Commands, Text}
 use Rattle.wf_script_events.specs.declared.events.Event.{Event}
 use Rattle.wf_script_events.specs.declared.events.Event.TheVariants as event
-use Rattle.wf_script_events.specs.Lines.{event_text}
+use Rattle.wf_script_events.specs.Lengths.{event_length}
 use Rattle.wf_fetch_acts.specs.Process.{Process, ended, act}
 use Rattle.wf_fetch.specs.Fetch.{fetch}
 use Rattle.wf_fetch.specs.Then.{Context, context_of}
@@ -85,7 +86,7 @@ most_printed = 8388608
 
 -- how many bytes the lines of events have
 abbrev pub text_length : List Event → ℕ
-text_length events = sum_by (λ event. length (event_text event)) events
+text_length events = sum_by event_length events
 
 -- the limit that a run has reached before a fetch
 abbrev pub fetch_limit : Progress → Option Ending

@@ -1,8 +1,7 @@
 use Rattle.std.proofs.Common.{◌+◌, drop}
 use Rattle.std.specs.List.{flat_map}
 use Rattle.wf_print.specs.Text as spec
-use Rattle.wf_script_events.proofs.SumLemmas.{flat_map-take}
-use Rattle.wf_print.proofs.LineLemmas.{flat_map-split}
+use Rattle.wf_print.proofs.LineLemmas.{flat_map-split, flat_map-take}
 use Rattle.wf_print.proofs.WriteLemmas.{writes-append, writes-before, writes-failed, writes-refused}
 use Rattle.wf_print.proofs.play.put_transcripts.Goals as goal
 

@@ -1,6 +1,6 @@
 use Rattle.std.proofs.Common.{ℕ, ◌+◌, ap, arith, sym, ◌∙◌}
 use Rattle.wf_script_events.proofs.DigitLemmas.{digits_by_power}
-use Rattle.wf_script_events.proofs.length.digit_count.Goals as goal
+use Rattle.wf_script_events.proofs.counter.digit_count.Goals as goal
 
 pub returns-in-Some : goal.returns-in-Some
 returns-in-Some c =
