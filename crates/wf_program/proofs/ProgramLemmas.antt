@@ -5,9 +5,12 @@ use Rattle.std.proofs.lemmas.List.{append-nil}
 use Rattle.wf_link.specs.Counts.{Rose}
 use Rattle.wf_link.specs.Sinks.{SinkTold}
 use Rattle.wf_link.specs.Sources.{Gave, IsAtEnd, SourceTold}
+use Rattle.std.specs.Prelude.{IfErr, IfOk}
+use Rattle.wf_text.specs.declared.memory.OutOfMemory.{OutOfMemory}
 use Rattle.wf_link.specs.declared.sink.WriteFault.{WriteFault}
 use Rattle.wf_program.specs.Complaints.{CannotComplain, HasComplained, IsAnswer, IsComplained, IsTold, told}
-use Rattle.wf_program.specs.Inputs.{GaveFor, IsRead, IsUnread, IsWhole, IsWhyStopped, Reads, Refuses}
+use Rattle.wf_program.specs.Inputs.{GaveFor, IsGiven, IsRead, IsStopped, IsUnread, IsWhole, IsWhyStopped, Reads}
+use Rattle.wf_program.specs.Inputs.{Refuses, read_as}
 use Rattle.wf_program.specs.Program.{AnswersInput, HasWorked, IsCause, IsDone, IsExcused, IsExcusedRead, IsWritten}
 use Rattle.wf_program.specs.Sinks.{Failed}
 use Rattle.wf_program.specs.declared.status.Status.{Status}
@@ -15,7 +18,7 @@ use Rattle.wf_program.specs.declared.status.Status.TheVariants as status
 
 -- ---- what was told
 
-cannot-failed : (line : Option (List ℕ)) (c c' : SinkTold) → CannotComplain line c c' → Failed c c'
+pub cannot-failed : (line : Option (List ℕ)) (c c' : SinkTold) → CannotComplain line c c' → Failed c c'
 cannot-failed None c c' t = absurd t
 cannot-failed (Some line) c c' t = t.1
 
@@ -120,6 +123,28 @@ is-reading {A} {R} reading = record {
 
     same : (read : Result A R) (a b : R) → read ≡ Err a → read ≡ Err b → a ≡ b
     same read a b x y = cc
+
+-- an input that was not read to its end
+pub stopped-unread : {A R : Type 0} {most : ℕ} (Reads : List ℕ → A → Type 0) (Refuses : List ℕ → Status R → Type 0)
+    {input input' : SourceTold} {verdict : Status R} → IsStopped most input input' verdict
+    → IsUnread most Reads Refuses input input' verdict
+stopped-unread Reads Refuses s = record { bytes = s.bytes; gave = s.gave; why = inl s.why }
+
+-- one that was, by how its bytes are read
+module _ {A R : Type 0} {most : ℕ} (reading : List ℕ → Result A R) {input input' : SourceTold} {bytes : List ℕ}
+    (given : IsGiven most input input' bytes) where
+  pub given-read : (read : Result (Result A R) OutOfMemory) → IfOk read (λ done. done ≡ reading bytes)
+      → IfOk (read_as read) (IsRead most (Reads reading) (Refuses reading) input input')
+  given-read (Ok (Ok asked)) is = record { bytes = bytes; given = given; reads = sym is }
+  given-read (Ok (Err reason)) is = tt
+  given-read (Err _) is = tt
+
+  pub given-unread : (read : Result (Result A R) OutOfMemory) → IfOk read (λ done. done ≡ reading bytes)
+      → IfErr (read_as read) (IsUnread most (Reads reading) (Refuses reading) input input')
+  given-unread (Ok (Ok asked)) is = tt
+  given-unread (Ok (Err reason)) is =
+      record { bytes = bytes; gave = given.gave; why = inr (given.whole, (reason, refl, sym is)) }
+  given-unread (Err _) is = record { bytes = bytes; gave = given.gave; why = inl given.whole.short }
 
 module _ {A R : Type 0} (most : ℕ) (Reads : List ℕ → A → Type 0) (Refuses : List ℕ → Status R → Type 0)
     (Untouched : Type 0) (Works : A → Status R → Type 0) where
