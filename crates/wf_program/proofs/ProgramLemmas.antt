@@ -87,7 +87,7 @@ gave-nothing (Some left) = (left, refl, refl)
 -- ---- an input that was read
 
 -- the verdict is one that refuses an input
-abbrev IsOwn : {R : Type 0} → Status R → Type 0
+abbrev pub IsOwn : {R : Type 0} → Status R → Type 0
 IsOwn (status.Refused reason) = Unit {0}
 IsOwn status.OwnFault = Unit {0}
 IsOwn _ = ⊥
@@ -131,6 +131,13 @@ pub stopped-unread : {A R : Type 0} {most : ℕ} (Reads : List ℕ → A → Typ
 stopped-unread Reads Refuses s = record { bytes = s.bytes; gave = s.gave; why = inl s.why }
 
 -- one that was, by how its bytes are read
+-- what holds of what was read
+pub read-valid : {A R : Type 0} (Holds : A → Type 0) (read : Result (Result A R) OutOfMemory)
+    → IfOk read (λ done. IfOk done Holds) → IfOk (read_as read) Holds
+read-valid Holds (Ok (Ok asked)) holds = holds
+read-valid Holds (Ok (Err reason)) holds = tt
+read-valid Holds (Err _) holds = tt
+
 module _ {A R : Type 0} {most : ℕ} (reading : List ℕ → Result A R) {input input' : SourceTold} {bytes : List ℕ}
     (given : IsGiven most input input' bytes) where
   pub given-read : (read : Result (Result A R) OutOfMemory) → IfOk read (λ done. done ≡ reading bytes)
@@ -303,6 +310,8 @@ module _ {A R : Type 0} (most : ℕ) (Reads : List ℕ → A → Type 0) (Refuse
         cause = λ other.
             let d = answer-verdict a other in
             record { bytes = d.bytes; gave = d.gave; reason_is = d.cause };
+        read_fault = λ is.
+            done-read (subst (Done input input') is (answer-verdict a (λ e. cc (is, e))));
         complete = λ bytes asked tells short reads.
             or-excused Finishes (done-complete bytes tells asked short reads);
         refused = λ bytes wanted tells short refuses.

@@ -62,6 +62,8 @@ module _ {A R : Type 0} (most : ℕ) (Reads : List ℕ → A → Type 0) (Refuse
       (output output' complaints complaints' : SinkTold) (answer : Status R) : Type 0 where
     -- an answer has its cause
     pub cause : answer ≢ status.WriteFault → GaveFor input input' (λ bytes. IsCause bytes input input' answer)
+    -- ReadFault only where the input failed
+    pub read_fault : answer ≡ status.ReadFault → Rose input.faults input'.faults
     -- an input that is accepted is finished, but for the excuses
     pub complete : (bytes : List ℕ) (asked : A) → input.left ≡ Some bytes → length bytes ≤ most → Reads bytes asked
         → Finishes answer ⊎ IsExcusedRead input input' output output' complaints complaints' answer
@@ -95,7 +97,7 @@ module _ (IsText : List ℕ → Type 0) where
   abbrev pub IsWritten : {R : Type 0} → SinkTold → SinkTold → Status R → Type 0
   IsWritten old new status.Ok = WritesText old new
   IsWritten old new status.WriteFault = WritesPart old new × Failed old new
-  IsWritten old new status.OutOfMemory = (new ≡ old) ⊎ WritesPart old new
+  IsWritten old new status.OutOfMemory = WritesPart old new
   IsWritten old new _ = ⊥
 
 -- A program that writes a text for what its input is, by which texts these are:
