@@ -9,9 +9,9 @@ use Rattle.std.specs.Prelude.{IfErr, IfOk}
 use Rattle.wf_text.specs.declared.memory.OutOfMemory.{OutOfMemory}
 use Rattle.wf_link.specs.declared.sink.WriteFault.{WriteFault}
 use Rattle.wf_program.specs.Complaints.{CannotComplain, HasComplained, IsAnswer, IsComplained, IsTold, told}
-use Rattle.wf_program.specs.Inputs.{GaveFor, IsGiven, IsRead, IsStopped, IsUnread, IsWhole, IsWhyStopped, Reads}
+use Rattle.wf_program.specs.Inputs.{IsGiven, IsRead, IsStopped, IsUnread, IsWhole, IsWhyStopped, Reads}
 use Rattle.wf_program.specs.Inputs.{Refuses, read_as}
-use Rattle.wf_program.specs.Program.{AnswersInput, HasWorked, IsCause, IsDone, IsExcused, IsExcusedRead, IsWritten}
+use Rattle.wf_program.specs.Program.{AnswersInput, AnswersText, IsCause, IsDone, IsExcusedRead, IsPlayed, IsWritten}
 use Rattle.wf_program.specs.Sinks.{Failed}
 use Rattle.wf_program.specs.declared.status.Status.{Status}
 use Rattle.wf_program.specs.declared.status.Status.TheVariants as status
@@ -343,3 +343,45 @@ written-ends IsText output output' (status.Refused reason) w = absurd w
 written-ends IsText output output' status.ReadFault w = w
 written-ends IsText output output' status.InputTooLong w = w
 written-ends IsText output output' status.OwnFault w = absurd w
+
+-- a program that writes a text for what its input is
+module _ {A R : Type 0} (most : ℕ) (reading : List ℕ → Result A R) (IsTextFor : A → List ℕ → Type 0)
+    (input input' : SourceTold) (output output' : SinkTold) where
+  abbrev Played : SinkTold → Status R → Type 0
+  Played after verdict = IsPlayed most reading IsTextFor input input' output after verdict
+
+  abbrev Written : A → Status R → Type 0
+  Written asked verdict = IsWritten (IsTextFor asked) output output' verdict
+
+  pub unread-played : (verdict : Status R) → IsUnread most (Reads reading) (Refuses reading) input input' verdict
+      → Played output verdict
+  unread-played verdict u = unread-done most (Reads reading) (Refuses reading) (output ≡ output)
+      (λ asked. IsWritten (IsTextFor asked) output output) input input' verdict refl u
+
+  pub refused-played : (asked : A) → IsRead most (Reads reading) (Refuses reading) input input' asked
+      → Played output status.OutOfMemory
+  refused-played asked r = refused-done most (Reads reading) (Refuses reading) (output ≡ output)
+      (λ one. IsWritten (IsTextFor one) output output) input input' asked refl r
+
+  pub written-played : (asked : A) (verdict : Status R) → IsRead most (Reads reading) (Refuses reading) input input' asked
+      → Written asked verdict → Played output' verdict
+  written-played asked verdict r w = worked-done most (Reads reading) (Refuses reading) (output' ≡ output) Written input
+      input' asked verdict r w
+
+  text-ends : (asked : A) (v : Status R) → Written asked v
+      → Ends (λ (one : Status R). one ≡ status.Ok) output output' v
+  text-ends asked v w = written-ends (IsTextFor asked) output output' v w
+
+  pub played-usage : Played output' status.Usage → ⊥
+  played-usage d = done-usage most (Reads reading) (Refuses reading) (output' ≡ output) Written (is-reading reading)
+      (λ one. one ≡ status.Ok) input input' output output' text-ends d
+
+  pub played-write : Played output' status.WriteFault → Failed output output'
+  played-write d = done-write most (Reads reading) (Refuses reading) (output' ≡ output) Written (is-reading reading)
+      (λ one. one ≡ status.Ok) input input' output output' text-ends d
+
+  pub text-answers : {complaint : Status R → Option (List ℕ)} {c c' : SinkTold} {answer : Status R}
+      → IsAnswer (Played output') complaint c c' answer
+      → AnswersText most reading IsTextFor input input' output output' c c' answer
+  text-answers {c = c} {c' = c'} a = input-answers most (Reads reading) (Refuses reading) (output' ≡ output) Written
+      (is-reading reading) (λ one. one ≡ status.Ok) input input' output output' text-ends c c' a

@@ -9,7 +9,11 @@ use wf_text::{Bytes, OutOfMemory};
 
 /// Reads an input whole, which has at most so many bytes. Else the verdict on it: `ReadFault` where the input failed,
 /// `InputTooLong` where one byte more was read, and `OutOfMemory`.
-pub fn read_input<S: Source, R: Drop>(alloc: Global, input: &mut S, most: usize) -> Result<Bytes, Status<R>>
+pub fn read_input<S: Source, R: Drop>(
+    alloc: Global,
+    input: &mut S,
+    most: usize,
+) -> Result<Bytes, Status<R>>
     requires { most < 2 ^ 32 }
     ensures given { IfOk result (IsGiven most (S.gives input.old) (S.gives input.new)) }
     ensures stopped { IfErr result (IsStopped most (S.gives input.old) (S.gives input.new)) }

@@ -8,8 +8,8 @@ use Rattle.wf_link.specs.Sources.{SourceTold}
 use Rattle.wf_print.specs.declared.failure.Failure.{Failure}
 use Rattle.wf_print.specs.declared.failure.Failure.TheVariants as failure
 use Rattle.wf_print.specs.Writes.{Writes}
-use Rattle.wf_program.proofs.ProgramLemmas.{answer-by, answer-or, answer-told, answer-verdict, answer-write, done-usage}
-use Rattle.wf_program.proofs.ProgramLemmas.{done-write, input-answers, is-reading, worked-done, written-ends}
+use Rattle.wf_program.proofs.ProgramLemmas.{answer-by, answer-or, answer-told, answer-verdict, answer-write}
+use Rattle.wf_program.proofs.ProgramLemmas.{played-usage, played-write, text-answers, written-played}
 use Rattle.wf_program.specs.Complaints.{IsAnswer}
 use Rattle.wf_program.specs.Inputs.{IsRead, Reads, Refuses}
 use Rattle.wf_program.specs.Program.{IsPlayed, IsWritten}
@@ -63,8 +63,8 @@ pub reports-played : (input input' : SourceTold) (output output' : SinkTold) (sc
     → Writes output output' (report_text transcripts delivereds history) written
     → IsPlayed most_input reported_scenario IsReportText input input' output output' (written_status written)
 reports-played input input' output output' scenario transcripts delivereds history written read play writes =
-    worked-done most_input (Reads reported_scenario) (Refuses reported_scenario) (output' ≡ output)
-    (λ asked. IsWritten (IsReportText asked) output output') input input' scenario (written_status written) read
+    written-played most_input reported_scenario IsReportText input input' output output' scenario
+    (written_status written) read
     (text-written (IsReportText scenario) (report_text transcripts delivereds history) output output' written
     (record {
       transcripts = transcripts;
@@ -83,17 +83,12 @@ module _ (input input' : SourceTold) (output output' : SinkTold) where
 
   not_accepted-of : (accepted : Bool) → Verdict accepted status.Usage → accepted ≡ false
   not_accepted-of false v = refl
-  not_accepted-of true v = absurd (done-usage most_input (Reads reported_scenario) (Refuses reported_scenario)
-      (output' ≡ output) (λ asked. IsWritten (IsReportText asked) output output') (is-reading reported_scenario)
-      (λ one. one ≡ status.Ok) input input' output output'
-      (λ asked v w. written-ends (IsReportText asked) output output' v w) v)
+  not_accepted-of true v =
+      absurd (played-usage most_input reported_scenario IsReportText input input' output output' v)
 
   write-of : (accepted : Bool) → Verdict accepted status.WriteFault → Failed output output'
   write-of false v = cc (v.0)
-  write-of true v = done-write most_input (Reads reported_scenario) (Refuses reported_scenario)
-      (output' ≡ output) (λ asked. IsWritten (IsReportText asked) output output') (is-reading reported_scenario)
-      (λ one. one ≡ status.Ok) input input' output output'
-      (λ asked v w. written-ends (IsReportText asked) output output' v w) v
+  write-of true v = played-write most_input reported_scenario IsReportText input input' output output' v
 
   -- the account of an answer says what the program promises
   pub answers : (words : List (List ℕ)) (c c' : SinkTold) (answer : Status Place)
@@ -105,10 +100,7 @@ module _ (input input' : SourceTold) (output output' : SinkTold) where
         (subst (Verdict (are_accepted words)) is (answer-verdict a (λ e. cc (is, e))));
     not_accepted = λ no_words. answer-or a (λ v. (v ≡ status.Usage) ⊎ ((v ≡ status.WriteFault) × Failed c c'))
         (λ v is. inl (subst (λ (b : Bool). Verdict b v) no_words is).0) (λ failed. inr failed);
-    play = λ accepted. input-answers most_input (Reads reported_scenario) (Refuses reported_scenario)
-        (output' ≡ output) (λ asked. IsWritten (IsReportText asked) output output') (is-reading reported_scenario)
-        (λ one. one ≡ status.Ok) input input' output output'
-        (λ asked v w. written-ends (IsReportText asked) output output' v w) c c'
+    play = λ accepted. text-answers most_input reported_scenario IsReportText input input' output output'
         (answer-by a (λ v is. subst (λ (b : Bool). Verdict b v) accepted is));
     write_fault = answer-write a (Failed output output') (write-of (are_accepted words));
     complained = answer-told a;

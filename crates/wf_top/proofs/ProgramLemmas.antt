@@ -13,7 +13,8 @@ use Rattle.wf_print.specs.declared.failure.Failure.TheVariants as failure
 use Rattle.wf_print.specs.Text.{play_text}
 use Rattle.wf_print.specs.Writes.{Writes}
 use Rattle.wf_program.proofs.ProgramLemmas.{Ends, answer-by, answer-or, answer-told, answer-verdict, answer-write}
-use Rattle.wf_program.proofs.ProgramLemmas.{done-usage, done-write, input-answers, is-reading, written-ends}
+use Rattle.wf_program.proofs.ProgramLemmas.{done-usage, done-write, input-answers, is-reading, played-usage}
+use Rattle.wf_program.proofs.ProgramLemmas.{played-write, text-answers, written-ends}
 use Rattle.wf_program.specs.Complaints.{IsAnswer}
 use Rattle.wf_program.specs.Inputs.{Reads, Refuses}
 use Rattle.wf_program.specs.Program.{IsExcused, IsWritten}
@@ -110,10 +111,8 @@ module _ {L State : Type 0} (by : Answering State) (told : L → LinkTold State)
 
   usage-none : (asked : Option Subcommand) → Verdict asked status.Usage → asked ≡ None
   usage-none None v = refl
-  usage-none (Some Play) v = absurd (done-usage most_input (Reads scenario_of) (Refuses scenario_of)
-      (output' ≡ output) (λ asked. IsWritten (IsPlayText IsScripted asked) output output') (is-reading scenario_of)
-      (λ one. one ≡ status.Ok) input input' output output'
-      (λ asked v w. written-ends (IsPlayText IsScripted asked) output output' v w) v.0)
+  usage-none (Some Play) v =
+      absurd (played-usage most_input scenario_of (IsPlayText IsScripted) input input' output output' v.0)
   usage-none (Some Over) v = absurd (done-usage most_input (Reads scenario_of) (Refuses scenario_of)
       (IsUntouched by told net net' output output') (IsOver by told net net' output output') (is-reading scenario_of)
       (λ one. one ≡ status.Ok) input input' output output' over-ends v)
@@ -121,10 +120,8 @@ module _ {L State : Type 0} (by : Answering State) (told : L → LinkTold State)
 
   write-failed : (asked : Option Subcommand) → Verdict asked status.WriteFault → Failed output output'
   write-failed None v = cc (v.0)
-  write-failed (Some Play) v = done-write most_input (Reads scenario_of) (Refuses scenario_of)
-      (output' ≡ output) (λ asked. IsWritten (IsPlayText IsScripted asked) output output') (is-reading scenario_of)
-      (λ one. one ≡ status.Ok) input input' output output'
-      (λ asked v w. written-ends (IsPlayText IsScripted asked) output output' v w) v.0
+  write-failed (Some Play) v =
+      played-write most_input scenario_of (IsPlayText IsScripted) input input' output output' v.0
   write-failed (Some Over) v = done-write most_input (Reads scenario_of) (Refuses scenario_of)
       (IsUntouched by told net net' output output') (IsOver by told net net' output output') (is-reading scenario_of)
       (λ one. one ≡ status.Ok) input input' output output' over-ends v
@@ -179,10 +176,7 @@ module _ {L State : Type 0} (by : Answering State) (told : L → LinkTold State)
       not_accepted = λ none. answer-or (asked-at None none)
           (λ v. (v ≡ status.Usage) ⊎ ((v ≡ status.WriteFault) × Failed c c')) (λ v is. inl is.0)
           (λ failed. inr failed);
-      play = λ is. input-answers most_input (Reads scenario_of) (Refuses scenario_of)
-          (output' ≡ output) (λ asked. IsWritten (IsPlayText IsScripted asked) output output') (is-reading scenario_of)
-          (λ one. one ≡ status.Ok) input input' output output'
-          (λ asked v w. written-ends (IsPlayText IsScripted asked) output output' v w) c c'
+      play = λ is. text-answers most_input scenario_of (IsPlayText IsScripted) input input' output output'
           (answer-by (asked-at (Some Play) is) (λ v found. found.0));
       net = λ is. input-answers most_input (Reads scenario_of) (Refuses scenario_of)
           (IsUntouched by told net net' output output') (IsOver by told net net' output output')
