@@ -1,21 +1,10 @@
--- The statuses: their numbers, the line that each verdict writes to the output, and the line that each status writes to
--- the complaints.
-use Rattle.std.specs.Prelude.{ℕ, List, [], ◌++◌, codes, decimal}
+-- The statuses: the line that each verdict writes to the output, and the line that each status writes to the complaints.
+use Rattle.std.specs.Prelude.{ℕ, List, [], ◌++◌, codes, decimal, Option, Some, None}
 use Rattle.wf_audit.specs.declared.verdict.Verdict.{Verdict}
 use Rattle.wf_audit.specs.declared.verdict.Verdict.TheVariants as verdict
-use Rattle.wf_audit_program.specs.declared.status.AuditStatus.{AuditStatus}
-use Rattle.wf_audit_program.specs.declared.status.AuditStatus.TheVariants as status
-
--- the number that the program ends with
-abbrev pub number : AuditStatus → ℕ
-number status.Ok = 0
-number status.Usage = 1
-number (status.NotPlay verdict) = 2
-number status.ReadFault = 3
-number status.WriteFault = 4
-number status.OutOfMemory = 5
-number status.InputTooLong = 6
-number status.BadFrame = 7
+use Rattle.wf_program.specs.Statuses.{line}
+use Rattle.wf_program.specs.declared.status.Status.{Status}
+use Rattle.wf_program.specs.declared.status.Status.TheVariants as status
 
 -- ---- verdicts
 
@@ -39,19 +28,19 @@ verdict_line verdict.Play = codes "play\n"
 verdict_line other = codes "not a play: " ++ (verdict_text other ++ codes "\n")
 
 -- what the program comes to by a verdict, once its line was written
-abbrev pub status_of : Verdict → AuditStatus
+abbrev pub status_of : Verdict → Status Verdict
 status_of verdict.Play = status.Ok
-status_of other = status.NotPlay other
+status_of other = status.Refused other
 
 -- ---- complaints
 
--- the line on the complaints; none for Ok and NotPlay
-abbrev pub complaint : AuditStatus → List ℕ
-complaint status.Ok = []
-complaint (status.NotPlay verdict) = []
-complaint status.Usage = codes "playaudit: fault 1\n"
-complaint status.ReadFault = codes "playaudit: fault 3\n"
-complaint status.WriteFault = codes "playaudit: fault 4\n"
-complaint status.OutOfMemory = codes "playaudit: fault 5\n"
-complaint status.InputTooLong = codes "playaudit: fault 6\n"
-complaint status.BadFrame = codes "playaudit: fault 7\n"
+-- the line on the complaints; none for Ok and for a verdict
+abbrev pub complaint : Status Verdict → Option (List ℕ)
+complaint status.Ok = None
+complaint (status.Refused one) = None
+complaint status.Usage = Some (line (codes "playaudit: fault 1") [])
+complaint status.ReadFault = Some (line (codes "playaudit: fault 3") [])
+complaint status.WriteFault = Some (line (codes "playaudit: fault 4") [])
+complaint status.OutOfMemory = Some (line (codes "playaudit: fault 5") [])
+complaint status.InputTooLong = Some (line (codes "playaudit: fault 6") [])
+complaint status.OwnFault = Some (line (codes "playaudit: fault 7") [])

@@ -4,8 +4,5 @@
 mod complaint;
 mod line;
 mod program;
-mod status;
-mod writing;
 
-pub use program::playaudit;
-pub use status::AuditStatus;
+pub use program::{AuditStatus, playaudit};

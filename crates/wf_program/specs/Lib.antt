@@ -1,5 +1,6 @@
+pub mod Complaints
 pub mod Inputs
 pub mod Program
+pub mod Sinks
 pub mod Statuses
-pub mod Steps
 pub mod Words

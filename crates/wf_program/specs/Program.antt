@@ -1,123 +1,116 @@
--- What a program that plays a scenario answers to an input: why it comes to a verdict, what it has written then, and
--- what it tells the complaints (this project's own).
-use Rattle.std.specs.Prelude.{◌≡◌, ℕ, ◌+◌, ◌≤◌, ◌<◌, ◌⊎◌, List, length, Some, Result, Ok, Err}
+-- Why a program comes to its verdict on an input, and what it promises of its answer. Each program says what bytes are
+-- read as, which are refused, and what comes of the work on what they are; the rest is the same for all (this project's
+-- own).
+use Rattle.std.specs.Prelude.{◌≡◌, ◌≢◌, ℕ, ◌+◌, ◌≤◌, ◌<◌, ◌⊎◌, List, length, Some, Result}
 use Rattle.wf_link.specs.Counts.{Rose}
 use Rattle.wf_link.specs.Sinks.{SinkTold, Took, TookPart}
 use Rattle.wf_link.specs.Sources.{Gave, SourceTold}
-use Rattle.wf_script.specs.declared.place.Place.{Place}
-use Rattle.wf_script_values.specs.declared.scenario.Scenario.{Scenario}
-use Rattle.wf_program.specs.Inputs.{GaveFor, IsWhole, most_input}
+use Rattle.wf_program.specs.Inputs.{GaveFor, IsWhole, IsWhyStopped, Reads, Refuses}
+use Rattle.wf_program.specs.Sinks.{Failed}
 use Rattle.wf_program.specs.declared.status.Status.{Status}
 use Rattle.wf_program.specs.declared.status.Status.TheVariants as status
 
--- a sink failed, or took nothing
-abbrev pub Failed : SinkTold → SinkTold → Type 0
-Failed old new = Rose old.faults new.faults ⊎ Rose old.zeros new.zeros
+-- ---- excuses
 
--- ---- what is told
-
--- the complaints have taken this line of the verdict and the program answers it; or a part of the line, since they
--- failed, and it answers WriteFault
-abbrev pub IsComplained : List ℕ → SinkTold → SinkTold → Status → Status → Type 0
-IsComplained line old new verdict answer =
-    ((answer ≡ verdict) × Took old.taken new.taken line)
-    ⊎ ((answer ≡ status.WriteFault) × TookPart old.taken new.taken line × Failed old new)
-
--- nothing is told of Ok
-abbrev pub IsTold : List ℕ → SinkTold → SinkTold → Status → Status → Type 0
-IsTold line old new status.Ok answer = (answer ≡ status.Ok) × (new ≡ old)
-IsTold line old new verdict answer = IsComplained line old new verdict answer
-
--- ---- what is written
-
--- By how bytes are read as a scenario, or refused at a place, and by which texts may be written for a scenario:
-module _ (reading : List ℕ → Result Scenario Place) (IsTextFor : Scenario → List ℕ → Type 0) where
-  -- such a text for the scenario that the bytes are
-  pub record TextOf (bytes : List ℕ) : Type 0 where
-    pub scenario : Scenario
-    pub read : reading bytes ≡ Ok scenario
-    pub text : List ℕ
-    pub is_text : IsTextFor scenario text
-
-  -- the output has taken such a text, and nothing else
-  pub record WritesText (bytes : List ℕ) (old new : SinkTold) : Type 0 where
-    pub of : TextOf bytes
-    pub took : Took old.taken new.taken of.text
-
-  -- it has taken nothing, or a prefix of such a text
-  pub record WritesPart (bytes : List ℕ) (old new : SinkTold) : Type 0 where
-    pub of : TextOf bytes
-    pub took : TookPart old.taken new.taken of.text
-
-  -- what the bytes of a whole input come to, and what the output has taken then
-  abbrev pub IsOutcome : List ℕ → SinkTold → SinkTold → Status → Type 0
-  IsOutcome bytes output output' status.Ok = WritesText bytes output output'
-  IsOutcome bytes output output' (status.Scenario place) = (reading bytes ≡ Err place) × (output' ≡ output)
-  IsOutcome bytes output output' status.WriteFault = WritesPart bytes output output' × Failed output output'
-  IsOutcome bytes output output' status.OutOfMemory = (output' ≡ output) ⊎ WritesPart bytes output output'
-  IsOutcome bytes output output' status.Usage = ⊥
-  IsOutcome bytes output output' status.ReadFault = ⊥
-  IsOutcome bytes output output' status.InputTooLong = ⊥
-
-  -- Why the program comes to a verdict on the bytes that the input gave. Where memory was refused and the output
-  -- has taken something, the input was read to its end.
-  abbrev pub IsCause : List ℕ → SourceTold → SourceTold → SinkTold → SinkTold → Status → Type 0
-  IsCause bytes input input' output output' status.ReadFault =
-      (length bytes ≤ most_input) × Rose input.faults input'.faults × (output' ≡ output)
-  IsCause bytes input input' output output' status.InputTooLong =
-      (length bytes ≡ most_input + 1) × (output' ≡ output)
-  IsCause bytes input input' output output' status.OutOfMemory =
-      (length bytes ≤ most_input) × ((output' ≡ output) ⊎ (IsWhole bytes input' × WritesPart bytes output output'))
-  IsCause bytes input input' output output' verdict = IsWhole bytes input' × IsOutcome bytes output output' verdict
-
-  -- the verdict on an input
-  pub record IsPlayed (input input' : SourceTold) (output output' : SinkTold) (verdict : Status) : Type 0 where
-    -- the bytes that the input gave
-    pub bytes : List ℕ
-    pub gave : Gave input.left input'.left bytes
-    pub cause : IsCause bytes input input' output output' verdict
-
--- ---- the whole
-
--- the other answers that a play without a fault of its scenario can have: memory was refused, or the complaints or
--- the output failed
-abbrev pub IsExcused : SinkTold → SinkTold → SinkTold → SinkTold → Status → Type 0
+-- the answers that any run may have besides: memory was refused, or the complaints or the output failed
+abbrev pub IsExcused : {R : Type 0} → SinkTold → SinkTold → SinkTold → SinkTold → Status R → Type 0
 IsExcused output output' complaints complaints' answer =
     (answer ≡ status.OutOfMemory)
     ⊎ ((answer ≡ status.WriteFault) × (Failed output output' ⊎ Failed complaints complaints'))
 
 -- where an input was read, it may have failed too
-abbrev pub IsExcusedRead : SourceTold → SourceTold → SinkTold → SinkTold → SinkTold → SinkTold → Status → Type 0
+abbrev pub IsExcusedRead : {R : Type 0} → SourceTold → SourceTold → SinkTold → SinkTold → SinkTold → SinkTold
+    → Status R → Type 0
 IsExcusedRead input input' output output' complaints complaints' answer =
     ((answer ≡ status.ReadFault) × Rose input.faults input'.faults)
     ⊎ IsExcused output output' complaints complaints' answer
 
--- What the program promises of its answer to an input.
-pub record AnswersInput (reading : List ℕ → Result Scenario Place) (IsTextFor : Scenario → List ℕ → Type 0)
-    (input input' : SourceTold) (output output' complaints complaints' : SinkTold) (answer : Status) : Type 0 where
-  -- Ok only where the whole input is a scenario, whose text the output has taken, and the complaints nothing
-  pub ok : answer ≡ status.Ok → GaveFor input input' (λ bytes.
-      IsWhole bytes input' × WritesText reading IsTextFor bytes output output' × (complaints' ≡ complaints))
-  -- Scenario only where the whole input is refused at that place, and there always, but for the excuses
-  pub refused : (place : Place) → answer ≡ status.Scenario place → GaveFor input input' (λ bytes.
-      IsWhole bytes input' × ((reading bytes ≡ Err place) × (output' ≡ output)))
-  pub no_scenario : (bytes : List ℕ) (place : Place) → input.left ≡ Some bytes
-      → length bytes ≤ most_input → reading bytes ≡ Err place
-      → (answer ≡ status.Scenario place) ⊎ IsExcusedRead input input' output output' complaints complaints' answer
-  -- InputTooLong only where one byte more than the longest input was read, and there always, but for the excuses
-  pub too_long : answer ≡ status.InputTooLong
-      → GaveFor input input' (λ bytes. (length bytes ≡ most_input + 1) × (output' ≡ output))
-  pub longer : (bytes : List ℕ) → input.left ≡ Some bytes → most_input < length bytes
-      → (answer ≡ status.InputTooLong) ⊎ IsExcusedRead input input' output output' complaints complaints' answer
-  -- ReadFault only where the input failed
-  pub read_fault : answer ≡ status.ReadFault → Rose input.faults input'.faults
-  -- an input that is a scenario has the answer Ok, but for the excuses
-  pub complete : (bytes : List ℕ) (scenario : Scenario) → input.left ≡ Some bytes
-      → length bytes ≤ most_input → reading bytes ≡ Ok scenario
-      → (answer ≡ status.Ok) ⊎ IsExcusedRead input input' output output' complaints complaints' answer
-  -- OutOfMemory only where the output has taken nothing, or the whole input is a scenario, and it has taken a
-  -- prefix of a text for it
-  pub out_of_memory : answer ≡ status.OutOfMemory → GaveFor input input' (λ bytes. (length bytes ≤ most_input)
-      × ((output' ≡ output) ⊎ (IsWhole bytes input' × WritesPart reading IsTextFor bytes output output')))
-  -- at most one byte more than the longest input is read
-  pub bound : GaveFor input input' (λ bytes. length bytes ≤ most_input + 1)
+-- ---- an input
+
+-- By how many bytes an input has at most, by what bytes are read as, by which verdict refuses them, by what is as it was
+-- where nothing was done, and by what comes of the work on what was read:
+module _ {A R : Type 0} (most : ℕ) (Reads : List ℕ → A → Type 0) (Refuses : List ℕ → Status R → Type 0)
+    (Untouched : Type 0) (Works : A → Status R → Type 0) where
+  -- the bytes of a whole input are refused by the verdict, and nothing was done
+  abbrev pub IsRefused : List ℕ → SourceTold → Status R → Type 0
+  IsRefused bytes input' verdict = IsWhole most bytes input' × Refuses bytes verdict × Untouched
+
+  -- the bytes of a whole input were read, and the work on what they are came to the verdict
+  pub record HasWorked (bytes : List ℕ) (input' : SourceTold) (verdict : Status R) : Type 0 where
+    pub whole : IsWhole most bytes input'
+    pub asked : A
+    pub reads : Reads bytes asked
+    pub works : Works asked verdict
+
+  -- Why the program comes to a verdict on the bytes that the input gave: the input was not read whole, or memory was
+  -- refused, and nothing was done; or its bytes are refused; or the work on what they are came to it.
+  abbrev pub IsCause : List ℕ → SourceTold → SourceTold → Status R → Type 0
+  IsCause bytes input input' verdict =
+      (IsWhyStopped most bytes input input' verdict × Untouched)
+      ⊎ IsRefused bytes input' verdict
+      ⊎ HasWorked bytes input' verdict
+
+  -- the verdict on an input
+  pub record IsDone (input input' : SourceTold) (verdict : Status R) : Type 0 where
+    -- the bytes that the input gave
+    pub bytes : List ℕ
+    pub gave : Gave input.left input'.left bytes
+    pub cause : IsCause bytes input input' verdict
+
+  -- What the program promises of its answer to an input, by what it comes to where the input is accepted.
+  pub record AnswersInput (Finishes : Status R → Type 0) (input input' : SourceTold)
+      (output output' complaints complaints' : SinkTold) (answer : Status R) : Type 0 where
+    -- an answer has its cause
+    pub cause : answer ≢ status.WriteFault → GaveFor input input' (λ bytes. IsCause bytes input input' answer)
+    -- ReadFault only where the input failed
+    pub read_fault : answer ≡ status.ReadFault → Rose input.faults input'.faults
+    -- an input that is accepted is finished, but for the excuses
+    pub complete : (bytes : List ℕ) (asked : A) → input.left ≡ Some bytes → length bytes ≤ most → Reads bytes asked
+        → Finishes answer ⊎ IsExcusedRead input input' output output' complaints complaints' answer
+    -- one that is refused has that answer, but for the excuses
+    pub refused : (bytes : List ℕ) (verdict : Status R) → input.left ≡ Some bytes → length bytes ≤ most
+        → Refuses bytes verdict
+        → (answer ≡ verdict) ⊎ IsExcusedRead input input' output output' complaints complaints' answer
+    -- one that is longer has InputTooLong, but for the excuses
+    pub longer : (bytes : List ℕ) → input.left ≡ Some bytes → most < length bytes
+        → (answer ≡ status.InputTooLong) ⊎ IsExcusedRead input input' output output' complaints complaints' answer
+    -- at most one byte more than the longest input is read
+    pub bound : GaveFor input input' (λ bytes. length bytes ≤ most + 1)
+
+-- ---- a text
+
+-- By which texts may be written:
+module _ (IsText : List ℕ → Type 0) where
+  -- the output has taken such a text, and nothing else
+  pub record WritesText (old new : SinkTold) : Type 0 where
+    pub text : List ℕ
+    pub is_text : IsText text
+    pub took : Took old.taken new.taken text
+
+  -- it has taken nothing, or a prefix of such a text
+  pub record WritesPart (old new : SinkTold) : Type 0 where
+    pub text : List ℕ
+    pub is_text : IsText text
+    pub took : TookPart old.taken new.taken text
+
+  -- what comes of the work on such a text
+  abbrev pub IsWritten : {R : Type 0} → SinkTold → SinkTold → Status R → Type 0
+  IsWritten old new status.Ok = WritesText old new
+  IsWritten old new status.WriteFault = WritesPart old new × Failed old new
+  IsWritten old new status.OutOfMemory = WritesPart old new
+  IsWritten old new _ = ⊥
+
+-- A program that writes a text for what its input is, by which texts these are:
+module _ {A R : Type 0} (most : ℕ) (reading : List ℕ → Result A R) (IsTextFor : A → List ℕ → Type 0) where
+  -- the verdict on an input
+  abbrev pub IsPlayed : SourceTold → SourceTold → SinkTold → SinkTold → Status R → Type 0
+  IsPlayed input input' output output' verdict =
+      IsDone most (Reads reading) (Refuses reading) (output' ≡ output)
+      (λ asked. IsWritten (IsTextFor asked) output output') input input' verdict
+
+  -- what the program promises of its answer to one
+  abbrev pub AnswersText : SourceTold → SourceTold → SinkTold → SinkTold → SinkTold → SinkTold → Status R → Type 0
+  AnswersText input input' output output' complaints complaints' answer =
+      AnswersInput most (Reads reading) (Refuses reading) (output' ≡ output)
+      (λ asked. IsWritten (IsTextFor asked) output output') (λ one. one ≡ status.Ok) input input' output output'
+      complaints complaints' answer

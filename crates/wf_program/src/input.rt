@@ -1,34 +1,38 @@
-ghost use Rattle.std.specs.Prelude.{IfErr, IfOk};
-ghost use Rattle.wf_program.specs.Steps.{IsRead, IsUnread};
-ghost use Rattle.wf_script.specs.Scenarios.{scenario_of};
-ghost use Rattle.wf_script_values.specs.Valid.{IsValid};
+ghost use Rattle.std.specs.Prelude.{◌≡◌, ◌<◌, ◌^◌, IfErr, IfOk};
+ghost use Rattle.wf_program.specs.Inputs as spec;
+ghost use Rattle.wf_program.specs.Inputs.{IsGiven, IsStopped};
 
 use crate::status::Status;
 use std::alloc::Global;
 use wf_link::{ReadStop, Source, read_whole};
-use wf_script::read_scenario;
-use wf_script_values::Scenario;
-use wf_text::OutOfMemory;
+use wf_text::{Bytes, OutOfMemory};
 
-/// The longest input that is read, in bytes.
-const MOST_INPUT: usize = 4194304;
-
-/// Reads an input whole, as a scenario, which is valid. Else the verdict on the input: `Scenario` with the first
-/// refused place, `ReadFault` where the input failed, `InputTooLong` where byte 4,194,305 was read, and `OutOfMemory`.
-pub fn scenario_in<S: Source>(alloc: Global, input: &mut S) -> Result<Scenario, Status>
-    ensures valid { IfOk result IsValid }
-    ensures read { IfOk result (IsRead scenario_of (S.gives input.old) (S.gives input.new)) }
-    ensures unread { IfErr result (IsUnread scenario_of (S.gives input.old) (S.gives input.new)) }
+/// Reads an input whole, which has at most so many bytes. Else the verdict on it: `ReadFault` where the input failed,
+/// `InputTooLong` where one byte more was read, and `OutOfMemory`.
+pub fn read_input<S: Source, R: Drop>(
+    alloc: Global,
+    input: &mut S,
+    most: usize,
+) -> Result<Bytes, Status<R>>
+    requires { most < 2 ^ 32 }
+    ensures given { IfOk result (IsGiven most (S.gives input.old) (S.gives input.new)) }
+    ensures stopped { IfErr result (IsStopped most (S.gives input.old) (S.gives input.new)) }
 {
-    let text = match read_whole(alloc, input, MOST_INPUT) {
-        Err(ReadStop::Fault) => return Err(Status::ReadFault),
-        Err(ReadStop::TooLong) => return Err(Status::InputTooLong),
-        Err(ReadStop::OutOfMemory) => return Err(Status::OutOfMemory),
-        Ok(text) => text,
-    };
-    match read_scenario(alloc, text.as_slice()) {
+    match read_whole(alloc, input, most) {
+        Ok(text) => Ok(text),
+        Err(ReadStop::Fault) => Err(Status::ReadFault),
+        Err(ReadStop::TooLong) => Err(Status::InputTooLong),
+        Err(ReadStop::OutOfMemory) => Err(Status::OutOfMemory),
+    }
+}
+
+/// What a text was read as, or else the verdict on it.
+pub fn read_as<A: Drop, R: Drop>(read: Result<Result<A, R>, OutOfMemory>) -> Result<A, Status<R>>
+    ensures { result ≡ spec.read_as read }
+{
+    match read {
+        Ok(Ok(asked)) => Ok(asked),
+        Ok(Err(reason)) => Err(Status::Refused(reason)),
         Err(OutOfMemory) => Err(Status::OutOfMemory),
-        Ok(Err(place)) => Err(Status::Scenario(place)),
-        Ok(Ok(scenario)) => Ok(scenario),
     }
 }

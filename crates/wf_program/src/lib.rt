@@ -1,10 +1,12 @@
-// What programs that play the scenario of an input have in common: their statuses, reading, and telling a verdict.
+// The shell of a program that reads an input and writes an output: what it comes to, its input, and its complaints.
 #![tactic(auto)]
 
 mod complaint;
 mod input;
 mod status;
+mod writing;
 
-pub use complaint::tell;
-pub use input::scenario_in;
+pub use complaint::{complain, told};
+pub use input::{read_as, read_input};
 pub use status::{Status, status_of};
+pub use writing::{write_line, write_text};

@@ -1,29 +1,30 @@
 ghost use Rattle.std.specs.Prelude.{◌≡◌};
 ghost use Rattle.wf_program.specs.Statuses as spec;
 
-use wf_print::Failure;
-use wf_script::Place;
+use wf_link::WriteFault;
 
-/// What a program came to that plays the scenario of its input. The numbers are 0 to 6 in this order.
+/// What a program came to. The numbers are 0 to 7 in this order.
 #[derive(Drop)]
-pub enum Status {
-    /// The input was read to its end, and all was played and written.
+pub enum Status<R> {
+    /// The input was read to its end, and all was done and written.
     Ok,
     /// The words are not accepted.
     Usage,
-    /// The scenario is refused at this place.
-    Scenario(Place),
+    /// The input is refused, or what it asks about is: for this reason.
+    Refused(R),
     /// The input failed.
     ReadFault,
     /// The output or the complaints failed, or took nothing of a piece.
     WriteFault,
     /// Memory was refused.
     OutOfMemory,
-    /// Byte 4,194,305 of the input was read.
+    /// One byte more than the longest input was read.
     InputTooLong,
+    /// The program's own fault, of which its page tells; not every program has one.
+    OwnFault,
 }
 
-impl Status {
+impl<R> Status<R> {
     ghost use Rattle.std.specs.Prelude.{◌≡◌};
     ghost use Rattle.wf_program.specs.Statuses as spec;
 
@@ -34,23 +35,23 @@ impl Status {
         match self {
             Status::Ok => 0,
             Status::Usage => 1,
-            Status::Scenario(_) => 2,
+            Status::Refused(_) => 2,
             Status::ReadFault => 3,
             Status::WriteFault => 4,
             Status::OutOfMemory => 5,
             Status::InputTooLong => 6,
+            Status::OwnFault => 7,
         }
     }
 }
 
 /// The status by what came of writing a text: `Ok` where it was written whole.
-pub fn status_of(written: Result<(), Failure>) -> Status
+pub fn status_of<R: Drop>(written: Result<(), WriteFault>) -> Status<R>
     ensures { result ≡ spec.written_status written }
 {
     match written {
         Ok(()) => Status::Ok,
-        Err(Failure::OutOfMemory) => Status::OutOfMemory,
-        Err(Failure::Fault) => Status::WriteFault,
-        Err(Failure::TookNothing) => Status::WriteFault,
+        Err(WriteFault::Fault) => Status::WriteFault,
+        Err(WriteFault::TookNothing) => Status::WriteFault,
     }
 }

@@ -1,46 +1,44 @@
 -- What the program answers to its words: its verdict by the words and the input, and what it tells the complaints. Why
 -- it comes to a verdict on an input, and what it has written then, wf_program's definitions say.
 use Rattle.std.specs.Prelude.{◌≡◌, ◌≢◌, ℕ, ◌⊎◌, Bool, true, false, List}
-use Rattle.wf_link.specs.Sinks.{SinkTold, Took}
+use Rattle.wf_link.specs.Sinks.{SinkTold}
 use Rattle.wf_link.specs.Sources.{SourceTold}
-use Rattle.wf_program.specs.Program.{AnswersInput, Failed, IsPlayed, IsTold}
+use Rattle.wf_program.specs.Complaints.{HasComplained, IsAnswer}
+use Rattle.wf_program.specs.Program.{AnswersText, IsPlayed}
+use Rattle.wf_program.specs.Sinks.{Failed}
 use Rattle.wf_program.specs.declared.status.Status.{Status}
 use Rattle.wf_program.specs.declared.status.Status.TheVariants as status
 use Rattle.wf_report_program.specs.Scenarios.{reported_scenario}
 use Rattle.wf_report_program.specs.Statuses.{complaint}
 use Rattle.wf_report_program.specs.Text.{IsReportText}
 use Rattle.wf_report_program.specs.Words.{are_accepted}
+use Rattle.wf_script.specs.declared.place.Place.{Place}
+
+-- the longest input, in bytes
+abbrev pub most_input : ℕ
+most_input = 4194304
 
 -- The verdict: Usage exactly where the words are not accepted, and then nothing was read or written. Else the scenario
 -- of the input is played, and the text of its reports is written.
-abbrev pub IsVerdict : Bool → SourceTold → SourceTold → SinkTold → SinkTold → Status → Type 0
+abbrev pub IsVerdict : Bool → SourceTold → SourceTold → SinkTold → SinkTold → Status Place → Type 0
 IsVerdict false input input' output output' verdict =
     (verdict ≡ status.Usage) × (input' ≡ input) × (output' ≡ output)
 IsVerdict true input input' output output' verdict =
-    IsPlayed reported_scenario IsReportText input input' output output' verdict
-
--- How the program came to its answer: it came to a verdict first, and told it then.
-pub record IsAnswer (words : List (List ℕ)) (input input' : SourceTold)
-    (output output' complaints complaints' : SinkTold)
-    (answer : Status) : Type 0 where
-  pub verdict : Status
-  pub is_verdict : IsVerdict (are_accepted words) input input' output output' verdict
-  pub is_told : IsTold (complaint verdict) complaints complaints' verdict answer
+    IsPlayed most_input reported_scenario IsReportText input input' output output' verdict
 
 -- What the program promises of its answer. The first field says all; the others are what it says of each status.
 pub record Answers (words : List (List ℕ)) (input input' : SourceTold)
-    (output output' complaints complaints' : SinkTold)
-    (answer : Status) : Type 0 where
-  pub is_answer : IsAnswer words input input' output output' complaints complaints' answer
+    (output output' complaints complaints' : SinkTold) (answer : Status Place) : Type 0 where
+  pub is_answer : IsAnswer (IsVerdict (are_accepted words) input input' output output') complaint complaints complaints'
+      answer
   -- Usage only where the words are not accepted, and there always, unless the complaints failed
   pub usage : answer ≡ status.Usage → are_accepted words ≡ false
   pub not_accepted : are_accepted words ≡ false
       → (answer ≡ status.Usage) ⊎ ((answer ≡ status.WriteFault) × Failed complaints complaints')
   -- accepted words, by the scenario that the input is and by the texts of the reports of its plays
-  pub play : are_accepted words ≡ true
-      → AnswersInput reported_scenario IsReportText input input' output output' complaints complaints' answer
+  pub play : are_accepted words ≡ true → AnswersText most_input reported_scenario IsReportText input input' output
+      output' complaints complaints' answer
   -- WriteFault only where a sink failed or took nothing
   pub write_fault : answer ≡ status.WriteFault → Failed output output' ⊎ Failed complaints complaints'
-  -- another answer than Ok and WriteFault is told by its whole line
-  pub complained : answer ≢ status.Ok → answer ≢ status.WriteFault
-      → Took complaints.taken complaints'.taken (complaint answer)
+  -- another answer is told by its whole line, and Ok by none
+  pub complained : answer ≢ status.WriteFault → HasComplained (complaint answer) complaints complaints'

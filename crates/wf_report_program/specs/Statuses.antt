@@ -1,19 +1,27 @@
--- The line by which the program tells a status to the complaints.
-use Rattle.std.specs.Prelude.{ℕ, List, [], codes}
-use Rattle.wf_program.specs.Statuses.{line_of}
+-- The statuses of the program: the line that tells one to the complaints, and the one by what came of writing.
+use Rattle.std.specs.Prelude.{ℕ, List, [], codes, Option, Some, None, Result, Ok, Err}
+use Rattle.wf_print.specs.declared.failure.Failure.{Failure}
+use Rattle.wf_print.specs.declared.failure.Failure.TheVariants as failure
+use Rattle.wf_program.specs.Statuses.{line}
 use Rattle.wf_program.specs.declared.status.Status.{Status}
 use Rattle.wf_program.specs.declared.status.Status.TheVariants as status
+use Rattle.wf_script.specs.declared.place.Place.{Place}
 
--- how the line begins; nothing is told of Ok
-abbrev pub head : Status → List ℕ
-head status.Ok = []
-head status.Usage = codes "cspreport: fault 1"
-head (status.Scenario place) = codes "cspreport: fault 2 at "
-head status.ReadFault = codes "cspreport: fault 3"
-head status.WriteFault = codes "cspreport: fault 4"
-head status.OutOfMemory = codes "cspreport: fault 5"
-head status.InputTooLong = codes "cspreport: fault 6"
+-- the line of a verdict: the number of the fault, and the place of a scenario that is refused; none for Ok, and the
+-- program has no fault of its own
+abbrev pub complaint : Status Place → Option (List ℕ)
+complaint status.Ok = None
+complaint status.Usage = Some (line (codes "cspreport: fault 1") [])
+complaint (status.Refused place) = Some (line (codes "cspreport: fault 2 at ") place.text)
+complaint status.ReadFault = Some (line (codes "cspreport: fault 3") [])
+complaint status.WriteFault = Some (line (codes "cspreport: fault 4") [])
+complaint status.OutOfMemory = Some (line (codes "cspreport: fault 5") [])
+complaint status.InputTooLong = Some (line (codes "cspreport: fault 6") [])
+complaint status.OwnFault = None
 
--- the line: the number of the fault, and the place of a scenario that is refused
-abbrev pub complaint : Status → List ℕ
-complaint told = line_of (head told) told
+-- the status by what came of writing a text
+abbrev pub written_status : Result (Unit {0}) Failure → Status Place
+written_status (Ok _) = status.Ok
+written_status (Err failure.OutOfMemory) = status.OutOfMemory
+written_status (Err failure.Fault) = status.WriteFault
+written_status (Err failure.TookNothing) = status.WriteFault

@@ -1,28 +1,36 @@
-ghost use Rattle.std.specs.Prelude.{◌≡◌, ◌⊎◌, IfErr, IfOk};
+ghost use Rattle.std.specs.Prelude.{◌≡◌, IfErr, IfOk};
+ghost use Rattle.wf_program.specs.Inputs.{IsRead, IsUnread, Reads, Refuses};
 ghost use Rattle.wf_program.specs.Program.{IsPlayed};
-ghost use Rattle.wf_program.specs.Steps.{IsRead, IsUnread};
 ghost use Rattle.wf_program.specs.Words.{texts};
-ghost use Rattle.wf_report_program.specs.Program.{Answers, IsVerdict};
-ghost use Rattle.wf_report_program.specs.Scenarios.{documents_place, reported_scenario};
+ghost use Rattle.wf_report_program.specs.Program.{Answers, IsVerdict, most_input};
+ghost use Rattle.wf_report_program.specs.Scenarios.{reported_scenario};
 ghost use Rattle.wf_report_program.specs.Statuses as spec;
 ghost use Rattle.wf_report_program.specs.Text.{IsReportText};
 ghost use Rattle.wf_report_program.specs.Words as words_spec;
 ghost use Rattle.wf_script_values.specs.Valid.{IsValid};
 
+use crate::complaint::tell;
 use crate::text::write_reports;
 use crate::words::are_accepted;
 use std::alloc::Global;
 use std::sync::Wait;
 use std::thread::Threads;
 use wf_link::{Sink, Source};
-use wf_program::{Status, scenario_in, status_of, tell};
+use wf_print::Failure;
+use wf_program::{Status, read_as, read_input};
 use wf_report_play::play_reported;
-use wf_script::Place;
+use wf_script::{Place, read_scenario};
 use wf_script_values::Scenario;
 use wf_text::{Bytes, OutOfMemory};
 
+/// The longest input that is read, in bytes.
+const MOST_INPUT: usize = 4_194_304;
+
 /// The most documents whose reports are played.
 const MOST_DOCUMENTS: usize = 16;
+
+/// What the program came to. A scenario is refused at a place; the program has no fault of its own.
+pub type ReportStatus = Status<Place>;
 
 /// The program, from its words to its status. The words are tested first: `play` alone is accepted. The input is then
 /// read whole, read as a scenario, and played over the scenario's own servers, on threads where these can be made.
@@ -31,7 +39,7 @@ const MOST_DOCUMENTS: usize = 16;
 /// output. A status other than `Ok` is told by one line on the complaints; where that line cannot be written the answer
 /// is `WriteFault`.
 ///
-/// `Usage` exactly where the words are not accepted, and then nothing is read or written. `Scenario` exactly where the
+/// `Usage` exactly where the words are not accepted, and then nothing is read or written. `Refused` exactly where the
 /// input is no scenario, with the first refused place, or one of more than 16 documents, with `/documents`. `ReadFault`
 /// only where the input failed, `WriteFault` only where the output or the complaints failed or took nothing.
 /// `InputTooLong` exactly where byte 4,194,305 was read. `OutOfMemory` where memory was refused.
@@ -42,28 +50,12 @@ pub fn cspreport<R: Threads + Wait + Sync, S: Source, K: Sink, E: Sink>(
     input: &mut S,
     output: &mut K,
     complaints: &mut E,
-) -> Status
+) -> ReportStatus
     ensures { Answers (texts words.now) (S.gives input.old) (S.gives input.new) (K.takes output.old) (K.takes output.new)
         (E.takes complaints.old) (E.takes complaints.new) result }
 {
     let verdict = verdict(rt, alloc, words, input, output);
-    let head = head_of(&verdict);
-    tell(verdict, head, complaints)
-}
-
-// How the line of a verdict begins.
-fn head_of(verdict: &Status) -> &'static [u8]
-    ensures { result.now ≡ spec.head verdict.now }
-{
-    match verdict {
-        Status::Ok => b"",
-        Status::Usage => b"cspreport: fault 1",
-        Status::Scenario(_) => b"cspreport: fault 2 at ",
-        Status::ReadFault => b"cspreport: fault 3",
-        Status::WriteFault => b"cspreport: fault 4",
-        Status::OutOfMemory => b"cspreport: fault 5",
-        Status::InputTooLong => b"cspreport: fault 6",
-    }
+    tell(verdict, complaints)
 }
 
 // The verdict on the words and the input, with what was asked for written to the output.
@@ -73,7 +65,7 @@ fn verdict<R: Threads + Wait + Sync, S: Source, K: Sink>(
     words: &[String],
     input: &mut S,
     output: &mut K,
-) -> Status
+) -> ReportStatus
     ensures { IsVerdict (words_spec.are_accepted (texts words.now)) (S.gives input.old) (S.gives input.new)
         (K.takes output.old) (K.takes output.new) result }
 {
@@ -84,26 +76,41 @@ fn verdict<R: Threads + Wait + Sync, S: Source, K: Sink>(
     }
 }
 
-// The verdict on a scenario of too many documents.
-fn too_many(alloc: Global) -> Status
-    ensures { (result ≡ Status.Scenario documents_place) ⊎ (result ≡ Status.OutOfMemory) }
+// The scenario that a text is, of few enough documents, or the first place at which it is refused.
+fn read_reported(alloc: Global, text: &[u8]) -> Result<Result<Scenario, Place>, OutOfMemory>
+    ensures value { IfOk result (λ read. read ≡ reported_scenario text.now) }
+    ensures valid { IfOk result (λ read. IfOk read IsValid) }
 {
-    match Bytes::of(alloc, b"/documents") {
-        Ok(text) => Status::Scenario(Place { text }),
-        Err(OutOfMemory) => Status::OutOfMemory,
+    match read_scenario(alloc, text)? {
+        Ok(scenario) if scenario.documents.len() > MOST_DOCUMENTS => {
+            let text = Bytes::of(alloc, b"/documents")?;
+            Ok(Err(Place { text }))
+        }
+        read => Ok(read),
     }
 }
 
-// The scenario that the whole input is, of few enough documents, or else the verdict on the input.
-fn reported_in<S: Source>(alloc: Global, input: &mut S) -> Result<Scenario, Status>
+// The scenario that the whole input is, or else the verdict on the input.
+fn scenario_in<S: Source>(alloc: Global, input: &mut S) -> Result<Scenario, ReportStatus>
     ensures valid { IfOk result IsValid }
-    ensures read { IfOk result (IsRead reported_scenario (S.gives input.old) (S.gives input.new)) }
-    ensures unread { IfErr result (IsUnread reported_scenario (S.gives input.old) (S.gives input.new)) }
+    ensures read { IfOk result (IsRead most_input (Reads reported_scenario) (Refuses reported_scenario)
+        (S.gives input.old) (S.gives input.new)) }
+    ensures unread { IfErr result (IsUnread most_input (Reads reported_scenario) (Refuses reported_scenario)
+        (S.gives input.old) (S.gives input.new)) }
 {
-    match scenario_in(alloc, input) {
-        Err(verdict) => Err(verdict),
-        Ok(scenario) if scenario.documents.len() > MOST_DOCUMENTS => Err(too_many(alloc)),
-        Ok(scenario) => Ok(scenario),
+    let text = read_input(alloc, input, MOST_INPUT)?;
+    read_as(read_reported(alloc, text.as_slice()))
+}
+
+// The status by what came of writing the text: `Ok` where it was written whole.
+fn status_of(written: Result<(), Failure>) -> ReportStatus
+    ensures { result ≡ spec.written_status written }
+{
+    match written {
+        Ok(()) => Status::Ok,
+        Err(Failure::OutOfMemory) => Status::OutOfMemory,
+        Err(Failure::Fault) => Status::WriteFault,
+        Err(Failure::TookNothing) => Status::WriteFault,
     }
 }
 
@@ -113,11 +120,11 @@ fn play<R: Threads + Wait + Sync, S: Source, K: Sink>(
     alloc: Global,
     input: &mut S,
     output: &mut K,
-) -> Status
-    ensures { IsPlayed reported_scenario IsReportText (S.gives input.old) (S.gives input.new) (K.takes output.old)
+) -> ReportStatus
+    ensures { IsPlayed most_input reported_scenario IsReportText (S.gives input.old) (S.gives input.new) (K.takes output.old)
         (K.takes output.new) result }
 {
-    let scenario = match reported_in(alloc, input) {
+    let scenario = match scenario_in(alloc, input) {
         Err(verdict) => return verdict,
         Ok(scenario) => scenario,
     };

@@ -9,7 +9,8 @@ use Rattle.wf_link.specs.Counts.{Rose}
 use Rattle.wf_link.specs.Accepts.{GaveFirst}
 use Rattle.wf_link.specs.Links.{Lendings, one_out, TookBack}
 use Rattle.wf_link.specs.Sinks.{SinkTold, Took, TookPart}
-use Rattle.wf_server.specs.Serving.{Failed, PeerTold}
+use Rattle.wf_program.specs.Sinks.{Failed}
+use Rattle.wf_server.specs.Serving.{PeerTold}
 use Rattle.wf_server.specs.declared.serving.Served.{Served}
 use Rattle.wf_server.specs.declared.serving.Served.TheVariants as served
 use Rattle.wf_server.specs.declared.table.Row.{Row}
@@ -17,8 +18,9 @@ use Rattle.wf_server_program.specs.Connections.{AcceptsTold, Connection, GaveEnd
 use Rattle.wf_server_program.specs.Connections.{IsServedBy, line_of, lines_of, Serves, TookEnds}
 use Rattle.wf_server_program.specs.Private.Nexts.{HasServedNext}
 use Rattle.wf_server_program.specs.Private.Notes.{IsNoted, IsWritten}
-use Rattle.wf_server_program.specs.declared.status.ServeStatus.{ServeStatus}
-use Rattle.wf_server_program.specs.declared.status.ServeStatus.TheVariants as status
+use Rattle.wf_program.specs.declared.status.Status.{Status}
+use Rattle.wf_program.specs.declared.status.Status.TheVariants as status
+use Rattle.wf_server.specs.declared.read.BadLine.{BadLine}
 
 -- ---- lists
 
@@ -148,12 +150,12 @@ module _ {End : Type 0} (told : End → PeerTold) (table : List Row) where
   line-one one = append-none (line_of one.served)
 
   -- and its line was written
-  pub noted-one : (a c : AcceptsTold End) (k l : SinkTold) (one : Connection End) (verdict : ServeStatus)
+  pub noted-one : (a c : AcceptsTold End) (k l : SinkTold) (one : Connection End) (verdict : Status BadLine)
       → HasServed told table a c (one ∷ []) → c.faults ≡ a.faults → IsNoted k l one.served verdict
       → Serves told table 1 a c k l verdict
   noted-one a c k l one verdict done quiet noted = by one.served verdict refl noted
     where
-      wrote : (served : Served) (verdict : ServeStatus) → one.served ≡ served → HasLine served
+      wrote : (served : Served) (verdict : Status BadLine) → one.served ≡ served → HasLine served
           → IsWritten k l served verdict → Serves told table 1 a c k l verdict
       wrote served status.Ok is line w = record {
         connections = one ∷ [];
@@ -173,13 +175,13 @@ module _ {End : Type 0} (told : End → PeerTold) (table : List Row) where
         failed = w.failed;
       }
       wrote served status.Usage is line w = w
-      wrote served (status.Table n) is line w = w
+      wrote served (status.Refused n) is line w = w
       wrote served status.ReadFault is line w = w
       wrote served status.OutOfMemory is line w = absurd w
       wrote served status.InputTooLong is line w = w
-      wrote served status.AcceptFault is line w = absurd w
+      wrote served status.OwnFault is line w = absurd w
 
-      short : (verdict : ServeStatus) → one.served ≡ served.OutOfMemory → verdict ≡ status.OutOfMemory → l ≡ k
+      short : (verdict : Status BadLine) → one.served ≡ served.OutOfMemory → verdict ≡ status.OutOfMemory → l ≡ k
           → Serves told table 1 a c k l verdict
       short verdict is same kept = subst (Serves told table 1 a c k l) (sym same) (record {
         connections = one ∷ [];
@@ -189,7 +191,7 @@ module _ {End : Type 0} (told : End → PeerTold) (table : List Row) where
             (subst (λ (o : SinkTold). Took k.taken o.taken []) (sym kept) (wrote-none k.taken));
       })
 
-      by : (served : Served) (verdict : ServeStatus) → one.served ≡ served → IsNoted k l served verdict
+      by : (served : Served) (verdict : Status BadLine) → one.served ≡ served → IsNoted k l served verdict
           → Serves told table 1 a c k l verdict
       by (served.Answered n) verdict is noted = wrote (served.Answered n) verdict is tt noted
       by served.ReadFault verdict is noted = wrote served.ReadFault verdict is tt noted
@@ -232,11 +234,11 @@ module _ {End : Type 0} (told : End → PeerTold) (table : List Row) where
     ]
 
     -- what the next connection comes to, after those before it
-    pub one-after : (verdict : ServeStatus) → n < count → Serves told table 1 b c l m verdict → verdict ≢ status.Ok
+    pub one-after : (verdict : Status BadLine) → n < count → Serves told table 1 b c l m verdict → verdict ≢ status.Ok
         → Serves told table count a c k m verdict
     one-after status.Ok below one other = absurd (other refl)
     one-after status.Usage below one other = one
-    one-after (status.Table line) below one other = one
+    one-after (status.Refused line) below one other = one
     one-after status.ReadFault below one other = one
     one-after status.InputTooLong below one other = one
     one-after status.WriteFault below one other = record {
@@ -255,7 +257,7 @@ module _ {End : Type 0} (told : End → PeerTold) (table : List Row) where
       took = took-again k.taken l.taken m.taken (lines_of before.connections) (lines_of one.connections) _ before.took
           one.took (lines-both before.connections one.connections);
     }
-    one-after status.AcceptFault below one other = record {
+    one-after status.OwnFault below one other = record {
       connections = before.connections ++ one.connections;
       few = omega (arith, below, length-append before.connections one.connections, before.all, one.few);
       served = served-both a b c before.connections one.connections before.served one.served;

@@ -4,12 +4,15 @@ use Rattle.std.specs.List.{AllByRecursion, flat_map}
 use Rattle.wf_link.specs.Counts.{Rose}
 use Rattle.wf_link.specs.Links.{Lendings}
 use Rattle.wf_link.specs.Sinks.{SinkTold, Took, TookPart}
-use Rattle.wf_server.specs.Serving.{Failed, IsServing, PeerTold}
+use Rattle.wf_program.specs.Sinks.{Failed}
+use Rattle.wf_program.specs.Statuses.{line}
+use Rattle.wf_server.specs.Serving.{IsServing, PeerTold}
 use Rattle.wf_server.specs.declared.serving.Served.{Served}
 use Rattle.wf_server.specs.declared.serving.Served.TheVariants as served
 use Rattle.wf_server.specs.declared.table.Row.{Row}
-use Rattle.wf_server_program.specs.declared.status.ServeStatus.{ServeStatus}
-use Rattle.wf_server_program.specs.declared.status.ServeStatus.TheVariants as status
+use Rattle.wf_program.specs.declared.status.Status.{Status}
+use Rattle.wf_program.specs.declared.status.Status.TheVariants as status
+use Rattle.wf_server.specs.declared.read.BadLine.{BadLine}
 
 -- what is told of what accepts connections
 pub record AcceptsTold (End : Type 0) : Type 0 where
@@ -49,9 +52,9 @@ TookEnds (Some old) new ends = new ≡ Some (record { back = old.back ++ ends; o
 
 -- the line of a connection; none where memory was refused
 abbrev pub line_of : Served → List ℕ
-line_of (served.Answered status) = codes "answered " ++ (decimal status ++ codes "\n")
-line_of served.ReadFault = codes "fault read\n"
-line_of served.WriteFault = codes "fault write\n"
+line_of (served.Answered number) = line (codes "answered ") (decimal number)
+line_of served.ReadFault = line (codes "fault read") []
+line_of served.WriteFault = line (codes "fault write") []
 line_of served.OutOfMemory = []
 
 -- the lines of connections, in order
@@ -120,9 +123,9 @@ module _ {End : Type 0} (told : End → PeerTold) where
     pub cause : Rose old.faults new.faults
 
   -- what serving so many connections comes to
-  abbrev pub Serves : List Row → ℕ → AcceptsTold End → AcceptsTold End → SinkTold → SinkTold → ServeStatus → Type 0
+  abbrev pub Serves : List Row → ℕ → AcceptsTold End → AcceptsTold End → SinkTold → SinkTold → Status BadLine → Type 0
   Serves table count old new output output' status.Ok = HasServedAll table count old new output output'
   Serves table count old new output output' status.WriteFault = WasCutShort table count old new output output'
   Serves table count old new output output' status.OutOfMemory = RanShort table count old new output output'
-  Serves table count old new output output' status.AcceptFault = HadNoNext table count old new output output'
+  Serves table count old new output output' status.OwnFault = HadNoNext table count old new output output'
   Serves table count old new output output' _ = ⊥

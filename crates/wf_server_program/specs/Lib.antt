@@ -1,4 +1,4 @@
+pub mod Complaints
 pub mod Connections
 pub mod Private
 pub mod Program
-pub mod Statuses

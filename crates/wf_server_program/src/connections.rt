@@ -2,24 +2,14 @@ ghost use Rattle.std.specs.Prelude.{◌≡◌, IfOk, OnErr};
 ghost use Rattle.wf_server.specs.Serving.{peer_told};
 ghost use Rattle.wf_server_program.specs.Connections.{Serves, accepts_told};
 ghost use Rattle.wf_server_program.specs.Private.Nexts.{HasNoNext, HasServedNext};
-ghost use Rattle.wf_server_program.specs.Private.Notes.{IsNoted, written_status};
+ghost use Rattle.wf_server_program.specs.Private.Notes.{IsNoted};
 
-use crate::pieces::{write_numbered, write_text};
-use crate::status::ServeStatus;
+use crate::program::ServeStatus;
+use itoa::Buffer;
 use std::alloc::Global;
-use wf_link::{Accepts, Failed, Sink, WriteFault};
+use wf_link::{Accepts, Failed, Sink};
+use wf_program::{Status, status_of, write_line};
 use wf_server::{AllowTable, Served, serve};
-
-// What comes of writing a line.
-fn status_of(written: Result<(), WriteFault>) -> ServeStatus
-    ensures { result ≡ written_status written }
-{
-    match written {
-        Ok(()) => ServeStatus::Ok,
-        Err(WriteFault::Fault) => ServeStatus::WriteFault,
-        Err(WriteFault::TookNothing) => ServeStatus::WriteFault,
-    }
-}
 
 // Writes the line of a connection, which has none where memory was refused.
 fn note<K: Sink>(output: &mut K, served: Served) -> ServeStatus
@@ -28,11 +18,12 @@ fn note<K: Sink>(output: &mut K, served: Served) -> ServeStatus
 {
     match served {
         Served::Answered(status) => {
-            status_of(write_numbered(output, b"answered ", u32::from(status)))
+            let mut buffer = Buffer::new();
+            status_of(write_line(output, b"answered ", buffer.format(status).as_bytes()))
         }
-        Served::ReadFault => status_of(write_text(output, b"fault read\n")),
-        Served::WriteFault => status_of(write_text(output, b"fault write\n")),
-        Served::OutOfMemory => ServeStatus::OutOfMemory,
+        Served::ReadFault => status_of(write_line(output, b"fault read", b"")),
+        Served::WriteFault => status_of(write_line(output, b"fault write", b"")),
+        Served::OutOfMemory => Status::OutOfMemory,
     }
 }
 
@@ -68,7 +59,7 @@ fn serve_and_note<K: Sink, A: Accepts>(
 {
     match serve_next(alloc, table, accepts) {
         Ok(served) => note(output, served),
-        Err(Failed) => ServeStatus::AcceptFault,
+        Err(Failed) => Status::OwnFault,
     }
 }
 
@@ -89,9 +80,9 @@ pub(crate) fn serve_each<K: Sink, A: Accepts>(
     let mut number = 0;
     while number < count {
         match serve_and_note(alloc, table, output, accepts) {
-            ServeStatus::Ok => number += 1,
+            Status::Ok => number += 1,
             status => return status,
         }
     }
-    ServeStatus::Ok
+    Status::Ok
 }

@@ -3,9 +3,6 @@
 
 mod complaint;
 mod connections;
-mod pieces;
 mod program;
-mod status;
 
-pub use program::corsserve;
-pub use status::ServeStatus;
+pub use program::{ServeStatus, corsserve};

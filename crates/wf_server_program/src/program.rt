@@ -1,22 +1,28 @@
 ghost use Rattle.std.specs.Prelude.{◌≡◌, false, IfErr, IfOk};
 ghost use Rattle.wf_server.specs.Serving.{peer_told};
-ghost use Rattle.wf_server_words.specs.Words.{are_texts, task_of, texts};
+ghost use Rattle.wf_server_words.specs.Words.{are_texts, task_of};
 ghost use Rattle.wf_server_program.specs.Connections.{accepts_told};
-ghost use Rattle.wf_server_program.specs.Private.Steps.{IsRead, IsUnread};
-ghost use Rattle.wf_server_program.specs.Program.{Answers, IsDone, IsServed, IsVerdict};
-ghost use Rattle.wf_server_program.specs.declared.status.ServeStatus.TheVariants as status;
+ghost use Rattle.wf_server_program.specs.Program.{Answers, IsDone, IsServed, IsVerdict, most_input};
+ghost use Rattle.wf_program.specs.Inputs.{IsRead, IsUnread, Reads, Refuses};
+ghost use Rattle.wf_program.specs.Words.{texts};
+ghost use Rattle.wf_program.specs.declared.status.Status.TheVariants as status;
+ghost use Rattle.wf_server.specs.Reading.{table_of};
 
 use crate::complaint::tell;
 use crate::connections::serve_each;
-use crate::status::ServeStatus;
 use std::alloc::Global;
-use wf_link::{Accepts, Failed, ReadStop, Sink, Source, read_whole};
-use wf_server::{AllowTable, read_table};
+use wf_link::{Accepts, Failed, Sink, Source};
+use wf_program::{Status, read_as, read_input};
+use wf_server::{AllowTable, BadLine, read_table};
 use wf_server_words::{Task, task_of};
 use wf_text::OutOfMemory;
 
 /// The longest input that is read, in bytes.
 const MOST_INPUT: usize = 1_048_832;
+
+/// What the program came to. A table is refused at its first line that has not the form of a row. The program's own
+/// fault is that the address could not be listened at, or that no connection came.
+pub type ServeStatus = Status<BadLine>;
 
 /// The program, from its words to its status. The words are tested first. Then the input is read whole and as an
 /// allow table, the address that the words name is listened at, and as many connections as they say are served
@@ -24,9 +30,9 @@ const MOST_INPUT: usize = 1_048_832;
 /// status other than `Ok` is told by one line on the complaints; where that line cannot be written the answer is
 /// `WriteFault`.
 ///
-/// `Usage` exactly where the words are not accepted, and then nothing is read or written. `Table` exactly where
+/// `Usage` exactly where the words are not accepted, and then nothing is read or written. `Refused` exactly where
 /// the input is no table, with its first line that has not the form. `ReadFault` only where the input failed,
-/// `WriteFault` only where the output or the complaints failed or took nothing, `AcceptFault` only where
+/// `WriteFault` only where the output or the complaints failed or took nothing, `OwnFault` only where
 /// `accepts` failed. `InputTooLong` exactly where byte 1,048,833 was read. `OutOfMemory` where memory was refused.
 /// What a peer does changes the status only by the memory that it costs.
 pub fn corsserve<S: Source, K: Sink, E: Sink, A: Accepts>(
@@ -67,30 +73,21 @@ fn verdict<S: Source, K: Sink, A: Accepts>(
         (K.takes output.old) (K.takes output.new) result }
 {
     match task_of(alloc, words) {
-        Err(OutOfMemory) => ServeStatus::OutOfMemory,
-        Ok(None) => ServeStatus::Usage,
+        Err(OutOfMemory) => Status::OutOfMemory,
+        Ok(None) => Status::Usage,
         Ok(Some(task)) => serve_input(alloc, &task, input, output, accepts),
     }
 }
 
 // The table that the whole input is, or else the verdict on the input.
 fn table_in<S: Source>(alloc: Global, input: &mut S) -> Result<AllowTable, ServeStatus>
-    ensures read { IfOk result (λ table. IsRead (S.gives input.old)
-        (S.gives input.new) table) }
-    ensures unread { IfErr result (IsUnread (S.gives input.old)
+    ensures read { IfOk result (IsRead most_input (Reads table_of) (Refuses table_of) (S.gives input.old)
+        (S.gives input.new)) }
+    ensures unread { IfErr result (IsUnread most_input (Reads table_of) (Refuses table_of) (S.gives input.old)
         (S.gives input.new)) }
 {
-    let text = match read_whole(alloc, input, MOST_INPUT) {
-        Err(ReadStop::Fault) => return Err(ServeStatus::ReadFault),
-        Err(ReadStop::TooLong) => return Err(ServeStatus::InputTooLong),
-        Err(ReadStop::OutOfMemory) => return Err(ServeStatus::OutOfMemory),
-        Ok(text) => text,
-    };
-    match read_table(alloc, text.as_slice()) {
-        Err(OutOfMemory) => Err(ServeStatus::OutOfMemory),
-        Ok(Err(bad)) => Err(ServeStatus::Table(bad.line)),
-        Ok(Ok(table)) => Ok(table),
-    }
+    let text = read_input(alloc, input, MOST_INPUT)?;
+    read_as(read_table(alloc, text.as_slice()))
 }
 
 // Serves by the table that the input is.
@@ -128,7 +125,7 @@ fn serve_table<K: Sink, A: Accepts>(
         (K.takes output.old) (K.takes output.new) result }
 {
     match accepts.listen(task.address.as_slice()) {
-        Err(Failed) => ServeStatus::AcceptFault,
+        Err(Failed) => Status::OwnFault,
         Ok(()) => serve_each(alloc, table, task.count, output, accepts),
     }
 }

@@ -1,19 +1,27 @@
--- The line by which the program tells a status to the complaints.
-use Rattle.std.specs.Prelude.{ℕ, List, [], codes}
-use Rattle.wf_program.specs.Statuses.{line_of}
+-- The statuses of the program: the line that tells one to the complaints, and the one by what came of writing.
+use Rattle.std.specs.Prelude.{ℕ, List, [], codes, Option, Some, None, Result, Ok, Err}
+use Rattle.wf_print.specs.declared.failure.Failure.{Failure}
+use Rattle.wf_print.specs.declared.failure.Failure.TheVariants as failure
+use Rattle.wf_program.specs.Statuses.{line}
 use Rattle.wf_program.specs.declared.status.Status.{Status}
 use Rattle.wf_program.specs.declared.status.Status.TheVariants as status
+use Rattle.wf_script.specs.declared.place.Place.{Place}
 
--- how the line begins; nothing is told of Ok
-abbrev pub head : Status → List ℕ
-head status.Ok = []
-head status.Usage = codes "fetchplay: usage: fetchplay play | net | gen N"
-head (status.Scenario place) = codes "fetchplay: scenario refused at "
-head status.ReadFault = codes "fetchplay: reading failed"
-head status.WriteFault = codes "fetchplay: writing failed"
-head status.OutOfMemory = codes "fetchplay: out of memory"
-head status.InputTooLong = codes "fetchplay: input longer than 4194304 bytes"
+-- the line of a verdict: what is wrong, and the place of a scenario that is refused; none for Ok, and the program has no
+-- fault of its own
+abbrev pub complaint : Status Place → Option (List ℕ)
+complaint status.Ok = None
+complaint status.Usage = Some (line (codes "fetchplay: usage: fetchplay play | net | gen N") [])
+complaint (status.Refused place) = Some (line (codes "fetchplay: scenario refused at ") place.text)
+complaint status.ReadFault = Some (line (codes "fetchplay: reading failed") [])
+complaint status.WriteFault = Some (line (codes "fetchplay: writing failed") [])
+complaint status.OutOfMemory = Some (line (codes "fetchplay: out of memory") [])
+complaint status.InputTooLong = Some (line (codes "fetchplay: input longer than 4194304 bytes") [])
+complaint status.OwnFault = None
 
--- the line: what is wrong, and the place of a scenario that is refused
-abbrev pub complaint : Status → List ℕ
-complaint told = line_of (head told) told
+-- the status by what came of writing a text
+abbrev pub written_status : Result (Unit {0}) Failure → Status Place
+written_status (Ok _) = status.Ok
+written_status (Err failure.OutOfMemory) = status.OutOfMemory
+written_status (Err failure.Fault) = status.WriteFault
+written_status (Err failure.TookNothing) = status.WriteFault

@@ -1,8 +1,8 @@
 // The program's top call: words and streams in, a status out.
 #![tactic(auto)]
 
+mod complaint;
 mod program;
 mod words;
 
-pub use program::fetchplay;
-pub use wf_program::Status;
+pub use program::{PlayStatus, fetchplay};

@@ -1,19 +1,23 @@
-ghost use Rattle.std.specs.Prelude.{◌≡◌, ◌≤◌, IfOk};
-ghost use Rattle.wf_play.specs.Plays.{IsPlay};
-ghost use Rattle.wf_player_seats.specs.Makers.{maker_of};
+ghost use Rattle.std.specs.Prelude.{◌≡◌, ◌≤◌, IfErr, IfOk};
+ghost use Rattle.wf_iso.specs.Plays.{IsPlay};
+ghost use Rattle.wf_player_play.specs.Links.{maker_of};
 ghost use Rattle.wf_print.specs.Text.{play_text};
 ghost use Rattle.wf_script_events.specs.Endings.{HasText};
+ghost use Rattle.wf_print.specs.Writes.{Writes};
+ghost use Rattle.wf_program.specs.Inputs.{IsRead, IsUnread, Reads, Refuses};
 ghost use Rattle.wf_program.specs.Program.{IsPlayed};
-ghost use Rattle.wf_program.specs.Steps.{IsWritten};
 ghost use Rattle.wf_program.specs.Words.{texts};
 ghost use Rattle.wf_script.specs.Generated.{generated};
 ghost use Rattle.wf_script.specs.Scenarios.{scenario_of};
+ghost use Rattle.wf_script_values.specs.Valid.{IsValid};
 ghost use Rattle.wf_link_wire.specs.Wires.{over_link};
 ghost use Rattle.wf_top.specs.Program.{Answers, IsBase, IsPlayText, IsPlayedOver, IsScripted, IsSummed, IsVerdict};
-ghost use Rattle.wf_top.specs.Statuses.{head};
+ghost use Rattle.wf_top.specs.Program.{most_input};
+ghost use Rattle.wf_top.specs.Statuses.{written_status};
 ghost use Rattle.wf_top.specs.Streams.{net_of};
 ghost use Rattle.wf_top.specs.Words as spec;
 
+use crate::complaint::tell;
 use crate::words::{Subcommand, subcommand_of};
 use play_links::Links;
 use std::alloc::Global;
@@ -23,11 +27,18 @@ use std::thread::Threads;
 use wf_iso::law_isolated;
 use wf_link::{Clock, Sink, Source};
 use wf_player_play::{Played, play_over, play_scripted};
-use wf_print::{write_play, write_summary};
-use wf_program::{Status, scenario_in, status_of, tell};
-use wf_script::generate;
+use wf_print::{Failure, write_play, write_summary};
+use wf_program::{Status, read_as, read_input};
+use wf_script::{Place, generate, read_scenario};
+use wf_script_values::Scenario;
 use wf_sim::SimLink;
 use wf_text::OutOfMemory;
+
+/// The longest input that is read, in bytes.
+const MOST_INPUT: usize = 4_194_304;
+
+/// What the program came to. A scenario is refused at a place; the program has no fault of its own.
+pub type PlayStatus = Status<Place>;
 
 /// The latest time at which a play over links begins, in seconds.
 const MOST_BASE: u64 = 1_099_511_627_776;
@@ -41,7 +52,7 @@ const MOST_BASE: u64 = 1_099_511_627_776;
 /// documents is played, and the summary of the play is written. A status other than `Ok` is told by one
 /// line on the complaints; where that line cannot be written the answer is `WriteFault`.
 ///
-/// `Usage` exactly where the words are not accepted, and then nothing is read or written. `Scenario`
+/// `Usage` exactly where the words are not accepted, and then nothing is read or written. `Refused`
 /// exactly where the input is no scenario, with the first refused place. `ReadFault` only where the
 /// input failed, `WriteFault` only where the output or the complaints failed or took nothing.
 /// `InputTooLong` exactly where byte 4,194,305 was read. `OutOfMemory` where memory was refused, or no
@@ -59,7 +70,7 @@ pub fn fetchplay<R: Threads + Wait + Sync, S: Source, K: Sink, E: Sink, N: Links
     complaints: &mut E,
     links: &mut N,
     clock: &mut C,
-) -> Status
+) -> PlayStatus
     ensures { Answers (over_link N.Link.serves) N.Link.told (texts words.now)
         (S.gives input.old) (S.gives input.new)
         (K.takes output.old) (K.takes output.new)
@@ -68,23 +79,7 @@ pub fn fetchplay<R: Threads + Wait + Sync, S: Source, K: Sink, E: Sink, N: Links
         (net_of (maker_of N.opening N.lent N.faults links.new) C.next clock.new) result }
 {
     let verdict = verdict(rt, alloc, words, input, output, links, clock);
-    let head = head_of(&verdict);
-    tell(verdict, head, complaints)
-}
-
-// How the line of a verdict begins.
-fn head_of(verdict: &Status) -> &'static [u8]
-    ensures { result.now ≡ head verdict.now }
-{
-    match verdict {
-        Status::Ok => b"",
-        Status::Usage => b"fetchplay: usage: fetchplay play | net | gen N",
-        Status::Scenario(_) => b"fetchplay: scenario refused at ",
-        Status::ReadFault => b"fetchplay: reading failed",
-        Status::WriteFault => b"fetchplay: writing failed",
-        Status::OutOfMemory => b"fetchplay: out of memory",
-        Status::InputTooLong => b"fetchplay: input longer than 4194304 bytes",
-    }
+    tell(verdict, complaints)
 }
 
 // The verdict on the words and the input, with what was asked for written to the output.
@@ -96,7 +91,7 @@ fn verdict<R: Threads + Wait + Sync, S: Source, K: Sink, N: Links, C: Clock>(
     output: &mut K,
     links: &mut N,
     clock: &mut C,
-) -> Status
+) -> PlayStatus
     ensures { IsVerdict (over_link N.Link.serves) N.Link.told
         (net_of (maker_of N.opening N.lent N.faults links.old) C.next clock.old)
         (net_of (maker_of N.opening N.lent N.faults links.new) C.next clock.new)
@@ -112,14 +107,38 @@ fn verdict<R: Threads + Wait + Sync, S: Source, K: Sink, N: Links, C: Clock>(
     }
 }
 
+// The scenario that the whole input is, or else the verdict on the input.
+fn scenario_in<S: Source>(alloc: Global, input: &mut S) -> Result<Scenario, PlayStatus>
+    ensures valid { IfOk result IsValid }
+    ensures read { IfOk result (IsRead most_input (Reads scenario_of) (Refuses scenario_of)
+        (S.gives input.old) (S.gives input.new)) }
+    ensures unread { IfErr result (IsUnread most_input (Reads scenario_of) (Refuses scenario_of)
+        (S.gives input.old) (S.gives input.new)) }
+{
+    let text = read_input(alloc, input, MOST_INPUT)?;
+    read_as(read_scenario(alloc, text.as_slice()))
+}
+
+// The status by what came of writing a text: `Ok` where it was written whole.
+fn status_of(written: Result<(), Failure>) -> PlayStatus
+    ensures { result ≡ written_status written }
+{
+    match written {
+        Ok(()) => Status::Ok,
+        Err(Failure::OutOfMemory) => Status::OutOfMemory,
+        Err(Failure::Fault) => Status::WriteFault,
+        Err(Failure::TookNothing) => Status::WriteFault,
+    }
+}
+
 // Plays the scenario that the input is over its own servers.
 fn play_scenario<R: Threads + Wait + Sync, S: Source, K: Sink>(
     rt: &R,
     alloc: Global,
     input: &mut S,
     output: &mut K,
-) -> Status
-    ensures { IsPlayed scenario_of (IsPlayText IsScripted) (S.gives input.old) (S.gives input.new)
+) -> PlayStatus
+    ensures { IsPlayed most_input scenario_of (IsPlayText IsScripted) (S.gives input.old) (S.gives input.new)
         (K.takes output.old) (K.takes output.new) result }
 {
     law_isolated::<SimLink>();
@@ -131,7 +150,7 @@ fn play_scenario<R: Threads + Wait + Sync, S: Source, K: Sink>(
         Err(OutOfMemory) => Status::OutOfMemory,
         Ok(played) => {
             forget(scenario);
-            write_text(alloc, played, output)
+            status_of(write_text(alloc, played, output))
         }
     }
 }
@@ -152,7 +171,7 @@ fn play_linked<R: Threads + Wait + Sync, S: Source, K: Sink, N: Links, C: Clock>
     output: &mut K,
     links: &mut N,
     clock: &mut C,
-) -> Status
+) -> PlayStatus
     ensures { IsPlayedOver (over_link N.Link.serves) N.Link.told
         (net_of (maker_of N.opening N.lent N.faults links.old) C.next clock.old)
         (net_of (maker_of N.opening N.lent N.faults links.new) C.next clock.new)
@@ -171,20 +190,20 @@ fn play_linked<R: Threads + Wait + Sync, S: Source, K: Sink, N: Links, C: Clock>
         Err(OutOfMemory) => Status::OutOfMemory,
         Ok(played) => {
             forget(scenario);
-            write_text(alloc, played, output)
+            status_of(write_text(alloc, played, output))
         }
     }
 }
 
 // Writes the text of a play, which is then forgotten: the program ends.
-fn write_text<K: Sink>(alloc: Global, played: Played, output: &mut K) -> Status
+fn write_text<K: Sink>(alloc: Global, played: Played, output: &mut K) -> Result<(), Failure>
     requires { HasText played.transcripts }
-    ensures { IsWritten (play_text played.transcripts played.history) (K.takes output.old)
-        (K.takes output.new) result }
+    ensures { Writes (K.takes output.old) (K.takes output.new)
+        (play_text played.transcripts played.history) result }
 {
     let written = write_play(alloc, &played.transcripts, &played.history, output);
     forget(played);
-    status_of(written)
+    written
 }
 
 // The play of the generated scenario of so many documents.
@@ -207,7 +226,7 @@ fn play_generated<R: Threads + Wait + Sync, K: Sink>(
     alloc: Global,
     count: u32,
     output: &mut K,
-) -> Status
+) -> PlayStatus
     requires { (1 ≤ count) × (count ≤ 64) }
     ensures { IsSummed count (K.takes output.old)
         (K.takes output.new) result }

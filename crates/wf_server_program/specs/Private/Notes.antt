@@ -1,18 +1,13 @@
 -- What comes of writing the line of a connection.
-use Rattle.std.specs.Prelude.{◌≡◌, ◌≤◌, Result, Ok, Err, ⊤}
+use Rattle.std.specs.Prelude.{◌≡◌, ◌≤◌}
 use Rattle.wf_link.specs.Sinks.{SinkTold, Took, TookPart}
-use Rattle.wf_link.specs.declared.sink.WriteFault.{WriteFault}
-use Rattle.wf_server.specs.Serving.{Failed}
+use Rattle.wf_program.specs.Sinks.{Failed}
 use Rattle.wf_server.specs.declared.serving.Served.{Served}
 use Rattle.wf_server.specs.declared.serving.Served.TheVariants as served
 use Rattle.wf_server_program.specs.Connections.{line_of}
-use Rattle.wf_server_program.specs.declared.status.ServeStatus.{ServeStatus}
-use Rattle.wf_server_program.specs.declared.status.ServeStatus.TheVariants as status
-
--- the status by what came of writing
-abbrev pub written_status : Result ⊤ WriteFault → ServeStatus
-written_status (Ok done) = status.Ok
-written_status (Err _) = status.WriteFault
+use Rattle.wf_program.specs.declared.status.Status.{Status}
+use Rattle.wf_program.specs.declared.status.Status.TheVariants as status
+use Rattle.wf_server.specs.declared.read.BadLine.{BadLine}
 
 -- the line was written whole
 pub record HasWritten (old new : SinkTold) (served : Served) : Type 0 where
@@ -25,12 +20,12 @@ pub record HasFailed (old new : SinkTold) (served : Served) : Type 0 where
   pub took : TookPart old.taken new.taken (line_of served)
   pub failed : Failed old new
 
-abbrev pub IsWritten : SinkTold → SinkTold → Served → ServeStatus → Type 0
+abbrev pub IsWritten : SinkTold → SinkTold → Served → Status BadLine → Type 0
 IsWritten old new served status.Ok = HasWritten old new served
 IsWritten old new served status.WriteFault = HasFailed old new served
 IsWritten old new served _ = ⊥
 
 -- the line was written, where there is one
-abbrev pub IsNoted : SinkTold → SinkTold → Served → ServeStatus → Type 0
+abbrev pub IsNoted : SinkTold → SinkTold → Served → Status BadLine → Type 0
 IsNoted old new served.OutOfMemory verdict = (verdict ≡ status.OutOfMemory) × (new ≡ old)
 IsNoted old new served verdict = IsWritten old new served verdict

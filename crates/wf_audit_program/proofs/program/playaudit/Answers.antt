@@ -1,4 +1,4 @@
-use Rattle.wf_audit_program.specs.Program.{texts}
+use Rattle.wf_program.specs.Words.{texts}
 use Rattle.wf_audit_program.proofs.ProgramLemmas.{answers}
 use Rattle.wf_audit_program.proofs.program.playaudit.Goals as goal
 
@@ -9,6 +9,12 @@ returns g c =
     (g.S.Source.gives c.status-status.new.input)
     (g.K.Sink.takes c.args.output.now)
     (g.K.Sink.takes c.status-status.new.output)
+    (texts c.args.words.now)
     (g.E.Sink.takes c.args.complaints.now)
     (g.E.Sink.takes c.tell.new.complaints)
-    c.status-status.result c.tell.result c.tell.ensures (texts c.args.words.now) c.status-status.ensures
+    c.tell.result
+    (record {
+      verdict = c.status-status.result;
+      is_verdict = c.status-status.ensures;
+      is_told = c.tell.ensures;
+    })

@@ -1,5 +1,5 @@
 use Rattle.wf_server.specs.Serving.{peer_told}
-use Rattle.wf_server_words.specs.Words.{texts}
+use Rattle.wf_program.specs.Words.{texts}
 use Rattle.wf_server_program.specs.Connections.{accepts_told}
 use Rattle.wf_server_program.proofs.ProgramLemmas.{answers}
 use Rattle.wf_server_program.proofs.program.corsserve.Goals as goal
@@ -15,7 +15,13 @@ returns g c =
     c.verdict-verdict.new.accepts)
     (g.K.Sink.takes c.args.output.now)
     (g.K.Sink.takes c.verdict-verdict.new.output)
+    (texts c.args.words.now)
     (g.E.Sink.takes c.args.complaints.now)
     (g.E.Sink.takes c.tell.new.complaints)
-    c.verdict-verdict.result c.tell.result c.tell.ensures (texts c.args.words.now)
-    c.verdict-verdict.ensures.first c.verdict-verdict.ensures.verdict
+    c.tell.result
+    (record {
+      verdict = c.verdict-verdict.result;
+      is_verdict = c.verdict-verdict.ensures.verdict;
+      is_told = c.tell.ensures;
+    })
+    c.verdict-verdict.ensures.first

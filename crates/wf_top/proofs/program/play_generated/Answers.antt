@@ -1,12 +1,28 @@
-use Rattle.wf_top.proofs.ProgramLemmas.{summary-outcome}
+use Rattle.std.proofs.Common.{inr, refl}
+use Rattle.wf_print.specs.Summary.{summary_text}
+use Rattle.wf_top.specs.Program.{IsSummary}
+use Rattle.wf_top.proofs.ProgramLemmas.{text-written}
 use Rattle.wf_top.proofs.program.play_generated.Goals as goal
 
 pub returns : goal.returns
-returns g c = rw c.status_of.ensures (summary-outcome c.args.count (record {
-  transcripts = c.in-Ok.played.transcripts;
-  history = c.in-Ok.played.history;
-  play = c.in-Ok.ensures.played;
-}) (g.K.Sink.takes c.args.output.now)
-    (g.K.Sink.takes c.write_summary-written.new.sink)
-    c.write_summary-written.result c.write_summary-written.ensures.ok c.write_summary-written.ensures.err
-    c.write_summary-written.ensures.fault c.write_summary-written.ensures.nothing)
+returns g c =
+    let played = c.in-Ok.played in
+    let told = c.write_summary-written.ensures in
+    rw c.status_of.ensures
+    (inr (text-written (IsSummary c.args.count) (summary_text c.args.count played.transcripts played.history)
+    (g.K.Sink.takes c.args.output.now) (g.K.Sink.takes c.write_summary-written.new.sink)
+    c.write_summary-written.result
+    (record {
+      transcripts = played.transcripts;
+      history = played.history;
+      play = c.in-Ok.ensures.played;
+      text_is = refl;
+    })
+    (record {
+      ok = told.ok;
+      err = told.err;
+      faults_stay = told.faults;
+      zeros_stay = told.zeros;
+      fault = told.fault;
+      nothing = told.nothing;
+    })))

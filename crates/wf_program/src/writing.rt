@@ -1,18 +1,18 @@
-ghost use Rattle.std.specs.Prelude.{◌≡◌, ◌≤◌, ◌++◌, OnErr, OnOk, codes, decimal};
+// Texts that are written whole.
+ghost use Rattle.std.specs.Prelude.{◌≤◌, ◌++◌, OnErr, OnOk};
 ghost use Rattle.wf_link.specs.Sinks.{Took, TookPart};
-ghost use Rattle.wf_server.specs.Serving.{Failed};
+ghost use Rattle.wf_program.specs.Sinks.{Failed};
+ghost use Rattle.wf_program.specs.Statuses.{line};
 
-use itoa::Buffer;
 use wf_link::{Sink, WriteFault, write_whole};
 
-// Writes a text whole.
-pub(crate) fn write_text<K: Sink>(sink: &mut K, text: &[u8]) -> Result<(), WriteFault>
+/// Writes a text whole. After an error the sink has taken a prefix of it.
+pub fn write_text<K: Sink>(sink: &mut K, text: &[u8]) -> Result<(), WriteFault>
     ensures ok { OnOk result (Took (K.takes sink.old).taken (K.takes sink.new).taken text.now) }
     ensures err { OnErr result (TookPart (K.takes sink.old).taken (K.takes sink.new).taken text.now) }
     ensures faults { (K.takes sink.old).faults ≤ (K.takes sink.new).faults }
     ensures zeros { (K.takes sink.old).zeros ≤ (K.takes sink.new).zeros }
-    ensures failed { OnErr result (Failed (K.takes sink.old)
-        (K.takes sink.new)) }
+    ensures failed { OnErr result (Failed (K.takes sink.old) (K.takes sink.new)) }
 {
     match write_whole(sink, text) {
         Ok(()) => Ok(()),
@@ -27,8 +27,7 @@ fn write_two<K: Sink>(sink: &mut K, first: &[u8], second: &[u8]) -> Result<(), W
     ensures err { OnErr result (TookPart (K.takes sink.old).taken (K.takes sink.new).taken (first.now ++ second.now)) }
     ensures faults { (K.takes sink.old).faults ≤ (K.takes sink.new).faults }
     ensures zeros { (K.takes sink.old).zeros ≤ (K.takes sink.new).zeros }
-    ensures failed { OnErr result (Failed (K.takes sink.old)
-        (K.takes sink.new)) }
+    ensures failed { OnErr result (Failed (K.takes sink.old) (K.takes sink.new)) }
 {
     if let Err(fault) = write_text(sink, first) {
         return Err(fault);
@@ -36,24 +35,17 @@ fn write_two<K: Sink>(sink: &mut K, first: &[u8], second: &[u8]) -> Result<(), W
     write_text(sink, second)
 }
 
-// Writes a line that ends with a number.
-pub(crate) fn write_numbered<K: Sink>(
-    sink: &mut K,
-    text: &[u8],
-    number: u32,
-) -> Result<(), WriteFault>
-    ensures ok { OnOk result (Took (K.takes sink.old).taken (K.takes sink.new).taken
-        (text.now ++ (decimal number ++ codes "\n"))) }
+/// Writes a line: how it begins, what ends it, and LF. After an error the sink has taken a prefix of it.
+pub fn write_line<K: Sink>(sink: &mut K, head: &[u8], detail: &[u8]) -> Result<(), WriteFault>
+    ensures ok { OnOk result (Took (K.takes sink.old).taken (K.takes sink.new).taken (line head.now detail.now)) }
     ensures err { OnErr result (TookPart (K.takes sink.old).taken (K.takes sink.new).taken
-        (text.now ++ (decimal number ++ codes "\n"))) }
+        (line head.now detail.now)) }
     ensures faults { (K.takes sink.old).faults ≤ (K.takes sink.new).faults }
     ensures zeros { (K.takes sink.old).zeros ≤ (K.takes sink.new).zeros }
-    ensures failed { OnErr result (Failed (K.takes sink.old)
-        (K.takes sink.new)) }
+    ensures failed { OnErr result (Failed (K.takes sink.old) (K.takes sink.new)) }
 {
-    if let Err(fault) = write_text(sink, text) {
+    if let Err(fault) = write_text(sink, head) {
         return Err(fault);
     }
-    let mut buffer = Buffer::new();
-    write_two(sink, buffer.format(number).as_bytes(), b"\n")
+    write_two(sink, detail, b"\n")
 }

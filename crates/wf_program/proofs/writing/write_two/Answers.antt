@@ -1,5 +1,5 @@
 use Rattle.wf_link.proofs.SinkLemmas.{part-before, err-after}
-use Rattle.wf_server_program.proofs.pieces.write_two.Goals as goal
+use Rattle.wf_program.proofs.writing.write_two.Goals as goal
 
 pub returns-in-Err-clause-err : goal.returns-in-Err-clause-err
 returns-in-Err-clause-err g c =

@@ -1,2 +1,0 @@
--- What the crate's private contracts alone cite: the steps to a status.
-pub mod Steps
