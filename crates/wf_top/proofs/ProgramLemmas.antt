@@ -6,8 +6,8 @@ use Rattle.wf_link.specs.Links.{LinkTold}
 use Rattle.wf_link.specs.Sinks.{SinkTold}
 use Rattle.wf_link.specs.Sources.{SourceTold}
 use Rattle.wf_link_wire.specs.Exchanges.{Answering}
-use Rattle.wf_player_play.specs.Links.{HasTakenBack}
-use Rattle.wf_player_play.proofs.LinkLemmas.{none-taken}
+use Rattle.wf_player_seats.specs.Makers.{HasTakenBack}
+use Rattle.wf_player_seats.proofs.LinkLemmas.{none-taken}
 use Rattle.wf_print.specs.declared.failure.Failure.{Failure}
 use Rattle.wf_print.specs.declared.failure.Failure.TheVariants as failure
 use Rattle.wf_print.specs.Text.{play_text}

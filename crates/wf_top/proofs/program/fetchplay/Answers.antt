@@ -1,4 +1,4 @@
-use Rattle.wf_player_play.specs.Links.{maker_of}
+use Rattle.wf_player_seats.specs.Makers.{maker_of}
 use Rattle.wf_top.specs.Streams.{net_of}
 use Rattle.wf_link_wire.specs.Wires.{over_link}
 use Rattle.wf_top.proofs.ProgramLemmas.{answers}

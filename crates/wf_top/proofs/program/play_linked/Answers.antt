@@ -1,6 +1,6 @@
 use Rattle.std.proofs.Common.{inl, inr, map, refl}
 use Rattle.wf_link_wire.specs.Wires.{over_link}
-use Rattle.wf_player_play.specs.Links.{maker_of}
+use Rattle.wf_player_seats.specs.Makers.{maker_of}
 use Rattle.wf_player_seats.specs.Links.{way_of}
 use Rattle.wf_program.proofs.ProgramLemmas.{unread-done, worked-done}
 use Rattle.wf_program.specs.Inputs.{Reads, Refuses}

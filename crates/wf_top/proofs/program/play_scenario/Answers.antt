@@ -1,4 +1,4 @@
-use Rattle.wf_iso.specs.Plays.{by_rules, ways_to_servers}
+use Rattle.wf_play.specs.Plays.{by_rules, ways_to_servers}
 use Rattle.wf_program.proofs.ProgramLemmas.{refused-played, unread-played, written-played}
 use Rattle.wf_script.specs.Scenarios.{scenario_of}
 use Rattle.wf_top.specs.Program.{IsPlayText, IsScripted, most_input}
