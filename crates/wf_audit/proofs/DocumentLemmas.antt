@@ -13,7 +13,7 @@ use Rattle.wf_script_run.specs.Documents.{EachDocument}
 use Rattle.wf_script_values.specs.declared.document.Document.{Document}
 use Rattle.wf_script_values.specs.declared.scenario.Scenario.{Scenario}
 use Rattle.wf_script_values.specs.declared.servers.Server.{Server}
-use Rattle.wf_iso.specs.Plays.{IsTranscript, Way, by_rules, way_to_servers}
+use Rattle.wf_play.specs.Plays.{IsTranscript, Way, by_rules, way_to_servers}
 use Rattle.wf_audit.specs.Verdicts.{Comes, ComesTo, StopsAt}
 use Rattle.wf_audit.specs.Private.Runs.{AllCame, CameTo}
 

@@ -10,7 +10,7 @@ use Rattle.wf_book.specs.declared.entry.Entry.{Entry}
 use Rattle.wf_book.specs.Book.{after}
 use Rattle.wf_book.specs.Entries.{LegalFrom}
 use Rattle.wf_iso.specs.Laws.{PlaysAlone}
-use Rattle.wf_iso.specs.Plays.{HasTurnsFrom, IsPlay, IsTranscript, by_rules, opening_book, ways_to_servers}
+use Rattle.wf_play.specs.Plays.{HasTurnsFrom, IsPlay, IsTranscript, by_rules, opening_book, ways_to_servers}
 use Rattle.wf_script_events.specs.declared.events.Transcript.{Transcript}
 use Rattle.wf_script_run.specs.Documents.{EachDocument}
 use Rattle.wf_script_values.specs.declared.scenario.Scenario.{Scenario}

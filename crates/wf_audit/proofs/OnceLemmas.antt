@@ -14,7 +14,7 @@ use Rattle.wf_script_values.specs.declared.document.Document.{Document}
 use Rattle.wf_script_values.specs.declared.scenario.Scenario.{Scenario}
 use Rattle.wf_script_run.specs.Documents.{EachDocument}
 use Rattle.wf_iso.specs.Laws.{PlaysOnce}
-use Rattle.wf_iso.specs.Plays.{IsTranscript, by_rules, opening_book, way_to_servers, ways_to_servers}
+use Rattle.wf_play.specs.Plays.{IsTranscript, by_rules, opening_book, way_to_servers, ways_to_servers}
 use Rattle.wf_audit_history.specs.Legality.{AreRight, IsIllegalAt, IsRight}
 use Rattle.wf_audit_compare.specs.Differences.{DifferAt}
 use Rattle.wf_audit_text.specs.Histories.{HasFault, Holds}

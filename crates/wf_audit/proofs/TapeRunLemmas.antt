@@ -23,11 +23,11 @@ use Rattle.wf_script_values.specs.declared.scenario.Scenario.{Scenario}
 use Rattle.wf_script_values.specs.declared.servers.Server.{Server}
 use Rattle.wf_sim.specs.Sim.{SimState}
 use Rattle.wf_link_wire.specs.Exchanges.{Answering}
-use Rattle.wf_player.specs.Playing.{RunCameTo, RunPlayed}
-use Rattle.wf_player.specs.Worlds.{Outside, outside}
+use Rattle.wf_play.specs.Playing.{RunCameTo, RunPlayed}
+use Rattle.wf_play.specs.Worlds.{Outside, outside}
 use Rattle.wf_iso.specs.Calls.{PartAtReply}
 use Rattle.wf_iso.specs.Laws.{CallsFollow}
-use Rattle.wf_iso.specs.Plays.{RunsOver, by_rules, outside_on, way_to_servers}
+use Rattle.wf_play.specs.Plays.{RunsOver, by_rules, outside_on, way_to_servers}
 use Rattle.wf_player_seats.proofs.ServerLemmas.{by_bytes, ran-by-rules, sim_told, trace-state}
 use Rattle.wf_audit_tape.specs.Tapes.{IsParted, IsTape, IsUsedUp, Tape, account_of, before_stray, first_op, seen_on}
 use Rattle.wf_audit_tape.specs.Tapes.{stray_entries, stray_reply}

@@ -8,7 +8,7 @@ use Rattle.wf_script_events.specs.declared.events.Transcript.{Transcript}
 use Rattle.wf_print.specs.Text.{play_text}
 use Rattle.wf_script.specs.Scenarios.{scenario_of}
 use Rattle.wf_script_values.specs.declared.scenario.Scenario.{Scenario}
-use Rattle.wf_iso.specs.Plays.{opening_book}
+use Rattle.wf_play.specs.Plays.{opening_book}
 use Rattle.wf_audit_history.specs.Legality.{IsIllegalAt}
 use Rattle.wf_audit_compare.specs.Differences.{AreCompared}
 use Rattle.wf_audit_text.specs.Histories.{AreLinesOf, Holds}

@@ -6,7 +6,7 @@ use Rattle.wf_print.specs.Text.{play_text}
 use Rattle.wf_script.specs.Scenarios.{scenario_of}
 use Rattle.wf_script_values.specs.declared.scenario.Scenario.{Scenario}
 use Rattle.wf_iso.specs.Isolated.{IsIsolated}
-use Rattle.wf_iso.specs.Plays.{IsPlay, by_rules, ways_to_servers}
+use Rattle.wf_play.specs.Plays.{IsPlay, by_rules, ways_to_servers}
 use Rattle.wf_audit_text.specs.Histories.{Holds}
 use Rattle.wf_audit.specs.Verdicts.{IsVerdict}
 use Rattle.wf_audit.specs.declared.verdict.Verdict.{Verdict}

@@ -10,7 +10,7 @@ use Rattle.wf_script_values.specs.declared.scenario.Scenario.{Scenario}
 use Rattle.wf_script_values.specs.declared.servers.Server.{Server}
 use Rattle.wf_script.specs.Scenarios.{scenario_of}
 use Rattle.wf_script_run.specs.Documents.{EachDocument}
-use Rattle.wf_iso.specs.Plays.{IsTranscript, Way, by_rules, opening_book, way_to_servers, ways_to_servers}
+use Rattle.wf_play.specs.Plays.{IsTranscript, Way, by_rules, opening_book, way_to_servers, ways_to_servers}
 use Rattle.wf_audit_history.specs.Legality.{AreRight, IsIllegalAt, first_stranger}
 use Rattle.wf_audit_compare.specs.Differences.{DifferAt}
 use Rattle.wf_audit_text.specs.Histories.{HasFault, Holds}

@@ -4,7 +4,7 @@ ghost use Rattle.std.specs.List.{All};
 ghost use Rattle.wf_audit_history.specs.Legality.{first_stranger};
 ghost use Rattle.wf_audit_text.specs.Histories.{Holds};
 ghost use Rattle.wf_book.specs.Ops.{InRange};
-ghost use Rattle.wf_iso.specs.Plays.{opening_book};
+ghost use Rattle.wf_play.specs.Plays.{opening_book};
 ghost use Rattle.wf_script.specs.Scenarios.{scenario_of};
 ghost use Rattle.wf_script_values.specs.Valid.{IsValid};
 ghost use Rattle.wf_audit.specs.Verdicts.{IsGiven, IsVerdict};

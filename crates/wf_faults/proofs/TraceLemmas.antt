@@ -18,8 +18,8 @@ use Rattle.wf_script_values.specs.declared.document.Document.{Document}
 use Rattle.wf_script_run.specs.Play.{Play, PlayRun, emit, over, run_play, step}
 use Rattle.wf_script_run.specs.Runs.{document_run}
 use Rattle.wf_script_run.specs.Traces.{PlayTrace, shown, stepped, stop}
-use Rattle.wf_player.specs.Worlds.{Outside, Settles, World, WorldAnswers}
-use Rattle.wf_player.specs.Playing.{RunCameTo, RunCut, RunPlayed}
+use Rattle.wf_play.specs.Worlds.{Outside, Settles, World, WorldAnswers}
+use Rattle.wf_play.specs.Playing.{RunCameTo, RunCut, RunPlayed}
 use Rattle.wf_faults.specs.Failures.{tells_fault}
 use Rattle.wf_faults.specs.Laws.{AreShown, FaultsCounted, FaultsCountedCut, RanShown, ToldCounted}
 use Rattle.wf_faults.specs.Numbers.{faults_of, one_if, one_where, outcomes_that}

@@ -10,8 +10,8 @@ use Rattle.wf_script_values.specs.declared.document.Document.{Document}
 use Rattle.wf_script_run.specs.Play.{Play, PlayRun, run_play}
 use Rattle.wf_script_run.specs.Runs.{document_run}
 use Rattle.wf_link_wire.specs.Exchanges.{Answering}
-use Rattle.wf_player.specs.Worlds.{Outside}
-use Rattle.wf_player.specs.Playing.{RunCameTo, RunCut, RunPlayed}
+use Rattle.wf_play.specs.Worlds.{Outside}
+use Rattle.wf_play.specs.Playing.{RunCameTo, RunCut, RunPlayed}
 use Rattle.wf_faults.specs.Failures.{may_hide_fault, tells_fault}
 use Rattle.wf_faults.specs.Numbers.{faults_of, outcomes_that, unshown}
 use Rattle.wf_faults.specs.Places.{ShowsFailures}

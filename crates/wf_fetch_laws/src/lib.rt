@@ -1,6 +1,6 @@
-// Laws of the definition of a fetch.
+// Laws of the whole fetch: how often it asks the shared book, and with which operations.
 #![tactic(auto)]
 
 mod laws;
 
-pub use laws::{law_asks, law_own_ops, law_shown, law_views};
+pub use laws::{law_asks, law_own_ops};

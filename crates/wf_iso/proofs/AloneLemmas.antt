@@ -12,10 +12,10 @@ use Rattle.wf_fetch_acts.specs.declared.act.Input.{Input}
 use Rattle.wf_fetch_acts.specs.declared.act.Input.TheVariants.{Replied}
 use Rattle.wf_fetch_acts.specs.Process.{fits}
 use Rattle.wf_script_events.specs.declared.events.Event.{Event}
-use Rattle.wf_fetch_laws.specs.Apart.{Made, calls_on, replies_on, views_from, with_call, woven}
-use Rattle.wf_fetch_laws.specs.Blind.{GoesBlind}
-use Rattle.wf_fetch_laws.specs.Seen.{seen, sent_by}
-use Rattle.wf_fetch_laws.proofs.ApartLemmas.{SayReplies, BlindPlan, fits-seen, seen-woven, seen_on, woven-seen}
+use Rattle.wf_fetch_views.specs.Apart.{Made, calls_on, replies_on, views_from, with_call, woven}
+use Rattle.wf_fetch_views.specs.Blind.{GoesBlind}
+use Rattle.wf_fetch_views.specs.Seen.{seen, sent_by}
+use Rattle.wf_fetch_views.proofs.ApartLemmas.{SayReplies, BlindPlan, fits-seen, seen-woven, seen_on, woven-seen}
 use Rattle.wf_script_run.specs.Play.{Play, PlayRun, emit, events_of, over, play_on, run_play, shows, step, unseen}
 use Rattle.wf_iso.specs.Apart.{apart, plan_of}
 use Rattle.wf_iso.specs.Calls.{call_in, calls_in}

@@ -24,9 +24,9 @@ use Rattle.wf_fetch_acts.specs.declared.act.Input.{Input}
 use Rattle.wf_fetch_acts.specs.Process.{Process, act, ended}
 use Rattle.wf_script_values.specs.declared.document.Document.{Document}
 use Rattle.wf_fetch.specs.Fetch.{fetch}
-use Rattle.wf_fetch_laws.specs.Blind.{Blind, GoesBlind}
-use Rattle.wf_fetch_laws.specs.Seen.{seen, sent_by}
-use Rattle.wf_fetch_laws.proofs.BlindLemmas.{blind-fetch}
+use Rattle.wf_fetch_views.specs.Blind.{Blind, GoesBlind}
+use Rattle.wf_fetch_views.specs.Seen.{seen, sent_by}
+use Rattle.wf_fetch_views.proofs.BlindLemmas.{blind-fetch}
 use Rattle.wf_script_run.specs.Play.{Play, emit, events_of, over, step}
 use Rattle.wf_script_run.specs.Runs.{Next, Progress, after_events, at_time, document_run, embed, fault_event}
 use Rattle.wf_script_run.specs.Runs.{load_event}

@@ -6,8 +6,8 @@ use Rattle.wf_book.specs.declared.entry.Entry.{Entry}
 use Rattle.wf_book.specs.Book.{after, reply}
 use Rattle.wf_book.specs.Entries.{book_after, entries_of}
 use Rattle.wf_book.specs.Past.{Answer, PastsAnswer, is_of_key, pasts_of}
-use Rattle.wf_fetch_laws.specs.Apart.{Made}
-use Rattle.wf_fetch_laws.proofs.ApartLemmas.{SayReplies}
+use Rattle.wf_fetch_views.specs.Apart.{Made}
+use Rattle.wf_fetch_views.proofs.ApartLemmas.{SayReplies}
 use Rattle.wf_script_run.specs.Runs.{document_client, document_run}
 use Rattle.wf_iso.specs.Alone.{after_ops, ops_of, pasts, reply_after}
 use Rattle.wf_iso.specs.Calls.{calls_of, document_calls}

@@ -16,7 +16,7 @@ use Rattle.wf_script_events.specs.declared.events.Event.TheVariants as event
 use Rattle.wf_script_run.specs.Play.{Play, over}
 use Rattle.wf_script_run.specs.Traces.{PlayTrace, shown, stepped, stop}
 use Rattle.wf_link_wire.specs.Exchanges.{Answering, Exchange}
-use Rattle.wf_player.specs.Worlds.{IsCalled, Outside, Settles, World, WorldAnswers}
+use Rattle.wf_play.specs.Worlds.{IsCalled, Outside, Settles, World, WorldAnswers}
 use Rattle.wf_iso.specs.Calls.{PartAtReply}
 use Rattle.wf_iso.proofs.ExchangeLemmas.{Coming, IsOne, no-fault, one-body, one-head, one-sent}
 use Rattle.wf_iso.proofs.OrderLemmas.{Can, OrderedPlay, Stage, asking, headed, idle, stage_after}

@@ -28,7 +28,7 @@ use Rattle.wf_script_events.specs.declared.events.Ending.TheVariants.{Commands}
 use Rattle.wf_script_events.specs.declared.events.Event.{Event}
 use Rattle.wf_fetch.specs.Fetch.{fetch}
 use Rattle.wf_fetch.specs.Then.{Context}
-use Rattle.wf_fetch_laws.specs.Apart.{Made, Plan, calls_on, does, stops, with_call}
+use Rattle.wf_fetch_views.specs.Apart.{Made, Plan, calls_on, does, stops, with_call}
 use Rattle.wf_fetch_laws.specs.Prices.{fetch_price}
 use Rattle.wf_fetch_laws.specs.Own.{IsOwnAct}
 use Rattle.wf_fetch_laws.proofs.OwnLemmas.{fetch-within}

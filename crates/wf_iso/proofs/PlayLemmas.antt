@@ -14,19 +14,19 @@ use Rattle.wf_script_events.specs.declared.events.Event.TheVariants as event
 use Rattle.wf_script_events.specs.declared.events.Transcript.{Transcript}
 use Rattle.wf_script_values.specs.declared.document.Document.{Document}
 use Rattle.wf_script_values.specs.declared.scenario.Scenario.{Scenario}
-use Rattle.wf_fetch_laws.specs.Apart.{Made, views_on}
+use Rattle.wf_fetch_views.specs.Apart.{Made, views_on}
 use Rattle.wf_script_run.specs.Play.{Play, PlayRun, events_of, run_play}
 use Rattle.wf_script_run.specs.Runs.{document_client, document_run}
 use Rattle.wf_script_run.specs.Traces.{PlayTrace, shown, stepped, stop}
 use Rattle.wf_script_run.proofs.DocumentLemmas.{each-so}
 use Rattle.wf_link_wire.specs.Exchanges.{Answering}
-use Rattle.wf_player.specs.Worlds.{Outside, Settles, World, WorldAnswers}
+use Rattle.wf_play.specs.Worlds.{Outside, Settles, World, WorldAnswers}
 use Rattle.wf_iso.specs.Calls.{call_of, calls_in, calls_of}
 use Rattle.wf_iso.specs.Isolated.{IsAlone, alone_in, run_in, run_of}
 use Rattle.wf_iso.specs.Laws.{IsIn, PlaysAlone, WorldsAlike}
 use Rattle.wf_iso.specs.Alone.{alone, pasts}
 use Rattle.wf_iso.specs.Apart.{plan_of}
-use Rattle.wf_iso.specs.Plays.{IsTranscript, Way, opening_book, with_hosts}
+use Rattle.wf_play.specs.Plays.{IsTranscript, Way, opening_book, with_hosts}
 use Rattle.wf_iso.proofs.AloneLemmas.{calls-append, calls-silent}
 use Rattle.wf_iso.proofs.BlindLemmas.{ShowsNoCall, silent-document}
 use Rattle.wf_iso.proofs.HistoryLemmas.{runs-alone}

@@ -13,7 +13,7 @@ use Rattle.wf_script_run.specs.Play.{PlayRun, run_play}
 use Rattle.wf_link_wire.specs.Exchanges.{Answering}
 use Rattle.wf_iso.specs.Isolated.{run_in, run_of}
 use Rattle.wf_iso.specs.Laws.{CallsFollow, PlaysOnce, TapesOnce, TellsWithoutFaults}
-use Rattle.wf_iso.specs.Plays.{IsTranscript, Way, by_rules}
+use Rattle.wf_play.specs.Plays.{IsTranscript, Way, by_rules}
 use Rattle.wf_iso.proofs.OnceLemmas.{once, opened-same, part}
 use Rattle.wf_iso.proofs.OrderLemmas.{idle, ordered-document}
 

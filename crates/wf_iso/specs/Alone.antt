@@ -9,7 +9,7 @@ use Rattle.wf_book.specs.Book.{after as book_behind, reply as reply_of_book}
 use Rattle.wf_book.specs.Past.{pasts_of}
 use Rattle.wf_fetch_acts.specs.declared.act.Input.{Input}
 use Rattle.wf_script_run.specs.Play.{Play, PlayRun, run_play}
-use Rattle.wf_fetch_laws.specs.Apart.{woven}
+use Rattle.wf_fetch_views.specs.Apart.{woven}
 use Rattle.wf_iso.specs.Apart.{plan_of}
 
 -- the ops of entries

@@ -4,7 +4,7 @@ use Rattle.std.specs.Prelude.{List}
 use Rattle.wf_book.specs.declared.op.Reply.{Reply}
 use Rattle.wf_fetch_acts.specs.declared.act.Input.{Input}
 use Rattle.wf_script_run.specs.Play.{Play, PlayRun, over, emit, step, run_play}
-use Rattle.wf_fetch_laws.specs.Apart.{Plan, does, stops, with_replies}
+use Rattle.wf_fetch_views.specs.Apart.{Plan, does, stops, with_replies}
 
 -- what a run does
 abbrev pub plan_of : Play → Plan

@@ -5,7 +5,7 @@ use Rattle.wf_book.specs.declared.entry.Entry.{Entry}
 use Rattle.wf_book.specs.Entries.{entries_of}
 use Rattle.wf_script_events.specs.declared.events.Event.{Event}
 use Rattle.wf_script_events.specs.declared.events.Event.TheVariants as event
-use Rattle.wf_fetch_laws.specs.Apart.{Made}
+use Rattle.wf_fetch_views.specs.Apart.{Made}
 
 -- the call that an event shows, where it shows one
 abbrev pub call_in : Event → List Made

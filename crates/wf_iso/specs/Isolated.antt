@@ -11,10 +11,10 @@ use Rattle.wf_script_run.specs.Documents.{EachDocument}
 use Rattle.wf_script_run.specs.Play.{Play, PlayRun}
 use Rattle.wf_script_run.specs.Runs.{document_client, document_run}
 use Rattle.wf_link_wire.specs.Exchanges.{Answering}
-use Rattle.wf_fetch_laws.specs.Apart.{views_on}
+use Rattle.wf_fetch_views.specs.Apart.{views_on}
 use Rattle.wf_iso.specs.Alone.{alone, pasts}
 use Rattle.wf_iso.specs.Apart.{plan_of}
-use Rattle.wf_iso.specs.Plays.{IsPlayOver, IsTranscript, Way, opening_book}
+use Rattle.wf_play.specs.Plays.{IsPlayOver, IsTranscript, Way, opening_book}
 
 -- what a transcript says of its document's run: the events, and the ending with the clock
 abbrev pub run_of : Transcript → PlayRun

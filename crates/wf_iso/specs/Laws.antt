@@ -17,12 +17,12 @@ use Rattle.wf_script_values.specs.declared.document.Document.{Document}
 use Rattle.wf_script_values.specs.declared.scenario.Scenario.{Scenario}
 use Rattle.wf_types.specs.declared.client.Cookie.{Cookie}
 use Rattle.wf_link_wire.specs.Exchanges.{Answering}
-use Rattle.wf_fetch_laws.specs.Apart.{Made, replies_on, views_on}
+use Rattle.wf_fetch_views.specs.Apart.{Made, replies_on, views_on}
 use Rattle.wf_iso.specs.Alone.{alone, pasts}
 use Rattle.wf_iso.specs.Apart.{apart, plan_of}
 use Rattle.wf_iso.specs.Calls.{PartAtReply, calls_in, document_calls}
 use Rattle.wf_iso.specs.Isolated.{IsIsolated, run_in, run_of}
-use Rattle.wf_iso.specs.Plays.{IsPlay, IsPlayOver, IsTranscript, Way, opening_book}
+use Rattle.wf_play.specs.Plays.{IsPlay, IsPlayOver, IsTranscript, Way, opening_book}
 
 -- ---- runs over tapes
 

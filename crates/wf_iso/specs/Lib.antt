@@ -4,4 +4,3 @@ pub mod Calls
 pub mod Hidden
 pub mod Isolated
 pub mod Laws
-pub mod Plays

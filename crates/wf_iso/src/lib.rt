@@ -1,4 +1,4 @@
-// What a play is, and that in one each document sends and sees what it would alone.
+// Isolation: in a play each document sends and sees what it would alone.
 #![tactic(auto)]
 
 mod laws;

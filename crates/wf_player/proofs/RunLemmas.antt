@@ -3,16 +3,15 @@ use Rattle.wf_csp_text.specs.declared.policy.Policy.{Policy}
 use Rattle.wf_script_run.specs.Traces.{stop}
 use Rattle.wf_types.specs.declared.client.Cookie.{Cookie}
 use Rattle.wf_types.specs.declared.client.Client.{Client}
-use Rattle.wf_player.specs.Playing.{RunCameTo, RunCut, RunPlayed}
-use Rattle.wf_player.specs.Private.Parts.{ended_by}
+use Rattle.wf_play.specs.Playing.{RunCameTo, RunCut, RunPlayed}
+use Rattle.wf_player_script.specs.Parts.{ended_by}
 use Rattle.wf_player.proofs.Words.{[], ℕ, ◌++◌, ◌∙◌, ◌≡◌, ◌≢◌, Answering, Document, Ending, Err, Event, IsAtEnd, IsIdle}
 use Rattle.wf_player.proofs.Words.{List, Memory, None, Ok, Option, OutOfMemory, Outside, PartCut, PartReached, Play}
 use Rattle.wf_player.proofs.Words.{PlayRun, Result, Rule, RuleCameTo, Settles, Some, Standing, Steps, WorldAnswers, ap}
 use Rattle.wf_player.proofs.Words.{append-nil, append_assoc, arith, beginning, document_client, document_run, finished}
 use Rattle.wf_player.proofs.Words.{outside_of, over, play-run, refl, script_run, setting, sym}
-use Rattle.wf_player.proofs.AskLemmas.{refuses-none}
-use Rattle.wf_player.proofs.FetchLemmas.{still}
-use Rattle.wf_player.proofs.PartLemmas.{cut-here, played-cut}
+use Rattle.wf_play.proofs.WorldLemmas.{refuses-none, still}
+use Rattle.wf_player_script.proofs.PartLemmas.{cut-here, played-cut}
 
 -- ---- a script as the whole run
 

@@ -5,7 +5,7 @@ use Rattle.std.proofs.Math.ListN.{drop_of_length-le}
 use Rattle.wf_script_run.proofs.DocumentLemmas.{each-numbered}
 use Rattle.wf_script_values.specs.declared.scenario.Scenario.{Scenario}
 use Rattle.wf_player.specs.declared.seating.Row.{Row}
-use Rattle.wf_player.specs.declared.seating.Seating.{Seating}
+use Rattle.wf_play.specs.declared.seating.Seating.{Seating}
 use Rattle.wf_player.proofs.Words.{[], ℕ, ◌++◌, ◌+◌, ◌<◌, ◌∙◌, ◌∷◌, ◌≡◌, ◌≤◌, All, Answering, AreSeated, CanPlay}
 use Rattle.wf_player.proofs.Words.{Document, DocumentCameTo, EachDocument, List, RowCameTo, Seat, Some, Transcript, ap}
 use Rattle.wf_player.proofs.Words.{append-nil, arith, drop, get_or, get_or-map, length, length-map, map, most_calls}

@@ -1,5 +1,2 @@
--- What private contracts alone cite: standings, acts, fetches and other parts of a run, and seats in rows.
-pub mod Going
-pub mod Parts
+-- What private contracts alone cite: seats in rows.
 pub mod Rows
-pub mod Standings

@@ -1,48 +1,14 @@
 -- The words of other crates of which the specs and the contracts speak, each brought in once.
 pub use Rattle.std.specs.List.{All, range_with_len}
-pub use Rattle.wf_book.specs.Accounts.{Account}
-pub use Rattle.wf_book.specs.Ops.{InRange}
-pub use Rattle.wf_book.specs.declared.book.Book.{Book}
-pub use Rattle.wf_book.specs.declared.entry.Entry.{Entry}
-pub use Rattle.wf_book.specs.declared.op.Op.{Op}
-pub use Rattle.wf_fetch.specs.Fetch.{fetch}
-pub use Rattle.wf_fetch.specs.Machine.{Does, Leads, rest}
-pub use Rattle.wf_fetch.specs.Then.{Context, context_of}
-pub use Rattle.wf_fetch.specs.declared.place.Fetching.{Fetching}
-pub use Rattle.wf_fetch.specs.declared.place.Step.{Step}
-pub use Rattle.wf_fetch_acts.specs.Process.{Process, act, ended, fits}
-pub use Rattle.wf_fetch_acts.specs.Traces.{Driven, Trace, with_events}
-pub use Rattle.wf_fetch_acts.specs.Within.{asks, price_of}
-pub use Rattle.wf_fetch_acts.specs.declared.act.Act.{Act}
-pub use Rattle.wf_fetch_acts.specs.declared.act.Act.TheVariants.{Ask, Send, Tell}
-pub use Rattle.wf_fetch_acts.specs.declared.act.Input.{Input}
-pub use Rattle.wf_fetch_laws.specs.Laws.{most_asks}
-pub use Rattle.wf_link.specs.Links.{LinkTold, Received}
 pub use Rattle.wf_link.specs.Sources.{IsAtEnd}
-pub use Rattle.wf_link_wire.specs.Exchanges.{Answering, Exchange, Exchanges, IsIdle}
+pub use Rattle.wf_link_wire.specs.Exchanges.{Answering, IsIdle}
 pub use Rattle.wf_link_wire.specs.Wires.{exchange_of, over_link}
-pub use Rattle.wf_link_wire.specs.declared.wire.Wire.{Wire}
-pub use Rattle.wf_script_commands.specs.Commands.{step_of}
-pub use Rattle.wf_script_commands.specs.Scripts.{fetch as fetch_step, load as load_step}
-pub use Rattle.wf_script_commands.specs.Valid.{AreValid, IsValidInit, IsValidLoad, IsValidStep}
-pub use Rattle.wf_script_events.specs.declared.events.Ending.{Ending}
-pub use Rattle.wf_script_events.specs.declared.events.Ending.TheVariants.{Finished, Memory}
-pub use Rattle.wf_script_events.specs.declared.events.Event.{Event}
+pub use Rattle.wf_script_commands.specs.Valid.{AreValid}
+pub use Rattle.wf_script_events.specs.declared.events.Ending.TheVariants.{Memory}
 pub use Rattle.wf_script_events.specs.declared.events.Transcript.{Transcript}
 pub use Rattle.wf_script_run.specs.Documents.{EachDocument}
-pub use Rattle.wf_script_run.specs.Play.{Play, events_of, over, run_play}
-pub use Rattle.wf_script_run.specs.Results.{lent_result}
-pub use Rattle.wf_script_run.specs.Runs.{Next, Progress, Setting, after_events, asked, at_time, beginning, chosen}
-pub use Rattle.wf_script_run.specs.Runs.{command_started, document_client, document_run, fetched, filled_init}
-pub use Rattle.wf_script_run.specs.Runs.{filled_load, finished, limit_before, most_commands, most_fetches, repeated}
-pub use Rattle.wf_script_run.specs.Runs.{script_run, setting, started, unless_limit}
-pub use Rattle.wf_script_run.specs.Traces.{PlayTrace}
+pub use Rattle.wf_script_run.specs.Runs.{beginning, document_client, document_run, finished, script_run}
 pub use Rattle.wf_script_values.specs.Valid.{IsValid, IsValidDocument}
 pub use Rattle.wf_script_values.specs.declared.document.Document.{Document}
 pub use Rattle.wf_script_values.specs.declared.scenario.Scenario.{Scenario}
-pub use Rattle.wf_send.specs.Loading.{new_load}
-pub use Rattle.wf_send.specs.Making.{new_request}
-pub use Rattle.wf_text.specs.declared.memory.OutOfMemory.{OutOfMemory}
-pub use Rattle.wf_types.specs.Requests.{IsClient, IsRequest}
-pub use Rattle.wf_types.specs.Targets.{IsSendable}
-pub use Rattle.wf_types.specs.declared.response.Outcome.{Outcome}
+pub use Rattle.wf_types.specs.Requests.{IsClient}

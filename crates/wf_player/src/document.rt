@@ -1,15 +1,13 @@
 // One document, played.
 ghost use Rattle.std.specs.Prelude.{◌<◌, ◌^◌, ◌≡◌, ◌≢◌, ◌≤◌, IfOk, OnErr, Some, length, slice_get};
-ghost use Rattle.wf_player.specs.Playing.{RunCameTo};
-ghost use Rattle.wf_player.specs.Private.Parts as spec;
-ghost use Rattle.wf_player.specs.Private.Standings.{lent_setting};
+ghost use Rattle.wf_play.specs.Playing.{RunCameTo};
+ghost use Rattle.wf_player_script.specs.Parts as spec;
+ghost use Rattle.wf_play.specs.Standings.{lent_setting};
 ghost use Rattle.wf_player.specs.Words.{AreValid, Document as OneDocument, IsAtEnd, IsClient, IsIdle, IsValid};
 ghost use Rattle.wf_player.specs.Words.{IsValidDocument, Memory, beginning, document_client, document_run, exchange_of};
 ghost use Rattle.wf_player.specs.Words.{finished, over_link, script_run};
-ghost use Rattle.wf_player.specs.Worlds.{KeepsPass, most_calls, outside};
+ghost use Rattle.wf_play.specs.Worlds.{KeepsPass, most_calls, outside};
 
-use crate::lent::Lent;
-use crate::player::Player;
 use std::alloc::Global;
 use std::sync::Wait;
 use std::thread::Threads;
@@ -17,6 +15,9 @@ use wf_book::Share;
 use wf_csp::Compiled;
 use wf_link::Link;
 use wf_link_wire::Wire;
+use wf_play::{Lent, Player};
+use wf_player_fetch::OverLink;
+use wf_player_script::script;
 use wf_script_events::{Ending, Events, Transcript};
 use wf_script_run::Running;
 use wf_script_values::{Document, Scenario};
@@ -65,7 +66,7 @@ fn play_script<R: Threads + Wait + Sync, S: Share, L: Link>(
         wire,
         running: &mut running,
     };
-    let ending = ended_by(player.script(&document.script));
+    let ending = ended_by(script(&OverLink, &mut player, &document.script));
     let clock = running.now();
     Transcript {
         document: number,

@@ -2,17 +2,18 @@
 ghost use Rattle.std.specs.Prelude.{[], ℕ, ◌<◌, ◌^◌, ◌≡◌, ◌≤◌, IfOk, OnErr, length, map, slice_index_or, vec_capacity};
 ghost use Rattle.std.specs.Prelude.{vec_len};
 ghost use Rattle.wf_player.specs.Private.Rows.{CanPlay, RowCameTo, seatings_of, transcripts_of};
-ghost use Rattle.wf_player.specs.Seats.{AreRefused, AreSeated, DocumentCameTo, seat_of};
+ghost use Rattle.wf_play.specs.Seats.{AreRefused, AreSeated, DocumentCameTo, seat_of};
 ghost use Rattle.wf_player.specs.Words.{All, EachDocument, IsValid, over_link, range_with_len};
 
 use crate::document::drive;
-use crate::seating::{Row, Seating};
+use crate::seating::Row;
 use std::alloc::Global;
 use std::sync::Wait;
 use std::thread::Threads;
 use std::{mem, thread};
 use wf_book::Share;
 use wf_link::Link;
+use wf_play::Seating;
 use wf_script_events::{Ending, Transcript, Transcripts};
 use wf_script_values::{Scenario, law_scenario_is_shared};
 use wf_text::{Bytes, Items, OutOfMemory};

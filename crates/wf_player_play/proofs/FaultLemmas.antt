@@ -10,7 +10,7 @@ use Rattle.wf_script_values.specs.declared.scenario.Scenario.{Scenario}
 use Rattle.wf_link_wire.specs.Exchanges.{Answering}
 use Rattle.wf_faults.specs.Laws.{FaultsCounted, FaultsPlaced, RanShown}
 use Rattle.wf_faults.specs.Numbers.{faults_of}
-use Rattle.wf_iso.specs.Plays.{IsTranscript, Way, outside_on}
+use Rattle.wf_play.specs.Plays.{IsTranscript, Way, outside_on}
 use Rattle.wf_book.specs.Entries.{entries_of}
 use Rattle.wf_player_play.specs.Faults.{AllAreTold, all_faults}
 use Rattle.wf_player_seats.specs.Links.{grown_by_all, way_of}

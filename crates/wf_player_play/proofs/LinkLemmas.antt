@@ -10,7 +10,7 @@ use Rattle.wf_player_seats.specs.Links.{grown_by_all}
 use Rattle.wf_player_seats.specs.Seated.{links_in}
 use Rattle.wf_player_play.specs.Links.{AreBack}
 use Rattle.wf_player_play.specs.Links.{TookAllBack, Maker, HasTakenBack}
-use Rattle.wf_player.specs.declared.seating.Seating.{Seating}
+use Rattle.wf_play.specs.declared.seating.Seating.{Seating}
 use Rattle.wf_turn.specs.declared.pass.TurnPass.{TurnPass}
 
 -- so many that are out, and all of them back

@@ -6,9 +6,9 @@ use Rattle.wf_book.specs.declared.entry.Entry.{Entry}
 use Rattle.wf_script_events.specs.declared.events.Transcript.{Transcript}
 use Rattle.wf_script_values.specs.declared.scenario.Scenario.{Scenario}
 use Rattle.wf_link_wire.specs.Exchanges.{Answering}
-use Rattle.wf_player.specs.declared.seating.Seating.{Seating}
+use Rattle.wf_play.specs.declared.seating.Seating.{Seating}
 use Rattle.wf_turn.specs.declared.pass.TurnPass.{TurnPass}
-use Rattle.wf_iso.specs.Plays.{IsPlayOver}
+use Rattle.wf_play.specs.Plays.{IsPlayOver}
 use Rattle.wf_player_seats.specs.Lendings.{AreTaken, out_more}
 use Rattle.wf_player_seats.specs.Links.{AreOpened, for_documents, grown_by_all}
 use Rattle.wf_player_seats.specs.Seated.{links_in}

@@ -1,7 +1,6 @@
 -- What was played on seats, and the history of a closed book, are a play.
 use Rattle.std.proofs.Common.{◌≡◌, ◌≢◌, ℕ, List, [], ◌∷◌, length, map, refl, ap, sym, subst, ◌∙◌, arith, inl, inr}
 use Rattle.std.specs.List.{All, range_with_len}
-use Rattle.atomic_table.specs.Seated.{TableId}
 use Rattle.wf_book.specs.declared.book.Book.{Book}
 use Rattle.wf_book.specs.declared.entry.Entry.{Entry}
 use Rattle.wf_book.specs.Entries.{entries_of}
@@ -15,21 +14,20 @@ use Rattle.wf_script_values.specs.declared.document.Document.{Document}
 use Rattle.wf_script_values.specs.declared.scenario.Scenario.{Scenario}
 use Rattle.wf_link.specs.Links.{LinkTold}
 use Rattle.wf_link_wire.specs.Exchanges.{Answering}
-use Rattle.wf_player.specs.Worlds.{Outside}
-use Rattle.wf_player.proofs.AskLemmas.{outside-is}
-use Rattle.wf_player.specs.Playing.{RunCameTo, RunPlayed}
-use Rattle.wf_player.specs.Seats.{AreRefused, DocumentCameTo, Seat}
-use Rattle.wf_player.specs.declared.seating.Seating.{Seating}
+use Rattle.wf_play.specs.Worlds.{Outside}
+use Rattle.wf_play.proofs.WorldLemmas.{outside-is}
+use Rattle.wf_play.specs.Playing.{RunCameTo, RunPlayed}
+use Rattle.wf_play.specs.Seats.{AreRefused, DocumentCameTo, Seat}
+use Rattle.wf_play.specs.declared.seating.Seating.{Seating}
 use Rattle.wf_turn.specs.Passes.{IsOneHistory}
 use Rattle.wf_turn.specs.declared.pass.TurnPass.{TurnPass}
 use Rattle.wf_player_seats.specs.Links.{way_of}
 use Rattle.wf_player_seats.specs.Passes.{ArePasses}
 use Rattle.wf_player_seats.specs.Seated.{HasOwn, IsFresh, links_in, passes_in, seat_seen}
-use Rattle.wf_player_seats.proofs.ClosedLemmas.{HasCalled, called-on, ran-calls, ran-of, seat_way}
-use Rattle.wf_player_seats.proofs.ClosedLemmas.{fresh-seats, legal-history, named-history, own-entries, turns-closed}
-use Rattle.wf_player_seats.proofs.ClosedLemmas.{ways-of}
+use Rattle.wf_player_seats.proofs.ClosedLemmas.{HasCalled, called-on, ran-calls, ran-of, seat_way, fresh-seats}
+use Rattle.wf_player_seats.proofs.ClosedLemmas.{legal-history, named-history, own-entries, turns-closed, ways-of}
 use Rattle.wf_player_play.specs.Refused.{NoneOrAllPlayed, RanInHistory}
-use Rattle.wf_iso.specs.Plays.{IsPlayOver, IsTranscript, opening_book, outside_on}
+use Rattle.wf_play.specs.Plays.{IsPlayOver, IsTranscript, opening_book, outside_on}
 
 -- ---- one document
 
@@ -133,7 +131,7 @@ called-of by scenario base played text fresh =
 
 -- seats that were made with the book's passes, and their passes as they came back to a book that is closed
 module _ {L State : Type 0} (by : Answering State) (told : L → LinkTold State) (scenario : Scenario)
-    (base : ℕ) (id : TableId) (first : TurnPass) (made back : List (Seating L TurnPass)) (book : Book)
+    (base : ℕ) (id : _) (first : TurnPass) (made back : List (Seating L TurnPass)) (book : Book)
     (history : List Entry) (are : ArePasses id (opening_book scenario) (length scenario.documents) first
     (passes_in made))
     (documents : map (λ (p : TurnPass). p.document) (passes_in back) ≡ range_with_len 0 (length scenario.documents))

@@ -16,13 +16,13 @@ use Rattle.wf_script_values.specs.declared.document.Document.{Document}
 use Rattle.wf_script_values.specs.declared.scenario.Scenario.{Scenario}
 use Rattle.wf_script_values.specs.declared.servers.Server.{Server}
 use Rattle.wf_sim.specs.Sim.{SimState}
-use Rattle.wf_player.specs.Playing.{RunPlayed}
+use Rattle.wf_play.specs.Playing.{RunPlayed}
 use Rattle.wf_link.specs.Links.{IsForetold}
 use Rattle.wf_link.specs.declared.target.Route.{Route}
 use Rattle.wf_player_seats.specs.Links.{way_of}
 use Rattle.wf_player_seats.proofs.ServerLemmas.{by_bytes, ran-by-rules, ran-state, sim_told}
 use Rattle.wf_player_play.specs.Links.{IsPlayOverLinks, Maker}
-use Rattle.wf_iso.specs.Plays.{IsPlay, IsTranscript, RunsOver, Way, by_rules, outside_on, way_to_servers}
+use Rattle.wf_play.specs.Plays.{IsPlay, IsTranscript, RunsOver, Way, by_rules, outside_on, way_to_servers}
 
 -- nor does it tell what was received, and it never fails
 abbrev pub IsQuiet : Way (List Server) → Type 0

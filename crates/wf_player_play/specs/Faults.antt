@@ -14,7 +14,7 @@ use Rattle.wf_link_wire.specs.Exchanges.{Answering}
 use Rattle.wf_faults.specs.Laws.{AreShown}
 use Rattle.wf_faults.specs.Numbers.{faults_of}
 use Rattle.wf_faults.specs.Places.{ShowsFailures}
-use Rattle.wf_iso.specs.Plays.{IsTranscript, Way}
+use Rattle.wf_play.specs.Plays.{IsTranscript, Way}
 
 -- Of a document's run over this tape, from one moment of its link to another: in each fetch and each load there is one
 -- fault at most, and the outcome shows it; so the outcomes show the faults of the tape; and the link's count rose by

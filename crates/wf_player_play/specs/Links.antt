@@ -7,7 +7,7 @@ use Rattle.wf_link.specs.declared.target.Route.{Route}
 use Rattle.wf_script_events.specs.declared.events.Transcript.{Transcript}
 use Rattle.wf_script_values.specs.declared.scenario.Scenario.{Scenario}
 use Rattle.wf_link_wire.specs.Exchanges.{Answering}
-use Rattle.wf_iso.specs.Plays.{IsPlayOver}
+use Rattle.wf_play.specs.Plays.{IsPlayOver}
 use Rattle.wf_player_seats.specs.Links.{AreOpened, for_documents, grown_by_all, way_of}
 use Rattle.wf_player_play.specs.Faults.{AllAreTold, all_faults}
 use Rattle.wf_player_play.specs.Refused.{NoneOrAllPlayed}

@@ -10,9 +10,9 @@ use Rattle.wf_script_run.specs.Runs.{document_run}
 use Rattle.wf_script_values.specs.declared.document.Document.{Document}
 use Rattle.wf_script_values.specs.declared.scenario.Scenario.{Scenario}
 use Rattle.wf_link_wire.specs.Exchanges.{Answering}
-use Rattle.wf_player.specs.Worlds.{most_calls}
-use Rattle.wf_player.specs.Playing.{RunCameTo}
-use Rattle.wf_iso.specs.Plays.{Way, opening_book, outside_on}
+use Rattle.wf_play.specs.Worlds.{most_calls}
+use Rattle.wf_play.specs.Playing.{RunCameTo}
+use Rattle.wf_play.specs.Plays.{Way, opening_book, outside_on}
 
 -- From one moment of its link to another, the run of the document of this number came to its transcript's ending, or to
 -- where memory was refused. It made the calls of the document's entries of the history, in order, and no others. The

@@ -7,7 +7,7 @@ ghost use Rattle.wf_player_play.specs.Links.{IsPlayOverLinks, WasRefused, maker_
 ghost use Rattle.wf_player_seats.specs.Seated.{AreReady};
 ghost use Rattle.wf_player_play.specs.Private.Seated.{AreUnseated};
 ghost use Rattle.wf_player_play.specs.Refused.{NoneOrAllPlayed};
-ghost use Rattle.wf_iso.specs.Plays.{IsPlay, IsPlayOver};
+ghost use Rattle.wf_play.specs.Plays.{IsPlay, IsPlayOver};
 
 use std::alloc::Global;
 use std::sync::Wait;
@@ -15,7 +15,8 @@ use std::thread::Threads;
 use wf_book::History;
 use wf_faults::{law_faults_counted, law_faults_shown};
 use wf_link::Links;
-use wf_player::{Seating, play_all};
+use wf_play::Seating;
+use wf_player::play_all;
 use wf_player_seats::{opened, passes_of, seat_all, unseat};
 use wf_script_events::{Transcripts, has_text};
 use wf_script_values::Scenario;

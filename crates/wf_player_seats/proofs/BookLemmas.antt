@@ -5,7 +5,7 @@ use Rattle.wf_book.specs.declared.book.Book.{Book}
 use Rattle.wf_book.specs.declared.op.Op.TheVariants.{Note}
 use Rattle.wf_book.specs.Book.{after, empty}
 use Rattle.wf_script_values.specs.declared.hosts.KnownHost.{KnownHost}
-use Rattle.wf_iso.specs.Plays.{with_hosts}
+use Rattle.wf_play.specs.Plays.{with_hosts}
 
 -- the host at an index, and then the others
 pub hosts-next : (hosts items : List KnownHost) (index : ℕ) (known : KnownHost) (book later : Book) → items ≡ hosts

@@ -1,7 +1,7 @@
 -- What the seats of a play come to once their book is closed: one history, legal from the opening book, whose entries
 -- are those of the documents' passes, and whose turns have no gap where each call has its entry.
-use Rattle.std.proofs.Common.{◌≡◌, ◌≢◌, ℕ, suc, ◌+◌, ◌<◌, ◌≤◌, List, [], ◌∷◌, ◌++◌, length, map}
-use Rattle.std.proofs.Common.{refl, ap, sym, subst, ◌∙◌, arith, ◌⊎◌, inl, inr, zero, Bool, true, false, cond, eq-eqb}
+use Rattle.std.proofs.Common.{◌≡◌, ◌≢◌, ℕ, suc, ◌+◌, ◌<◌, ◌≤◌, List, [], ◌∷◌, ◌++◌, length, map, refl, ap, sym, subst}
+use Rattle.std.proofs.Common.{◌∙◌, arith, ◌⊎◌, inl, inr, zero, Bool, true, false, cond, eq-eqb}
 use Rattle.std.specs.Prelude.{◌==◌}
 use Rattle.std.specs.List.{All, AllByRecursion, range_with_len, count_by}
 use Rattle.std.proofs.lemmas.Bool.Decides.{eqb_tells}
@@ -20,17 +20,17 @@ use Rattle.wf_script_run.specs.Play.{Play}
 use Rattle.wf_script_values.specs.declared.scenario.Scenario.{Scenario}
 use Rattle.wf_link.specs.Links.{LinkTold}
 use Rattle.wf_link_wire.specs.Exchanges.{Answering}
-use Rattle.wf_player.specs.Worlds.{Outside}
-use Rattle.wf_player.specs.Playing.{RunCameTo, RunPlayed}
-use Rattle.wf_player.specs.Seats.{Seat}
-use Rattle.wf_player.proofs.CallLemmas.{trace-calls}
-use Rattle.wf_player.specs.declared.seating.Seating.{Seating}
+use Rattle.wf_play.specs.Worlds.{Outside}
+use Rattle.wf_play.specs.Playing.{RunCameTo, RunPlayed}
+use Rattle.wf_play.specs.Seats.{Seat}
+use Rattle.wf_play.proofs.CallLemmas.{trace-calls}
+use Rattle.wf_play.specs.declared.seating.Seating.{Seating}
 use Rattle.wf_turn.specs.Counts.{times}
 use Rattle.wf_turn.specs.Passes.{HasEveryPass, IsOneHistory, calls_of, is_of, opening_of, own_of}
 use Rattle.wf_turn.specs.declared.pass.TurnPass.{TurnPass}
 use Rattle.wf_turn.proofs.Count.{turns-are-places}
 use Rattle.wf_turn.proofs.Whole.{whole_of}
-use Rattle.wf_iso.specs.Plays.{HasTurnsFrom, Way, opening_book}
+use Rattle.wf_play.specs.Plays.{HasTurnsFrom, Way, opening_book}
 use Rattle.wf_player_seats.specs.Links.{way_of}
 use Rattle.wf_player_seats.specs.Passes.{ArePasses, IsNew}
 use Rattle.wf_player_seats.specs.Seated.{IsFresh, links_in, passes_in, seat_seen}

@@ -2,7 +2,7 @@
 use Rattle.std.proofs.Common.{◌≡◌, ℕ, Bool, refl, true, false, List, [], ◌∷◌, codes}
 use Rattle.wf_book.specs.Book.{empty}
 use Rattle.wf_script_values.specs.declared.hosts.KnownHost.{KnownHost}
-use Rattle.wf_iso.specs.Plays.{with_hosts}
+use Rattle.wf_play.specs.Plays.{with_hosts}
 
 -- a host of a scenario
 abbrev known : List ℕ → Bool → ℕ → KnownHost

@@ -5,13 +5,13 @@ use Rattle.std.proofs.lemmas.List.{length-map}
 use Rattle.std.proofs.lemmas.List.Elements.{All-map}
 use Rattle.std.proofs.lemmas.List.FromFn.{length-range_with_len}
 use Rattle.atomic_table.specs.Seated.{TableId}
-use Rattle.wf_player.specs.Worlds.{most_calls}
-use Rattle.wf_player.specs.Seats.{AreSeated, Seat}
-use Rattle.wf_player.specs.declared.seating.Seating.{Seating}
+use Rattle.wf_play.specs.Worlds.{most_calls}
+use Rattle.wf_play.specs.Seats.{AreSeated, Seat}
+use Rattle.wf_play.specs.declared.seating.Seating.{Seating}
 use Rattle.wf_script_values.specs.declared.scenario.Scenario.{Scenario}
 use Rattle.wf_turn.specs.declared.pass.TurnPass.{TurnPass}
 use Rattle.wf_player_seats.specs.Passes.{IsNew}
-use Rattle.wf_iso.specs.Plays.{opening_book}
+use Rattle.wf_play.specs.Plays.{opening_book}
 use Rattle.wf_player_seats.specs.Seated.{links_in, passes_in, seat_seen}
 use Rattle.wf_player_seats.proofs.ListLemmas.{map-map, unmap}
 use Rattle.wf_link.specs.Links.{LinkTold}

@@ -17,10 +17,10 @@ use Rattle.wf_sim.proofs.SimLemmas.{answers-by_parts}
 use Rattle.wf_link_wire.specs.Exchanges.{Answering, Exchange}
 use Rattle.wf_link_wire.specs.Wires.{over_link}
 use Rattle.wf_link_wire.proofs.LawLemmas.{exchange-alike}
-use Rattle.wf_player.specs.Playing.{RunPlayed}
-use Rattle.wf_player.specs.Worlds.{Outside, Settles, World, WorldAnswers}
+use Rattle.wf_play.specs.Playing.{RunPlayed}
+use Rattle.wf_play.specs.Worlds.{Outside, Settles, World, WorldAnswers}
 use Rattle.wf_link.specs.Links.{Serves, LinkTold}
-use Rattle.wf_iso.specs.Plays.{by_rules}
+use Rattle.wf_play.specs.Plays.{by_rules}
 
 -- what a link to the servers answers, and what it tells
 abbrev pub sim_serves : Serves (List Server)

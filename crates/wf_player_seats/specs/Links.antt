@@ -4,7 +4,7 @@ use Rattle.std.specs.Prelude.{◌≡◌, ℕ, List, [], ◌∷◌, slice_get, Op
 use Rattle.wf_link.specs.Counts.{grown_by}
 use Rattle.wf_link.specs.Links.{IsForetold, LinkTold}
 use Rattle.wf_link.specs.declared.target.Route.{Route}
-use Rattle.wf_iso.specs.Plays.{Way}
+use Rattle.wf_play.specs.Plays.{Way}
 
 -- what is told of a link
 abbrev pub way_of : {L State : Type 0} → (L → LinkTold State) → L → Way State

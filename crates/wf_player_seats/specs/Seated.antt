@@ -4,12 +4,12 @@ use Rattle.atomic_table.specs.Seated.{TableId}
 use Rattle.wf_book.specs.declared.entry.Entry.{Entry}
 use Rattle.wf_book.specs.Entries.{entries_of}
 use Rattle.wf_link.specs.Links.{LinkTold}
-use Rattle.wf_player.specs.Seats.{Seat, seat_of}
-use Rattle.wf_player.specs.declared.seating.Seating.{Seating}
+use Rattle.wf_play.specs.Seats.{Seat, seat_of}
+use Rattle.wf_play.specs.declared.seating.Seating.{Seating}
 use Rattle.wf_script_values.specs.declared.scenario.Scenario.{Scenario}
 use Rattle.wf_turn.specs.Passes.{account_of}
 use Rattle.wf_turn.specs.declared.pass.TurnPass.{TurnPass}
-use Rattle.wf_iso.specs.Plays.{opening_book}
+use Rattle.wf_play.specs.Plays.{opening_book}
 use Rattle.wf_player_seats.specs.Passes.{ArePasses}
 
 -- what is seen of a seat with a pass of the shared book

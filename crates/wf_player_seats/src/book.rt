@@ -4,7 +4,7 @@ ghost use Rattle.std.specs.List.{All};
 ghost use Rattle.wf_book.specs.Book.{after, empty};
 ghost use Rattle.wf_book.specs.declared.op.Op.TheVariants.{Note};
 ghost use Rattle.wf_script_values.specs.Valid.{IsValidHost};
-ghost use Rattle.wf_iso.specs.Plays.{with_hosts};
+ghost use Rattle.wf_play.specs.Plays.{with_hosts};
 
 use std::alloc::Global;
 use wf_book::{Book, Op};

@@ -7,7 +7,7 @@ ghost use Rattle.wf_player_seats.specs.Seated.{links_in};
 
 use std::alloc::Global;
 use wf_link::{Links, Routes};
-use wf_player::Seating;
+use wf_play::Seating;
 use wf_text::OutOfMemory;
 use wf_turn::TurnPass;
 

@@ -6,19 +6,17 @@ use Rattle.wf_text.specs.declared.memory.OutOfMemory.{OutOfMemory}
 use Rattle.std.proofs.lemmas.List.{append-nil}
 use Rattle.wf_fetch_acts.specs.declared.act.Input.{Input}
 use Rattle.wf_fetch.specs.Fetch.{fetch}
-use Rattle.wf_player.specs.Driving.{DriveCut, FetchPlayed}
-use Rattle.wf_player.specs.Playing.{PlaysOn, RunPlayed}
-use Rattle.wf_player.specs.Worlds.{Outside, Settles, World, WorldAnswers, WorldRefused, outside_of}
-use Rattle.wf_player.proofs.AskLemmas.{refuses-none}
-use Rattle.wf_player.proofs.FetchLemmas.{still}
+use Rattle.wf_play.specs.Driving.{DriveCut, FetchPlayed}
+use Rattle.wf_play.specs.Playing.{PlaysOn, RunPlayed}
+use Rattle.wf_play.specs.Worlds.{Outside, Settles, World, WorldAnswers, WorldRefused, outside_of}
+use Rattle.wf_play.proofs.WorldLemmas.{refuses-none, still}
 use Rattle.wf_script_events.specs.declared.events.Ending.{Ending}
 use Rattle.wf_script_events.specs.declared.events.Ending.TheVariants as ending
 use Rattle.wf_script_events.specs.declared.events.Event.{Event}
 use Rattle.wf_script_events.specs.declared.events.Event.TheVariants as event
 use Rattle.wf_script_run.specs.Play.{Play, PlayRun, over, run_play}
-use Rattle.wf_script_run.specs.Runs.{Next, Progress, Setting, after_events, at_time}
-use Rattle.wf_script_run.specs.Runs.{embed, fetch_limit, fetch_started, showing}
-use Rattle.wf_script_run.specs.Runs.{beginning, document_client, finished, setting, unless_limit}
+use Rattle.wf_script_run.specs.Runs.{Next, Progress, Setting, after_events, at_time, embed, fetch_limit, fetch_started}
+use Rattle.wf_script_run.specs.Runs.{showing, beginning, document_client, finished, setting, unless_limit}
 use Rattle.wf_script_run.specs.Traces.{stop}
 use Rattle.wf_script_run.proofs.EmbedLemmas.{embedded}
 use Rattle.wf_script_run.proofs.PlayLemmas.{play-append, play-event, play-run}

@@ -1,8 +1,8 @@
 -- What the delivery of a document's reports comes to in its world.
 use Rattle.std.specs.Prelude.{ℕ, List, Result, Ok, Err}
 use Rattle.wf_text.specs.declared.memory.OutOfMemory.{OutOfMemory}
-use Rattle.wf_player.specs.Playing.{RunCut, RunPlayed}
-use Rattle.wf_player.specs.Worlds.{Outside}
+use Rattle.wf_play.specs.Playing.{RunCut, RunPlayed}
+use Rattle.wf_play.specs.Worlds.{Outside}
 use Rattle.wf_script_events.specs.declared.events.Event.{Event}
 use Rattle.wf_script_run.specs.Play.{Play}
 use Rattle.wf_link_wire.specs.Exchanges.{Answering}

@@ -8,9 +8,8 @@ use Rattle.wf_script_events.specs.declared.events.Ending.TheVariants as ending
 use Rattle.wf_script_events.specs.declared.events.Event.{Event}
 use Rattle.wf_script_events.specs.declared.events.Event.TheVariants.{Result}
 use Rattle.wf_script_run.specs.Play.{Play}
-use Rattle.wf_script_run.specs.Runs.{Next, Setting, at_time, beginning, document_client, embed}
-use Rattle.wf_script_run.specs.Runs.{fetch_limit, fetch_started}
-use Rattle.wf_script_run.specs.Runs.{finished, setting, showing, unless_limit}
+use Rattle.wf_script_run.specs.Runs.{Next, Setting, at_time, beginning, document_client, embed, fetch_limit}
+use Rattle.wf_script_run.specs.Runs.{fetch_started, finished, setting, showing, unless_limit}
 use Rattle.wf_script_values.specs.declared.document.Document.{Document}
 use Rattle.wf_types.specs.declared.client.Cookie.{Cookie}
 use Rattle.wf_types.specs.declared.request.Request.{Request}

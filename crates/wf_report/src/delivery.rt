@@ -1,7 +1,7 @@
 // The delivery of a document's reports.
 ghost use Rattle.std.specs.Prelude.{◌≡◌, ◌<◌, ◌≤◌, ◌^◌, [], ◌∷◌, length, slice_get, option_map, Some, IfOk, OnOk};
 ghost use Rattle.wf_link.specs.Sources.{IsAtEnd};
-ghost use Rattle.wf_player.specs.Worlds.{KeepsPass, most_calls, outside};
+ghost use Rattle.wf_play.specs.Worlds.{KeepsPass, most_calls, outside};
 ghost use Rattle.wf_script_run.specs.Runs.{after_events, beginning, document_client, fetch_limit};
 ghost use Rattle.wf_script_run.specs.Runs.{fetch_started, finished};
 ghost use Rattle.wf_script_run.specs.Runs.{most_fetches, setting};
@@ -22,7 +22,8 @@ use wf_book::Share;
 use wf_csp::Compiled;
 use wf_csp_text::Policies;
 use wf_link::Link;
-use wf_player::{FetchRun, drive_fetch};
+use wf_play::FetchRun;
+use wf_player_fetch::drive_fetch;
 use wf_script_events::{Event, Events, Transcript, event_len};
 use wf_script_values::{Document, Scenario};
 use wf_text::OutOfMemory;

@@ -1,15 +1,15 @@
 -- The clock at the end of a document's run is below 2^48: each command waits less than 2^32 seconds, and at most 16,384
 -- start.
-use Rattle.std.proofs.Common.{◌≡◌, ℕ, zero, suc, ◌+◌, ◌*◌, ◌<◌, ◌≤◌, Bool, true, false, cond, List, [], ◌∷◌}
-use Rattle.std.proofs.Common.{Option, Some, None, Result, Ok, Err, refl, arith}
+use Rattle.std.proofs.Common.{◌≡◌, ℕ, zero, suc, ◌+◌, ◌*◌, ◌<◌, ◌≤◌, Bool, true, false, cond, List, [], ◌∷◌, Option}
+use Rattle.std.proofs.Common.{Some, None, Result, Ok, Err, refl, arith}
 use Rattle.std.specs.Prelude.{if◌then◌else◌, nat_le}
 use Rattle.wf_fetch_acts.specs.declared.act.Act.{Act}
 use Rattle.wf_fetch_acts.specs.declared.act.Input.{Input}
 use Rattle.wf_fetch_acts.specs.Process.{Process, act, ended}
 use Rattle.wf_fetch.specs.Fetch.{fetch}
 use Rattle.wf_link_wire.specs.Exchanges.{Answering}
-use Rattle.wf_player.specs.Playing.{RunPlayed}
-use Rattle.wf_player.specs.Worlds.{Outside}
+use Rattle.wf_play.specs.Playing.{RunPlayed}
+use Rattle.wf_play.specs.Worlds.{Outside}
 use Rattle.wf_script_commands.specs.Scripts.{Step, Steps}
 use Rattle.wf_script_commands.specs.Scripts as script
 use Rattle.wf_script_commands.specs.Valid.{AreValid, IsValidStep}
@@ -17,12 +17,12 @@ use Rattle.wf_script_events.specs.declared.events.Ending.{Ending}
 use Rattle.wf_script_events.specs.declared.events.Ending.TheVariants.{Commands, Finished}
 use Rattle.wf_script_events.specs.declared.events.Event.{Event}
 use Rattle.wf_script_run.specs.Play.{Play, emit, events_of, over, step}
-use Rattle.wf_script_run.specs.Results.{holds}
+use Rattle.wf_script_fill.specs.Results.{holds}
 use Rattle.wf_script_run.specs.Runs.{Next, Progress, Setting, after_events, asked, at_time, beginning, chosen}
 use Rattle.wf_script_run.specs.Runs.{command_run, document_run, embed, fault_event, fetch_started}
-use Rattle.wf_script_run.specs.Runs.{fetched, filled_init, filled_load}
-use Rattle.wf_script_run.specs.Runs.{finished, last_of, limit_before, outcome_event, own_limit, repeated, script_run}
-use Rattle.wf_script_run.specs.Runs.{setting_of, showing, start_event, started, unless_limit, waited}
+use Rattle.wf_script_fill.specs.Filled.{filled_init, filled_load}
+use Rattle.wf_script_run.specs.Runs.{fetched, finished, last_of, limit_before, outcome_event, own_limit, repeated}
+use Rattle.wf_script_run.specs.Runs.{script_run, setting_of, showing, start_event, started, unless_limit, waited}
 use Rattle.wf_script_run.specs.Traces.{PlayTrace, shown, stepped, stop}
 use Rattle.wf_script_values.specs.declared.document.Document.{Document}
 use Rattle.wf_send.specs.Loading.{new_load}

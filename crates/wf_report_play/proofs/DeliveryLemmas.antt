@@ -1,6 +1,6 @@
 -- Reports that are delivered, one document after another.
-use Rattle.std.proofs.Common.{◌≡◌, ℕ, zero, suc, ◌+◌, List, [], ◌∷◌, ◌++◌, length, take, Option, Some, ap, sym}
-use Rattle.std.proofs.Common.{subst, ◌∙◌, arith, take_all}
+use Rattle.std.proofs.Common.{◌≡◌, ℕ, zero, suc, ◌+◌, List, [], ◌∷◌, ◌++◌, length, take, Option, Some, ap, sym, subst}
+use Rattle.std.proofs.Common.{◌∙◌, arith, take_all}
 use Rattle.std.specs.Prelude.{slice_get, unwrap_or}
 use Rattle.std.specs.List.{All}
 use Rattle.std.proofs.lemmas.List.{append-nil}
@@ -8,9 +8,9 @@ use Rattle.std.proofs.lemmas.Option.{slice_get_within, unwrap_or-slice_get}
 use Rattle.wf_book.specs.declared.book.Book.{Book}
 use Rattle.wf_book.specs.declared.entry.Entry.{Entry}
 use Rattle.wf_book.specs.Entries.{book_after}
-use Rattle.wf_iso.specs.Plays.{RunsOver, Way, outside_on}
+use Rattle.wf_play.specs.Plays.{RunsOver, Way, outside_on}
 use Rattle.wf_link_wire.specs.Exchanges.{Answering}
-use Rattle.wf_player.specs.Playing.{RunPlayed}
+use Rattle.wf_play.specs.Playing.{RunPlayed}
 use Rattle.wf_report.specs.declared.delivery.Delivered.{Delivered}
 use Rattle.wf_report_play.specs.Private.Delivered.{EachDelivered, numbered}
 use Rattle.wf_script_events.specs.declared.events.Ending.{Ending}

@@ -9,7 +9,7 @@ use Rattle.wf_book.specs.declared.op.Op.{Op}
 use Rattle.wf_book.specs.Book.{after}
 use Rattle.wf_book.specs.Entries.{LegalFrom, book_after, entries_of, entry}
 use Rattle.wf_book.proofs.EntryLemmas.{book_after-append, entries_of-append}
-use Rattle.wf_iso.specs.Plays.{HasTurnsFrom}
+use Rattle.wf_play.specs.Plays.{HasTurnsFrom}
 use Rattle.wf_report_play.specs.Plays.{AreInOrderFrom}
 use Rattle.wf_report_play.specs.Private.Delivered.{numbered}
 

@@ -6,10 +6,10 @@ use Rattle.wf_book.specs.Entries.{entry}
 use Rattle.wf_fetch_acts.specs.declared.act.Act.{Act}
 use Rattle.wf_fetch_acts.specs.declared.act.Act.TheVariants.{Ask, Send, ReadHead, ReadBody, Tell}
 use Rattle.wf_fetch_acts.specs.declared.act.Input.{Input}
-use Rattle.wf_iso.specs.Plays.{RunsOver, Way, outside_on}
+use Rattle.wf_play.specs.Plays.{RunsOver, Way, outside_on}
 use Rattle.wf_link_wire.specs.Exchanges.{Answering}
-use Rattle.wf_player.specs.Playing.{RunPlayed}
-use Rattle.wf_player.specs.Worlds.{IsExchanged, Outside, Settles, World, WorldAnswers}
+use Rattle.wf_play.specs.Playing.{RunPlayed}
+use Rattle.wf_play.specs.Worlds.{IsExchanged, Outside, Settles, World, WorldAnswers}
 use Rattle.wf_report_play.proofs.HistoryLemmas.{numbered-push}
 use Rattle.wf_report_play.specs.Private.Delivered.{numbered}
 use Rattle.wf_script_events.specs.declared.events.Ending.{Ending}

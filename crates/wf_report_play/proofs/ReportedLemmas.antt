@@ -5,18 +5,17 @@ use Rattle.std.specs.Prelude.{slice_get}
 use Rattle.std.specs.List.{All, AllByRecursion}
 use Rattle.std.proofs.lemmas.List.{append-nil}
 use Rattle.std.proofs.lemmas.List.Elements.{All-nil, All-cons, All-head, All-tail, All-map}
-use Rattle.atomic_table.specs.Seated.{TableId}
 use Rattle.wf_book.specs.declared.book.Book.{Book}
 use Rattle.wf_book.specs.declared.entry.Entry.{Entry}
 use Rattle.wf_book.specs.Entries.{Legal, book_after, entries_of}
-use Rattle.wf_iso.specs.Plays.{HasTurnsFrom, IsPlay, IsPlayOver, IsTranscript, RunsOver, Way, by_rules, opening_book}
-use Rattle.wf_iso.specs.Plays.{outside_on, way_to_servers}
+use Rattle.wf_play.specs.Plays.{HasTurnsFrom, IsPlay, IsPlayOver, IsTranscript, RunsOver, Way, by_rules, opening_book}
+use Rattle.wf_play.specs.Plays.{outside_on, way_to_servers}
 use Rattle.wf_link.specs.Links.{IsForetold, LinkTold}
 use Rattle.wf_link.specs.declared.target.Route.{Route}
 use Rattle.wf_link_wire.specs.Exchanges.{Answering}
-use Rattle.wf_player.specs.Playing.{RunPlayed}
-use Rattle.wf_player.specs.Seats.{DocumentCameTo, Seat}
-use Rattle.wf_player.specs.declared.seating.Seating.{Seating}
+use Rattle.wf_play.specs.Playing.{RunPlayed}
+use Rattle.wf_play.specs.Seats.{DocumentCameTo, Seat}
+use Rattle.wf_play.specs.declared.seating.Seating.{Seating}
 use Rattle.wf_player_seats.specs.Links.{AreOpened, for_documents, way_of}
 use Rattle.wf_player_seats.specs.Passes.{ArePasses}
 use Rattle.wf_player_seats.specs.Seated.{links_in, passes_in}
@@ -109,7 +108,7 @@ many-transcripts (EachDocument.one_more is played) = ap suc (many-transcripts pl
 -- ---- the history
 
 -- the book that the scripts leave
-pub closed-book : {L : Type 0} (id : TableId) (opening : Book) (count : ℕ) (first : TurnPass)
+pub closed-book : {L : Type 0} (id : _) (opening : Book) (count : ℕ) (first : TurnPass)
     (made back : List (Seating L TurnPass)) (book : Book) (history : List Entry)
     → ArePasses id opening count first (passes_in made) → IsOneHistory (first ∷ passes_in back) book history
     → book ≡ book_after opening history

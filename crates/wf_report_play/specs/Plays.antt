@@ -1,11 +1,11 @@
 -- A play of a scenario with the reports of its documents: a play of its scripts, and then, in order of documents, the
--- run of each document's reports, over the scenario's servers and the same book (this project's own; a play is wf_iso's
--- definition, the run of reports wf_report's, and what comes of its acts wf_player's).
+-- run of each document's reports, over the scenario's servers and the same book (this project's own; a play, and
+-- what comes of acts, are wf_play's definitions, and the run of reports is wf_report's).
 use Rattle.std.specs.Prelude.{◌≡◌, ℕ, ◌+◌, ◌<◌, ◌≤◌, List, [], ◌∷◌, ◌++◌, length}
 use Rattle.std.specs.List.{AllByRecursion}
 use Rattle.wf_book.specs.declared.entry.Entry.{Entry}
 use Rattle.wf_book.specs.Entries.{Legal, entries_of}
-use Rattle.wf_iso.specs.Plays.{HasTurnsFrom, IsPlay, RunsOver, by_rules, opening_book, way_to_servers}
+use Rattle.wf_play.specs.Plays.{HasTurnsFrom, IsPlay, RunsOver, by_rules, opening_book, way_to_servers}
 use Rattle.wf_report.specs.declared.delivery.Delivered.{Delivered}
 use Rattle.wf_report.specs.Reporting.{ending_of, reporting}
 use Rattle.wf_script_events.specs.declared.events.Transcript.{Transcript}

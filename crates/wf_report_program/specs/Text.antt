@@ -9,7 +9,7 @@ use Rattle.wf_report_play.specs.Plays.{IsReportedPlay}
 use Rattle.wf_script_events.specs.declared.events.Event.{Event}
 use Rattle.wf_script_events.specs.declared.events.Transcript.{Transcript}
 use Rattle.wf_script_events.specs.Lines.{event_text, line}
-use Rattle.wf_script_run.specs.Results.{is_result}
+use Rattle.wf_script_fill.specs.Results.{is_result}
 use Rattle.wf_script_values.specs.declared.scenario.Scenario.{Scenario}
 
 -- the line of a report's number, where one begins

@@ -10,7 +10,7 @@ use wf_print::{Failure, Page, add_event, add_number, write_entries, write_text};
 use wf_report::{Delivered, DeliveredEnd};
 use wf_report_play::Reported;
 use wf_script_events::{Event, Transcript};
-use wf_script_run::is_result;
+use wf_script_fill::is_result;
 use wf_text::{Bytes, OutOfMemory};
 
 // Adds how a delivery ended.

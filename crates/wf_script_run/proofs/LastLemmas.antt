@@ -12,7 +12,7 @@ use Rattle.wf_script_events.specs.Lines.{event_text}
 use Rattle.wf_script_run.specs.Runs.{text_length}
 use Rattle.std.specs.Option.{option_or}
 use Rattle.wf_script_events.specs.declared.events.Event.{Event}
-use Rattle.wf_script_run.specs.Results.{is_result, last_result, result_in}
+use Rattle.wf_script_fill.specs.Results.{is_result, last_result, result_in}
 use Rattle.wf_script_run.specs.Private.Lasts.{IsLast, last_index}
 
 -- ---- an element of a longer list

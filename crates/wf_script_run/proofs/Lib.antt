@@ -1,11 +1,6 @@
 pub mod Computed
-pub mod CutLemmas
 pub mod DocumentLemmas
 pub mod EmbedLemmas
-pub mod FillingLemmas
 pub mod LastLemmas
 pub mod PlayLemmas
 pub mod ScriptLemmas
-pub mod SqueezeLemmas
-pub mod TrimLemmas
-pub mod ValueLemmas

@@ -20,10 +20,11 @@ use Rattle.wf_script_events.specs.declared.events.Ending.TheVariants.{Finished}
 use Rattle.wf_script_events.specs.declared.events.Event.{Event}
 use Rattle.wf_fetch.specs.Fetch.{fetch}
 use Rattle.wf_script_run.specs.Play.{Play, over, emit}
-use Rattle.wf_script_run.specs.Results.{holds}
+use Rattle.wf_script_fill.specs.Results.{holds}
 use Rattle.wf_script_run.specs.Runs.{Next, Progress, Setting, after_events, asked, at_time, beginning, chosen}
 use Rattle.wf_script_run.specs.Runs.{command_run}
-use Rattle.wf_script_run.specs.Runs.{document_run, embed, fault_event, fetch_started, fetched, filled_init, filled_load}
+use Rattle.wf_script_fill.specs.Filled.{filled_init, filled_load}
+use Rattle.wf_script_run.specs.Runs.{document_run, embed, fault_event, fetch_started, fetched}
 use Rattle.wf_script_run.specs.Runs.{finished, last_of, limit_before, outcome_event, repeated, script_run, setting_of}
 use Rattle.wf_script_run.specs.Runs.{showing, start_event, started, unless_limit, waited}
 

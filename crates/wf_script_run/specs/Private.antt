@@ -1,3 +1,2 @@
 -- What the crate's private contracts alone cite.
 pub mod Lasts
-pub mod Squeezes

@@ -1,13 +1,10 @@
 -- A document's run: its script's commands in order, each fetch with what it shows and what it came to
 -- (Fetch, section 5.6, for each `fetch` of a script), its clock, and the limits at which a run ends early.
-use Rattle.std.specs.Prelude.{ℕ, zero, suc, ◌+◌, nat_le, nat_lt, List, [], ◌∷◌, ◌++◌, map, sum_by, length, Option, Some}
-use Rattle.std.specs.Prelude.{None, option_map, Result, Ok, Err, if◌then◌else◌}
-use Rattle.wf_text.specs.Trims.{http_whitespace, trimmed}
+use Rattle.std.specs.Prelude.{ℕ, zero, suc, ◌+◌, nat_le, nat_lt, List, [], ◌∷◌, ◌++◌, sum_by, length, Option, Some}
+use Rattle.std.specs.Prelude.{None, Result, Ok, Err, if◌then◌else◌}
 use Rattle.wf_types.specs.declared.client.Client.{Client}
 use Rattle.wf_types.specs.declared.client.Cookie.{Cookie}
 use Rattle.wf_types.specs.declared.fault.TypeFault.{TypeFault}
-use Rattle.wf_types.specs.declared.init.Init.{Init}
-use Rattle.wf_types.specs.declared.init.Pair.{Pair}
 use Rattle.wf_types.specs.declared.request.Request.{Request}
 use Rattle.wf_types.specs.declared.policy.Destination.{Destination}
 use Rattle.wf_types.specs.declared.policy.Destination.TheVariants as destination
@@ -17,11 +14,9 @@ use Rattle.wf_types.specs.Clients.{client_of}
 use Rattle.wf_csp_text.specs.declared.policy.Policy.{Policy}
 use Rattle.wf_send.specs.Loading.{new_load}
 use Rattle.wf_send.specs.Making.{new_request}
-use Rattle.wf_types.specs.declared.init.LoadInit.{LoadInit}
 use Rattle.wf_script_commands.specs.declared.command.Test.{Test}
 use Rattle.wf_script_commands.specs.Scripts.{Step, Steps}
 use Rattle.wf_script_commands.specs.Scripts as script
-use Rattle.wf_script_commands.specs.Templates.{filled}
 use Rattle.wf_script_values.specs.declared.document.Document.{Document}
 use Rattle.wf_script_events.specs.declared.events.Ending.{Ending}
 use Rattle.wf_script_events.specs.declared.events.Ending.TheVariants.{Finished, Fetches, Commands, Text}
@@ -32,7 +27,8 @@ use Rattle.wf_fetch_acts.specs.Process.{Process, ended, act}
 use Rattle.wf_fetch.specs.Fetch.{fetch}
 use Rattle.wf_fetch.specs.Then.{Context, context_of}
 use Rattle.wf_script_run.specs.Play.{Play, over, emit, step, events_of}
-use Rattle.wf_script_run.specs.Results.{last_result, value_of, holds}
+use Rattle.wf_script_fill.specs.Filled.{filled_init, filled_load}
+use Rattle.wf_script_fill.specs.Results.{last_result, holds}
 
 -- What the fetches of a document have in common: its client, the document's policies, and the table of cookies.
 pub record Setting : Type 0 where
@@ -107,26 +103,6 @@ own_limit _ progress = None
 -- the limit that a run has reached before a command
 abbrev pub limit_before : Step → Progress → Option Ending
 limit_before one progress = if nat_le most_commands progress.commands then Some Commands else own_limit one progress
-
--- ---- what a script asks for
-
--- a header's value, its placeholders replaced, and normalised then (Fetch, section 2.2.2)
-abbrev pub filled_pair : Option Event → Pair → Pair
-filled_pair last pair =
-    record { name = pair.name; value = trimmed http_whitespace (filled (value_of last) pair.value) }
-
--- what a call of `fetch` asks for, with the parts of the last result in the place of placeholders: in its URL, in the
--- values of its headers and in its body
-abbrev pub filled_init : Option Event → Init → Init
-filled_init last init = record init {
-  url = filled (value_of last) init.url;
-  headers = map (filled_pair last) init.headers;
-  body = option_map (filled (value_of last)) init.body;
-}
-
--- what a load asks for, the same in its URL
-abbrev pub filled_load : Option Event → LoadInit → LoadInit
-filled_load last init = record init { url = filled (value_of last) init.url }
 
 -- ---- what is shown of a fetch and of a load
 

@@ -1,7 +1,8 @@
+// How far a document's run has come.
 ghost use Rattle.std.specs.Prelude.{◌≡◌, ◌<◌, ◌≤◌, ◌+◌, ◌^◌, ◌++◌, ◌∷◌, [], OnOk, OnErr};
 ghost use Rattle.wf_script_commands.specs.Commands.{step_of};
 ghost use Rattle.wf_script_run.specs.Play.{events_of};
-ghost use Rattle.wf_script_run.specs.Results.{lent_result};
+ghost use Rattle.wf_script_fill.specs.Results.{lent_result};
 ghost use Rattle.wf_script_run.specs.Runs as spec;
 ghost use Rattle.wf_script_run.specs.Runs.{after_events, beginning, fetch_started, last_of, most_commands};
 ghost use Rattle.wf_script_run.specs.Runs.{most_fetches};

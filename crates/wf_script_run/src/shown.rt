@@ -1,25 +1,26 @@
+// The events that a document has shown.
 ghost use Rattle.std.specs.Prelude.{◌≡◌, [], ◌∷◌, ◌++◌, nat_lt, OnOk, OnErr};
 ghost use Rattle.wf_script_run.specs.Play.{events_of};
 ghost use Rattle.wf_script_run.specs.Play as spec;
-ghost use Rattle.wf_script_run.specs.Results.{last_result, lent_result};
+ghost use Rattle.wf_script_fill.specs.Results.{last_result, lent_result};
 ghost use Rattle.wf_script_run.specs.Runs.{most_printed, text_length};
 ghost use Rattle.wf_script_run.specs.Private.Lasts.{last_index};
 
-use crate::results::is_result;
 use std::alloc::Global;
 use std::marker::Model;
 use wf_book::Reply;
 use wf_fetch_acts::{Act, Input};
 use wf_script_events::{Event, Events, event_len};
+use wf_script_fill::is_result;
 use wf_text::OutOfMemory;
 
 // How many bytes the lines of a document have at most before a fetch.
 const MOST_PRINTED: u64 = 8_388_608;
 
-// The events that a document has shown, seen as their list, with how many bytes their lines have, as far
-// as 64 bits tell it, and where the last result is.
+/// The events that a document has shown, seen as their list, with how many bytes their lines have, as far
+/// as 64 bits tell it, and where the last result is.
 #[derive(Drop)]
-pub(crate) struct Shown {
+pub struct Shown {
     events: Events,
     printed: u64,
     last: Option<usize>,
@@ -57,8 +58,8 @@ fn reply_of(input: &Input) -> Reply
 }
 
 impl Shown {
-    // Nothing was shown. It takes no memory.
-    pub(crate) fn new(alloc: Global) -> Shown
+    /// Nothing was shown. It takes no memory.
+    pub fn new(alloc: Global) -> Shown
         ensures { result ≡ [] }
     {
         Shown {
@@ -68,8 +69,8 @@ impl Shown {
         }
     }
 
-    // Adds an event.
-    pub(crate) fn add(&mut self, event: Event) -> Result<(), OutOfMemory>
+    /// Adds an event. Where memory is refused the events are as they were.
+    pub fn add(&mut self, event: Event) -> Result<(), OutOfMemory>
         ensures ok { OnOk result (self.new ≡ self.old ++ event ∷ []) }
         ensures err { OnErr result (self.new ≡ self.old) }
     {
@@ -106,16 +107,16 @@ impl Shown {
         }
     }
 
-    // Whether the lines are more than 8,388,608 bytes, which a document may have before a fetch. It takes no
-    // memory.
-    pub(crate) fn is_full(&self) -> bool
+    /// Whether the lines are more than 8,388,608 bytes, which a document may have before a fetch. It takes no
+    /// memory.
+    pub fn is_full(&self) -> bool
         ensures { result ≡ nat_lt most_printed (text_length self.now) }
     {
         self.printed > MOST_PRINTED
     }
 
-    // The events.
-    pub(crate) fn into_events(self) -> Events
+    /// The events.
+    pub fn into_events(self) -> Events
         ensures { result ≡ self }
     {
         self.events

@@ -34,7 +34,7 @@ use Rattle.wf_fetch.specs.PreflightFetch.{with_preflight}
 use Rattle.wf_fetch.specs.Then.{Context, Onward, Then}
 use Rattle.wf_http1.specs.RequestHeads.{HasOneReading}
 use Rattle.wf_link_wire.specs.Exchanges.{Answering, Exchange}
-use Rattle.wf_player.specs.Worlds.{World}
+use Rattle.wf_play.specs.Worlds.{World}
 use Rattle.wf_server.specs.declared.table.Row.{Row}
 use Rattle.wf_server.specs.Tables.{row_of}
 use Rattle.wf_server_heard.specs.Heard.{RepliesAreHeard, RepliesHaveHeads, RequestsAreHeard}

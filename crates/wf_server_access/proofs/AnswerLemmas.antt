@@ -24,7 +24,7 @@ use Rattle.wf_http1.specs.declared.request_head.Asked.{Asked}
 use Rattle.wf_link_wire.specs.Exchanges.{Answering, HasNoHead}
 use Rattle.wf_script_events.specs.declared.events.Event.{Event}
 use Rattle.wf_script_events.specs.declared.events.Event.TheVariants as event
-use Rattle.wf_player.specs.Worlds.{World}
+use Rattle.wf_play.specs.Worlds.{World}
 use Rattle.wf_server.specs.declared.table.Row.{Row}
 use Rattle.wf_server.specs.Tables.{lists, row_of}
 use Rattle.wf_server.specs.Served.{IsServed, Reply, allowed, by_origin, by_found, is_preflight, refused, reply_bytes}

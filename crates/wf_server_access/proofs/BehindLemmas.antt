@@ -30,7 +30,7 @@ use Rattle.wf_fetch.specs.PreflightFetch.{preflight_judged, with_preflight}
 use Rattle.wf_fetch.specs.Then.{Context, Onward, Then, then_ask}
 use Rattle.wf_http1.specs.declared.request_head.Asked.{Asked}
 use Rattle.wf_link_wire.specs.Exchanges.{Answering, Exchange}
-use Rattle.wf_player.specs.Worlds.{World}
+use Rattle.wf_play.specs.Worlds.{World}
 use Rattle.wf_server.specs.declared.table.Row.{Row}
 use Rattle.wf_server.specs.Tables.{lists, row_of}
 use Rattle.wf_server.specs.Served.{Reply, allowed, by_found, is_preflight, refused, served}

@@ -29,7 +29,7 @@ use Rattle.wf_http1.specs.declared.request_head.Asked.{Asked}
 use Rattle.wf_http1.specs.declared.framing.Framing.{Framing}
 use Rattle.wf_http1.specs.declared.framing.Framing.TheVariants as framing
 use Rattle.wf_link_wire.specs.Exchanges.{Answering}
-use Rattle.wf_player.specs.Worlds.{World}
+use Rattle.wf_play.specs.Worlds.{World}
 use Rattle.wf_server.specs.declared.table.Row.{Row}
 use Rattle.wf_server.specs.Tables.{lists, row_of}
 use Rattle.wf_server.specs.Served.{Reply, allowed, body_for, by_found, is_preflight, refused, served}

@@ -31,8 +31,8 @@ use Rattle.wf_link_wire.specs.Exchanges.{IsAnswered, is_fault}
 use Rattle.wf_script_events.specs.declared.events.Event.{Event}
 use Rattle.wf_script_events.specs.declared.events.Event.TheVariants as event
 use Rattle.wf_script_run.specs.Play.{events_of}
-use Rattle.wf_player.specs.Driving.{LeadsOn}
-use Rattle.wf_player.specs.Worlds.{World, WorldAnswers}
+use Rattle.wf_play.specs.Driving.{LeadsOn}
+use Rattle.wf_play.specs.Worlds.{World, WorldAnswers}
 
 -- ---- a trace by its first act
 

@@ -46,8 +46,8 @@ use Rattle.wf_http1.specs.declared.request_head.Asked.{Asked}
 use Rattle.wf_link_wire.specs.Exchanges.{Answering, is_fault}
 use Rattle.wf_script_events.specs.declared.events.Event.{Event}
 use Rattle.wf_script_events.specs.declared.events.Event.TheVariants.{Sent}
-use Rattle.wf_player.specs.Driving.{LeadsOn}
-use Rattle.wf_player.specs.Worlds.{World}
+use Rattle.wf_play.specs.Driving.{LeadsOn}
+use Rattle.wf_play.specs.Worlds.{World}
 use Rattle.wf_server.specs.Reading.{may_be_listed, most_in_line, table_of}
 use Rattle.wf_server.specs.Served.{IsServed}
 use Rattle.wf_server.specs.Tables.{allows, lists, row_of}

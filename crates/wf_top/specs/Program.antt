@@ -18,7 +18,7 @@ use Rattle.wf_script.specs.Generated.{generated}
 use Rattle.wf_script.specs.Scenarios.{scenario_of}
 use Rattle.wf_link_wire.specs.Exchanges.{Answering}
 use Rattle.wf_iso.specs.Isolated.{IsAlone, IsIsolated}
-use Rattle.wf_iso.specs.Plays.{IsPlay, by_rules, ways_to_servers}
+use Rattle.wf_play.specs.Plays.{IsPlay, by_rules, ways_to_servers}
 use Rattle.wf_player_seats.specs.Links.{way_of}
 use Rattle.wf_player_play.specs.Links.{HasTakenBack, IsPlayOverLinks, WasRefused}
 use Rattle.wf_top.specs.Statuses.{complaint}

@@ -8,7 +8,7 @@ use Rattle.wf_script_events.specs.Endings.{HasText}
 use Rattle.wf_script_run.specs.Documents.{EachDocument}
 use Rattle.wf_script_values.specs.declared.document.Document.{Document}
 use Rattle.wf_script_values.specs.declared.scenario.Scenario.{Scenario}
-use Rattle.wf_iso.specs.Plays.{IsTranscript, by_rules, ways_to_servers}
+use Rattle.wf_play.specs.Plays.{IsTranscript, by_rules, ways_to_servers}
 use Rattle.wf_audit.specs.Verdicts.{Comes, ComesTo, StopsAt}
 use Rattle.wf_audit.specs.declared.runs.Runs.{Runs}
 use Rattle.wf_audit.specs.declared.runs.Runs.TheVariants as runs

@@ -1,10 +1,10 @@
 -- Seats in rows, each beside what its document has shown.
 use Rattle.std.specs.Prelude.{ℕ, ◌<◌, ◌≡◌, ◌≤◌, List, Some, length, map, slice_get}
 use Rattle.wf_player.specs.declared.seating.Row.{Row}
-use Rattle.wf_player.specs.declared.seating.Seating.{Seating}
-use Rattle.wf_player.specs.Seats.{DocumentCameTo, Seat}
+use Rattle.wf_play.specs.declared.seating.Seating.{Seating}
+use Rattle.wf_play.specs.Seats.{DocumentCameTo, Seat}
 use Rattle.wf_player.specs.Words.{Answering, Document, Scenario, Transcript}
-use Rattle.wf_player.specs.Worlds.{most_calls}
+use Rattle.wf_play.specs.Worlds.{most_calls}
 
 module _ {L P : Type 0} where
   abbrev pub seatings_of : List (Row L P) → List (Seating L P)

@@ -1,9 +1,9 @@
 -- Documents that were seated and played, and whose links are taken back.
 use Rattle.std.specs.Prelude.{◌≡◌, ℕ, List, length, map, Option}
 use Rattle.wf_link.specs.Links.{Lendings, LinkTold, faults_told}
-use Rattle.wf_player.specs.declared.seating.Seating.{Seating}
+use Rattle.wf_play.specs.declared.seating.Seating.{Seating}
 use Rattle.wf_turn.specs.declared.pass.TurnPass.{TurnPass}
-use Rattle.wf_iso.specs.Plays.{Way}
+use Rattle.wf_play.specs.Plays.{Way}
 use Rattle.wf_player_seats.specs.Lendings.{AreTaken}
 use Rattle.wf_player_seats.specs.Links.{grown_by_all, way_of}
 use Rattle.wf_player_seats.specs.Seated.{links_in}

@@ -1,8 +1,8 @@
 -- How far a delivery has come in its world (private contracts).
 use Rattle.std.specs.Prelude.{◌≡◌, ℕ, List}
 use Rattle.wf_fetch_acts.specs.declared.act.Input.{Input}
-use Rattle.wf_player.specs.Playing.{PlaysOn}
-use Rattle.wf_player.specs.Worlds.{Outside, World, outside_of}
+use Rattle.wf_play.specs.Playing.{PlaysOn}
+use Rattle.wf_play.specs.Worlds.{Outside, World, outside_of}
 use Rattle.wf_script_events.specs.declared.events.Event.{Event}
 use Rattle.wf_script_run.specs.Play.{Play}
 use Rattle.wf_link_wire.specs.Exchanges.{Answering, IsIdle}

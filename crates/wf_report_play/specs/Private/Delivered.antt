@@ -3,10 +3,10 @@ use Rattle.std.specs.Prelude.{◌≡◌, ℕ, ◌+◌, ◌<◌, ◌^◌, List, [
 use Rattle.wf_book.specs.declared.book.Book.{Book}
 use Rattle.wf_book.specs.declared.entry.Entry.{Entry}
 use Rattle.wf_book.specs.Entries.{Legal, book_after, entry}
-use Rattle.wf_iso.specs.Plays.{IsPlayOver, RunsOver, opening_book}
+use Rattle.wf_play.specs.Plays.{IsPlayOver, RunsOver, opening_book}
 use Rattle.wf_link.specs.Links.{LinkTold}
 use Rattle.wf_link_wire.specs.Exchanges.{Answering}
-use Rattle.wf_player.specs.declared.seating.Seating.{Seating}
+use Rattle.wf_play.specs.declared.seating.Seating.{Seating}
 use Rattle.wf_player_seats.specs.Links.{way_of}
 use Rattle.wf_player_seats.specs.Seated.{links_in}
 use Rattle.wf_report.specs.declared.delivery.Delivered.{Delivered}

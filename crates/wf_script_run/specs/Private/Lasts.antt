@@ -1,7 +1,7 @@
 -- Where the last result among events is (private contracts).
 use Rattle.std.specs.Prelude.{◌≡◌, ◌<◌, ℕ, List, length, slice_get, Option, Some, None, if◌then◌else◌}
 use Rattle.wf_script_events.specs.declared.events.Event.{Event}
-use Rattle.wf_script_run.specs.Results.{is_result, last_result}
+use Rattle.wf_script_fill.specs.Results.{is_result, last_result}
 
 -- where it is once an event was added after so many
 abbrev pub last_index : Option ℕ → ℕ → Event → Option ℕ

@@ -4,7 +4,7 @@ use Rattle.wf_book.specs.declared.book.Book.{Book}
 use Rattle.wf_book.specs.declared.entry.Entry.{Entry}
 use Rattle.wf_book.specs.Book.{empty}
 use Rattle.wf_book.specs.Ops.{InRange}
-use Rattle.wf_iso.specs.Plays.{opening_book, with_hosts}
+use Rattle.wf_play.specs.Plays.{opening_book, with_hosts}
 use Rattle.wf_script_values.specs.declared.hosts.KnownHost.{KnownHost}
 use Rattle.wf_audit_history.specs.Legality.{AreRight, IsIllegalAt, IsJudged, first_stranger}
 use Rattle.wf_audit.proofs.VerdictLemmas.{held-in-range, illegal-verdict, stranger-verdict}

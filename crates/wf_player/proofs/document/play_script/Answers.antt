@@ -1,6 +1,7 @@
 use Rattle.wf_player.proofs.Words.{◌∙◌, ◌≡◌, IsAtEnd, Progress, ap, arith, finished, lent_setting, over_link, refl}
 use Rattle.wf_player.proofs.Words.{rules, script_run, standing, window_of}
-use Rattle.wf_player.proofs.AskLemmas.{end-left, keeps-pass, moved, outside-is}
+use Rattle.wf_play.proofs.WorldLemmas.{end-left, moved, outside-is}
+use Rattle.wf_play.proofs.KeepLemmas.{keeps-pass}
 use Rattle.wf_player.proofs.RunLemmas.{run-came, run-rests}
 use Rattle.wf_player.proofs.document.play_script.Goals as goal
 
@@ -13,7 +14,7 @@ script-requires-clause-goes g c κs within = record {
 
 pub returns-clause-came : goal.returns-clause-came
 returns-clause-came g c =
-    let last = c.script.new.self in
+    let last = c.script.new.player in
     let shown : c.into_events.result ≡ last.running.now.shown = search rules in
     let ticks : c.now-clock.result ≡ last.running.now.clock = search rules in
     rw (shown, ticks, c.ended_by-ending.ensures) (run-came _ _ (standing g.S.Share.account g.L.Link.told last)
@@ -24,9 +25,9 @@ returns-clause-came g c =
 
 pub returns-clause-rests : goal.returns-clause-rests
 returns-clause-rests g c = λ told.
-    moved (λ l. IsAtEnd (g.L.Link.told l).left) c.script.new.self.link.now _ (search rules)
+    moved (λ l. IsAtEnd (g.L.Link.told l).left) c.script.new.player.link.now _ (search rules)
     (run-rests (over_link g.L.Link.serves) (λ lent. script_run lent c.args.document.now.script) _
-    (standing g.S.Share.account g.L.Link.told c.script.new.self) c.script.result c.script.ensures.came
+    (standing g.S.Share.account g.L.Link.told c.script.new.player) c.script.result c.script.ensures.came
     (λ bad. told (c.ended_by-ending.ensures ∙ bad)))
 
 pub returns-clause-pass : goal.returns-clause-pass

@@ -1,5 +1,5 @@
 use Rattle.wf_player.proofs.Words.{outside, refl}
-use Rattle.wf_player.proofs.AskLemmas.{outside-is}
+use Rattle.wf_play.proofs.WorldLemmas.{outside-is}
 use Rattle.wf_player.proofs.RunLemmas.{run-of}
 use Rattle.wf_player.proofs.document.run_document.Goals as goal
 

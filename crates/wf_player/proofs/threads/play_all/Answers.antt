@@ -1,6 +1,6 @@
 use Rattle.wf_player.proofs.Words.{◌∙◌, ◌≡◌, IfOk-weaker, ap, inl, inr, length, map, refl, seat_of, seatings_of, sym}
 use Rattle.wf_player.proofs.Words.{transcripts_of}
-use Rattle.wf_player.proofs.AskLemmas.{on-err}
+use Rattle.wf_play.proofs.WorldLemmas.{on-err}
 use Rattle.wf_player.proofs.SeatLemmas.{belong-back, documents-after, documents-before, played-back, ready, written}
 use Rattle.wf_player.proofs.threads.play_all.Goals as goal
 

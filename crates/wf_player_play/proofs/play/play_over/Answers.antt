@@ -6,8 +6,8 @@ use Rattle.wf_script_values.specs.declared.hosts.KnownHost.{KnownHost}
 use Rattle.wf_turn.specs.Passes.{opening_of}
 use Rattle.wf_turn.specs.declared.pass.TurnPass.{TurnPass}
 use Rattle.wf_link_wire.specs.Wires.{over_link}
-use Rattle.wf_player.proofs.AskLemmas.{on-err}
-use Rattle.wf_iso.specs.Plays.{IsPlayOver, opening_book, with_hosts}
+use Rattle.wf_play.proofs.WorldLemmas.{on-err}
+use Rattle.wf_play.specs.Plays.{IsPlayOver, opening_book, with_hosts}
 use Rattle.wf_player_play.specs.Links.{IsPlayOverLinks, maker_of}
 use Rattle.wf_player_seats.specs.Passes.{ArePasses}
 use Rattle.wf_player_play.specs.Private.Seated.{AreUnseated}

@@ -1,8 +1,8 @@
 use Rattle.std.proofs.Common.{◌∙◌, List, ◌++◌, ap, length, refl, subst, sym}
 use Rattle.wf_turn.specs.Passes.{HasEveryPass, IsOneHistory}
 use Rattle.wf_turn.specs.declared.pass.TurnPass.{TurnPass}
-use Rattle.wf_player.proofs.AskLemmas.{on-err}
-use Rattle.wf_iso.specs.Plays.{opening_book}
+use Rattle.wf_play.proofs.WorldLemmas.{on-err}
+use Rattle.wf_play.specs.Plays.{opening_book}
 use Rattle.wf_link_wire.specs.Wires.{over_link}
 use Rattle.wf_player_seats.specs.Seated.{links_in, passes_in}
 use Rattle.wf_player_seats.proofs.ClosedLemmas.{whole-passes}

@@ -1,6 +1,6 @@
 use Rattle.std.proofs.Common.{◌≡◌, drop}
 use Rattle.wf_book.specs.Book.{empty}
-use Rattle.wf_iso.specs.Plays.{with_hosts}
+use Rattle.wf_play.specs.Plays.{with_hosts}
 use Rattle.wf_player_seats.proofs.book.opened.Given as goal
 
 -- the hosts so far were noted, and the others follow

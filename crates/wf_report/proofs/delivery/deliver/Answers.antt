@@ -1,5 +1,5 @@
 use Rattle.std.proofs.Common.{◌≡◌, ◌∙◌, [], refl, subst}
-use Rattle.wf_player.specs.Worlds.{outside}
+use Rattle.wf_play.specs.Worlds.{outside}
 use Rattle.wf_script_run.specs.Play.{Play}
 use Rattle.wf_link_wire.specs.Wires.{over_link}
 use Rattle.wf_report.specs.Delivering.{Delivers}

@@ -1,5 +1,5 @@
 use Rattle.std.proofs.Common.{◌≡◌, None, ap, arith, refl, sym, ◌∙◌}
-use Rattle.wf_player.specs.Worlds.{outside}
+use Rattle.wf_play.specs.Worlds.{outside}
 use Rattle.wf_script_run.specs.Runs.{Progress, beginning, fetch_limit, finished, setting}
 use Rattle.wf_types.specs.declared.request.Request.{Request}
 use Rattle.std.proofs.Common.{List}

@@ -1,7 +1,7 @@
 use Rattle.std.proofs.Common.{◌≡◌, ◌*◌, length}
-use Rattle.wf_fetch_laws.specs.Laws.{most_asks}
+use Rattle.wf_play.specs.Words.{most_asks}
 use Rattle.wf_link.specs.Sources.{IsAtEnd}
-use Rattle.wf_player.specs.Worlds.{KeepsPass, outside}
+use Rattle.wf_play.specs.Worlds.{KeepsPass, outside}
 use Rattle.wf_script_run.specs.Runs.{beginning, finished, setting}
 use Rattle.wf_link_wire.specs.Wires.{over_link}
 use Rattle.wf_report.specs.Private.Paths.{HasReached}

@@ -1,7 +1,7 @@
 use Rattle.std.proofs.Common.{ℕ, ◌∙◌, List, [], ◌∷◌, ◌++◌, Some, ap, arith, length, refl, subst, sym}
 use Rattle.wf_book.specs.declared.book.Book.{Book}
 use Rattle.wf_book.specs.Book.{empty}
-use Rattle.wf_iso.specs.Plays.{opening_book, with_hosts}
+use Rattle.wf_play.specs.Plays.{opening_book, with_hosts}
 use Rattle.wf_player_seats.specs.Passes.{ArePasses}
 use Rattle.wf_player_seats.proofs.SeatedLemmas.{as-many}
 use Rattle.wf_player_seats.proofs.ServerLemmas.{by_bytes, sim_told}

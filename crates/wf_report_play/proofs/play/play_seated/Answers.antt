@@ -1,7 +1,7 @@
 use Rattle.std.proofs.Common.{◌≡◌, ℕ, ◌+◌, ◌∙◌, List, ◌++◌, ap, arith, length, refl, subst, sym}
 use Rattle.std.proofs.lemmas.List.{length-map}
 use Rattle.wf_book.specs.declared.book.Book.{Book}
-use Rattle.wf_iso.specs.Plays.{opening_book}
+use Rattle.wf_play.specs.Plays.{opening_book}
 use Rattle.wf_link_wire.specs.Wires.{over_link}
 use Rattle.wf_player_play.proofs.PlayLemmas.{closed-play}
 use Rattle.wf_player_seats.specs.Seated.{passes_in}

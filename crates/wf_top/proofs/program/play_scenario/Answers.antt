@@ -1,4 +1,4 @@
-use Rattle.wf_iso.specs.Plays.{by_rules, ways_to_servers}
+use Rattle.wf_play.specs.Plays.{by_rules, ways_to_servers}
 use Rattle.wf_top.specs.Program.{IsScripted}
 use Rattle.wf_top.proofs.ProgramLemmas.{written-play}
 use Rattle.wf_top.proofs.program.play_scenario.Goals as goal

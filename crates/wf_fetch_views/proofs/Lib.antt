@@ -1,0 +1,3 @@
+pub mod AlikeLemmas
+pub mod ApartLemmas
+pub mod BlindLemmas

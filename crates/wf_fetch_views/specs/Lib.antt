@@ -1,0 +1,4 @@
+pub mod Apart
+pub mod Blind
+pub mod Seen
+pub mod Views

@@ -1,0 +1,5 @@
+pub mod CallLemmas
+pub mod KeepLemmas
+pub mod LostLemmas
+pub mod WorldLemmas
+mod Words

@@ -1,0 +1,2 @@
+pub mod FetchLemmas
+mod Words

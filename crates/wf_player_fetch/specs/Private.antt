@@ -1,0 +1,2 @@
+-- What private contracts alone cite: one act of a fetch.
+pub mod Going

@@ -1,0 +1,5 @@
+pub mod CutLemmas
+pub mod FillingLemmas
+pub mod SqueezeLemmas
+pub mod TrimLemmas
+pub mod ValueLemmas
