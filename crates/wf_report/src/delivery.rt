@@ -24,16 +24,14 @@ use wf_csp_text::Policies;
 use wf_link::Link;
 use wf_play::FetchRun;
 use wf_player_fetch::drive_fetch;
-use wf_script_events::{Event, Events, Transcript, event_len};
+use wf_script_events::{Event, Events, Transcript};
+use wf_script_run::Shown;
 use wf_script_values::{Document, Scenario};
 use wf_text::OutOfMemory;
 use wf_types::Client;
 
 /// How many reports of a document are played at most.
 const MOST_REPORTS: u32 = 1_024;
-
-/// How many bytes the lines of a document's reports have at most before a report.
-const MOST_PRINTED: u64 = 8_388_608;
 
 /// How the delivery of a document's reports ended.
 #[derive(Clone, Copy, Debug, PartialEq, Eq)]
@@ -55,20 +53,18 @@ pub struct Delivered {
     pub ending: DeliveredEnd,
 }
 
-// How far a delivery has come: its time, how many reports were played, what they have shown, and how many bytes the
-// lines of that have, as far as 64 bits tell it. Seen as a run's progress.
+// How far a delivery has come: its time, how many reports were played, and what they have shown. Seen as a run's
+// progress.
 #[derive(Drop)]
 struct Log {
     clock: u64,
     reports: u32,
-    events: Events,
-    printed: u64,
+    shown: Shown,
 }
 
 impl Model for Log {
-    ghost use Rattle.std.specs.Prelude.{◌≡◌, ◌≤◌};
-    ghost use Rattle.wf_script_events.specs.Lengths.{capped};
-    ghost use Rattle.wf_script_run.specs.Runs.{Progress, most_fetches, text_length};
+    ghost use Rattle.std.specs.Prelude.{◌≤◌};
+    ghost use Rattle.wf_script_run.specs.Runs.{Progress, most_fetches};
 
     ghost Value = { Progress };
 
@@ -76,10 +72,10 @@ impl Model for Log {
       clock = log.clock;
       commands = 0;
       fetches = log.reports;
-      shown = log.events;
+      shown = log.shown;
     } };
 
-    ghost invariant = { λ log. (log.printed ≡ capped (text_length log.events)) × (log.reports ≤ most_fetches) };
+    ghost invariant = { λ log. log.reports ≤ most_fetches };
 }
 
 impl Log {
@@ -90,8 +86,7 @@ impl Log {
         Log {
             clock,
             reports: 0,
-            events: Events::new(alloc),
-            printed: 0,
+            shown: Shown::new(alloc),
         }
     }
 
@@ -102,21 +97,11 @@ impl Log {
     {
         if self.reports >= MOST_REPORTS {
             Some(DeliveredEnd::Reports)
-        } else if self.printed > MOST_PRINTED {
+        } else if self.shown.is_full() {
             Some(DeliveredEnd::Text)
         } else {
             None
         }
-    }
-
-    // Adds an event.
-    fn add(&mut self, event: Event) -> Result<(), OutOfMemory>
-        ensures { OnOk result (self.new ≡ after_events (event ∷ []) self.old) }
-    {
-        let printed = self.printed.saturating_add(event_len(&event));
-        self.events.push(event)?;
-        self.printed = printed;
-        Ok(())
     }
 
     // Adds events, in order.
@@ -124,7 +109,7 @@ impl Log {
         ensures { OnOk result (self.new ≡ after_events events self.old) }
     {
         for event in events.into_vec() {
-            self.add(event)?;
+            self.shown.add(event)?;
         }
         Ok(())
     }
@@ -137,14 +122,14 @@ impl Log {
     {
         self.reports += 1;
         self.add_all(run.events)?;
-        self.add(Event::Result(run.outcome))
+        self.shown.add(Event::Result(run.outcome))
     }
 
     // The events.
     fn into_events(self) -> Events
         ensures { result ≡ self.shown }
     {
-        self.events
+        self.shown.into_events()
     }
 }
 
