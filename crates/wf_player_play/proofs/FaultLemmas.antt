@@ -14,7 +14,7 @@ use Rattle.wf_play.specs.Plays.{IsTranscript, Way, outside_on}
 use Rattle.wf_book.specs.Entries.{entries_of}
 use Rattle.wf_player_play.specs.Faults.{AllAreTold, all_faults}
 use Rattle.wf_player_seats.specs.Links.{grown_by_all, way_of}
-use Rattle.wf_player_play.specs.Links.{Maker, TookAllBack}
+use Rattle.wf_player_seats.specs.Makers.{Maker, TookAllBack}
 use Rattle.wf_player_seats.proofs.ListLemmas.{map-map}
 use Rattle.wf_link.specs.Links.{LinkTold}
 

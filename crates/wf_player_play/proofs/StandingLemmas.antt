@@ -1,6 +1,6 @@
 -- Plays over links to scripted servers as plays over the servers by their rules.
-use Rattle.std.proofs.Common.{◌≡◌, ℕ, zero, suc, ◌<◌, List, [], ◌∷◌, length, map, get_or, refl, ap, subst, ◌∙◌}
-use Rattle.std.proofs.Common.{arith, Option, Some, None}
+use Rattle.std.proofs.Common.{◌≡◌, ℕ, zero, suc, ◌<◌, List, [], ◌∷◌, length, map, get_or, refl, ap, subst, ◌∙◌, arith}
+use Rattle.std.proofs.Common.{Option, Some, None}
 use Rattle.std.specs.Prelude.{slice_get}
 use Rattle.std.specs.List.{All}
 use Rattle.std.proofs.lemmas.List.Elements.{All-head, All-tail, All-map}
@@ -21,7 +21,8 @@ use Rattle.wf_link.specs.Links.{IsForetold}
 use Rattle.wf_link.specs.declared.target.Route.{Route}
 use Rattle.wf_player_seats.specs.Links.{way_of}
 use Rattle.wf_player_seats.proofs.ServerLemmas.{by_bytes, ran-by-rules, ran-state, sim_told}
-use Rattle.wf_player_play.specs.Links.{IsPlayOverLinks, Maker}
+use Rattle.wf_player_seats.specs.Makers.{Maker}
+use Rattle.wf_player_play.specs.Links.{IsPlayOverLinks}
 use Rattle.wf_play.specs.Plays.{IsPlay, IsTranscript, RunsOver, Way, by_rules, outside_on, way_to_servers}
 
 -- nor does it tell what was received, and it never fails

@@ -3,7 +3,8 @@ ghost use Rattle.std.specs.Prelude.{◌≤◌, ◌+◌, ◌^◌, vec_capacity, v
 ghost use Rattle.wf_script_events.specs.Endings.{HasText};
 ghost use Rattle.wf_script_values.specs.Valid.{IsValid};
 ghost use Rattle.wf_link_wire.specs.Wires.{over_link};
-ghost use Rattle.wf_player_play.specs.Links.{IsPlayOverLinks, WasRefused, maker_of};
+ghost use Rattle.wf_player_play.specs.Links.{IsPlayOverLinks, WasRefused};
+ghost use Rattle.wf_player_seats.specs.Makers.{maker_of};
 ghost use Rattle.wf_player_seats.specs.Seated.{AreReady};
 ghost use Rattle.wf_player_play.specs.Private.Seated.{AreUnseated};
 ghost use Rattle.wf_player_play.specs.Refused.{NoneOrAllPlayed};
@@ -17,7 +18,7 @@ use wf_faults::{law_faults_counted, law_faults_shown};
 use wf_link::Links;
 use wf_play::Seating;
 use wf_player::play_all;
-use wf_player_seats::{opened, passes_of, seat_all, unseat};
+use wf_player_seats::{open_play, unseat};
 use wf_script_events::{Transcripts, has_text};
 use wf_script_values::Scenario;
 use wf_sim::SimLinks;
@@ -98,20 +99,18 @@ pub fn play_over<R: Threads + Wait + Sync, N: Links>(
 {
     law_faults_shown();
     law_faults_counted::<N::Link>();
-    let opening = opened(alloc, scenario.hosts.as_slice())?;
-    let (book, mut first) = TurnBook::new(alloc, opening)?;
-    let count = scenario.documents.len();
-    let passes = passes_of(alloc, &book, &mut first, count)?;
-    let mut seats = Vec::with_capacity(alloc, count)?;
-    let mut back = Vec::with_capacity(alloc, count + 1)?;
-    back.push_reserved(first);
-    match seat_all(alloc, &scenario.routes, passes, links, &mut seats) {
-        Ok(()) => play_seated(rt, alloc, scenario, base, threads, book, seats, back, links),
-        Err(OutOfMemory) => {
-            unseat(seats, links, &mut back);
-            Err(OutOfMemory)
-        }
-    }
+    let open = open_play(alloc, scenario, links)?;
+    play_seated(
+        rt,
+        alloc,
+        scenario,
+        base,
+        threads,
+        open.book,
+        open.seats,
+        open.passes,
+        links,
+    )
 }
 
 /// On how many threads at most documents are played over their scenario's own servers. These answer at once, so more

@@ -1,4 +1,5 @@
 pub mod Lendings
 pub mod Links
+pub mod Makers
 pub mod Passes
 pub mod Seated

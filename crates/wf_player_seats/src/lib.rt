@@ -2,9 +2,11 @@
 #![tactic(auto)]
 
 mod book;
+mod opening;
 mod passes;
 mod seats;
 
 pub use book::opened;
+pub use opening::{OpenPlay, open_play};
 pub use passes::passes_of;
 pub use seats::{seat_all, unseat};

@@ -16,7 +16,7 @@ use wf_link::Link;
 use wf_play::Seating;
 use wf_player::play_all;
 use wf_player_play::SCRIPTED_THREADS;
-use wf_player_seats::{opened, passes_of, seat_all};
+use wf_player_seats::open_play;
 use wf_report::Delivered;
 use wf_script_events::{Transcripts, has_text};
 use wf_script_values::Scenario;
@@ -90,8 +90,8 @@ fn play_seated<R: Threads + Wait + Sync, L: Link + Send + Drop>(
 }
 
 /// Plays a scenario over its own servers, from its own time on, on at most 16 threads. Once all scripts have ended it
-/// delivers the reports of each document, in order of documents, over the document's own link and the book as it is then. The one history is that of the scripts, and then that of the
-/// reports.
+/// delivers the reports of each document, in order of documents, over the document's own link and the book as it is
+/// then. The one history is that of the scripts, and then that of the reports.
 ///
 /// `OutOfMemory` where memory was refused, to a document, to its reports or to what surrounds them.
 pub fn play_reported<R: Threads + Wait + Sync>(
@@ -103,14 +103,7 @@ pub fn play_reported<R: Threads + Wait + Sync>(
     ensures { IfOk result (λ reported. IsReportedPlay scenario.entry.now reported.transcripts reported.reports
         reported.history) }
 {
-    let opening = opened(alloc, scenario.hosts.as_slice())?;
-    let (book, mut first) = TurnBook::new(alloc, opening)?;
-    let count = scenario.documents.len();
-    let passes = passes_of(alloc, &book, &mut first, count)?;
     let mut links = SimLinks::new(scenario);
-    let mut seats = Vec::with_capacity(alloc, count)?;
-    let mut back = Vec::with_capacity(alloc, count + 1)?;
-    back.push_reserved(first);
-    seat_all(alloc, &scenario.routes, passes, &mut links, &mut seats)?;
-    play_seated(rt, alloc, scenario, book, seats, back)
+    let open = open_play(alloc, scenario, &mut links)?;
+    play_seated(rt, alloc, scenario, open.book, open.seats, open.passes)
 }

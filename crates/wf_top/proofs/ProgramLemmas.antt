@@ -15,8 +15,9 @@ use Rattle.wf_print.specs.declared.failure.Failure.TheVariants as failure
 use Rattle.wf_print.specs.Summary.{summary_text}
 use Rattle.wf_print.specs.Text.{play_text}
 use Rattle.wf_link_wire.specs.Exchanges.{Answering}
-use Rattle.wf_player_play.specs.Links.{HasTakenBack, WasRefused}
-use Rattle.wf_player_play.proofs.LinkLemmas.{none-taken}
+use Rattle.wf_player_seats.specs.Makers.{HasTakenBack}
+use Rattle.wf_player_play.specs.Links.{WasRefused}
+use Rattle.wf_player_seats.proofs.LinkLemmas.{none-taken}
 use Rattle.wf_program.proofs.ProgramLemmas.{input-answers, input-usage, input-write, refused-played}
 use Rattle.wf_program.proofs.ProgramLemmas.{told-answer, told-line, told-nothing, told-same}
 use Rattle.wf_program.proofs.ProgramLemmas.{unread-played, written-played}

@@ -20,7 +20,8 @@ use Rattle.wf_link_wire.specs.Exchanges.{Answering}
 use Rattle.wf_iso.specs.Isolated.{IsAlone, IsIsolated}
 use Rattle.wf_play.specs.Plays.{IsPlay, by_rules, ways_to_servers}
 use Rattle.wf_player_seats.specs.Links.{way_of}
-use Rattle.wf_player_play.specs.Links.{HasTakenBack, IsPlayOverLinks, WasRefused}
+use Rattle.wf_player_seats.specs.Makers.{HasTakenBack}
+use Rattle.wf_player_play.specs.Links.{IsPlayOverLinks, WasRefused}
 use Rattle.wf_top.specs.Statuses.{complaint}
 use Rattle.wf_top.specs.Streams.{Net}
 use Rattle.wf_top.specs.Words.{subcommand_of}

@@ -1,6 +1,6 @@
 -- What contracts see of the program's links and clock at one moment.
 use Rattle.std.specs.Prelude.{ℕ, Option}
-use Rattle.wf_player_play.specs.Links.{Maker}
+use Rattle.wf_player_seats.specs.Makers.{Maker}
 
 -- what plays over links use besides: what makes the links, and the clock's next answer, where it tells
 pub record Net (L : Type 0) : Type 0 where

@@ -1,6 +1,6 @@
 ghost use Rattle.std.specs.Prelude.{◌≡◌, ◌≤◌, IfOk};
 ghost use Rattle.wf_play.specs.Plays.{IsPlay};
-ghost use Rattle.wf_player_play.specs.Links.{maker_of};
+ghost use Rattle.wf_player_seats.specs.Makers.{maker_of};
 ghost use Rattle.wf_print.specs.Text.{play_text};
 ghost use Rattle.wf_script_events.specs.Endings.{HasText};
 ghost use Rattle.wf_program.specs.Program.{IsPlayed};

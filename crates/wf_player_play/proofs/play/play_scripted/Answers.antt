@@ -1,6 +1,7 @@
 use Rattle.std.proofs.Common.{Some, ap, refl}
 use Rattle.wf_sim.specs.Sim.{SimState, fault_count, not_lent}
-use Rattle.wf_player_play.specs.Links.{IsPlayOverLinks, Maker}
+use Rattle.wf_player_seats.specs.Makers.{Maker}
+use Rattle.wf_player_play.specs.Links.{IsPlayOverLinks}
 use Rattle.wf_play.specs.Plays.{IsPlay}
 use Rattle.wf_player_play.specs.declared.play.Played.{Played}
 use Rattle.wf_player_seats.proofs.ServerLemmas.{by_bytes, sim_told}

@@ -1,7 +1,7 @@
 use Rattle.std.proofs.Common.{List, ℕ, subst}
 use Rattle.wf_program.specs.Program.{IsTold}
 use Rattle.wf_program.specs.Statuses.{line_of}
-use Rattle.wf_player_play.specs.Links.{maker_of}
+use Rattle.wf_player_seats.specs.Makers.{maker_of}
 use Rattle.wf_top.specs.Streams.{net_of}
 use Rattle.wf_program.specs.Words.{texts}
 use Rattle.wf_link_wire.specs.Wires.{over_link}

@@ -1,5 +1,5 @@
 use Rattle.std.proofs.Common.{map}
-use Rattle.wf_player_play.specs.Links.{maker_of}
+use Rattle.wf_player_seats.specs.Makers.{maker_of}
 use Rattle.wf_player_seats.specs.Links.{way_of}
 use Rattle.wf_top.specs.Streams.{net_of}
 use Rattle.wf_link_wire.specs.Wires.{over_link}

@@ -1,15 +1,15 @@
--- What makes links, and has taken back those that it made.
-use Rattle.std.proofs.Common.{◌≡◌, ℕ, ◌+◌, ◌-◌, List, [], ◌++◌, length, map, Option, Some, None}
-use Rattle.std.proofs.Common.{refl, ap, sym, subst, ◌∙◌, arith}
+-- What makes links, those that it made for a play, and that it has taken back.
+use Rattle.std.proofs.Common.{◌≡◌, ℕ, ◌+◌, ◌-◌, List, [], ◌++◌, ◌≤◌, length, map, Option, Some, None, refl, ap, sym}
+use Rattle.std.proofs.Common.{subst, ◌∙◌, arith}
 use Rattle.std.proofs.lemmas.List.{append-nil, length-map}
 use Rattle.std.specs.Prelude.{option_map}
 use Rattle.wf_link.specs.Links.{Lendings, LinkTold, faults_told}
 use Rattle.wf_player_seats.proofs.LendingLemmas.{lent-is}
 use Rattle.wf_player_seats.specs.Lendings.{AreTaken, out_more}
-use Rattle.wf_player_seats.specs.Links.{grown_by_all}
+use Rattle.wf_player_seats.specs.Links.{AreOpened, for_documents, grown_by_all}
+use Rattle.wf_script_values.specs.declared.scenario.Scenario.{Scenario}
 use Rattle.wf_player_seats.specs.Seated.{links_in}
-use Rattle.wf_player_play.specs.Links.{AreBack}
-use Rattle.wf_player_play.specs.Links.{TookAllBack, Maker, HasTakenBack}
+use Rattle.wf_player_seats.specs.Makers.{AreBack, CameBack, HasTakenBack, Maker, TookAllBack, WereMade}
 use Rattle.wf_play.specs.declared.seating.Seating.{Seating}
 use Rattle.wf_turn.specs.declared.pass.TurnPass.{TurnPass}
 
@@ -51,13 +51,42 @@ took-all told old mid new links count out same many taken counted = record {
   counted = counted ∙ ap (λ (n : ℕ). grown_by_all n (map (faults_told told) links)) same;
 }
 
--- the links of seats, all of which were out
-pub took-seats : {L State : Type 0} (told : L → LinkTold State) (old mid new : Maker L)
-    (seats : List (Seating L TurnPass))
-    → mid.lent ≡ option_map (out_more (length seats)) old.lent → mid.faults ≡ old.faults
-    → AreTaken mid.lent new.lent (links_in seats) → new.faults ≡ grown_by_all mid.faults
-    (map (faults_told told) (links_in seats))
-    → TookAllBack told old new (links_in seats)
-took-seats {L} told old mid new seats out same taken counted =
-    took-all told old mid new (links_in seats) (length seats) out same
-    (length-map seats (λ (s : Seating L TurnPass). s.link)) taken counted
+-- ---- the links of a play that is opened
+
+-- none was made
+pub none-back : {L State : Type 0} (told : L → LinkTold State) (maker : Maker L) (scenario : Scenario)
+    → CameBack told maker maker scenario
+none-back told maker scenario = record {
+  made = [];
+  opened = λ k link at. absurd (cc (at));
+  few = omega arith;
+  took = nothing-taken told maker;
+}
+
+module _ {L : Type 0} (old mid : Maker L) (scenario : Scenario) (seats : List (Seating L TurnPass))
+    (opened : AreOpened (for_documents old.opening scenario.routes) (links_in seats))
+    (few : length seats ≤ length scenario.documents) (out : mid.lent ≡ option_map (out_more (length seats)) old.lent)
+    (same : mid.faults ≡ old.faults) where
+  many : length (links_in seats) ≡ length seats
+  many = length-map seats (λ (s : Seating L TurnPass). s.link)
+
+  -- those of the seats
+  pub seats-made : WereMade old mid scenario (links_in seats)
+  seats-made = record {
+    opened = opened;
+    few = omega (arith, few, many);
+    out = out ∙ ap (λ (n : ℕ). option_map (out_more n) old.lent) (sym many);
+    faults = same;
+  }
+
+  -- which came back as they were
+  pub seats-back : {State : Type 0} (told : L → LinkTold State) (new : Maker L)
+      → AreTaken mid.lent new.lent (links_in seats)
+      → new.faults ≡ grown_by_all mid.faults (map (faults_told told) (links_in seats))
+      → CameBack told old new scenario
+  seats-back told new taken counted = record {
+    made = links_in seats;
+    opened = opened;
+    few = omega (arith, few, many);
+    took = took-all told old mid new (links_in seats) (length seats) out same many taken counted;
+  }
