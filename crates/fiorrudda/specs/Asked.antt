@@ -4,10 +4,11 @@ use Rattle.fiorrudda_fetch.specs.Asked.{Change, chosen, header_added, load_of, t
 use Rattle.fiorrudda_fetch.specs.declared.asked.Asked.{Asked}
 use Rattle.fiorrudda_fetch.specs.declared.asked.Choice.{Choice}
 use Rattle.fiorrudda_fetch.specs.declared.asked.Words.{Words}
-use Rattle.fiorrudda.specs.Calls.{Done, done}
+use Rattle.fiorrudda.specs.Calls.{Done, done, done_by}
 use Rattle.fiorrudda.specs.Choices.{load_numbered}
 use Rattle.fiorrudda_handle.specs.Codes.{yes_or_no}
-use Rattle.fiorrudda_handle.specs.declared.codes.TheConstants.{NO_SUCH_NUMBER, OK, WRONG_HANDLE}
+use Rattle.fiorrudda_handle.specs.declared.codes.TheConstants.{NO_SUCH_NUMBER, OK}
+use Rattle.fiorrudda_handle.specs.Things.{held_request}
 use Rattle.fiorrudda_handle.specs.declared.thing.Thing.{Thing}
 use Rattle.fiorrudda_handle.specs.declared.thing.Thing.TheVariants as thing
 
@@ -25,9 +26,7 @@ change_done change = done (yes_or_no change.made) (Some (thing.Request change.no
 
 -- a request with one more header
 abbrev pub add_header : List ℕ → List ℕ → Option Thing → Done
-add_header name value None = done WRONG_HANDLE None
-add_header name value (Some (thing.Request asked)) = change_done (header_added name value asked)
-add_header name value (Some other) = done WRONG_HANDLE (Some other)
+add_header name value held = done_by (held_request held) (λ asked. change_done (header_added name value asked)) held
 
 -- a request with a text
 abbrev pub set_text_of : Option Words → List ℕ → Asked → Done
@@ -35,9 +34,7 @@ set_text_of None text asked = done NO_SUCH_NUMBER (Some (thing.Request asked))
 set_text_of (Some words) text asked = change_done (text_set words text asked)
 
 abbrev pub set_text : Option Words → List ℕ → Option Thing → Done
-set_text words text None = done WRONG_HANDLE None
-set_text words text (Some (thing.Request asked)) = set_text_of words text asked
-set_text words text (Some other) = done WRONG_HANDLE (Some other)
+set_text words text held = done_by (held_request held) (set_text_of words text) held
 
 -- a request with a choice
 abbrev pub choose_of : Option Choice → Asked → Done
@@ -45,6 +42,4 @@ choose_of None asked = done NO_SUCH_NUMBER (Some (thing.Request asked))
 choose_of (Some choice) asked = change_done (chosen choice asked)
 
 abbrev pub choose : Option Choice → Option Thing → Done
-choose choice None = done WRONG_HANDLE None
-choose choice (Some (thing.Request asked)) = choose_of choice asked
-choose choice (Some other) = done WRONG_HANDLE (Some other)
+choose choice held = done_by (held_request held) (choose_of choice) held

@@ -1,5 +1,5 @@
 -- What each call that is given a handle tells, and what the handle holds after it.
-use Rattle.std.specs.Prelude.{◌≡◌, ℕ, Bool, List, Option, Some, None, Result, Ok, Err}
+use Rattle.std.specs.Prelude.{ℕ, Bool, List, Option, Some, None, Result, Ok, Err}
 use Rattle.wf_book.specs.declared.book.Book.{Book}
 use Rattle.wf_headers.specs.Headers.{combined}
 use Rattle.wf_headers.specs.declared.headers.Header.{Header}
@@ -8,7 +8,8 @@ use Rattle.fiorrudda_rules.specs.Cors.{is_kept_by_resource_policy}
 use Rattle.fiorrudda_rules.specs.Headers.{appending}
 use Rattle.fiorrudda_rules.specs.Hosts.{after_field, is_known_host, says}
 use Rattle.fiorrudda_rules.specs.declared.refusal.Refusal.{Refusal}
-use Rattle.fiorrudda_handle.specs.Codes.{code_of, told, yes_or_no, IsKept, IsTextTold}
+use Rattle.fiorrudda_handle.specs.Codes.{code_of, told, yes_or_no}
+use Rattle.fiorrudda_handle.specs.Things.{code_by, held_book, held_headers, TextBy}
 use Rattle.fiorrudda_handle.specs.declared.codes.TheConstants.{OK, WRONG_HANDLE}
 use Rattle.fiorrudda_handle.specs.declared.thing.Thing.{Thing}
 use Rattle.fiorrudda_handle.specs.declared.thing.Thing.TheVariants as thing
@@ -21,6 +22,11 @@ pub record Done : Type 0 where
 abbrev pub done : ℕ → Option Thing → Done
 done code held = record { code = code; held = held }
 
+-- what a change tells of what is held, or that it is nothing of the kind
+abbrev pub done_by : {A : Type 0} → Option A → (A → Done) → Option Thing → Done
+done_by None change held = done WRONG_HANDLE held
+done_by (Some it) change held = change it
+
 -- the list as it is told after "append", or as it was
 abbrev pub append_done : List Header → Result (List Header) Refusal → Done
 append_done list (Ok next) = done OK (Some (thing.Headers next))
@@ -28,35 +34,23 @@ append_done list (Err refusal) = done (code_of refusal) (Some (thing.Headers lis
 
 -- "append" of a header list
 abbrev pub append_to : List ℕ → List ℕ → Option Thing → Done
-append_to name value None = done WRONG_HANDLE None
-append_to name value (Some (thing.Headers list)) = append_done list (appending name value list)
-append_to name value (Some other) = done WRONG_HANDLE (Some other)
+append_to name value held = done_by (held_headers held) (λ list. append_done list (appending name value list)) held
 
 -- "CORS check" of a header list
 abbrev pub cors_check : List ℕ → Bool → Option Thing → ℕ
-cors_check origin include None = WRONG_HANDLE
-cors_check origin include (Some (thing.Headers list)) = yes_or_no (passes_cors_check origin include list)
-cors_check origin include (Some _) = WRONG_HANDLE
+cors_check origin include held = code_by (held_headers held) (λ list. yes_or_no (passes_cors_check origin include list))
 
 -- "cross-origin resource policy check" of a header list
 abbrev pub resource_policy : List ℕ → List ℕ → Option Thing → ℕ
-resource_policy page url None = WRONG_HANDLE
-resource_policy page url (Some (thing.Headers list)) = told (is_kept_by_resource_policy page url list)
-resource_policy page url (Some _) = WRONG_HANDLE
+resource_policy page url held = code_by (held_headers held) (λ list. told (is_kept_by_resource_policy page url list))
 
 -- "get" of a header list
 abbrev pub IsGot : List ℕ → Option Thing → List ℕ → List ℕ → ℕ → ℕ → ℕ → Type 0
-IsGot name None room after len_before len code = (code ≡ WRONG_HANDLE) × IsKept room after len_before len
-IsGot name (Some (thing.Headers list)) room after len_before len code =
-    IsTextTold (Ok (combined name list)) room after len_before len code
-IsGot name (Some _) room after len_before len code =
-    (code ≡ WRONG_HANDLE) × IsKept room after len_before len
+IsGot name held = TextBy (held_headers held) (λ list. Ok (combined name list))
 
 -- whether a host of a book is known
 abbrev pub known_host : List ℕ → ℕ → Option Thing → ℕ
-known_host host now None = WRONG_HANDLE
-known_host host now (Some (thing.Book book)) = told (is_known_host host now book)
-known_host host now (Some _) = WRONG_HANDLE
+known_host host now held = code_by (held_book held) (λ book. told (is_known_host host now book))
 
 -- the book after a field, or as it was
 abbrev pub note_done : List ℕ → List ℕ → ℕ → Book → Result Bool Refusal → Done
@@ -65,6 +59,5 @@ note_done host field now book (Err refusal) = done (code_of refusal) (Some (thin
 
 -- a Strict-Transport-Security field of a host, which a book notes
 abbrev pub note_host : List ℕ → List ℕ → ℕ → Option Thing → Done
-note_host host field now None = done WRONG_HANDLE None
-note_host host field now (Some (thing.Book book)) = note_done host field now book (says field now)
-note_host host field now (Some other) = done WRONG_HANDLE (Some other)
+note_host host field now held =
+    done_by (held_book held) (λ book. note_done host field now book (says field now)) held

@@ -4,10 +4,11 @@ use Rattle.fiorrudda_rules.specs.declared.refusal.Refusal.{Refusal}
 use Rattle.wf_types.specs.declared.mode.ReferrerPolicy.{ReferrerPolicy}
 use Rattle.fiorrudda_fetch.specs.Settings.{cookie_added, settings_of, with_policies}
 use Rattle.fiorrudda_fetch.specs.Setups.{Setup}
-use Rattle.fiorrudda.specs.Calls.{Done, done}
+use Rattle.fiorrudda.specs.Calls.{Done, done, done_by}
 use Rattle.fiorrudda_handle.specs.Codes.{code_of}
 use Rattle.fiorrudda.specs.Referrers.{policy_numbered}
-use Rattle.fiorrudda_handle.specs.declared.codes.TheConstants.{NO_SUCH_NUMBER, OK, WRONG_HANDLE}
+use Rattle.fiorrudda_handle.specs.declared.codes.TheConstants.{NO_SUCH_NUMBER, OK}
+use Rattle.fiorrudda_handle.specs.Things.{held_client}
 use Rattle.fiorrudda_handle.specs.declared.thing.Thing.{Thing}
 use Rattle.fiorrudda_handle.specs.declared.thing.Thing.TheVariants as thing
 
@@ -25,10 +26,8 @@ IsClient url top number = IsClientBy (policy_numbered number) url top
 
 -- a client with the policies of one more value
 abbrev pub add_policies : List ℕ → Bool → Option Thing → Done
-add_policies value enforced None = done WRONG_HANDLE None
-add_policies value enforced (Some (thing.Client settings)) =
-    done OK (Some (thing.Client (with_policies value enforced settings)))
-add_policies value enforced (Some other) = done WRONG_HANDLE (Some other)
+add_policies value enforced held =
+    done_by (held_client held) (λ settings. done OK (Some (thing.Client (with_policies value enforced settings)))) held
 
 -- a client with one more cookie, or as it was
 abbrev pub cookie_done : Setup → Result Setup Refusal → Done
@@ -36,6 +35,5 @@ cookie_done settings (Ok next) = done OK (Some (thing.Client next))
 cookie_done settings (Err refusal) = done (code_of refusal) (Some (thing.Client settings))
 
 abbrev pub add_cookie : List ℕ → List ℕ → Option Thing → Done
-add_cookie url value None = done WRONG_HANDLE None
-add_cookie url value (Some (thing.Client settings)) = cookie_done settings (cookie_added url value settings)
-add_cookie url value (Some other) = done WRONG_HANDLE (Some other)
+add_cookie url value held =
+    done_by (held_client held) (λ settings. cookie_done settings (cookie_added url value settings)) held

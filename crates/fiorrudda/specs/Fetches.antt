@@ -18,6 +18,7 @@ use Rattle.fiorrudda_fetch.specs.declared.asked.Asked.{Asked}
 use Rattle.fiorrudda_fetch.specs.declared.parts.Part.{Part}
 use Rattle.fiorrudda_fetch.specs.Setups.{Setup}
 use Rattle.fiorrudda_handle.specs.Codes.{IsKept, IsTextTold}
+use Rattle.fiorrudda_handle.specs.Things.{both, held_client, held_fetch, held_request, IsNotHeld, TextBy}
 use Rattle.fiorrudda_handle.specs.declared.codes.TheConstants.{NO, NO_REQUEST, NO_SUCH_NUMBER, OK}
 use Rattle.fiorrudda_handle.specs.declared.codes.TheConstants.{TOO_LATE, WRONG_HANDLE}
 use Rattle.fiorrudda_handle.specs.declared.thing.Thing.{Thing}
@@ -54,9 +55,12 @@ BeginsWhere false begun = IsRefused TOO_LATE
 abbrev pub BeginsOf : Setup → Asked → ℕ → ℕ → ℕ → Option Thing → ℕ → ℕ → ℕ → ℕ → Type 0
 BeginsOf settings asked now limit = BeginsWhere (nat_lt now (2 ^ 48)) (begun_as settings asked now limit)
 
+abbrev pub BeginsBy : Option (Setup × Asked) → ℕ → ℕ → ℕ → Option Thing → ℕ → ℕ → ℕ → ℕ → Type 0
+BeginsBy None now limit = IsRefused WRONG_HANDLE
+BeginsBy (Some it) now limit = BeginsOf it.0 it.1 now limit
+
 abbrev pub Begins : Option Thing → Option Thing → ℕ → ℕ → ℕ → Option Thing → ℕ → ℕ → ℕ → ℕ → Type 0
-Begins (Some (thing.Client settings)) (Some (thing.Request asked)) now limit = BeginsOf settings asked now limit
-Begins _ _ now limit = IsRefused WRONG_HANDLE
+Begins client request = BeginsBy (both (held_client client) (held_request request))
 
 -- ---- acts
 
@@ -77,40 +81,45 @@ act_or_end None None = 6
 abbrev pub act_number : Session → ℕ
 act_number session = act_or_end (act_of (standing_of session)) (outcome_of (standing_of session))
 
+-- nothing of the kind is held, and no number is told
+abbrev pub IsNotTold : ℕ → ℕ → ℕ → Type 0
+IsNotTold before number code = (code ≡ WRONG_HANDLE) × (number ≡ before)
+
+abbrev pub GivesActOf : Option Session → ℕ → ℕ → ℕ → Type 0
+GivesActOf None before number code = IsNotTold before number code
+GivesActOf (Some session) before number code = (code ≡ OK) × (number ≡ act_number session)
+
 abbrev pub GivesAct : Option Thing → ℕ → ℕ → ℕ → Type 0
-GivesAct (Some (thing.Fetch session)) before number code = (code ≡ OK) × (number ≡ act_number session)
-GivesAct _ before number code = (code ≡ WRONG_HANDLE) × (number ≡ before)
+GivesAct held = GivesActOf (held_fetch held)
 
 -- ---- parts
 
 -- a text of a fetch, if there is one
-abbrev pub GivesTextOf : Option Part → ℕ → Session → List ℕ → List ℕ → ℕ → ℕ → ℕ → Type 0
-GivesTextOf None at session room after len_before len code = (code ≡ NO_SUCH_NUMBER) × IsKept room after len_before len
-GivesTextOf (Some part) at session room after len_before len code =
-    IsTextTold (Ok (text_of (standing_of session) part at)) room after len_before len code
+abbrev pub GivesTextOf : Option Session → Option Part → ℕ → List ℕ → List ℕ → ℕ → ℕ → ℕ → Type 0
+GivesTextOf None part at = IsNotHeld
+GivesTextOf (Some session) None at =
+    λ room after len_before len code. (code ≡ NO_SUCH_NUMBER) × IsKept room after len_before len
+GivesTextOf (Some session) (Some part) at = IsTextTold (Ok (text_of (standing_of session) part at))
 
 abbrev pub GivesText : Option Part → ℕ → Option Thing → List ℕ → List ℕ → ℕ → ℕ → ℕ → Type 0
-GivesText part at (Some (thing.Fetch session)) = GivesTextOf part at session
-GivesText part at _ = λ room after len_before len code. (code ≡ WRONG_HANDLE) × IsKept room after len_before len
+GivesText part at held = GivesTextOf (held_fetch held) part at
 
 -- a number of a fetch, if there is one
 abbrev pub IsNumber : Option ℕ → ℕ → ℕ → ℕ → Type 0
 IsNumber None before number code = (code ≡ NO) × (number ≡ before)
 IsNumber (Some amount) before number code = (code ≡ OK) × (number ≡ amount)
 
-abbrev pub GivesNumberOf : Option Amount → Session → ℕ → ℕ → ℕ → Type 0
-GivesNumberOf None session before number code = (code ≡ NO_SUCH_NUMBER) × (number ≡ before)
-GivesNumberOf (Some which) session before number code =
-    IsNumber (amount_of (standing_of session) which) before number code
+abbrev pub GivesNumberOf : Option Session → Option Amount → ℕ → ℕ → ℕ → Type 0
+GivesNumberOf None which = IsNotTold
+GivesNumberOf (Some session) None = λ before number code. (code ≡ NO_SUCH_NUMBER) × (number ≡ before)
+GivesNumberOf (Some session) (Some which) = IsNumber (amount_of (standing_of session) which)
 
 abbrev pub GivesNumber : Option Amount → Option Thing → ℕ → ℕ → ℕ → Type 0
-GivesNumber which (Some (thing.Fetch session)) = GivesNumberOf which session
-GivesNumber which _ = λ before number code. (code ≡ WRONG_HANDLE) × (number ≡ before)
+GivesNumber which held = GivesNumberOf (held_fetch held) which
 
 -- the request that is sent
 abbrev pub request_in : Session → Result (Option (List ℕ)) Refusal
 request_in session = Ok (request_of (standing_of session))
 
 abbrev pub GivesRequest : Option Thing → List ℕ → List ℕ → ℕ → ℕ → ℕ → Type 0
-GivesRequest (Some (thing.Fetch session)) = IsTextTold (request_in session)
-GivesRequest _ = λ room after len_before len code. (code ≡ WRONG_HANDLE) × IsKept room after len_before len
+GivesRequest held = TextBy (held_fetch held) request_in

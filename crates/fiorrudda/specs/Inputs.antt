@@ -15,6 +15,7 @@ use Rattle.fiorrudda_handle.specs.declared.codes.TheConstants.{NO_SUCH_NUMBER, N
 use Rattle.fiorrudda_handle.specs.declared.codes.TheConstants.{OUT_OF_MEMORY, WRONG_HANDLE}
 use Rattle.fiorrudda.specs.declared.inputs.Said.{Said}
 use Rattle.fiorrudda.specs.declared.inputs.Said.TheVariants as said
+use Rattle.fiorrudda_handle.specs.Things.{both, held_book, held_fetch}
 use Rattle.fiorrudda_handle.specs.declared.thing.Thing.{Thing}
 use Rattle.fiorrudda_handle.specs.declared.thing.Thing.TheVariants as thing
 
@@ -56,20 +57,24 @@ Says said.Ended = Ends
 Says said.Failed = Fails
 Says (said.Replied reply) = Takes (input.Replied reply)
 
-abbrev pub IsSaidTo : Option Said → Session → ℕ → Option Thing → Type 0
-IsSaidTo None session code held = (code ≡ NO_SUCH_NUMBER) × (held ≡ Some (thing.Fetch session))
-IsSaidTo (Some what) session code held = Tells (Says what (standing_of session)) code held
+abbrev pub IsSaidTo : Option Session → Option Said → Option Thing → ℕ → Option Thing → Type 0
+IsSaidTo None what before code held = (code ≡ WRONG_HANDLE) × (held ≡ before)
+IsSaidTo (Some session) None before code held = (code ≡ NO_SUCH_NUMBER) × (held ≡ before)
+IsSaidTo (Some session) (Some what) before code held = Tells (Says what (standing_of session)) code held
 
 abbrev pub IsSaid : Option Said → Option Thing → ℕ → Option Thing → Type 0
-IsSaid what (Some (thing.Fetch session)) code held = IsSaidTo what session code held
-IsSaid what other code held = (code ≡ WRONG_HANDLE) × (held ≡ other)
+IsSaid what before = IsSaidTo (held_fetch before) what before
 
 -- ---- bytes
 
-abbrev pub IsFed : List ℕ → Option Thing → ℕ → ℕ → Option Thing → ℕ → Type 0
-IsFed bytes (Some (thing.Fetch session)) used_before code held used =
+abbrev pub IsFedTo : Option Session → List ℕ → Option Thing → ℕ → ℕ → Option Thing → ℕ → Type 0
+IsFedTo None bytes before used_before code held used =
+    (code ≡ WRONG_HANDLE) × (held ≡ before) × (used ≡ used_before)
+IsFedTo (Some session) bytes before used_before code held used =
     Tells (λ went next. Fed bytes (standing_of session) went used next) code held
-IsFed bytes other used_before code held used = (code ≡ WRONG_HANDLE) × (held ≡ other) × (used ≡ used_before)
+
+abbrev pub IsFed : List ℕ → Option Thing → ℕ → ℕ → Option Thing → ℕ → Type 0
+IsFed bytes before = IsFedTo (held_fetch before) bytes before
 
 -- ---- the book
 
@@ -88,9 +93,14 @@ abbrev pub IsReply : Option Reply → ℕ → ℕ → Type 0
 IsReply None before number = number ≡ before
 IsReply (Some reply) before number = number ≡ reply_number reply
 
+abbrev pub IsBookAskedOf :
+    Option (Session × Book) → Option Thing → Option Thing → ℕ → ℕ → Option Thing → Option Thing → ℕ → Type 0
+IsBookAskedOf None other other_book before code fetch book reply =
+    (code ≡ WRONG_HANDLE) × (fetch ≡ other) × (book ≡ other_book) × (reply ≡ before)
+IsBookAskedOf (Some it) other other_book before code fetch book reply =
+    let standing = standing_of it.0 in
+    Tells (Asks it.1 standing) code fetch × IsBook standing it.1 code book
+    × IsReply (reply_told (went_told code) it.1 (act_of standing)) before reply
+
 abbrev pub IsBookAsked : Option Thing → Option Thing → ℕ → ℕ → Option Thing → Option Thing → ℕ → Type 0
-IsBookAsked (Some (thing.Fetch session)) (Some (thing.Book book)) before code held held_book reply =
-    Tells (Asks book (standing_of session)) code held × IsBook (standing_of session) book code held_book
-    × IsReply (reply_told (went_told code) book (act_of (standing_of session))) before reply
-IsBookAsked other other_book before code held held_book reply =
-    (code ≡ WRONG_HANDLE) × (held ≡ other) × (held_book ≡ other_book) × (reply ≡ before)
+IsBookAsked fetch book = IsBookAskedOf (both (held_fetch fetch) (held_book book)) fetch book

@@ -1,49 +1,26 @@
 // What the headers of an answer, and the words of a policy, say.
-ghost use Rattle.std.specs.Prelude.{◌≡◌, ◌≢◌, Some};
+ghost use Rattle.std.specs.Prelude.{◌≡◌, ◌≢◌};
 ghost use Rattle.fiorrudda.specs.Answers.{HasEssence, nosniff};
 ghost use Rattle.fiorrudda_handle.specs.Codes.{told};
 ghost use Rattle.fiorrudda_rules.specs.Sources as sources;
 
-use fiorrudda_handle::{Handle, OUT_OF_MEMORY, Thing, WRONG_HANDLE, told, write_answer, yes_or_no};
+use fiorrudda_handle::{Handle, OUT_OF_MEMORY, WRONG_HANDLE, told, write_answer, yes_or_no};
 use fiorrudda_rules::{essence_in, source_matches};
 use std::alloc::Global;
-
-// "determine nosniff" of a thing that is a header list.
-fn sniffless(thing: &Thing) -> u32
-    ensures { result ≡ nosniff (Some thing.now) }
-{
-    match thing {
-        Thing::Headers(list) => yes_or_no(wf_mime::nosniff(list)),
-        _ => WRONG_HANDLE,
-    }
-}
 
 /// "determine nosniff" of an answer's header list (Fetch, section 3.6): scripts and styles of another MIME type are
 /// blocked then.
 ///
 /// `OK` where the answer says nosniff; `NO`; `WRONG_HANDLE`.
 #[unsafe(no_mangle)]
-pub extern "C" fn fiorrudda_nosniff(alloc: Global, headers: &mut Handle) -> u32
+pub extern "C" fn fiorrudda_nosniff(headers: &mut Handle) -> u32
     ensures told { result ≡ nosniff headers.old.held }
     ensures held { headers.new.held ≡ headers.old.held }
 {
-    let Some(thing) = headers.take(alloc) else {
+    let Some(list) = headers.headers() else {
         return WRONG_HANDLE;
     };
-    let code = sniffless(&thing);
-    headers.put(thing);
-    code
-}
-
-// Writes the essence of a thing that is a header list.
-fn essence(alloc: Global, thing: &Thing, room: &mut [u8], len: &mut usize) -> u32
-    ensures told { result ≢ OUT_OF_MEMORY → HasEssence (Some thing.now) room.old room.new len.old len.new result }
-    ensures out_of_memory { result ≡ OUT_OF_MEMORY → (room.new ≡ room.old) × (len.new ≡ len.old) }
-{
-    match thing {
-        Thing::Headers(list) => write_answer(essence_in(alloc, list), room, len),
-        _ => WRONG_HANDLE,
-    }
+    yes_or_no(wf_mime::nosniff(list))
 }
 
 /// Writes the essence of the MIME type of an answer, in lower case, at the beginning of `room`, with no NUL after it,
@@ -62,12 +39,10 @@ pub extern "C" fn fiorrudda_essence(
     ensures out_of_memory { result ≡ OUT_OF_MEMORY → (room.new ≡ room.old) × (len.new ≡ len.old) }
     ensures held { headers.new.held ≡ headers.old.held }
 {
-    let Some(thing) = headers.take(alloc) else {
+    let Some(list) = headers.headers() else {
         return WRONG_HANDLE;
     };
-    let code = essence(alloc, &thing, room, len);
-    headers.put(thing);
-    code
+    write_answer(essence_in(alloc, list), room, len)
 }
 
 /// Whether a word of a content security policy, as a source expression, matches a URL, for a page and a number of

@@ -6,7 +6,7 @@ ghost use Rattle.fiorrudda.specs.Choices as choices;
 ghost use Rattle.fiorrudda_fetch.specs.Asked.{fetch_of};
 
 use crate::choices::{choice_numbered, load_numbered, words_numbered};
-use fiorrudda_fetch::{Asked, Choice, Words};
+use fiorrudda_fetch::Asked;
 use fiorrudda_handle::{Handle, NO_SUCH_NUMBER, OK, OUT_OF_MEMORY, Thing, WRONG_HANDLE, yes_or_no};
 use std::alloc::Global;
 
@@ -25,7 +25,7 @@ pub extern "C" fn fiorrudda_request(
     ensures ok { result ≡ OK → request.new.held ≡ Some (Thing.Request (fetch_of method.now url.now)) }
     ensures out_of_memory { result ≢ OK → (result ≡ OUT_OF_MEMORY) × (request.new.held ≡ None) }
 {
-    drop(request.take(alloc));
+    request.clear(alloc);
     match Asked::fetch(alloc, method, url) {
         Ok(asked) => request.fill(alloc, Thing::Request(asked)),
         Err(_) => OUT_OF_MEMORY,
@@ -42,27 +42,13 @@ pub extern "C" fn fiorrudda_load(alloc: Global, request: &mut Handle, kind: u32,
     ensures told { result ≢ OUT_OF_MEMORY → IsLoad kind url.now result request.new.held }
     ensures out_of_memory { result ≡ OUT_OF_MEMORY → request.new.held ≡ None }
 {
-    drop(request.take(alloc));
+    request.clear(alloc);
     let Some(kind) = load_numbered(kind) else {
         return NO_SUCH_NUMBER;
     };
     match Asked::load(alloc, kind, url) {
         Ok(Some(asked)) => request.fill(alloc, Thing::Request(asked)),
         Ok(None) => NO_SUCH_NUMBER,
-        Err(_) => OUT_OF_MEMORY,
-    }
-}
-
-// Adds a header to a thing that is a request.
-fn with_header(alloc: Global, thing: &mut Thing, name: &[u8], value: &[u8]) -> u32
-    ensures told { result ≢ OUT_OF_MEMORY → done result (Some thing.new) ≡ add_header name.now value.now (Some thing.old) }
-    ensures out_of_memory { result ≡ OUT_OF_MEMORY → thing.new ≡ thing.old }
-{
-    let Thing::Request(asked) = thing else {
-        return WRONG_HANDLE;
-    };
-    match asked.add_header(alloc, name, value) {
-        Ok(added) => yes_or_no(added),
         Err(_) => OUT_OF_MEMORY,
     }
 }
@@ -82,27 +68,11 @@ pub extern "C" fn fiorrudda_request_header(
         → done result request.new.held ≡ add_header name.now value.now request.old.held }
     ensures out_of_memory { result ≡ OUT_OF_MEMORY → request.new.held ≡ request.old.held }
 {
-    let Some(mut thing) = request.take(alloc) else {
+    let Some(asked) = request.request() else {
         return WRONG_HANDLE;
     };
-    let code = with_header(alloc, &mut thing, name, value);
-    request.put(thing);
-    code
-}
-
-// Sets a text of a thing that is a request.
-fn with_text(alloc: Global, thing: &mut Thing, words: Option<Words>, text: &[u8]) -> u32
-    ensures told { result ≢ OUT_OF_MEMORY → done result (Some thing.new) ≡ set_text words text.now (Some thing.old) }
-    ensures out_of_memory { result ≡ OUT_OF_MEMORY → thing.new ≡ thing.old }
-{
-    let Thing::Request(asked) = thing else {
-        return WRONG_HANDLE;
-    };
-    let Some(words) = words else {
-        return NO_SUCH_NUMBER;
-    };
-    match asked.set_text(alloc, words, text) {
-        Ok(has) => yes_or_no(has),
+    match asked.add_header(alloc, name, value) {
+        Ok(added) => yes_or_no(added),
         Err(_) => OUT_OF_MEMORY,
     }
 }
@@ -123,24 +93,15 @@ pub extern "C" fn fiorrudda_request_text(
         → done result request.new.held ≡ set_text (choices.words_numbered which) text.now request.old.held }
     ensures out_of_memory { result ≡ OUT_OF_MEMORY → request.new.held ≡ request.old.held }
 {
-    let Some(mut thing) = request.take(alloc) else {
+    let Some(asked) = request.request() else {
         return WRONG_HANDLE;
     };
-    let code = with_text(alloc, &mut thing, words_numbered(which), text);
-    request.put(thing);
-    code
-}
-
-// Makes a choice of a thing that is a request.
-fn chosen(thing: &mut Thing, choice: Option<Choice>) -> u32
-    ensures { done result (Some thing.new) ≡ choose choice (Some thing.old) }
-{
-    let Thing::Request(asked) = thing else {
-        return WRONG_HANDLE;
+    let Some(words) = words_numbered(which) else {
+        return NO_SUCH_NUMBER;
     };
-    match choice {
-        None => NO_SUCH_NUMBER,
-        Some(choice) => yes_or_no(asked.set(choice)),
+    match asked.set_text(alloc, words, text) {
+        Ok(has) => yes_or_no(has),
+        Err(_) => OUT_OF_MEMORY,
     }
 }
 
@@ -150,18 +111,14 @@ fn chosen(thing: &mut Thing, choice: Option<Choice>) -> u32
 /// `OK`; `NO` where the request has no such choice, as a load has no mode; `WRONG_HANDLE`; `NO_SUCH_NUMBER`. The
 /// request is as it was but for `OK`.
 #[unsafe(no_mangle)]
-pub extern "C" fn fiorrudda_request_choose(
-    alloc: Global,
-    request: &mut Handle,
-    choice: u32,
-    number: u32,
-) -> u32
+pub extern "C" fn fiorrudda_request_choose(request: &mut Handle, choice: u32, number: u32) -> u32
     ensures { done result request.new.held ≡ choose (choices.choice_numbered choice number) request.old.held }
 {
-    let Some(mut thing) = request.take(alloc) else {
+    let Some(asked) = request.request() else {
         return WRONG_HANDLE;
     };
-    let code = chosen(&mut thing, choice_numbered(choice, number));
-    request.put(thing);
-    code
+    match choice_numbered(choice, number) {
+        None => NO_SUCH_NUMBER,
+        Some(choice) => yes_or_no(asked.set(choice)),
+    }
 }

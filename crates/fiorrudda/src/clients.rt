@@ -1,5 +1,5 @@
 // Clients: the documents that fetch.
-ghost use Rattle.std.specs.Prelude.{◌≡◌, ◌≢◌, None, Some};
+ghost use Rattle.std.specs.Prelude.{◌≡◌, ◌≢◌, None};
 ghost use Rattle.fiorrudda.specs.Clients.{add_cookie, add_policies, IsClient};
 ghost use Rattle.fiorrudda.specs.Calls.{done};
 
@@ -25,27 +25,13 @@ pub extern "C" fn fiorrudda_client(
     ensures told { result ≢ OUT_OF_MEMORY → IsClient url.now top.now policy result client.new.held }
     ensures out_of_memory { result ≡ OUT_OF_MEMORY → client.new.held ≡ None }
 {
-    drop(client.take(alloc));
+    client.clear(alloc);
     let Some(policy) = policy_numbered(policy) else {
         return NO_SUCH_NUMBER;
     };
     match Settings::new(alloc, url, top, policy) {
         Ok(settings) => client.fill(alloc, Thing::Client(settings)),
         Err(refusal) => code_of(refusal),
-    }
-}
-
-// Adds policies to a thing that is a client.
-fn with_policies(alloc: Global, thing: &mut Thing, value: &[u8], enforced: bool) -> u32
-    ensures told { result ≢ OUT_OF_MEMORY → done result (Some thing.new) ≡ add_policies value.now enforced (Some thing.old) }
-    ensures out_of_memory { result ≡ OUT_OF_MEMORY → thing.new ≡ thing.old }
-{
-    let Thing::Client(settings) = thing else {
-        return WRONG_HANDLE;
-    };
-    match settings.add_policies(alloc, value, enforced) {
-        Ok(()) => OK,
-        Err(_) => OUT_OF_MEMORY,
     }
 }
 
@@ -65,25 +51,12 @@ pub extern "C" fn fiorrudda_client_policy(
         → done result client.new.held ≡ add_policies value.now enforced client.old.held }
     ensures out_of_memory { result ≡ OUT_OF_MEMORY → client.new.held ≡ client.old.held }
 {
-    let Some(mut thing) = client.take(alloc) else {
+    let Some(settings) = client.client() else {
         return WRONG_HANDLE;
     };
-    let code = with_policies(alloc, &mut thing, value, enforced);
-    client.put(thing);
-    code
-}
-
-// Adds a cookie to a thing that is a client.
-fn with_cookie(alloc: Global, thing: &mut Thing, url: &[u8], value: &[u8]) -> u32
-    ensures told { result ≢ OUT_OF_MEMORY → done result (Some thing.new) ≡ add_cookie url.now value.now (Some thing.old) }
-    ensures out_of_memory { result ≡ OUT_OF_MEMORY → thing.new ≡ thing.old }
-{
-    let Thing::Client(settings) = thing else {
-        return WRONG_HANDLE;
-    };
-    match settings.add_cookie(alloc, url, value) {
+    match settings.add_policies(alloc, value, enforced) {
         Ok(()) => OK,
-        Err(refusal) => code_of(refusal),
+        Err(_) => OUT_OF_MEMORY,
     }
 }
 
@@ -103,10 +76,11 @@ pub extern "C" fn fiorrudda_client_cookie(
     ensures told { result ≢ OUT_OF_MEMORY → done result client.new.held ≡ add_cookie url.now value.now client.old.held }
     ensures out_of_memory { result ≡ OUT_OF_MEMORY → client.new.held ≡ client.old.held }
 {
-    let Some(mut thing) = client.take(alloc) else {
+    let Some(settings) = client.client() else {
         return WRONG_HANDLE;
     };
-    let code = with_cookie(alloc, &mut thing, url, value);
-    client.put(thing);
-    code
+    match settings.add_cookie(alloc, url, value) {
+        Ok(()) => OK,
+        Err(refusal) => code_of(refusal),
+    }
 }

@@ -1,12 +1,12 @@
 // Whole fetches that touch nothing.
-ghost use Rattle.std.specs.Prelude.{◌≡◌, ◌≢◌, None, Some};
+ghost use Rattle.std.specs.Prelude.{◌≡◌, ◌≢◌, None};
 ghost use Rattle.fiorrudda.specs.Fetches as spec;
 ghost use Rattle.fiorrudda.specs.Parts as parts;
 ghost use Rattle.fiorrudda_rules.specs.Answers.{IsUnlessMemory};
 ghost use Rattle.fiorrudda.specs.Fetches.{Begins, GivesAct, GivesNumber, GivesRequest, GivesText};
 
 use crate::parts::{amount_numbered, part_numbered};
-use fiorrudda_fetch::{Amount, Asked, Part, Settings, amount_of, begin, request_of, text_of};
+use fiorrudda_fetch::{Asked, Settings, amount_of, begin, request_of, text_of};
 use fiorrudda_handle::{
     Handle, NO, NO_REQUEST, NO_SUCH_NUMBER, OK, OUT_OF_MEMORY, Thing, WRONG_HANDLE, code_of, write,
     write_answer,
@@ -77,32 +77,6 @@ fn begun(
     }
 }
 
-// Begins a fetch of things that are a client and a request.
-fn begun_of(
-    alloc: Global,
-    fetch: &mut Handle,
-    client: &Thing,
-    request: &Thing,
-    now: u64,
-    limit: u32,
-    fault: &mut u32,
-    header: &mut u32,
-) -> u32
-    requires { fetch.old.held ≡ None }
-    ensures told { result ≢ OUT_OF_MEMORY → Begins (Some client.now) (Some request.now) now limit result fetch.new.held
-        fault.old fault.new header.old header.new }
-    ensures out_of_memory { result ≡ OUT_OF_MEMORY
-        → (fetch.new.held ≡ None) × (fault.new ≡ fault.old) × (header.new ≡ header.old) }
-{
-    let Thing::Client(settings) = client else {
-        return WRONG_HANDLE;
-    };
-    let Thing::Request(asked) = request else {
-        return WRONG_HANDLE;
-    };
-    begun(alloc, fetch, settings, asked, now, limit, fault, header)
-}
-
 /// Begins in a handle the fetch of a request for a client, at a time in seconds since any fixed moment, with bodies of
 /// at most `limit` bytes (Fetch, section 4.1, "main fetch"). Nothing is kept of the client and the request: each may be
 /// used again. What the handle held is freed first. The fetch is then done by a loop over its acts: `fiorrudda_act`
@@ -129,18 +103,14 @@ pub extern "C" fn fiorrudda_fetch(
     ensures client { client.new.held ≡ client.old.held }
     ensures request { request.new.held ≡ request.old.held }
 {
-    drop(fetch.take(alloc));
-    let Some(settings) = client.take(alloc) else {
+    fetch.clear(alloc);
+    let Some(settings) = client.client() else {
         return WRONG_HANDLE;
     };
-    let Some(asked) = request.take(alloc) else {
-        client.put(settings);
+    let Some(asked) = request.request() else {
         return WRONG_HANDLE;
     };
-    let code = begun_of(alloc, fetch, &settings, &asked, now, limit, fault, header);
-    client.put(settings);
-    request.put(asked);
-    code
+    begun(alloc, fetch, settings, asked, now, limit, fault, header)
 }
 
 // What a fetch does next.
@@ -160,49 +130,20 @@ fn act_of(session: &Session) -> u32
     }
 }
 
-// What a thing that is a fetch does next.
-fn act_in(thing: &Thing, act: &mut u32) -> u32
-    ensures { GivesAct (Some thing.now) act.old act.new result }
-{
-    let Thing::Fetch(session) = thing else {
-        return WRONG_HANDLE;
-    };
-    *act = act_of(session);
-    OK
-}
-
 /// Tells in `act` what a fetch does next (Fetch, section 4), by one of the numbers `ACT_..`. `fiorrudda_text` and
 /// `fiorrudda_number` have the act's parts, or those of the outcome of a fetch that is over.
 ///
 /// `OK`; `WRONG_HANDLE`, and then nothing is written.
 #[unsafe(no_mangle)]
-pub extern "C" fn fiorrudda_act(alloc: Global, fetch: &mut Handle, act: &mut u32) -> u32
+pub extern "C" fn fiorrudda_act(fetch: &mut Handle, act: &mut u32) -> u32
     ensures told { GivesAct fetch.old.held act.old act.new result }
     ensures held { fetch.new.held ≡ fetch.old.held }
 {
-    let Some(thing) = fetch.take(alloc) else {
+    let Some(session) = fetch.fetch() else {
         return WRONG_HANDLE;
     };
-    let code = act_in(&thing, act);
-    fetch.put(thing);
-    code
-}
-
-// Writes a text of a thing that is a fetch.
-fn text_in(thing: &Thing, part: Option<Part>, at: usize, room: &mut [u8], len: &mut usize) -> u32
-    ensures told { GivesText part at (Some thing.now) room.old room.new len.old len.new result }
-    ensures memory { result ≢ OUT_OF_MEMORY }
-{
-    let Thing::Fetch(session) = thing else {
-        return WRONG_HANDLE;
-    };
-    let Some(part) = part else {
-        return NO_SUCH_NUMBER;
-    };
-    match text_of(session, part, at) {
-        Some(text) => write(text, room, len),
-        None => NO,
-    }
+    *act = act_of(session);
+    OK
 }
 
 /// Writes a text that the act of a fetch has, or its outcome, at the beginning of `room`, with no NUL after it, and
@@ -213,7 +154,6 @@ fn text_in(thing: &Thing, part: Option<Part>, at: usize, room: &mut [u8], len: &
 /// `NO_SUCH_NUMBER`. But for `OK` nothing is written to `room`, and but for `OK` and `TOO_SHORT` nothing to `len`.
 #[unsafe(no_mangle)]
 pub extern "C" fn fiorrudda_text(
-    alloc: Global,
     fetch: &mut Handle,
     which: u32,
     at: usize,
@@ -223,22 +163,30 @@ pub extern "C" fn fiorrudda_text(
     ensures told { GivesText (parts.part_numbered which) at fetch.old.held room.old room.new len.old len.new result }
     ensures held { fetch.new.held ≡ fetch.old.held }
 {
-    let Some(thing) = fetch.take(alloc) else {
+    let Some(session) = fetch.fetch() else {
         return WRONG_HANDLE;
     };
-    let code = text_in(&thing, part_numbered(which), at, room, len);
-    fetch.put(thing);
-    code
+    let Some(part) = part_numbered(which) else {
+        return NO_SUCH_NUMBER;
+    };
+    match text_of(session, part, at) {
+        Some(text) => write(text, room, len),
+        None => NO,
+    }
 }
 
-// Tells a number of a thing that is a fetch.
-fn number_in(thing: &Thing, which: Option<Amount>, number: &mut u64) -> u32
-    ensures { GivesNumber which (Some thing.now) number.old number.new result }
+/// Tells a number that the act of a fetch has, or its outcome: one of the numbers `NUMBER_..`.
+///
+/// `OK`; `NO` where there is none; `WRONG_HANDLE`; `NO_SUCH_NUMBER`. But for `OK` nothing is written.
+#[unsafe(no_mangle)]
+pub extern "C" fn fiorrudda_number(fetch: &mut Handle, which: u32, number: &mut u64) -> u32
+    ensures told { GivesNumber (parts.amount_numbered which) fetch.old.held number.old number.new result }
+    ensures held { fetch.new.held ≡ fetch.old.held }
 {
-    let Thing::Fetch(session) = thing else {
+    let Some(session) = fetch.fetch() else {
         return WRONG_HANDLE;
     };
-    let Some(which) = which else {
+    let Some(which) = amount_numbered(which) else {
         return NO_SUCH_NUMBER;
     };
     match amount_of(session, which) {
@@ -250,43 +198,11 @@ fn number_in(thing: &Thing, which: Option<Amount>, number: &mut u64) -> u32
     }
 }
 
-/// Tells a number that the act of a fetch has, or its outcome: one of the numbers `NUMBER_..`.
-///
-/// `OK`; `NO` where there is none; `WRONG_HANDLE`; `NO_SUCH_NUMBER`. But for `OK` nothing is written.
-#[unsafe(no_mangle)]
-pub extern "C" fn fiorrudda_number(
-    alloc: Global,
-    fetch: &mut Handle,
-    which: u32,
-    number: &mut u64,
-) -> u32
-    ensures told { GivesNumber (parts.amount_numbered which) fetch.old.held number.old number.new result }
-    ensures held { fetch.new.held ≡ fetch.old.held }
-{
-    let Some(thing) = fetch.take(alloc) else {
-        return WRONG_HANDLE;
-    };
-    let code = number_in(&thing, amount_numbered(which), number);
-    fetch.put(thing);
-    code
-}
-
 // All bytes of the request that a fetch sends.
 fn request_bytes(alloc: Global, session: &Session) -> Result<Option<Bytes>, Refusal>
     ensures { IsUnlessMemory result (spec.request_in session.now) }
 {
     Ok(request_of(alloc, session)?)
-}
-
-// Writes the request that a thing sends that is a fetch.
-fn request_in(alloc: Global, thing: &Thing, room: &mut [u8], len: &mut usize) -> u32
-    ensures told { result ≢ OUT_OF_MEMORY → GivesRequest (Some thing.now) room.old room.new len.old len.new result }
-    ensures out_of_memory { result ≡ OUT_OF_MEMORY → (room.new ≡ room.old) × (len.new ≡ len.old) }
-{
-    let Thing::Fetch(session) = thing else {
-        return WRONG_HANDLE;
-    };
-    write_answer(request_bytes(alloc, session), room, len)
 }
 
 /// Writes all bytes of the request that a fetch sends (RFC 9112, section 3) at the beginning of `room`, and tells in
@@ -305,10 +221,8 @@ pub extern "C" fn fiorrudda_to_send(
     ensures out_of_memory { result ≡ OUT_OF_MEMORY → (room.new ≡ room.old) × (len.new ≡ len.old) }
     ensures held { fetch.new.held ≡ fetch.old.held }
 {
-    let Some(thing) = fetch.take(alloc) else {
+    let Some(session) = fetch.fetch() else {
         return WRONG_HANDLE;
     };
-    let code = request_in(alloc, &thing, room, len);
-    fetch.put(thing);
-    code
+    write_answer(request_bytes(alloc, session), room, len)
 }

@@ -10,5 +10,5 @@ use std::alloc::Global;
 pub extern "C" fn fiorrudda_free(alloc: Global, handle: &mut Handle)
     ensures { handle.new.held ≡ None }
 {
-    drop(handle.take(alloc));
+    handle.clear(alloc);
 }

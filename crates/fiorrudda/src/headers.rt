@@ -19,49 +19,20 @@ pub extern "C" fn fiorrudda_headers(alloc: Global, headers: &mut Handle) -> u32
     headers.fill(alloc, Thing::Headers(HeaderList::new(alloc)))
 }
 
-// "append" to a thing that is a header list.
-fn appended(thing: &mut Thing, name: &[u8], value: &[u8]) -> u32
-    ensures told { result ≢ OUT_OF_MEMORY → done result (Some thing.new) ≡ append_to name.now value.now (Some thing.old) }
-    ensures out_of_memory { result ≡ OUT_OF_MEMORY → thing.new ≡ thing.old }
+/// "append": adds a header to a list, its name in the spelling that the list has already (Fetch, section 2.2.2).
+///
+/// `OK`; `WRONG_HANDLE`; `NOT_A_HEADER`; `OUT_OF_MEMORY`. The list is as it was but for `OK`.
+#[unsafe(no_mangle)]
+pub extern "C" fn fiorrudda_append(headers: &mut Handle, name: &[u8], value: &[u8]) -> u32
+    ensures told { result ≢ OUT_OF_MEMORY → done result headers.new.held ≡ append_to name.now value.now headers.old.held }
+    ensures out_of_memory { result ≡ OUT_OF_MEMORY → headers.new.held ≡ headers.old.held }
 {
-    let Thing::Headers(list) = thing else {
+    let Some(list) = headers.headers() else {
         return WRONG_HANDLE;
     };
     match append_header(list, name, value) {
         Ok(()) => OK,
         Err(refusal) => code_of(refusal),
-    }
-}
-
-/// "append": adds a header to a list, its name in the spelling that the list has already (Fetch, section 2.2.2).
-///
-/// `OK`; `WRONG_HANDLE`; `NOT_A_HEADER`; `OUT_OF_MEMORY`. The list is as it was but for `OK`.
-#[unsafe(no_mangle)]
-pub extern "C" fn fiorrudda_append(
-    alloc: Global,
-    headers: &mut Handle,
-    name: &[u8],
-    value: &[u8],
-) -> u32
-    ensures told { result ≢ OUT_OF_MEMORY → done result headers.new.held ≡ append_to name.now value.now headers.old.held }
-    ensures out_of_memory { result ≡ OUT_OF_MEMORY → headers.new.held ≡ headers.old.held }
-{
-    let Some(mut thing) = headers.take(alloc) else {
-        return WRONG_HANDLE;
-    };
-    let code = appended(&mut thing, name, value);
-    headers.put(thing);
-    code
-}
-
-// Writes what "get" gives of a thing that is a header list.
-fn got(alloc: Global, thing: &Thing, name: &[u8], room: &mut [u8], len: &mut usize) -> u32
-    ensures told { result ≢ OUT_OF_MEMORY → IsGot name.now (Some thing.now) room.old room.new len.old len.new result }
-    ensures out_of_memory { result ≡ OUT_OF_MEMORY → (room.new ≡ room.old) × (len.new ≡ len.old) }
-{
-    match thing {
-        Thing::Headers(list) => write_answer(value_of(alloc, list, name), room, len),
-        _ => WRONG_HANDLE,
     }
 }
 
@@ -82,10 +53,8 @@ pub extern "C" fn fiorrudda_get(
     ensures out_of_memory { result ≡ OUT_OF_MEMORY → (room.new ≡ room.old) × (len.new ≡ len.old) }
     ensures held { headers.new.held ≡ headers.old.held }
 {
-    let Some(thing) = headers.take(alloc) else {
+    let Some(list) = headers.headers() else {
         return WRONG_HANDLE;
     };
-    let code = got(alloc, &thing, name, room, len);
-    headers.put(thing);
-    code
+    write_answer(value_of(alloc, list, name), room, len)
 }

@@ -25,20 +25,6 @@ pub extern "C" fn fiorrudda_book(alloc: Global, book: &mut Handle) -> u32
     book.fill(alloc, Thing::Book(Book::new(alloc)))
 }
 
-// Has a thing that is a book note a field.
-fn noted(alloc: Global, thing: &mut Thing, host: &[u8], field: &[u8], now: u64) -> u32
-    ensures told { result ≢ OUT_OF_MEMORY → done result (Some thing.new) ≡ note_host host.now field.now now (Some thing.old) }
-    ensures out_of_memory { result ≡ OUT_OF_MEMORY → thing.new ≡ thing.old }
-{
-    let Thing::Book(book) = thing else {
-        return WRONG_HANDLE;
-    };
-    match note_field(alloc, book, host, field, now) {
-        Ok(says) => yes_or_no(says),
-        Err(refusal) => code_of(refusal),
-    }
-}
-
 /// Has a book note what the value of a Strict-Transport-Security field of a host says (RFC 6797, section 8.1), at a
 /// time in seconds since any fixed moment. The host is the domain of a URL, in lower case: no IP address and no
 /// localhost name, which is not looked at. The field came over https. Threads that share the book hold a lock of their
@@ -57,23 +43,13 @@ pub extern "C" fn fiorrudda_note_host(
     ensures told { result ≢ OUT_OF_MEMORY → done result book.new.held ≡ note_host host.now field.now now book.old.held }
     ensures out_of_memory { result ≡ OUT_OF_MEMORY → book.new.held ≡ book.old.held }
 {
-    let Some(mut thing) = book.take(alloc) else {
+    let Some(book) = book.book() else {
         return WRONG_HANDLE;
     };
-    let code = noted(alloc, &mut thing, host, field, now);
-    book.put(thing);
-    code
-}
-
-// Whether a host of a thing that is a book is known.
-fn known(alloc: Global, thing: &mut Thing, host: &[u8], now: u64) -> u32
-    ensures told { result ≢ OUT_OF_MEMORY → result ≡ known_host host.now now (Some thing.old) }
-    ensures kept { thing.new ≡ thing.old }
-{
-    let Thing::Book(book) = thing else {
-        return WRONG_HANDLE;
-    };
-    told(is_known_host(alloc, book, host, now))
+    match note_field(alloc, book, host, field, now) {
+        Ok(says) => yes_or_no(says),
+        Err(refusal) => code_of(refusal),
+    }
 }
 
 /// Whether a host is a known HSTS host of a book at a time in seconds (RFC 6797, section 8.2): http URLs of it are to
@@ -91,12 +67,10 @@ pub extern "C" fn fiorrudda_known_host(
     ensures told { result ≢ OUT_OF_MEMORY → result ≡ known_host host.now now book.old.held }
     ensures held { book.new.held ≡ book.old.held }
 {
-    let Some(mut thing) = book.take(alloc) else {
+    let Some(book) = book.book() else {
         return WRONG_HANDLE;
     };
-    let code = known(alloc, &mut thing, host, now);
-    book.put(thing);
-    code
+    told(is_known_host(alloc, book, host, now))
 }
 
 /// What the value of a Strict-Transport-Security field says (RFC 6797, section 6.1): for how many seconds the host is

@@ -1,12 +1,10 @@
 // What came of the acts of a fetch.
-ghost use Rattle.std.specs.Prelude.{◌≡◌, Some};
+ghost use Rattle.std.specs.Prelude.{◌≡◌};
 ghost use Rattle.fiorrudda.specs.Inputs as spec;
 ghost use Rattle.fiorrudda.specs.Inputs.{IsBookAsked, IsFed, IsSaid};
 ghost use Rattle.wf_fetch_session.specs.Sessions.{standing_of};
 
-use fiorrudda_handle::{
-    Handle, NO_SUCH_NUMBER, NOT_AWAITED, OK, OUT_OF_MEMORY, Thing, WRONG_HANDLE,
-};
+use fiorrudda_handle::{Handle, NO_SUCH_NUMBER, NOT_AWAITED, OK, OUT_OF_MEMORY, WRONG_HANDLE};
 use std::alloc::Global;
 use wf_book::Reply;
 use wf_fetch_session::{Session, Went};
@@ -83,19 +81,6 @@ fn say(alloc: Global, session: &mut Session, said: Said) -> Went
     }
 }
 
-// Tells a thing that is a fetch what came.
-fn said_to(alloc: Global, thing: &mut Thing, said: Option<Said>) -> u32
-    ensures { IsSaid said (Some thing.old) result (Some thing.new) }
-{
-    let Thing::Fetch(session) = thing else {
-        return WRONG_HANDLE;
-    };
-    match said {
-        None => NO_SUCH_NUMBER,
-        Some(said) => code_of_went(say(alloc, session, said)),
-    }
-}
-
 /// Tells a fetch what came of its act (Fetch, section 4), by one of the numbers `INPUT_..`. `INPUT_SENT` follows
 /// `ACT_SEND`; `INPUT_TOLD` follows `ACT_TELL`; `INPUT_ENDED` follows `ACT_READ_HEAD` and `ACT_READ_BODY`;
 /// `INPUT_FAILED` follows these three; `INPUT_YES` and `INPUT_NO` follow `ACT_ASK` where it is a question, and
@@ -107,24 +92,13 @@ fn said_to(alloc: Global, thing: &mut Thing, said: Option<Said>) -> u32
 pub extern "C" fn fiorrudda_input(alloc: Global, fetch: &mut Handle, input: u32) -> u32
     ensures { IsSaid (spec.said_numbered input) fetch.old.held result fetch.new.held }
 {
-    let Some(mut thing) = fetch.take(alloc) else {
+    let Some(session) = fetch.fetch() else {
         return WRONG_HANDLE;
     };
-    let code = said_to(alloc, &mut thing, said_numbered(input));
-    fetch.put(thing);
-    code
-}
-
-// Feeds a thing that is a fetch.
-fn fed(alloc: Global, thing: &mut Thing, bytes: &[u8], used: &mut usize) -> u32
-    ensures { IsFed bytes.now (Some thing.old) used.old result (Some thing.new) used.new }
-{
-    let Thing::Fetch(session) = thing else {
-        return WRONG_HANDLE;
-    };
-    let fed = session.feed(alloc, bytes);
-    *used = fed.used;
-    code_of_went(fed.went)
+    match said_numbered(input) {
+        None => NO_SUCH_NUMBER,
+        Some(said) => code_of_went(say(alloc, session, said)),
+    }
 }
 
 /// Hands a fetch the next bytes of the answer, in any piece, be it empty, and tells in `used` how many of them were
@@ -144,12 +118,12 @@ pub extern "C" fn fiorrudda_feed(
 ) -> u32
     ensures { IsFed bytes.now fetch.old.held used.old result fetch.new.held used.new }
 {
-    let Some(mut thing) = fetch.take(alloc) else {
+    let Some(session) = fetch.fetch() else {
         return WRONG_HANDLE;
     };
-    let code = fed(alloc, &mut thing, bytes, used);
-    fetch.put(thing);
-    code
+    let fed = session.feed(alloc, bytes);
+    *used = fed.used;
+    code_of_went(fed.went)
 }
 
 // The number of a reply.
@@ -172,21 +146,6 @@ fn tell_reply(answer: Option<Reply>, reply: &mut u32)
     }
 }
 
-// Has a thing that is a fetch ask a thing that is a book.
-fn asked(alloc: Global, fetch: &mut Thing, book: &mut Thing, reply: &mut u32) -> u32
-    ensures { IsBookAsked (Some fetch.old) (Some book.old) reply.old result (Some fetch.new) (Some book.new) reply.new }
-{
-    let Thing::Fetch(session) = fetch else {
-        return WRONG_HANDLE;
-    };
-    let Thing::Book(book) = book else {
-        return WRONG_HANDLE;
-    };
-    let replied = session.ask(alloc, book);
-    tell_reply(replied.reply, reply);
-    code_of_went(replied.went)
-}
-
 /// Has a fetch ask a book what its act asks for, or tell it that, and goes on from what the book replies, which is told
 /// in `reply`: `INPUT_YES`, `INPUT_NO` or `INPUT_DONE` (Fetch, section 4.9; RFC 6797, section 8). Threads that share
 /// the book hold a lock of their own around the call, as around each that is given the book.
@@ -203,15 +162,13 @@ pub extern "C" fn fiorrudda_ask(
 ) -> u32
     ensures { IsBookAsked fetch.old.held book.old.held reply.old result fetch.new.held book.new.held reply.new }
 {
-    let Some(mut thing) = fetch.take(alloc) else {
+    let Some(session) = fetch.fetch() else {
         return WRONG_HANDLE;
     };
-    let Some(mut shared) = book.take(alloc) else {
-        fetch.put(thing);
+    let Some(book) = book.book() else {
         return WRONG_HANDLE;
     };
-    let code = asked(alloc, &mut thing, &mut shared, reply);
-    fetch.put(thing);
-    book.put(shared);
-    code
+    let replied = session.ask(alloc, book);
+    tell_reply(replied.reply, reply);
+    code_of_went(replied.went)
 }

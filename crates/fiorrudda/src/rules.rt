@@ -1,5 +1,5 @@
 // Rules on an answer, on a referrer and on a body.
-ghost use Rattle.std.specs.Prelude.{◌≡◌, ◌≢◌, Some};
+ghost use Rattle.std.specs.Prelude.{◌≡◌, ◌≢◌};
 ghost use Rattle.fiorrudda.specs.Calls.{cors_check, resource_policy};
 ghost use Rattle.fiorrudda_handle.specs.Codes.{told};
 ghost use Rattle.fiorrudda.specs.Referrers.{IsReferrer};
@@ -7,21 +7,11 @@ ghost use Rattle.fiorrudda_rules.specs.Bodies.{matches_integrity};
 
 use crate::policies::policy_numbered;
 use fiorrudda_handle::{
-    Handle, NO_SUCH_NUMBER, OUT_OF_MEMORY, Thing, WRONG_HANDLE, told, write_answer, yes_or_no,
+    Handle, NO_SUCH_NUMBER, OUT_OF_MEMORY, WRONG_HANDLE, told, write_answer, yes_or_no,
 };
 use fiorrudda_rules::{is_kept_by_resource_policy, matches_integrity, told_referrer};
 use policy_checks::passes_cors_check;
 use std::alloc::Global;
-
-// "CORS check" of a thing that is a header list.
-fn checked(thing: &Thing, origin: &[u8], include: bool) -> u32
-    ensures { result ≡ cors_check origin.now include (Some thing.now) }
-{
-    match thing {
-        Thing::Headers(list) => yes_or_no(passes_cors_check(origin, include, list)),
-        _ => WRONG_HANDLE,
-    }
-}
 
 /// "CORS check" of an answer's header list, for the serialised origin of a request and whether its credentials mode is
 /// include (Fetch, section 4.10). The origin is compared byte for byte; `null` is that of a request that was tainted by
@@ -29,31 +19,14 @@ fn checked(thing: &Thing, origin: &[u8], include: bool) -> u32
 ///
 /// `OK` where the answer passes; `NO`; `WRONG_HANDLE`.
 #[unsafe(no_mangle)]
-pub extern "C" fn fiorrudda_cors_check(
-    alloc: Global,
-    origin: &[u8],
-    include: bool,
-    headers: &mut Handle,
-) -> u32
+pub extern "C" fn fiorrudda_cors_check(origin: &[u8], include: bool, headers: &mut Handle) -> u32
     ensures told { result ≡ cors_check origin.now include headers.old.held }
     ensures held { headers.new.held ≡ headers.old.held }
 {
-    let Some(thing) = headers.take(alloc) else {
+    let Some(list) = headers.headers() else {
         return WRONG_HANDLE;
     };
-    let code = checked(&thing, origin, include);
-    headers.put(thing);
-    code
-}
-
-// "cross-origin resource policy check" of a thing that is a header list.
-fn kept(alloc: Global, thing: &Thing, page: &[u8], url: &[u8]) -> u32
-    ensures { result ≢ OUT_OF_MEMORY → result ≡ resource_policy page.now url.now (Some thing.now) }
-{
-    match thing {
-        Thing::Headers(list) => told(is_kept_by_resource_policy(alloc, page, url, list)),
-        _ => WRONG_HANDLE,
-    }
+    yes_or_no(passes_cors_check(origin, include, list))
 }
 
 /// Whether the answer of a URL is kept from a page's requests in mode no-cors (Fetch, section 3.7, "cross-origin
@@ -71,12 +44,10 @@ pub extern "C" fn fiorrudda_resource_policy(
     ensures told { result ≢ OUT_OF_MEMORY → result ≡ resource_policy page.now url.now headers.old.held }
     ensures held { headers.new.held ≡ headers.old.held }
 {
-    let Some(thing) = headers.take(alloc) else {
+    let Some(list) = headers.headers() else {
         return WRONG_HANDLE;
     };
-    let code = kept(alloc, &thing, page, url);
-    headers.put(thing);
-    code
+    told(is_kept_by_resource_policy(alloc, page, url, list))
 }
 
 /// Writes the referrer that a policy tells the URL `target` of the page `source` at the beginning of `room`, with no

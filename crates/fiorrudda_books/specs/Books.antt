@@ -6,8 +6,8 @@ use Rattle.wf_book_text.specs.Texts.{book_text}
 use Rattle.wf_book_text.specs.declared.refusal.Reason.{Reason}
 use Rattle.wf_book_text.specs.declared.refusal.Reason.TheVariants.{NoBook, OtherFormat, BadLine, Order, Full, TooLong}
 use Rattle.wf_book_text.specs.declared.refusal.Refusal.{Refusal}
-use Rattle.fiorrudda_handle.specs.Codes.{IsKept, IsWritten}
-use Rattle.fiorrudda_handle.specs.declared.codes.TheConstants.{NO, OK, WRONG_HANDLE}
+use Rattle.fiorrudda_handle.specs.Things.{held_book, TextBy}
+use Rattle.fiorrudda_handle.specs.declared.codes.TheConstants.{NO, OK}
 use Rattle.fiorrudda_handle.specs.declared.thing.Thing.{Thing}
 use Rattle.fiorrudda_handle.specs.declared.thing.Thing.TheVariants as thing
 use Rattle.fiorrudda_books.specs.declared.books.TheConstants.{REASON_NO_BOOK, REASON_OTHER_FORMAT, REASON_BAD_LINE}
@@ -15,12 +15,11 @@ use Rattle.fiorrudda_books.specs.declared.books.TheConstants.{REASON_ORDER, REAS
 
 -- the text of a book is written
 abbrev pub IsTextOf : Option Thing → List ℕ → List ℕ → ℕ → ℕ → ℕ → Type 0
-IsTextOf (Some (thing.Book book)) room after len_before len code = IsWritten (book_text book) room after len code
-IsTextOf _ room after len_before len code = (code ≡ WRONG_HANDLE) × IsKept room after len_before len
+IsTextOf held = TextBy (held_book held) (λ book. Ok (Some (book_text book)))
 
 -- the text of the book that is held is read back as that book
 abbrev pub IsReadBack : Option Thing → List ℕ → Type 0
-IsReadBack held text = (book : Book) → held ≡ Some (thing.Book book) → read_book text ≡ Ok book
+IsReadBack held text = (book : Book) → held_book held ≡ Some book → read_book text ≡ Ok book
 
 -- the numbers of the reasons
 abbrev pub AreReasons : Type 0

@@ -1,5 +1,5 @@
 // A book as a text.
-ghost use Rattle.std.specs.Prelude.{◌≡◌, ◌≢◌, None, Some, take};
+ghost use Rattle.std.specs.Prelude.{◌≡◌, ◌≢◌, None, take};
 ghost use Rattle.fiorrudda_books.specs.Books.{IsRead, IsReadBack, IsTextOf, reason_number};
 ghost use Rattle.fiorrudda_handle.specs.Codes.{IsKept};
 ghost use Rattle.wf_book_text.specs.Reading.{read_book};
@@ -26,21 +26,6 @@ pub const REASON_FULL: u32 = 4;
 /// The text goes on behind its last line.
 pub const REASON_TOO_LONG: u32 = 5;
 
-// Writes the text of a thing that is a book.
-fn text(alloc: Global, thing: &Thing, room: &mut [u8], len: &mut usize) -> u32
-    ensures told { result ≢ OUT_OF_MEMORY → IsTextOf (Some thing.now) room.old room.new len.old len.new result }
-    ensures read { result ≡ OK → IsReadBack (Some thing.now) (take len.new room.new) }
-    ensures out_of_memory { result ≡ OUT_OF_MEMORY → IsKept room.old room.new len.old len.new }
-{
-    let Thing::Book(book) = thing else {
-        return WRONG_HANDLE;
-    };
-    match text_of(alloc, book) {
-        Ok(text) => write(text.as_slice(), room, len),
-        Err(_) => OUT_OF_MEMORY,
-    }
-}
-
 /// Writes the text of a book, which `fiorrudda_book_of_text` reads back as the same book, so that what it knows lasts
 /// over restarts: a line with its name and the number of its format, the known hosts, and the entries of the preflight
 /// cache. Its times are in seconds since the moment that the calls counted from, which is 1970 for a book that lasts.
@@ -62,12 +47,13 @@ pub extern "C" fn fiorrudda_book_text(
     ensures out_of_memory { result ≡ OUT_OF_MEMORY → IsKept room.old room.new len.old len.new }
     ensures held { book.new.held ≡ book.old.held }
 {
-    let Some(thing) = book.take(alloc) else {
+    let Some(book) = book.book() else {
         return WRONG_HANDLE;
     };
-    let code = text(alloc, &thing, room, len);
-    book.put(thing);
-    code
+    match text_of(alloc, book) {
+        Ok(text) => write(text.as_slice(), room, len),
+        Err(_) => OUT_OF_MEMORY,
+    }
 }
 
 // The number of a reason.
@@ -105,7 +91,7 @@ pub extern "C" fn fiorrudda_book_of_text(
     ensures out_of_memory { result ≡ OUT_OF_MEMORY
         → (book.new.held ≡ None) × (line.new ≡ line.old) × (reason.new ≡ reason.old) }
 {
-    drop(book.take(alloc));
+    book.clear(alloc);
     match book_of(alloc, text) {
         Ok(read) => book.fill(alloc, Thing::Book(read)),
         Err(ReadError::Memory) => OUT_OF_MEMORY,

@@ -4,7 +4,6 @@ ghost use Rattle.fiorrudda_checks.specs.Checks as spec;
 ghost use Rattle.fiorrudda_rules.specs.Answers.{IsUnlessMemory};
 ghost use Rattle.wf_types.specs.Requests.{IsRequest};
 
-use crate::found::Found;
 use crate::requested::request_at;
 use fiorrudda_fetch::{Asked, Settings};
 use fiorrudda_rules::Refusal;
@@ -84,10 +83,9 @@ pub fn violations_of(
     settings: &Settings,
     asked: &Asked,
     redirect: &[u8],
-) -> Result<Found, Refusal>
+) -> Result<Violations, Refusal>
     ensures { IsUnlessMemory result (spec.violations_of check policies.now settings.now asked.now redirect.now) }
 {
     let request = request_at(alloc, settings, asked, redirect)?;
-    let violations = violations_by(alloc, check, policies, settings.client(), &request)?;
-    Ok(Found { violations })
+    Ok(violations_by(alloc, check, policies, settings.client(), &request)?)
 }

@@ -20,8 +20,8 @@ use denote.Struct.Struct.{exits_of}
 use Rattle.libc.specs.Heap.{chunk-Keyless}
 use Rattle.std.proofs.lemmas.Bool.{false≢true}
 use Rattle.std.specs.Prelude.{IsTrue, Option, Some, None}
-use Rattle.fiorrudda_checks.proofs.found.Found.TheSendSync as found_sent
-use Rattle.fiorrudda_checks.specs.contracts.found.Found as found
+use Rattle.fiorrudda_handle.proofs.found.Found.TheSendSync as found_sent
+use Rattle.fiorrudda_handle.specs.contracts.found.Found as found
 use Rattle.fiorrudda_fetch.proofs.asked.Asked.TheSendSync as asked_sent
 use Rattle.fiorrudda_fetch.proofs.settings.Settings.TheSendSync as settings_sent
 use Rattle.fiorrudda_fetch.specs.contracts.asked.Asked as asked

@@ -1,3 +1,5 @@
 pub mod Codes
 pub mod Crossing
 pub mod Handle
+pub mod Lending
+pub mod Things

@@ -4,8 +4,8 @@ ghost use Rattle.fiorrudda_handle.specs.Handle.{handle_owns};
 ghost use Rattle.fiorrudda_handle.specs.declared.thing.Thing.{Thing as Held};
 
 use crate::codes::{OK, OUT_OF_MEMORY};
+use crate::loose::Loose;
 use crate::thing::Thing;
-use fiorrudda_held::Loose;
 use std::alloc::Global;
 use std::marker::Model;
 use std::mem::replace;
@@ -26,6 +26,10 @@ impl Model for Handle {
 }
 
 impl Handle {
+    ghost use Rattle.std.specs.Borrow.{sem};
+    ghost use Rattle.std.specs.Prelude.{option_map};
+    ghost use Rattle.fiorrudda_handle.specs.Lending.{LendsThing};
+
     fn empty() -> Handle
         ensures { result.held ≡ None }
     {
@@ -53,8 +57,19 @@ impl Handle {
         }
     }
 
-    /// Takes out what the handle holds, and leaves it empty.
-    pub fn take(&mut self, alloc: Global) -> Option<Box<Thing>>
+    /// What the handle holds, to be read and changed in its place.
+    pub fn thing(&mut self) -> Option<&mut Thing>
+        ensures* writes_back { sem 𝓛 (LendsThing self.entry result) }
+        ensures value { option_map (λ thing. thing.now) result ≡ self.old.held }
+    {
+        if self.at.is_null() {
+            return None;
+        }
+        Some(unsafe { &mut *(self.at as *mut Thing) })
+    }
+
+    // Takes out what the handle holds, and leaves it empty.
+    fn take(&mut self, alloc: Global) -> Option<Box<Thing>>
         ensures empty { self.new.held ≡ None }
         ensures taken { MatchOption result (self.old.held ≡ None) (λ thing. self.old.held ≡ Some thing.value) }
     {
@@ -62,12 +77,19 @@ impl Handle {
         Some(loose.into_box())
     }
 
-    /// Puts a thing into a handle that is empty: what another held would be forgotten.
-    pub fn put(&mut self, thing: Box<Thing>)
+    // Puts a thing into a handle that is empty: what another held would be forgotten.
+    fn put(&mut self, thing: Box<Thing>)
         requires { self.old.held ≡ None }
         ensures { self.new.held ≡ Some thing.value }
     {
         *self = Handle::of_loose(Loose::of(thing));
+    }
+
+    /// Frees what the handle holds, and leaves it empty.
+    pub fn clear(&mut self, alloc: Global)
+        ensures { self.new.held ≡ None }
+    {
+        drop(self.take(alloc));
     }
 
     /// Frees what the handle holds, and has it hold this thing, unless memory is refused.
@@ -75,7 +97,7 @@ impl Handle {
         ensures ok { result ≡ OK → self.new.held ≡ Some thing }
         ensures out_of_memory { result ≢ OK → (result ≡ OUT_OF_MEMORY) × (self.new.held ≡ None) }
     {
-        drop(self.take(alloc));
+        self.clear(alloc);
         match Box::new(alloc, thing) {
             Ok(thing) => {
                 self.put(thing);

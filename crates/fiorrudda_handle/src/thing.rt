@@ -1,4 +1,5 @@
-use fiorrudda_checks::Found;
+// What a handle may hold.
+use crate::found::Found;
 use fiorrudda_fetch::{Asked, Settings};
 use wf_book::Book;
 use wf_csp::Compiled;

@@ -1,11 +1,15 @@
 -- What the calls tell of an answer.
-use Rattle.std.specs.Prelude.{◌≡◌, ℕ, ◌==◌, Option, Some, None, Result, Ok, Err, if◌then◌else◌}
+use Rattle.std.specs.Prelude.{◌≡◌, ℕ, ◌==◌, List, Option, Some, None, Result, Ok, Err, if◌then◌else◌}
 use Rattle.wf_types.specs.declared.mode.Tainting.{Tainting}
 use Rattle.wf_types.specs.declared.mode.Tainting.TheVariants.{Basic, Cors, Opaque}
 use Rattle.wf_types.specs.declared.response.Response.{Response}
 use Rattle.fiorrudda_checks.specs.Answers as answers
 use Rattle.fiorrudda_checks.specs.Answers.{seen_response}
+use Rattle.fiorrudda_fetch.specs.Setups.{Setup}
+use Rattle.fiorrudda_fetch.specs.declared.asked.Asked.{Asked}
 use Rattle.fiorrudda_handle.specs.Codes.{code_of, told}
+use Rattle.fiorrudda_handle.specs.Things.{both, code_by, held_client, held_headers, held_request}
+use Rattle.wf_headers.specs.declared.headers.Header.{Header}
 use Rattle.fiorrudda_handle.specs.declared.codes.TheConstants.{NO_SUCH_NUMBER, OK, WRONG_HANDLE}
 use Rattle.fiorrudda_handle.specs.declared.thing.Thing.{Thing}
 use Rattle.fiorrudda_handle.specs.declared.thing.Thing.TheVariants as thing
@@ -30,19 +34,22 @@ Shows (Err refusal) code held seen_before seen = (code ≡ code_of refusal) × (
 abbrev pub IsHidden : ℕ → ℕ → Option Thing → ℕ → ℕ → Type 0
 IsHidden expected code held seen_before seen = (code ≡ expected) × (held ≡ None) × (seen ≡ seen_before)
 
+abbrev pub ShowsOf : Tainting → ℕ → Option ((Setup × Asked) × List Header) → ℕ → Option Thing → ℕ → ℕ → Type 0
+ShowsOf tainting status None = IsHidden WRONG_HANDLE
+ShowsOf tainting status (Some it) = Shows (seen_response it.0.0 it.0.1 tainting (head_of status it.1))
+
 abbrev pub ShowsBy :
     Option Tainting → ℕ → Option Thing → Option Thing → Option Thing → ℕ → Option Thing → ℕ → ℕ → Type 0
-ShowsBy (Some tainting) status (Some (thing.Client settings)) (Some (thing.Request asked)) (Some (thing.Headers list)) =
-    Shows (seen_response settings asked tainting (head_of status list))
 ShowsBy None status client request headers = IsHidden NO_SUCH_NUMBER
-ShowsBy (Some tainting) status _ _ _ = IsHidden WRONG_HANDLE
+ShowsBy (Some tainting) status client request headers =
+    ShowsOf tainting status (both (both (held_client client) (held_request request)) (held_headers headers))
 
 -- ---- MIME types
 
 abbrev pub type_blocked : Option Thing → Option Thing → ℕ
-type_blocked (Some (thing.Request asked)) (Some (thing.Headers list)) = told (answers.is_type_blocked asked list)
-type_blocked _ _ = WRONG_HANDLE
+type_blocked request headers =
+    code_by (both (held_request request) (held_headers headers)) (λ it. told (answers.is_type_blocked it.0 it.1))
 
 abbrev pub nosniff_blocked : Option Thing → Option Thing → ℕ
-nosniff_blocked (Some (thing.Request asked)) (Some (thing.Headers list)) = told (answers.is_nosniff_blocked asked list)
-nosniff_blocked _ _ = WRONG_HANDLE
+nosniff_blocked request headers =
+    code_by (both (held_request request) (held_headers headers)) (λ it. told (answers.is_nosniff_blocked it.0 it.1))

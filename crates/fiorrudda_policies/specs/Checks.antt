@@ -7,24 +7,28 @@ use Rattle.fiorrudda_checks.specs.Checks as checks
 use Rattle.fiorrudda_checks.specs.Checks.{violations_of}
 use Rattle.fiorrudda_checks.specs.declared.checks.Check.{Check}
 use Rattle.fiorrudda_checks.specs.declared.checks.Check.TheVariants.{Enforced, ReportOnly, Response}
-use Rattle.fiorrudda_handle.specs.Codes.{code_of, told, yes_or_no, IsKept, IsTextTold}
+use Rattle.fiorrudda_fetch.specs.Setups.{Setup}
+use Rattle.fiorrudda_fetch.specs.declared.asked.Asked.{Asked}
+use Rattle.fiorrudda_handle.specs.Codes.{code_of, told, yes_or_no}
+use Rattle.fiorrudda_handle.specs.Things.{both, code_by, held_client, held_policies, held_request, held_violations}
+use Rattle.fiorrudda_handle.specs.Things.{TextBy}
+use Rattle.wf_csp_text.specs.declared.policy.Policy.{Policy}
 use Rattle.fiorrudda_handle.specs.declared.codes.TheConstants.{NO, NO_SUCH_NUMBER, OK, WRONG_HANDLE}
 use Rattle.fiorrudda_handle.specs.declared.thing.Thing.{Thing}
 use Rattle.fiorrudda_handle.specs.declared.thing.Thing.TheVariants as thing
 use Rattle.fiorrudda_rules.specs.declared.refusal.Refusal.{Refusal}
-use Rattle.fiorrudda_policies.specs.Headers.{IsNotHeld}
 
 -- ---- mixed content
 
 abbrev pub mixed_upgraded : Option Thing → Option Thing → List ℕ → ℕ
-mixed_upgraded (Some (thing.Client settings)) (Some (thing.Request asked)) redirect =
-    told (checks.is_mixed_upgraded settings asked redirect)
-mixed_upgraded _ _ redirect = WRONG_HANDLE
+mixed_upgraded client request redirect =
+    code_by (both (held_client client) (held_request request))
+    (λ it. told (checks.is_mixed_upgraded it.0 it.1 redirect))
 
 abbrev pub mixed_blocked : Option Thing → Option Thing → List ℕ → ℕ
-mixed_blocked (Some (thing.Client settings)) (Some (thing.Request asked)) redirect =
-    told (checks.is_mixed_blocked settings asked redirect)
-mixed_blocked _ _ redirect = WRONG_HANDLE
+mixed_blocked client request redirect =
+    code_by (both (held_client client) (held_request request))
+    (λ it. told (checks.is_mixed_blocked it.0 it.1 redirect))
 
 -- ---- violations
 
@@ -46,11 +50,14 @@ HasFound (Err refusal) code held = (code ≡ code_of refusal) × (held ≡ None)
 abbrev pub IsUnchecked : ℕ → ℕ → Option Thing → Type 0
 IsUnchecked expected code held = (code ≡ expected) × (held ≡ None)
 
+abbrev pub HasFoundOf : Check → Option ((List Policy × Setup) × Asked) → List ℕ → ℕ → Option Thing → Type 0
+HasFoundOf check None redirect = IsUnchecked WRONG_HANDLE
+HasFoundOf check (Some it) redirect = HasFound (violations_of check it.0.0 it.0.1 it.1 redirect)
+
 abbrev pub HasFoundBy : Option Check → Option Thing → Option Thing → Option Thing → List ℕ → ℕ → Option Thing → Type 0
-HasFoundBy (Some check) (Some (thing.Policies policies)) (Some (thing.Client settings)) (Some (thing.Request asked))
-    redirect = HasFound (violations_of check policies settings asked redirect)
-HasFoundBy None policies client request redirect = IsUnchecked NO_SUCH_NUMBER
-HasFoundBy (Some check) _ _ _ redirect = IsUnchecked WRONG_HANDLE
+HasFoundBy None policies client request = λ redirect. IsUnchecked NO_SUCH_NUMBER
+HasFoundBy (Some check) policies client request =
+    HasFoundOf check (both (both (held_policies policies) (held_client client)) (held_request request))
 
 -- a violation's policy is told, if there is one
 abbrev pub IsViolation : Option Violation → ℕ → ℕ → ℕ → ℕ → ℕ → Type 0
@@ -59,18 +66,20 @@ IsViolation None policy_before policy enforced_before enforced code =
 IsViolation (Some violation) policy_before policy enforced_before enforced code =
     (code ≡ OK) × (policy ≡ violation.policy) × (enforced ≡ (if violation.enforced then 1 else 0))
 
-abbrev pub IsViolationAt : ℕ → Option Thing → ℕ → ℕ → ℕ → ℕ → ℕ → Type 0
-IsViolationAt at (Some (thing.Violations found)) = IsViolation (slice_get found at)
-IsViolationAt at _ = λ policy_before policy enforced_before enforced code.
+abbrev pub IsViolationOf : ℕ → Option (List Violation) → ℕ → ℕ → ℕ → ℕ → ℕ → Type 0
+IsViolationOf at None = λ policy_before policy enforced_before enforced code.
     (code ≡ WRONG_HANDLE) × (policy ≡ policy_before) × (enforced ≡ enforced_before)
+IsViolationOf at (Some found) = IsViolation (slice_get found at)
+
+abbrev pub IsViolationAt : ℕ → Option Thing → ℕ → ℕ → ℕ → ℕ → ℕ → Type 0
+IsViolationAt at held = IsViolationOf at (held_violations held)
 
 -- the effective directive of a violation, and the URL that is reported
 abbrev pub IsDirectiveAt : ℕ → Option Thing → List ℕ → List ℕ → ℕ → ℕ → ℕ → Type 0
-IsDirectiveAt at (Some (thing.Violations found)) =
-    IsTextTold (Ok (option_map (λ violation. directive_name violation.directive) (slice_get found at)))
-IsDirectiveAt at _ = IsNotHeld
+IsDirectiveAt at held =
+    TextBy (held_violations held)
+    (λ found. Ok (option_map (λ violation. directive_name violation.directive) (slice_get found at)))
 
 abbrev pub IsUrlAt : ℕ → Option Thing → List ℕ → List ℕ → ℕ → ℕ → ℕ → Type 0
-IsUrlAt at (Some (thing.Violations found)) =
-    IsTextTold (Ok (option_map (λ violation. violation.url) (slice_get found at)))
-IsUrlAt at _ = IsNotHeld
+IsUrlAt at held =
+    TextBy (held_violations held) (λ found. Ok (option_map (λ violation. violation.url) (slice_get found at)))

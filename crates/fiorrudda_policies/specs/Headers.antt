@@ -1,47 +1,43 @@
 -- What the calls tell that look at a header list alone.
 use Rattle.std.specs.Prelude.{◌≡◌, ℕ, Bool, List, slice_get, Option, Some, None, option_map, Ok}
 use Rattle.wf_csp.specs.Violations.{upgrades}
+use Rattle.wf_headers.specs.declared.headers.Header.{Header}
 use Rattle.fiorrudda_checks.specs.Policies.{policies_in}
-use Rattle.fiorrudda_handle.specs.Codes.{yes_or_no, IsKept, IsTextTold}
+use Rattle.fiorrudda_handle.specs.Codes.{yes_or_no}
+use Rattle.fiorrudda_handle.specs.Things.{code_by, held_headers, held_policies, TextBy}
 use Rattle.fiorrudda_handle.specs.declared.codes.TheConstants.{OK, WRONG_HANDLE}
 use Rattle.fiorrudda_handle.specs.declared.thing.Thing.{Thing}
 use Rattle.fiorrudda_handle.specs.declared.thing.Thing.TheVariants as thing
 use Rattle.fiorrudda_rules.specs.Names.{exposed_name_at, unsafe_name_at}
 
--- the handle holds nothing of the kind, and nothing is written
-abbrev pub IsNotHeld : List ℕ → List ℕ → ℕ → ℕ → ℕ → Type 0
-IsNotHeld room after len_before len code = (code ≡ WRONG_HANDLE) × IsKept room after len_before len
-
 -- ---- the headers by their index
 
 abbrev pub IsNameAt : ℕ → Option Thing → List ℕ → List ℕ → ℕ → ℕ → ℕ → Type 0
-IsNameAt at (Some (thing.Headers list)) = IsTextTold (Ok (option_map (λ header. header.name) (slice_get list at)))
-IsNameAt at _ = IsNotHeld
+IsNameAt at held = TextBy (held_headers held) (λ list. Ok (option_map (λ header. header.name) (slice_get list at)))
 
 abbrev pub IsValueAt : ℕ → Option Thing → List ℕ → List ℕ → ℕ → ℕ → ℕ → Type 0
-IsValueAt at (Some (thing.Headers list)) = IsTextTold (Ok (option_map (λ header. header.value) (slice_get list at)))
-IsValueAt at _ = IsNotHeld
+IsValueAt at held = TextBy (held_headers held) (λ list. Ok (option_map (λ header. header.value) (slice_get list at)))
 
 -- ---- names
 
 -- "CORS-unsafe request-header names", that at an index
 abbrev pub IsUnsafeName : ℕ → Option Thing → List ℕ → List ℕ → ℕ → ℕ → ℕ → Type 0
-IsUnsafeName at (Some (thing.Headers list)) = IsTextTold (unsafe_name_at list at)
-IsUnsafeName at _ = IsNotHeld
+IsUnsafeName at held = TextBy (held_headers held) (λ list. unsafe_name_at list at)
 
 -- "CORS-exposed header-name list", the name at an index
 abbrev pub IsExposedName : Bool → ℕ → Option Thing → List ℕ → List ℕ → ℕ → ℕ → ℕ → Type 0
-IsExposedName include at (Some (thing.Headers list)) = IsTextTold (exposed_name_at include list at)
-IsExposedName include at _ = IsNotHeld
+IsExposedName include at held = TextBy (held_headers held) (λ list. exposed_name_at include list at)
 
 -- ---- policies
 
 -- the handle holds the policies of the list, or is empty
+abbrev pub HasPoliciesOf : Option (List Header) → ℕ → Option Thing → Type 0
+HasPoliciesOf None code held = (code ≡ WRONG_HANDLE) × (held ≡ None)
+HasPoliciesOf (Some list) code held = (code ≡ OK) × (held ≡ Some (thing.Policies (policies_in list)))
+
 abbrev pub HasPolicies : Option Thing → ℕ → Option Thing → Type 0
-HasPolicies (Some (thing.Headers list)) code held = (code ≡ OK) × (held ≡ Some (thing.Policies (policies_in list)))
-HasPolicies _ code held = (code ≡ WRONG_HANDLE) × (held ≡ None)
+HasPolicies headers = HasPoliciesOf (held_headers headers)
 
 -- an enforced policy has `upgrade-insecure-requests`
 abbrev pub upgrades_code : Option Thing → ℕ
-upgrades_code (Some (thing.Policies policies)) = yes_or_no (upgrades policies)
-upgrades_code _ = WRONG_HANDLE
+upgrades_code held = code_by (held_policies held) (λ policies. yes_or_no (upgrades policies))

@@ -1,13 +1,17 @@
 // What a page sees of an answer, and which answers are blocked for their MIME type.
-ghost use Rattle.std.specs.Prelude.{◌≡◌, ◌≢◌, None, Some};
+ghost use Rattle.std.specs.Prelude.{◌≡◌, ◌≢◌, None};
+ghost use Rattle.fiorrudda_checks.specs.Answers as answers;
 ghost use Rattle.fiorrudda_policies.specs.Answers as spec;
-ghost use Rattle.fiorrudda_policies.specs.Answers.{ShowsBy};
+ghost use Rattle.fiorrudda_policies.specs.Answers.{Shows, ShowsBy};
+ghost use Rattle.fiorrudda_policies.specs.Preflights.{head_of};
 
 use fiorrudda_checks::{is_nosniff_blocked, is_type_blocked, seen_response};
+use fiorrudda_fetch::{Asked, Settings};
 use fiorrudda_handle::{
     Handle, NO_SUCH_NUMBER, OK, OUT_OF_MEMORY, Thing, WRONG_HANDLE, code_of, told,
 };
 use std::alloc::Global;
+use wf_headers::HeaderList;
 use wf_types::Tainting;
 
 /// Response taintings (Fetch, section 2.2.5): of an answer of the page's own origin.
@@ -31,31 +35,22 @@ fn tainting_numbered(number: u32) -> Option<Tainting>
     }
 }
 
-// Makes in a handle that is empty what is seen of a thing that is a header list.
+// Makes in a handle that is empty what is seen of a header list.
 fn shown(
     alloc: Global,
     filtered: &mut Handle,
-    client: &Thing,
-    request: &Thing,
-    headers: &Thing,
+    settings: &Settings,
+    asked: &Asked,
+    list: &HeaderList,
     status: u16,
     tainting: Tainting,
     seen: &mut u32,
 ) -> u32
     requires { filtered.old.held ≡ None }
-    ensures told { result ≢ OUT_OF_MEMORY → ShowsBy (Some tainting) status (Some client.now) (Some request.now)
-        (Some headers.now) result filtered.new.held seen.old seen.new }
+    ensures told { result ≢ OUT_OF_MEMORY → Shows (answers.seen_response settings.now asked.now tainting
+        (head_of status list.now)) result filtered.new.held seen.old seen.new }
     ensures out_of_memory { result ≡ OUT_OF_MEMORY → (filtered.new.held ≡ None) × (seen.new ≡ seen.old) }
 {
-    let Thing::Client(settings) = client else {
-        return WRONG_HANDLE;
-    };
-    let Thing::Request(asked) = request else {
-        return WRONG_HANDLE;
-    };
-    let Thing::Headers(list) = headers else {
-        return WRONG_HANDLE;
-    };
     match seen_response(alloc, settings, asked, tainting, status, list) {
         Err(refusal) => code_of(refusal),
         Ok(response) => {
@@ -97,42 +92,22 @@ pub extern "C" fn fiorrudda_filtered(
     ensures request { request.new.held ≡ request.old.held }
     ensures headers { headers.new.held ≡ headers.old.held }
 {
-    drop(filtered.take(alloc));
+    filtered.clear(alloc);
     let Some(tainting) = tainting_numbered(tainting) else {
         return NO_SUCH_NUMBER;
     };
-    let Some(settings) = client.take(alloc) else {
+    let Some(settings) = client.client() else {
         return WRONG_HANDLE;
     };
-    let Some(asked) = request.take(alloc) else {
-        client.put(settings);
+    let Some(asked) = request.request() else {
         return WRONG_HANDLE;
     };
-    let Some(list) = headers.take(alloc) else {
-        client.put(settings);
-        request.put(asked);
+    let Some(list) = headers.headers() else {
         return WRONG_HANDLE;
     };
-    let code = shown(
-        alloc, filtered, &settings, &asked, &list, status, tainting, seen,
-    );
-    client.put(settings);
-    request.put(asked);
-    headers.put(list);
-    code
-}
-
-// Whether a thing that is a header list is blocked for its MIME type.
-fn type_blocked(alloc: Global, request: &Thing, headers: &Thing) -> u32
-    ensures { result ≢ OUT_OF_MEMORY → result ≡ spec.type_blocked (Some request.now) (Some headers.now) }
-{
-    let Thing::Request(asked) = request else {
-        return WRONG_HANDLE;
-    };
-    let Thing::Headers(list) = headers else {
-        return WRONG_HANDLE;
-    };
-    told(is_type_blocked(alloc, asked, list))
+    shown(
+        alloc, filtered, settings, asked, list, status, tainting, seen,
+    )
 }
 
 /// Whether an answer to a request is blocked for its MIME type, by its header list: one of a script that is audio,
@@ -149,30 +124,13 @@ pub extern "C" fn fiorrudda_type_blocked(
     ensures request { request.new.held ≡ request.old.held }
     ensures headers { headers.new.held ≡ headers.old.held }
 {
-    let Some(asked) = request.take(alloc) else {
+    let Some(asked) = request.request() else {
         return WRONG_HANDLE;
     };
-    let Some(list) = headers.take(alloc) else {
-        request.put(asked);
+    let Some(list) = headers.headers() else {
         return WRONG_HANDLE;
     };
-    let code = type_blocked(alloc, &asked, &list);
-    request.put(asked);
-    headers.put(list);
-    code
-}
-
-// Whether a thing that is a header list is blocked since it says nosniff.
-fn nosniff_blocked(alloc: Global, request: &Thing, headers: &Thing) -> u32
-    ensures { result ≢ OUT_OF_MEMORY → result ≡ spec.nosniff_blocked (Some request.now) (Some headers.now) }
-{
-    let Thing::Request(asked) = request else {
-        return WRONG_HANDLE;
-    };
-    let Thing::Headers(list) = headers else {
-        return WRONG_HANDLE;
-    };
-    told(is_nosniff_blocked(alloc, asked, list))
+    told(is_type_blocked(alloc, asked, list))
 }
 
 /// Whether an answer to a request is blocked since it says nosniff, by its header list: one of a script that is no
@@ -190,15 +148,11 @@ pub extern "C" fn fiorrudda_nosniff_blocked(
     ensures request { request.new.held ≡ request.old.held }
     ensures headers { headers.new.held ≡ headers.old.held }
 {
-    let Some(asked) = request.take(alloc) else {
+    let Some(asked) = request.request() else {
         return WRONG_HANDLE;
     };
-    let Some(list) = headers.take(alloc) else {
-        request.put(asked);
+    let Some(list) = headers.headers() else {
         return WRONG_HANDLE;
     };
-    let code = nosniff_blocked(alloc, &asked, &list);
-    request.put(asked);
-    headers.put(list);
-    code
+    told(is_nosniff_blocked(alloc, asked, list))
 }

@@ -1,13 +1,16 @@
 // What is asked of a request before it is sent.
-ghost use Rattle.std.specs.Prelude.{◌≡◌, ◌≢◌, None, Some};
+ghost use Rattle.std.specs.Prelude.{◌≡◌, ◌≢◌, None};
+ghost use Rattle.fiorrudda_checks.specs.Checks as checks;
 ghost use Rattle.fiorrudda_policies.specs.Checks as spec;
-ghost use Rattle.fiorrudda_policies.specs.Checks.{HasFoundBy};
+ghost use Rattle.fiorrudda_policies.specs.Checks.{HasFound, HasFoundBy};
 
 use fiorrudda_checks::{Check, is_mixed_blocked, is_mixed_upgraded, violations_of};
+use fiorrudda_fetch::{Asked, Settings};
 use fiorrudda_handle::{
-    Handle, NO_SUCH_NUMBER, OK, OUT_OF_MEMORY, Thing, WRONG_HANDLE, code_of, told, yes_or_no,
+    Found, Handle, NO_SUCH_NUMBER, OK, OUT_OF_MEMORY, Thing, WRONG_HANDLE, code_of, told, yes_or_no,
 };
 use std::alloc::Global;
+use wf_csp::Compiled;
 
 /// Checks of a request: by the enforced policies, before it is sent.
 pub const CHECK_ENFORCED: u32 = 0;
@@ -17,20 +20,6 @@ pub const CHECK_REPORT_ONLY: u32 = 1;
 
 /// By all policies, of its response.
 pub const CHECK_RESPONSE: u32 = 2;
-
-// Whether things that are a client and a request are upgraded as mixed content.
-fn upgraded(alloc: Global, client: &Thing, request: &Thing, redirect: &[u8]) -> u32
-    ensures { result ≢ OUT_OF_MEMORY
-        → result ≡ spec.mixed_upgraded (Some client.now) (Some request.now) redirect.now }
-{
-    let Thing::Client(settings) = client else {
-        return WRONG_HANDLE;
-    };
-    let Thing::Request(asked) = request else {
-        return WRONG_HANDLE;
-    };
-    told(is_mixed_upgraded(alloc, settings, asked, redirect))
-}
 
 /// Whether a client's request is upgraded as mixed content: for an image, audio or video of a page that is potentially
 /// trustworthy, http becomes https (Mixed Content, section 4.1, "upgrade a mixed content request to a potentially
@@ -50,31 +39,13 @@ pub extern "C" fn fiorrudda_mixed_upgraded(
     ensures client { client.new.held ≡ client.old.held }
     ensures request { request.new.held ≡ request.old.held }
 {
-    let Some(settings) = client.take(alloc) else {
+    let Some(settings) = client.client() else {
         return WRONG_HANDLE;
     };
-    let Some(asked) = request.take(alloc) else {
-        client.put(settings);
+    let Some(asked) = request.request() else {
         return WRONG_HANDLE;
     };
-    let code = upgraded(alloc, &settings, &asked, redirect);
-    client.put(settings);
-    request.put(asked);
-    code
-}
-
-// Whether things that are a client and a request are blocked as mixed content.
-fn blocked(alloc: Global, client: &Thing, request: &Thing, redirect: &[u8]) -> u32
-    ensures { result ≢ OUT_OF_MEMORY
-        → result ≡ spec.mixed_blocked (Some client.now) (Some request.now) redirect.now }
-{
-    let Thing::Client(settings) = client else {
-        return WRONG_HANDLE;
-    };
-    let Thing::Request(asked) = request else {
-        return WRONG_HANDLE;
-    };
-    told(is_mixed_blocked(alloc, settings, asked, redirect))
+    told(is_mixed_upgraded(alloc, settings, asked, redirect))
 }
 
 /// Whether a client's request is blocked as mixed content (Mixed Content, section 4.4, "should fetching request be
@@ -95,17 +66,13 @@ pub extern "C" fn fiorrudda_mixed_blocked(
     ensures client { client.new.held ≡ client.old.held }
     ensures request { request.new.held ≡ request.old.held }
 {
-    let Some(settings) = client.take(alloc) else {
+    let Some(settings) = client.client() else {
         return WRONG_HANDLE;
     };
-    let Some(asked) = request.take(alloc) else {
-        client.put(settings);
+    let Some(asked) = request.request() else {
         return WRONG_HANDLE;
     };
-    let code = blocked(alloc, &settings, &asked, redirect);
-    client.put(settings);
-    request.put(asked);
-    code
+    told(is_mixed_blocked(alloc, settings, asked, redirect))
 }
 
 // The check of a number.
@@ -120,79 +87,32 @@ fn check_numbered(number: u32) -> Option<Check>
     }
 }
 
-// Makes in a handle that is empty the violations of things that are policies, a client and a request.
+// Makes in a handle that is empty the violations of policies.
 fn found(
     alloc: Global,
     violations: &mut Handle,
     check: Check,
-    policies: &Thing,
-    client: &Thing,
-    request: &Thing,
+    policies: &Compiled,
+    settings: &Settings,
+    asked: &Asked,
     redirect: &[u8],
 ) -> u32
     requires { violations.old.held ≡ None }
-    ensures told { result ≢ OUT_OF_MEMORY → HasFoundBy (Some check) (Some policies.now) (Some client.now)
-        (Some request.now) redirect.now result violations.new.held }
+    ensures told { result ≢ OUT_OF_MEMORY → HasFound (checks.violations_of check policies.now settings.now asked.now
+        redirect.now) result violations.new.held }
     ensures out_of_memory { result ≡ OUT_OF_MEMORY → violations.new.held ≡ None }
 {
-    let Thing::Policies(policies) = policies else {
-        return WRONG_HANDLE;
-    };
-    let Thing::Client(settings) = client else {
-        return WRONG_HANDLE;
-    };
-    let Thing::Request(asked) = request else {
-        return WRONG_HANDLE;
-    };
     match violations_of(alloc, check, policies, settings, asked, redirect) {
         Err(refusal) => code_of(refusal),
         Ok(found) => {
-            let passes = found.violations.is_empty();
+            let passes = found.is_empty();
+            let found = Found { violations: found };
             match violations.fill(alloc, Thing::Violations(found)) {
                 OK => yes_or_no(passes),
                 code => code,
             }
         }
     }
-}
-
-// The same, of a thing that is policies, and of handles.
-fn found_for(
-    alloc: Global,
-    violations: &mut Handle,
-    check: Check,
-    policies: &Thing,
-    client: &mut Handle,
-    request: &mut Handle,
-    redirect: &[u8],
-) -> u32
-    requires { violations.old.held ≡ None }
-    ensures told { result ≢ OUT_OF_MEMORY → HasFoundBy (Some check) (Some policies.now) client.old.held
-        request.old.held redirect.now result violations.new.held }
-    ensures out_of_memory { result ≡ OUT_OF_MEMORY → violations.new.held ≡ None }
-    ensures client { client.new.held ≡ client.old.held }
-    ensures request { request.new.held ≡ request.old.held }
-{
-    let Thing::Policies(_) = policies else {
-        return WRONG_HANDLE;
-    };
-    let Some(settings) = client.take(alloc) else {
-        return WRONG_HANDLE;
-    };
-    let Thing::Client(_) = &*settings else {
-        client.put(settings);
-        return WRONG_HANDLE;
-    };
-    let Some(asked) = request.take(alloc) else {
-        client.put(settings);
-        return WRONG_HANDLE;
-    };
-    let code = found(
-        alloc, violations, check, policies, &settings, &asked, redirect,
-    );
-    client.put(settings);
-    request.put(asked);
-    code
 }
 
 /// Makes in a handle the violations of policies by a client's request, or by its response: one of the numbers
@@ -224,14 +144,20 @@ pub extern "C" fn fiorrudda_check(
     ensures client { client.new.held ≡ client.old.held }
     ensures request { request.new.held ≡ request.old.held }
 {
-    drop(violations.take(alloc));
+    violations.clear(alloc);
     let Some(check) = check_numbered(check) else {
         return NO_SUCH_NUMBER;
     };
-    let Some(thing) = policies.take(alloc) else {
+    let Some(compiled) = policies.policies() else {
         return WRONG_HANDLE;
     };
-    let code = found_for(alloc, violations, check, &thing, client, request, redirect);
-    policies.put(thing);
-    code
+    let Some(settings) = client.client() else {
+        return WRONG_HANDLE;
+    };
+    let Some(asked) = request.request() else {
+        return WRONG_HANDLE;
+    };
+    found(
+        alloc, violations, check, compiled, settings, asked, redirect,
+    )
 }

@@ -1,15 +1,24 @@
 // Violations that were found.
-ghost use Rattle.std.specs.Prelude.{◌≡◌, Some};
+ghost use Rattle.std.specs.Prelude.{◌≡◌};
 ghost use Rattle.fiorrudda_policies.specs.Checks.{IsDirectiveAt, IsUrlAt, IsViolationAt};
 
-use fiorrudda_handle::{Handle, NO, OK, Thing, WRONG_HANDLE, write};
-use std::alloc::Global;
+use fiorrudda_handle::{Handle, NO, OK, WRONG_HANDLE, write};
 
-// Tells the policy of a violation of a thing that is violations.
-fn violation_in(thing: &Thing, at: usize, policy: &mut u32, enforced: &mut u32) -> u32
-    ensures { IsViolationAt at (Some thing.now) policy.old policy.new enforced.old enforced.new result }
+/// Tells of the violation (CSP 3, section 2.4) at an index, from 0 on, the number of the policy in `policy`, and 1 in
+/// `enforced` where that is enforced, or 0.
+///
+/// `OK`; `NO` behind the last; `WRONG_HANDLE`. But for `OK` nothing is written.
+#[unsafe(no_mangle)]
+pub extern "C" fn fiorrudda_violation(
+    violations: &mut Handle,
+    at: usize,
+    policy: &mut u32,
+    enforced: &mut u32,
+) -> u32
+    ensures told { IsViolationAt at violations.old.held policy.old policy.new enforced.old enforced.new result }
+    ensures held { violations.new.held ≡ violations.old.held }
 {
-    let Thing::Violations(found) = thing else {
+    let Some(found) = violations.violations() else {
         return WRONG_HANDLE;
     };
     match found.violations.as_slice().get(at) {
@@ -22,42 +31,6 @@ fn violation_in(thing: &Thing, at: usize, policy: &mut u32, enforced: &mut u32) 
     }
 }
 
-/// Tells of the violation (CSP 3, section 2.4) at an index, from 0 on, the number of the policy in `policy`, and 1 in
-/// `enforced` where that is enforced, or 0.
-///
-/// `OK`; `NO` behind the last; `WRONG_HANDLE`. But for `OK` nothing is written.
-#[unsafe(no_mangle)]
-pub extern "C" fn fiorrudda_violation(
-    alloc: Global,
-    violations: &mut Handle,
-    at: usize,
-    policy: &mut u32,
-    enforced: &mut u32,
-) -> u32
-    ensures told { IsViolationAt at violations.old.held policy.old policy.new enforced.old enforced.new result }
-    ensures held { violations.new.held ≡ violations.old.held }
-{
-    let Some(thing) = violations.take(alloc) else {
-        return WRONG_HANDLE;
-    };
-    let code = violation_in(&thing, at, policy, enforced);
-    violations.put(thing);
-    code
-}
-
-// Writes the directive of a violation of a thing that is violations.
-fn directive_in(thing: &Thing, at: usize, room: &mut [u8], len: &mut usize) -> u32
-    ensures { IsDirectiveAt at (Some thing.now) room.old room.new len.old len.new result }
-{
-    let Thing::Violations(found) = thing else {
-        return WRONG_HANDLE;
-    };
-    match found.violations.as_slice().get(at) {
-        None => NO,
-        Some(violation) => write(violation.directive.name().as_bytes(), room, len),
-    }
-}
-
 /// Writes the effective directive of the violation at an index, as `img-src`, at the beginning of `room`, with no NUL
 /// after it, and tells in `len` how many bytes it is (CSP 3, section 6.8.1, "get the effective directive for request").
 ///
@@ -65,7 +38,6 @@ fn directive_in(thing: &Thing, at: usize, room: &mut [u8], len: &mut usize) -> u
 /// is written to `room`, and but for `OK` and `TOO_SHORT` nothing to `len`.
 #[unsafe(no_mangle)]
 pub extern "C" fn fiorrudda_violation_directive(
-    alloc: Global,
     violations: &mut Handle,
     at: usize,
     room: &mut [u8],
@@ -74,24 +46,12 @@ pub extern "C" fn fiorrudda_violation_directive(
     ensures told { IsDirectiveAt at violations.old.held room.old room.new len.old len.new result }
     ensures held { violations.new.held ≡ violations.old.held }
 {
-    let Some(thing) = violations.take(alloc) else {
-        return WRONG_HANDLE;
-    };
-    let code = directive_in(&thing, at, room, len);
-    violations.put(thing);
-    code
-}
-
-// Writes the URL of a violation of a thing that is violations.
-fn url_in(thing: &Thing, at: usize, room: &mut [u8], len: &mut usize) -> u32
-    ensures { IsUrlAt at (Some thing.now) room.old room.new len.old len.new result }
-{
-    let Thing::Violations(found) = thing else {
+    let Some(found) = violations.violations() else {
         return WRONG_HANDLE;
     };
     match found.violations.as_slice().get(at) {
         None => NO,
-        Some(violation) => write(violation.url.as_slice(), room, len),
+        Some(violation) => write(violation.directive.name().as_bytes(), room, len),
     }
 }
 
@@ -101,7 +61,6 @@ fn url_in(thing: &Thing, at: usize, room: &mut [u8], len: &mut usize) -> u32
 /// The codes are the same.
 #[unsafe(no_mangle)]
 pub extern "C" fn fiorrudda_violation_url(
-    alloc: Global,
     violations: &mut Handle,
     at: usize,
     room: &mut [u8],
@@ -110,10 +69,11 @@ pub extern "C" fn fiorrudda_violation_url(
     ensures told { IsUrlAt at violations.old.held room.old room.new len.old len.new result }
     ensures held { violations.new.held ≡ violations.old.held }
 {
-    let Some(thing) = violations.take(alloc) else {
+    let Some(found) = violations.violations() else {
         return WRONG_HANDLE;
     };
-    let code = url_in(&thing, at, room, len);
-    violations.put(thing);
-    code
+    match found.violations.as_slice().get(at) {
+        None => NO,
+        Some(violation) => write(violation.url.as_slice(), room, len),
+    }
 }

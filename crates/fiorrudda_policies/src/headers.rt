@@ -1,25 +1,12 @@
 // Header lists by index, and names of headers.
-ghost use Rattle.std.specs.Prelude.{◌≡◌, ◌≢◌, Some};
+ghost use Rattle.std.specs.Prelude.{◌≡◌, ◌≢◌};
 ghost use Rattle.fiorrudda_handle.specs.Codes.{told};
 ghost use Rattle.fiorrudda_policies.specs.Headers.{IsExposedName, IsNameAt, IsUnsafeName, IsValueAt};
 ghost use Rattle.fiorrudda_rules.specs.Names as names;
 
-use fiorrudda_handle::{Handle, NO, OUT_OF_MEMORY, Thing, WRONG_HANDLE, told, write, write_answer};
+use fiorrudda_handle::{Handle, NO, OUT_OF_MEMORY, WRONG_HANDLE, told, write, write_answer};
 use fiorrudda_rules::{exposed_name_at, is_forbidden_header, unsafe_name_at};
 use std::alloc::Global;
-
-// Writes the name of a header of a thing that is a header list.
-fn name_in(thing: &Thing, at: usize, room: &mut [u8], len: &mut usize) -> u32
-    ensures told { IsNameAt at (Some thing.now) room.old room.new len.old len.new result }
-{
-    let Thing::Headers(list) = thing else {
-        return WRONG_HANDLE;
-    };
-    match list.as_slice().get(at) {
-        None => NO,
-        Some(header) => write(header.name(), room, len),
-    }
-}
 
 /// Writes the name of the header at an index of a list (Fetch, section 2.2.2), from 0 on, at the beginning of `room`,
 /// with no NUL after it, and tells in `len` how many bytes it is.
@@ -28,7 +15,6 @@ fn name_in(thing: &Thing, at: usize, room: &mut [u8], len: &mut usize) -> u32
 /// is written to `room`, and but for `OK` and `TOO_SHORT` nothing to `len`.
 #[unsafe(no_mangle)]
 pub extern "C" fn fiorrudda_name_at(
-    alloc: Global,
     headers: &mut Handle,
     at: usize,
     room: &mut [u8],
@@ -37,24 +23,12 @@ pub extern "C" fn fiorrudda_name_at(
     ensures told { IsNameAt at headers.old.held room.old room.new len.old len.new result }
     ensures held { headers.new.held ≡ headers.old.held }
 {
-    let Some(thing) = headers.take(alloc) else {
-        return WRONG_HANDLE;
-    };
-    let code = name_in(&thing, at, room, len);
-    headers.put(thing);
-    code
-}
-
-// Writes the value of a header of a thing that is a header list.
-fn value_in(thing: &Thing, at: usize, room: &mut [u8], len: &mut usize) -> u32
-    ensures told { IsValueAt at (Some thing.now) room.old room.new len.old len.new result }
-{
-    let Thing::Headers(list) = thing else {
+    let Some(list) = headers.headers() else {
         return WRONG_HANDLE;
     };
     match list.as_slice().get(at) {
         None => NO,
-        Some(header) => write(header.value(), room, len),
+        Some(header) => write(header.name(), room, len),
     }
 }
 
@@ -63,7 +37,6 @@ fn value_in(thing: &Thing, at: usize, room: &mut [u8], len: &mut usize) -> u32
 /// The codes are the same.
 #[unsafe(no_mangle)]
 pub extern "C" fn fiorrudda_value_at(
-    alloc: Global,
     headers: &mut Handle,
     at: usize,
     room: &mut [u8],
@@ -72,22 +45,12 @@ pub extern "C" fn fiorrudda_value_at(
     ensures told { IsValueAt at headers.old.held room.old room.new len.old len.new result }
     ensures held { headers.new.held ≡ headers.old.held }
 {
-    let Some(thing) = headers.take(alloc) else {
+    let Some(list) = headers.headers() else {
         return WRONG_HANDLE;
     };
-    let code = value_in(&thing, at, room, len);
-    headers.put(thing);
-    code
-}
-
-// Writes a CORS-unsafe name of a thing that is a header list.
-fn unsafe_in(alloc: Global, thing: &Thing, at: usize, room: &mut [u8], len: &mut usize) -> u32
-    ensures told { result ≢ OUT_OF_MEMORY → IsUnsafeName at (Some thing.now) room.old room.new len.old len.new result }
-    ensures out_of_memory { result ≡ OUT_OF_MEMORY → (room.new ≡ room.old) × (len.new ≡ len.old) }
-{
-    match thing {
-        Thing::Headers(list) => write_answer(unsafe_name_at(alloc, list, at), room, len),
-        _ => WRONG_HANDLE,
+    match list.as_slice().get(at) {
+        None => NO,
+        Some(header) => write(header.value(), room, len),
     }
 }
 
@@ -110,31 +73,10 @@ pub extern "C" fn fiorrudda_unsafe_name(
     ensures out_of_memory { result ≡ OUT_OF_MEMORY → (room.new ≡ room.old) × (len.new ≡ len.old) }
     ensures held { headers.new.held ≡ headers.old.held }
 {
-    let Some(thing) = headers.take(alloc) else {
+    let Some(list) = headers.headers() else {
         return WRONG_HANDLE;
     };
-    let code = unsafe_in(alloc, &thing, at, room, len);
-    headers.put(thing);
-    code
-}
-
-// Writes an exposed name of a thing that is a header list.
-fn exposed_in(
-    alloc: Global,
-    thing: &Thing,
-    include: bool,
-    at: usize,
-    room: &mut [u8],
-    len: &mut usize,
-) -> u32
-    ensures told { result ≢ OUT_OF_MEMORY
-        → IsExposedName include at (Some thing.now) room.old room.new len.old len.new result }
-    ensures out_of_memory { result ≡ OUT_OF_MEMORY → (room.new ≡ room.old) × (len.new ≡ len.old) }
-{
-    match thing {
-        Thing::Headers(list) => write_answer(exposed_name_at(alloc, list, include, at), room, len),
-        _ => WRONG_HANDLE,
-    }
+    write_answer(unsafe_name_at(alloc, list, at), room, len)
 }
 
 /// Writes one of the names that an answer's header list exposes to a page of another origin, at an index from 0 on, at
@@ -159,12 +101,10 @@ pub extern "C" fn fiorrudda_exposed_name(
     ensures out_of_memory { result ≡ OUT_OF_MEMORY → (room.new ≡ room.old) × (len.new ≡ len.old) }
     ensures held { headers.new.held ≡ headers.old.held }
 {
-    let Some(thing) = headers.take(alloc) else {
+    let Some(list) = headers.headers() else {
         return WRONG_HANDLE;
     };
-    let code = exposed_in(alloc, &thing, include, at, room, len);
-    headers.put(thing);
-    code
+    write_answer(exposed_name_at(alloc, list, include, at), room, len)
 }
 
 /// Whether a name and a value are a forbidden request-header, which no script can set (Fetch, section 2.2.2).

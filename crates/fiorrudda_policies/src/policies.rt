@@ -1,25 +1,10 @@
 // The policies of an answer.
-ghost use Rattle.std.specs.Prelude.{◌≡◌, ◌≢◌, None, Some};
+ghost use Rattle.std.specs.Prelude.{◌≡◌, ◌≢◌, None};
 ghost use Rattle.fiorrudda_policies.specs.Headers.{HasPolicies, upgrades_code};
 
 use fiorrudda_checks::policies_in;
 use fiorrudda_handle::{Handle, OUT_OF_MEMORY, Thing, WRONG_HANDLE, yes_or_no};
 use std::alloc::Global;
-
-// Makes in a handle that is empty the policies of a thing that is a header list.
-fn compiled(alloc: Global, policies: &mut Handle, thing: &Thing) -> u32
-    requires { policies.old.held ≡ None }
-    ensures told { result ≢ OUT_OF_MEMORY → HasPolicies (Some thing.now) result policies.new.held }
-    ensures out_of_memory { result ≡ OUT_OF_MEMORY → policies.new.held ≡ None }
-{
-    let Thing::Headers(list) = thing else {
-        return WRONG_HANDLE;
-    };
-    match policies_in(alloc, list) {
-        Ok(found) => policies.fill(alloc, Thing::Policies(found)),
-        Err(_) => OUT_OF_MEMORY,
-    }
-}
 
 /// Makes in a handle the policies of a header list, parsed and read once (CSP 3, section 2.2, "parse a response's
 /// Content Security Policies"): those of Content-Security-Policy, which are enforced, and then those of
@@ -36,22 +21,13 @@ pub extern "C" fn fiorrudda_policies(
     ensures out_of_memory { result ≡ OUT_OF_MEMORY → policies.new.held ≡ None }
     ensures headers { headers.new.held ≡ headers.old.held }
 {
-    drop(policies.take(alloc));
-    let Some(thing) = headers.take(alloc) else {
+    policies.clear(alloc);
+    let Some(list) = headers.headers() else {
         return WRONG_HANDLE;
     };
-    let code = compiled(alloc, policies, &thing);
-    headers.put(thing);
-    code
-}
-
-// Whether a thing is policies that upgrade.
-fn upgrade(thing: &Thing) -> u32
-    ensures { result ≡ upgrades_code (Some thing.now) }
-{
-    match thing {
-        Thing::Policies(policies) => yes_or_no(policies.upgrades()),
-        _ => WRONG_HANDLE,
+    match policies_in(alloc, list) {
+        Ok(found) => policies.fill(alloc, Thing::Policies(found)),
+        Err(_) => OUT_OF_MEMORY,
     }
 }
 
@@ -61,14 +37,12 @@ fn upgrade(thing: &Thing) -> u32
 ///
 /// `OK` where one has; `NO`; `WRONG_HANDLE`.
 #[unsafe(no_mangle)]
-pub extern "C" fn fiorrudda_upgrades(alloc: Global, policies: &mut Handle) -> u32
+pub extern "C" fn fiorrudda_upgrades(policies: &mut Handle) -> u32
     ensures told { result ≡ upgrades_code policies.old.held }
     ensures held { policies.new.held ≡ policies.old.held }
 {
-    let Some(thing) = policies.take(alloc) else {
+    let Some(compiled) = policies.policies() else {
         return WRONG_HANDLE;
     };
-    let code = upgrade(&thing);
-    policies.put(thing);
-    code
+    yes_or_no(compiled.upgrades())
 }

@@ -1,36 +1,15 @@
 // The preflight of a request, and the verdict on its answer.
-ghost use Rattle.std.specs.Prelude.{◌≡◌, ◌≢◌, Result, Some};
+ghost use Rattle.std.specs.Prelude.{◌≡◌, ◌≢◌, Result};
 ghost use Rattle.fiorrudda_policies.specs.Preflights.{IsPreflight, IsRefusedName, IsVerdict, IsVerdictOn};
 ghost use Rattle.fiorrudda_rules.specs.Answers.{IsUnlessMemory};
 ghost use Rattle.fiorrudda_rules.specs.declared.refusal.Refusal.{Refusal as Refused};
 ghost use Rattle.wf_cors.specs.declared.answer.Checked.{Checked as Verdict};
 
 use fiorrudda_checks::{preflight_bytes, preflight_verdict, refused_name};
-use fiorrudda_handle::{Handle, NO, OK, OUT_OF_MEMORY, Thing, WRONG_HANDLE, code_of, write_answer};
+use fiorrudda_handle::{Handle, NO, OK, OUT_OF_MEMORY, WRONG_HANDLE, code_of, write_answer};
 use fiorrudda_rules::Refusal;
 use std::alloc::Global;
 use wf_cors::Checked;
-
-// Writes the preflight of things that are a client and a request.
-fn preflight_in(
-    alloc: Global,
-    client: &Thing,
-    request: &Thing,
-    room: &mut [u8],
-    len: &mut usize,
-) -> u32
-    ensures told { result ≢ OUT_OF_MEMORY
-        → IsPreflight (Some client.now) (Some request.now) room.old room.new len.old len.new result }
-    ensures out_of_memory { result ≡ OUT_OF_MEMORY → (room.new ≡ room.old) × (len.new ≡ len.old) }
-{
-    let Thing::Client(settings) = client else {
-        return WRONG_HANDLE;
-    };
-    let Thing::Request(asked) = request else {
-        return WRONG_HANDLE;
-    };
-    write_answer(preflight_bytes(alloc, settings, asked), room, len)
-}
 
 /// Writes all bytes of the CORS-preflight request of a client's request at the beginning of `room`, and tells in `len`
 /// how many they are (Fetch, section 4.1, "main fetch", step 12, and section 4.8, "CORS-preflight fetch"; RFC 9112,
@@ -56,17 +35,13 @@ pub extern "C" fn fiorrudda_preflight(
     ensures client { client.new.held ≡ client.old.held }
     ensures request { request.new.held ≡ request.old.held }
 {
-    let Some(settings) = client.take(alloc) else {
+    let Some(settings) = client.client() else {
         return WRONG_HANDLE;
     };
-    let Some(asked) = request.take(alloc) else {
-        client.put(settings);
+    let Some(asked) = request.request() else {
         return WRONG_HANDLE;
     };
-    let code = preflight_in(alloc, &settings, &asked, room, len);
-    client.put(settings);
-    request.put(asked);
-    code
+    write_answer(preflight_bytes(alloc, settings, asked), room, len)
 }
 
 // Tells a verdict.
@@ -86,36 +61,6 @@ fn tell(answer: Result<Checked, Refusal>, error: &mut u32, age: &mut u64) -> u32
             OK
         }
     }
-}
-
-// Tells the verdict for things that are a client and a request, on a thing that is a header list.
-fn verdict_in(
-    alloc: Global,
-    client: &Thing,
-    request: &Thing,
-    headers: &Thing,
-    status: u16,
-    error: &mut u32,
-    age: &mut u64,
-) -> u32
-    ensures told { result ≢ OUT_OF_MEMORY → IsVerdictOn status (Some client.now) (Some request.now) (Some headers.now)
-        error.old error.new age.old age.new result }
-    ensures out_of_memory { result ≡ OUT_OF_MEMORY → (error.new ≡ error.old) × (age.new ≡ age.old) }
-{
-    let Thing::Client(settings) = client else {
-        return WRONG_HANDLE;
-    };
-    let Thing::Request(asked) = request else {
-        return WRONG_HANDLE;
-    };
-    let Thing::Headers(list) = headers else {
-        return WRONG_HANDLE;
-    };
-    tell(
-        preflight_verdict(alloc, settings, asked, status, list),
-        error,
-        age,
-    )
 }
 
 /// Tells the verdict on an answer to the preflight of a client's request, of a status and a header list (Fetch, section
@@ -142,52 +87,19 @@ pub extern "C" fn fiorrudda_verdict(
     ensures request { request.new.held ≡ request.old.held }
     ensures headers { headers.new.held ≡ headers.old.held }
 {
-    let Some(settings) = client.take(alloc) else {
+    let Some(settings) = client.client() else {
         return WRONG_HANDLE;
     };
-    let Some(asked) = request.take(alloc) else {
-        client.put(settings);
+    let Some(asked) = request.request() else {
         return WRONG_HANDLE;
     };
-    let Some(list) = headers.take(alloc) else {
-        client.put(settings);
-        request.put(asked);
+    let Some(list) = headers.headers() else {
         return WRONG_HANDLE;
     };
-    let code = verdict_in(alloc, &settings, &asked, &list, status, error, age);
-    client.put(settings);
-    request.put(asked);
-    headers.put(list);
-    code
-}
-
-// Writes the name of the header for which the verdict is a refusal.
-fn refused_in(
-    alloc: Global,
-    client: &Thing,
-    request: &Thing,
-    headers: &Thing,
-    status: u16,
-    room: &mut [u8],
-    len: &mut usize,
-) -> u32
-    ensures told { result ≢ OUT_OF_MEMORY → IsRefusedName status (Some client.now) (Some request.now) (Some headers.now)
-        room.old room.new len.old len.new result }
-    ensures out_of_memory { result ≡ OUT_OF_MEMORY → (room.new ≡ room.old) × (len.new ≡ len.old) }
-{
-    let Thing::Client(settings) = client else {
-        return WRONG_HANDLE;
-    };
-    let Thing::Request(asked) = request else {
-        return WRONG_HANDLE;
-    };
-    let Thing::Headers(list) = headers else {
-        return WRONG_HANDLE;
-    };
-    write_answer(
-        refused_name(alloc, settings, asked, status, list),
-        room,
-        len,
+    tell(
+        preflight_verdict(alloc, settings, asked, status, list),
+        error,
+        age,
     )
 }
 
@@ -215,21 +127,18 @@ pub extern "C" fn fiorrudda_refused_name(
     ensures request { request.new.held ≡ request.old.held }
     ensures headers { headers.new.held ≡ headers.old.held }
 {
-    let Some(settings) = client.take(alloc) else {
+    let Some(settings) = client.client() else {
         return WRONG_HANDLE;
     };
-    let Some(asked) = request.take(alloc) else {
-        client.put(settings);
+    let Some(asked) = request.request() else {
         return WRONG_HANDLE;
     };
-    let Some(list) = headers.take(alloc) else {
-        client.put(settings);
-        request.put(asked);
+    let Some(list) = headers.headers() else {
         return WRONG_HANDLE;
     };
-    let code = refused_in(alloc, &settings, &asked, &list, status, room, len);
-    client.put(settings);
-    request.put(asked);
-    headers.put(list);
-    code
+    write_answer(
+        refused_name(alloc, settings, asked, status, list),
+        room,
+        len,
+    )
 }

@@ -41,7 +41,7 @@ use Rattle.std.specs.contracts.alloc.Global as heap
 use Rattle.std.proofs.alloc.Global.TheLaws as heap_laws
 use Rattle.std.specs.contracts.impls.GlobalAllocator.TheImpl.{ghosts}
 use Rattle.fiorrudda_handle.specs.contracts.thing.Thing as thing
-use Rattle.fiorrudda_held.proofs.Values.{Loose, al, both, loose_good, loose_in}
+use Rattle.fiorrudda_handle.proofs.LooseValues.{Loose, al, both, loose_good, loose_in}
 use Rattle.fiorrudda_handle.specs.Handle.{handle_owns}
 use Rattle.fiorrudda_handle.proofs.Values.{Handle, word, word_good, handle_out}
 use Rattle.fiorrudda_handle.specs.contracts.handle.Handle.into_loose as f

@@ -22,7 +22,7 @@ use Rattle.std.specs.contracts.alloc.Global as heap
 use Rattle.std.proofs.alloc.Global.TheLaws as heap_laws
 use Rattle.std.specs.contracts.impls.GlobalAllocator.TheImpl.{ghosts}
 use Rattle.fiorrudda_handle.specs.contracts.thing.Thing as thing
-use Rattle.fiorrudda_held.proofs.Values.{Loose, both, loose_good, loose_out}
+use Rattle.fiorrudda_handle.proofs.LooseValues.{Loose, both, loose_good, loose_out}
 use Rattle.fiorrudda_handle.proofs.Values.{Handle, word, word_good, handle_in}
 use Rattle.fiorrudda_handle.specs.contracts.handle.Handle.of_loose as f
 use Rattle.fiorrudda_handle.proofs.handle.Handle.of_loose.Statement.{statement}

@@ -1,3 +1,4 @@
+// Violations, as a handle holds them.
 use std::marker::Model;
 use wf_csp::Violations;
 
