@@ -1,6 +1,7 @@
 #!/usr/bin/env python3
-"""Writes the rows of crates/worked_books that are made by a rule, and what a plain list of entries and a plain list
-of hosts come to on all of them: its `stdin` and `stdout`, but for the calls of a book, which stay as they are.
+"""Writes the rows of crates/worked_books on a book that are made by a rule, and what a plain list of entries and a plain
+list of hosts come to on all of them: its `stdin` and `stdout`, but for the rows of the wire before them and the calls of a
+book after them, which stay as they are.
 `bench/worked_books.py` compares what is there with what this script would write; with `--write` it writes them.
 
 The rows by hand are in ROWS, each with its answer."""
@@ -248,6 +249,12 @@ def stored(name):
         return file.read().splitlines()
 
 
+def wire(name):
+    """The lines of a stored file on the wire, which stand before those that this script writes."""
+    lines = stored(name)
+    return lines[: lines.index(ROWS.splitlines()[0])]
+
+
 def calls():
     """The lines of the stored `stdout` on the calls of a book, which the program makes after its input."""
     lines = stored("stdout")
@@ -256,7 +263,8 @@ def calls():
 
 def main():
     lines, answers = played()
-    answers += calls()
+    lines = wire("stdin") + lines
+    answers = wire("stdout") + answers + calls()
     same = True
     for name, rows in (("stdin", lines), ("stdout", answers)):
         if sys.argv[1:] == ["--write"]:

@@ -1,67 +1,59 @@
-ghost use Rattle.std.specs.Prelude.{◌≡◌, ◌<◌, ◌^◌, length, IfOk, OnOk};
-ghost use Rattle.wf_book.specs.Ops.{InRange};
+// Calls on a book that nobody shares: on the book itself, and by one pass.
+ghost use Rattle.std.specs.Prelude.{◌≡◌, ◌<◌, length, OnOk};
 
-use crate::ops::{clear, covers, is_known, learn, note};
+use crate::books::reply;
+use crate::ops::op_of;
 use std::alloc::Global;
 use std::sync::Wait;
 use std::thread::Threads;
+use wf_book::{Book, Entry, History, Reply, Share, SoloBook, SoloPass};
 use value_places::Shared;
-use wf_book::{Book, Entry, History, Op, Reply, Share, SoloBook, SoloPass};
-use worked_rows::{Failed, Held, Shown};
+use worked_rows::{Failed, Shown};
+
+/// Each operation on a book.
+const CALLS: [&[u8]; 10] = [
+    b"known 0 a.b.test",
+    b"note 10 subdomains 0 b.test",
+    b"known 9 a.b.test",
+    b"known 10 a.b.test",
+    b"covers k http://b.test/x other PUT - 0",
+    b"learn k http://b.test/x other 5 PUT - 0",
+    b"covers k http://b.test/x other PUT - 4",
+    b"covers k http://b.test/x other PUT - 5",
+    b"clear k http://b.test/x 4",
+    b"covers k http://b.test/x other PUT - 4",
+];
+
+/// Whether a name under a host is known.
+const KNOWN: &[u8] = b"known 9 a.b.test";
+
+/// A field of the host.
+const NOTE: &[u8] = b"note 10 subdomains 0 b.test";
 
 // A reply as it is printed.
 fn add_reply(reply: Reply, shown: &mut Shown) {
-    match reply {
-        Reply::Yes => shown.add(b"Yes\n"),
-        Reply::No => shown.add(b"No\n"),
-        Reply::Done => shown.add(b"Done\n"),
-    }
+    shown.add(match reply {
+        Reply::Yes => b"Yes\n".as_slice(),
+        Reply::No => b"No\n",
+        Reply::Done => b"Done\n",
+    });
 }
 
-// Does an op on a book, and shows the reply.
-fn tell_op(alloc: Global, book: &mut Book, op: &Op, shown: &mut Shown)
-    requires { InRange op.now }
-{
-    match book.apply(alloc, op) {
+// Does an operation on a book, and shows the reply.
+fn tell(alloc: Global, book: &mut Book, text: &[u8], shown: &mut Shown) {
+    match reply(alloc, book, op_of(alloc, text)) {
         Ok(reply) => add_reply(reply, shown),
         Err(_) => shown.fail(),
     }
 }
 
-// The same, where the op could be made.
-fn tell(alloc: Global, book: &mut Book, op: Result<Op, Failed>, shown: &mut Shown)
-    requires { IfOk op InRange }
-{
-    match op {
-        Ok(op) => tell_op(alloc, book, &Held { value: op }.value, shown),
-        Err(_) => shown.fail(),
-    }
-}
-
-// Each op on hosts.
-fn play_hosts(alloc: Global, book: &mut Book, shown: &mut Shown) {
-    tell(alloc, book, is_known(alloc, 0), shown);
-    tell(alloc, book, note(alloc, 0), shown);
-    tell(alloc, book, is_known(alloc, 9), shown);
-    tell(alloc, book, is_known(alloc, 10), shown);
-}
-
-// Each op on the preflight cache.
-fn play_cache(alloc: Global, book: &mut Book, shown: &mut Shown) {
-    tell(alloc, book, covers(alloc, 0), shown);
-    tell(alloc, book, learn(alloc, 0), shown);
-    tell(alloc, book, covers(alloc, 4), shown);
-    tell(alloc, book, covers(alloc, 5), shown);
-    tell(alloc, book, clear(alloc, 4), shown);
-    tell(alloc, book, covers(alloc, 4), shown);
-}
-
-// A book that nobody shares, and each op on it.
+// A book that nobody shares, and each operation on it.
 pub(crate) fn show_book(alloc: Global, shown: &mut Shown) {
     shown.add(b"# one book\n");
     let mut book = Book::new(alloc);
-    play_hosts(alloc, &mut book, shown);
-    play_cache(alloc, &mut book, shown);
+    for text in CALLS {
+        tell(alloc, &mut book, text, shown);
+    }
 }
 
 // The entries of a history.
@@ -69,8 +61,7 @@ pub(crate) fn show_entries(entries: &[Entry], shown: &mut Shown) {
     for entry in entries {
         shown.add(b"turn ");
         shown.add_number(entry.turn);
-        shown.add(b" of document ");
-        shown.add_number(u64::from(entry.document));
+        shown.add_count(b" of document ", entry.document as usize);
         shown.add(b": ");
         add_reply(entry.reply, shown);
     }
@@ -83,7 +74,7 @@ fn lengthen(alloc: Global, history: &mut History) -> Result<(), Failed>
     history.push(Entry {
         turn: 7,
         document: 1,
-        op: Shared::new(alloc, is_known(alloc, 9)?)?,
+        op: Shared::new(alloc, op_of(alloc, KNOWN)?)?,
         reply: Reply::No,
     })?;
     Ok(())
@@ -110,10 +101,8 @@ fn note_and_ask<R: Threads + Wait + Sync>(
 ) -> Result<(), Failed>
     requires { pass.old.calls ≡ 0 }
 {
-    let noted = Shared::new(alloc, note(alloc, 0)?)?;
-    share.call(rt, alloc, pass, noted)?;
-    let asked = Shared::new(alloc, is_known(alloc, 9)?)?;
-    share.call(rt, alloc, pass, asked)?;
+    share.call(rt, alloc, pass, Shared::new(alloc, op_of(alloc, NOTE)?)?)?;
+    share.call(rt, alloc, pass, Shared::new(alloc, op_of(alloc, KNOWN)?)?)?;
     Ok(())
 }
 
@@ -126,37 +115,17 @@ fn left<R: Threads + Wait + Sync>(rt: &R, alloc: Global, shown: &mut Shown) -> (
     share.close(pass)
 }
 
-// Asks the book once more. The history takes an entry more, and is shown.
-fn show_more(
-    alloc: Global,
-    book: &mut Book,
-    history: &mut History,
-    shown: &mut Shown,
-) -> Result<(), Failed> {
-    tell(alloc, book, is_known(alloc, 9), shown);
-    lengthen(alloc, history)?;
-    show_history(history, shown);
-    Ok(())
-}
-
-// A book that one pass has for itself. Its history takes an entry more after it.
-fn show_left<R: Threads + Wait + Sync>(
-    rt: &R,
-    alloc: Global,
-    shown: &mut Shown,
-) -> Result<(), Failed> {
-    let (mut book, mut history) = left(rt, alloc, shown);
-    show_more(alloc, &mut book, &mut history, shown)
-}
-
-// A book that one pass has for itself, and a new history.
+// A book that one pass has for itself. The book is asked once more, and its history takes an entry more.
 pub(crate) fn show_pass<R: Threads + Wait + Sync>(
     rt: &R,
     alloc: Global,
     shown: &mut Shown,
 ) -> Result<(), Failed> {
     shown.add(b"# one pass\n");
-    show_left(rt, alloc, shown)?;
+    let (mut book, mut history) = left(rt, alloc, shown);
+    tell(alloc, &mut book, KNOWN, shown);
+    lengthen(alloc, &mut history)?;
+    show_history(&history, shown);
     shown.add_count(b"a new history has ", History::new(alloc).len());
     shown.add(b" entries\n");
     Ok(())

@@ -1,3 +1,4 @@
+// The passes of two documents that share a book.
 ghost use Rattle.std.specs.Prelude.{◌≡◌, ◌≤◌, [], ◌∷◌, IfOk, vec_capacity};
 ghost use Rattle.wf_turn.specs.Passes.{left_of, made_of};
 

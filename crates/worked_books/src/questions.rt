@@ -1,7 +1,10 @@
-// Questions and lessons that words write, `-` where there is none, and several texts with a comma between:
+// Questions and lessons that the words of a row write from the second on, `-` where there is none, and several texts
+// with a comma between:
 //
 //     KEY URL CREDENTIALS METHOD NAMES          a question
-//     KEY URL CREDENTIALS AGE METHODS NAMES     a lesson
+//     KEY URL CREDENTIALS AGE METHODS NAMES     a lesson, of 7,200 seconds at most
+ghost use Rattle.std.specs.Prelude.{◌≤◌, IfOk};
+
 use std::alloc::Global;
 use wf_precache::{Lesson, Names, Question};
 use wf_text::Bytes;
@@ -9,6 +12,9 @@ use worked_rows::{Failed, Row, named, number, texts_between};
 
 /// The origin of all requests.
 pub(crate) const ORIGIN: &[u8] = b"http://a.test";
+
+/// The longest age of a lesson, in seconds.
+const MOST_AGE: u64 = 7_200;
 
 /// The words for whether the credentials mode is include.
 const CREDENTIALS: [(&[u8], bool); 2] = [(b"include", true), (b"other", false)];
@@ -20,44 +26,6 @@ fn texts(alloc: Global, word: &[u8]) -> Result<Names, Failed> {
     }
     let texts = texts_between(alloc, word, b',')?;
     Ok(Names::of(alloc, texts.as_slice())?)
-}
-
-// The method of a question, or none.
-fn method_in(alloc: Global, words: &Row) -> Result<Option<Bytes>, Failed> {
-    if words.has(3, b"-") {
-        return Ok(None);
-    }
-    Ok(Some(Bytes::of(alloc, words.text(3))?))
-}
-
-// A question that asks nothing.
-fn no_question(alloc: Global) -> Question {
-    Question {
-        key: Bytes::new(alloc),
-        origin: Bytes::new(alloc),
-        url: Bytes::new(alloc),
-        include: false,
-        method: None,
-        names: Names::new(alloc),
-    }
-}
-
-// Sets what the words write.
-fn set_question(alloc: Global, question: &mut Question, words: &Row) -> Result<(), Failed> {
-    question.key.append(words.text(0))?;
-    question.origin.append(ORIGIN)?;
-    question.url.append(words.text(1))?;
-    question.include = named(&CREDENTIALS, words.text(2))?;
-    question.method = method_in(alloc, words)?;
-    question.names = texts(alloc, words.text(4))?;
-    Ok(())
-}
-
-// The question that words write.
-pub(crate) fn question_of(alloc: Global, words: &Row) -> Result<Question, Failed> {
-    let mut question = no_question(alloc);
-    set_question(alloc, &mut question, words)?;
-    Ok(question)
 }
 
 // A lesson that teaches nothing.
@@ -73,21 +41,54 @@ fn no_lesson(alloc: Global) -> Lesson {
     }
 }
 
-// Sets what the words write.
-fn set_lesson(alloc: Global, lesson: &mut Lesson, words: &Row) -> Result<(), Failed> {
-    lesson.key.append(words.text(0))?;
+// Sets what questions and lessons have, with these names.
+fn set_shared(lesson: &mut Lesson, words: &Row, names: Names) -> Result<(), Failed> {
+    lesson.names = names;
+    lesson.key.append(words.text(1))?;
     lesson.origin.append(ORIGIN)?;
-    lesson.url.append(words.text(1))?;
-    lesson.include = named(&CREDENTIALS, words.text(2))?;
-    lesson.age = number(words.text(3), u64::MAX)?;
-    lesson.methods = texts(alloc, words.text(4))?;
-    lesson.names = texts(alloc, words.text(5))?;
+    lesson.url.append(words.text(2))?;
+    lesson.include = named(&CREDENTIALS, words.text(3))?;
     Ok(())
 }
 
-// The lesson that words write.
-pub(crate) fn lesson_of(alloc: Global, words: &Row) -> Result<Lesson, Failed> {
+// The lesson for no time that words write, of no methods and the names that the word at an index writes.
+fn begun(alloc: Global, words: &Row, index: usize) -> Result<Lesson, Failed> {
+    let names = texts(alloc, words.text(index))?;
     let mut lesson = no_lesson(alloc);
-    set_lesson(alloc, &mut lesson, words)?;
+    set_shared(&mut lesson, words, names)?;
+    Ok(lesson)
+}
+
+// The method of a question, or none.
+fn method_in(alloc: Global, word: &[u8]) -> Result<Option<Bytes>, Failed> {
+    if word == b"-".as_slice() {
+        return Ok(None);
+    }
+    Ok(Some(Bytes::of(alloc, word)?))
+}
+
+// The question that words write.
+pub(crate) fn question_of(alloc: Global, words: &Row) -> Result<Question, Failed> {
+    let method = method_in(alloc, words.text(4))?;
+    let lesson = begun(alloc, words, 5)?;
+    Ok(Question {
+        key: lesson.key,
+        origin: lesson.origin,
+        url: lesson.url,
+        include: lesson.include,
+        method,
+        names: lesson.names,
+    })
+}
+
+// The lesson that words write.
+pub(crate) fn lesson_of(alloc: Global, words: &Row) -> Result<Lesson, Failed>
+    ensures { IfOk result (λ lesson. lesson.age ≤ 7200) }
+{
+    let age = number(words.text(4), MOST_AGE)?.min(MOST_AGE);
+    let methods = texts(alloc, words.text(5))?;
+    let mut lesson = begun(alloc, words, 6)?;
+    lesson.age = age;
+    lesson.methods = methods;
     Ok(lesson)
 }

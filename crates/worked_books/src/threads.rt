@@ -1,7 +1,9 @@
-ghost use Rattle.std.specs.Prelude.{◌≡◌, ◌≤◌, ◌<◌, ◌-◌, ◌^◌, [], IfOk, IfSome};
+// Two threads that make calls on a book.
+ghost use Rattle.std.specs.Prelude.{◌≡◌, ◌≤◌, ◌<◌, ◌-◌, [], IfOk};
 ghost use Rattle.wf_turn.specs.Passes.{HasEveryPass, left_of, made_of};
 
-use crate::ops::{is_numbered, numbered, time_of};
+use crate::books::reply;
+use crate::ops::{numbered, turn_of};
 use crate::passes::{collected, two_documents};
 use std::alloc::Global;
 use std::sync::Wait;
@@ -15,116 +17,111 @@ use worked_rows::{Failed, Held, Shown};
 /// How many calls a thread makes.
 const CALLS: u64 = 500;
 
-/// What was replied to a thread's calls: nothing to one that was refused memory.
-type Replies = Result<Vec<Option<Reply>>, Failed>;
+/// A call that was answered: whose turn it was, its number, and the reply.
+#[derive(Clone, Copy)]
+struct Answered {
+    turn: u8,
+    number: u64,
+    reply: Reply,
+}
 
-// A thread's call of this number.
+/// A thread's calls that were answered, in order. One that is refused memory is left out.
+type Calls = Result<Vec<Answered>, Failed>;
+
+// A thread's call of this turn and number.
 fn make_call<R: Threads + Wait + Sync>(
     rt: &R,
     alloc: Global,
     book: &TurnBook,
     pass: &mut TurnPass,
+    turn: u8,
     number: u64,
 ) -> Result<Reply, Failed>
     requires belongs { pass.old.seat.table_id ≡ book.now.table.shared.table_id }
     requires left { 0 < left_of pass.old }
-    requires range { number < 2 ^ 48 }
     ensures belongs { pass.new.seat.table_id ≡ pass.old.seat.table_id }
     ensures document { pass.new.document ≡ pass.old.document }
     ensures left { left_of pass.old - 1 ≤ left_of pass.new }
 {
-    let op = Shared::new(alloc, numbered(alloc, number)?)?;
+    let op = Shared::new(alloc, numbered(alloc, turn, number)?)?;
     Ok(book.call(rt, alloc, pass, op)?)
 }
 
-// A thread's calls. After one that is refused the others are still made.
+// A thread's calls, a lesson, a question and a clear by turns. After one that is refused the others are still made.
 fn make_calls<R: Threads + Wait + Sync>(
     rt: &R,
     alloc: Global,
     book: &TurnBook,
     pass: &mut TurnPass,
-) -> Replies
+) -> Calls
     requires belongs { pass.old.seat.table_id ≡ book.now.table.shared.table_id }
     requires left { 500 ≤ left_of pass.old }
     ensures belongs { pass.new.seat.table_id ≡ pass.old.seat.table_id }
     ensures document { pass.new.document ≡ pass.old.document }
 {
-    let mut replies = Vec::with_capacity(alloc, CALLS as usize)?;
+    let mut calls = Vec::new(alloc);
+    let mut turn = 0u8;
     for number in 0..CALLS {
-        let reply = make_call(rt, alloc, book, pass, number).ok();
-        replies.push(reply)?;
+        if let Ok(reply) = make_call(rt, alloc, book, pass, turn, number) {
+            calls.push(Answered {
+                turn,
+                number,
+                reply,
+            })?;
+        }
+        turn = if turn < 2 { turn + 1 } else { 0 };
     }
-    Ok(replies)
+    Ok(calls)
 }
 
-// A thread's calls. It gives its pass back, with the replies.
+// A thread's calls. It gives its pass back, with those that were answered.
 fn play_pass<R: Threads + Wait + Sync>(
     rt: &R,
     alloc: Global,
     book: &TurnBook,
     mut pass: TurnPass,
-) -> (TurnPass, Replies)
+) -> (TurnPass, Calls)
     requires belongs { pass.seat.table_id ≡ book.now.table.shared.table_id }
     requires left { 500 ≤ left_of pass }
     ensures belongs { result.0.seat.table_id ≡ pass.seat.table_id }
     ensures document { result.0.document ≡ pass.document }
 {
-    let replies = make_calls(rt, alloc, book, &mut pass);
-    (pass, replies)
+    let calls = make_calls(rt, alloc, book, &mut pass);
+    (pass, calls)
 }
 
-// The first call from this number on that was answered, or how many calls there are.
-fn answered_from(replies: &[Option<Reply>], from: usize) -> usize {
-    for (number, reply) in replies.iter().enumerate() {
-        if number >= from && reply.is_some() {
-            return number;
+// Whether an entry is of a call, if there is one, with its reply.
+fn is_of(entry: &Entry, call: Option<&Answered>) -> bool {
+    match (turn_of(entry.op.get()), call) {
+        (Some((turn, number)), Some(call)) => {
+            turn == call.turn && number == call.number && entry.reply == call.reply
         }
+        _ => false,
     }
-    replies.len()
 }
 
-// Whether the entries of a document are a thread's ops that were answered, in order, with these replies.
-fn are_calls(entries: &[Entry], document: u32, replies: &[Option<Reply>]) -> bool {
-    let mut number = answered_from(replies, 0);
+// Whether the entries of a document are the calls of a thread that were answered, in order, with their replies.
+fn are_calls(entries: &[Entry], document: u32, calls: &[Answered]) -> bool {
+    let mut place = 0usize;
     for entry in entries {
         if entry.document == document {
-            if !is_numbered(entry.op.get(), number as u64)
-                || replies.get(number) != Some(&Some(entry.reply))
-            {
+            if !is_of(entry, calls.get(place)) {
                 return false;
             }
-            number = answered_from(replies, number.saturating_add(1));
+            place = place.saturating_add(1);
         }
     }
-    number == 500 && replies.len() == 500
+    place == calls.len()
 }
 
-// What a book replies to a thread's op of this number.
-fn reply_to(alloc: Global, book: &mut Book, number: u64) -> Result<Reply, Failed>
-    requires { number < 2 ^ 48 }
-{
-    let op = Held {
-        value: numbered(alloc, number)?,
-    };
-    Ok(book.apply(alloc, &op.value)?)
-}
-
-// When the op of an entry is done, where it is a thread's op and the entry has a turn of a call, this one or a later.
-fn time_at(turn: u64, entry: &Entry) -> Option<u64>
-    ensures { IfSome result (λ time. time < 500) }
-{
-    let time = time_of(entry.op.get())?;
-    if time < CALLS && turn <= entry.turn && entry.turn < 2 * CALLS {
-        Some(time)
-    } else {
-        None
-    }
-}
-
-// Whether an entry has this turn or a later one and the reply that a book of one thread gives to its op.
+// Whether an entry of a thread's op has this turn or a later one, and the reply that a book of one thread gives to the
+// op.
 fn is_next(alloc: Global, book: &mut Book, turn: u64, entry: &Entry) -> Result<bool, Failed> {
-    match time_at(turn, entry) {
-        Some(time) => Ok(reply_to(alloc, book, time)? == entry.reply),
+    match turn_of(entry.op.get()) {
+        Some((own, number)) => {
+            let reply = reply(alloc, book, numbered(alloc, own, number))?;
+            Ok(reply == entry.reply && turn <= entry.turn && entry.turn < 2 * CALLS)
+        }
         None => Ok(false),
     }
 }
@@ -132,15 +129,12 @@ fn is_next(alloc: Global, book: &mut Book, turn: u64, entry: &Entry) -> Result<b
 // Whether turns rise and each entry has the reply that a book of one thread gives to its op. (So entry i of 1,000 has
 // turn i.)
 fn is_legal(alloc: Global, entries: &[Entry]) -> Result<bool, Failed> {
-    let mut book = Book::new(alloc);
-    is_legal_from(alloc, &mut book, entries)
-}
-
-// The same from a book on.
-fn is_legal_from(alloc: Global, book: &mut Book, entries: &[Entry]) -> Result<bool, Failed> {
+    let mut book = Held {
+        value: Book::new(alloc),
+    };
     let mut turn = 0u64;
     for entry in entries {
-        if !is_next(alloc, book, turn, entry)? {
+        if !is_next(alloc, &mut book.value, turn, entry)? {
             return Ok(false);
         }
         turn = entry.turn.saturating_add(1);
@@ -155,7 +149,7 @@ fn play_both<R: Threads + Wait + Sync>(
     shared: &TurnBook,
     zero: TurnPass,
     one: TurnPass,
-) -> ((TurnPass, Replies), (TurnPass, Replies))
+) -> ((TurnPass, Calls), (TurnPass, Calls))
     requires zero { (zero.seat.table_id ≡ shared.now.table.shared.table_id) × (500 ≤ left_of zero) }
     requires one { (one.seat.table_id ≡ shared.now.table.shared.table_id) × (500 ≤ left_of one) }
     ensures zero { (result.0.0.seat.table_id ≡ zero.seat.table_id) × (result.0.0.document ≡ zero.document) }
@@ -180,7 +174,7 @@ fn play_passes<R: Threads + Wait + Sync>(
     alloc: Global,
     book: &TurnBook,
     mut first: TurnPass,
-) -> Result<(Vec<TurnPass>, Replies, Replies), Failed>
+) -> Result<(Vec<TurnPass>, Calls, Calls), Failed>
     requires belongs { first.seat.table_id ≡ book.now.table.shared.table_id }
     requires first { (first.document ≡ 4294967295) × (made_of first ≡ []) }
     ensures { IfOk result (λ played. HasEveryPass book.now.table.shared.table_id played.0.items) }
@@ -191,11 +185,11 @@ fn play_passes<R: Threads + Wait + Sync>(
     Ok((collected(room, first, zero, one), low, high))
 }
 
-// The history of two threads, with what was replied to each.
+// The history of two threads, with the calls of each.
 fn history_of<R: Threads + Wait + Sync>(
     rt: &R,
     alloc: Global,
-) -> Result<(History, Replies, Replies), Failed> {
+) -> Result<(History, Calls, Calls), Failed> {
     let (book, first) = TurnBook::new(alloc, Book::new(alloc))?;
     let (passes, low, high) = play_passes(rt, alloc, &book, first)?;
     Ok((book.close(passes).history, low, high))
@@ -205,16 +199,15 @@ fn history_of<R: Threads + Wait + Sync>(
 fn show_calls(
     entries: &[Entry],
     document: u32,
-    replies: &Replies,
+    calls: &Calls,
     shown: &mut Shown,
 ) -> Result<(), Failed> {
-    let Ok(replies) = replies else {
+    let Ok(calls) = calls else {
         return Err(Failed);
     };
-    shown.add(b"document ");
-    shown.add_number(u64::from(document));
+    shown.add_count(b"document ", document as usize);
     shown.add(b" made its calls: ");
-    add_truth(are_calls(entries, document, replies.as_slice()), shown);
+    add_truth(are_calls(entries, document, calls.as_slice()), shown);
     Ok(())
 }
 
@@ -231,8 +224,8 @@ fn add_truth(answer: bool, shown: &mut Shown) {
 fn show_left(
     alloc: Global,
     entries: &[Entry],
-    low: &Replies,
-    high: &Replies,
+    low: &Calls,
+    high: &Calls,
     shown: &mut Shown,
 ) -> Result<(), Failed> {
     shown.add_number(entries.len() as u64);

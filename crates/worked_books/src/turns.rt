@@ -1,8 +1,9 @@
+// A book that two passes share.
 ghost use Rattle.std.specs.Prelude.{◌≡◌, ◌<◌, [], IfOk};
 ghost use Rattle.wf_turn.specs.Passes.{HasEveryPass, left_of, made_of};
 
 use crate::alone::show_entries;
-use crate::ops::{covers, learn};
+use crate::ops::op_of;
 use crate::passes::{collected, two_documents};
 use std::alloc::Global;
 use std::sync::Wait;
@@ -25,10 +26,10 @@ fn learn_and_ask<R: Threads + Wait + Sync>(
     ensures zero { (zero.new.seat.table_id ≡ zero.old.seat.table_id) × (zero.new.document ≡ zero.old.document) }
     ensures one { (one.new.seat.table_id ≡ one.old.seat.table_id) × (one.new.document ≡ one.old.document) }
 {
-    let learnt = Shared::new(alloc, learn(alloc, 9)?)?;
-    book.call(rt, alloc, zero, learnt)?;
-    let asked = Shared::new(alloc, covers(alloc, 9)?)?;
-    book.call(rt, alloc, one, asked)?;
+    let learnt = op_of(alloc, b"learn k http://b.test/x other 5 PUT - 9")?;
+    book.call(rt, alloc, zero, Shared::new(alloc, learnt)?)?;
+    let asked = op_of(alloc, b"covers k http://b.test/x other PUT - 9")?;
+    book.call(rt, alloc, one, Shared::new(alloc, asked)?)?;
     Ok(())
 }
 

@@ -12,7 +12,7 @@
 use crate::{answer, device, link, request};
 use std::alloc::Global;
 use wf_text::{after_byte, before_byte};
-use worked_rows::{Failed, Lines, Shown, named};
+use worked_rows::{Failed, Shown, named};
 
 /// The kinds of rows.
 #[derive(Clone, Copy)]
@@ -33,17 +33,12 @@ const KINDS: [(&[u8], Kind); 5] = [
     (b"device", Kind::Device),
 ];
 
-/// The rows of the wire.
-#[derive(Drop)]
-pub(crate) struct Wire;
-
-impl Lines for Wire {
-    fn answer(&mut self, alloc: Global, line: &str, shown: &mut Shown) -> Result<(), Failed> {
-        let kind = named(&KINDS, before_byte(line.as_bytes(), b' '))?;
-        shown.add(line.as_bytes());
-        shown.add(b" => ");
-        play_row(alloc, kind, after_byte(line.as_bytes(), b' '), shown)
-    }
+// A row, and what it comes to.
+pub(crate) fn answer(alloc: Global, row: &[u8], shown: &mut Shown) -> Result<(), Failed> {
+    let kind = named(&KINDS, before_byte(row, b' '))?;
+    shown.add(row);
+    shown.add(b" => ");
+    play_row(alloc, kind, after_byte(row, b' '), shown)
 }
 
 // What a row of this kind comes to.
