@@ -9,7 +9,7 @@
 // before. So the second document's PUT is covered, and has no preflight of its own, only where they share the book.
 // These links are made only where the scenario's routes reach what makes them.
 use crate::histories::show_count;
-use crate::streams::Streams;
+use crate::streams::{Streams, words_of};
 use crate::waiting::{Asked, Manner, WaitingLinks};
 use std::alloc::Global;
 use std::sync::Wait;
@@ -62,10 +62,11 @@ fn play_over<R: Threads + Wait + Sync>(
     manner: Manner,
     shown: &mut Shown,
 ) -> Result<(), Failed> {
+    let words = words_of(alloc, b"net")?;
     let mut streams = Streams::of(alloc, b"", scenario)?;
     let asked = Asked::none();
     let mut links = WaitingLinks::new(&asked, manner);
-    streams.run(rt, alloc, "net", &mut links, 0, shown);
+    streams.play(rt, alloc, words.as_slice(), &mut links, 0, shown);
     let lines = texts_between(alloc, streams.output(), b'\n')?;
     show_count(lines.as_slice(), b"calls ", shown);
     Ok(())

@@ -1,25 +1,35 @@
-// Plays worked scenarios over streams and links in memory, and prints for each what it came to. A line of the input
-// that begins with `#` is a title, which is printed as it is, and so is an empty line. The other lines are
+// Plays worked rows over streams and links in memory, and prints for each what it came to. A line of the input that
+// begins with `#` is a title, which is printed as it is, and so is an empty line. The other lines are
 //
-//     a scenario, or some words, a tab and a scenario: it is played by the program's top call. `rows.rt` says how.
+//     a scenario, or some words, a tab and a scenario: it is played by the program's top call, or by those that report
+//     or audit. `rows.rt` says how.
 //     `url=URL ..`, a tab and what a request meets: it is fetched by itself. `requests.rt` says how.
 //     `{ .. }`, a tab and what a document meets: the lines of this kind up to an empty line are played over one book.
 //     `links.rt` says how.
 //     `net=TIME`, a tab and a scenario, and after it lines that begin with `link`, up to an empty line: it is played
 //     by the top call with the word `net`. `net.rt` says how.
+//     a word of `access.rt`, a tab and texts: a CORS server that answers by an allow table, and documents that ask it.
 //
 // Before them it plays documents on threads, over links that wait for each other: `gates.rt` by the top call,
 // `seats.rt` by `play_all` itself.
 #![tactic(auto)]
 
+mod access;
+mod fetches;
 mod gates;
 mod histories;
+mod inits;
 mod links;
 mod net;
+mod reports;
 mod requests;
 mod rows;
 mod seats;
+mod servers;
+mod serving;
+mod slow;
 mod streams;
+mod tables;
 mod waiting;
 
 use std::io;
@@ -50,6 +60,18 @@ fn stands_together(line: &str) -> bool {
         || (line.starts_with('{') && line.contains('\t'))
 }
 
+// Plays a row of access, or of a program.
+fn play_row<R: Threads + Wait + Sync + AllocGlobal>(
+    rt: &R,
+    line: &str,
+    shown: &mut Shown,
+) -> Result<(), Failed> {
+    match access::kind_of(line.as_bytes()) {
+        Ok(kind) => access::play(rt, kind, line.as_bytes(), shown),
+        Err(_) => rows::play(rt, line, shown),
+    }
+}
+
 // Plays a line that is in no group.
 fn play_alone<R: Threads + Wait + Sync + AllocGlobal>(
     rt: &R,
@@ -63,7 +85,7 @@ fn play_alone<R: Threads + Wait + Sync + AllocGlobal>(
     } else if line.starts_with("url=") {
         requests::play(rt, line, shown)
     } else {
-        rows::play(rt, line, shown)
+        play_row(rt, line, shown)
     }
 }
 

@@ -2,8 +2,7 @@
 // begins with `link` and has the link of the next document, as `links.rt` says. Shown are the status, each link that
 // was taken back, how often all failed, what was complained, and what was written.
 use crate::links::{link_in, tell};
-use crate::streams::Streams;
-use play_links::MemoryLinks;
+use crate::streams::{Streams, words_of};
 use std::alloc::Global;
 use std::sync::Wait;
 use std::thread::Threads;
@@ -40,8 +39,9 @@ fn play_over<R: Threads + Wait + Sync>(
     links: &mut MemoryLinks,
     shown: &mut Shown,
 ) -> Result<(), Failed> {
+    let words = words_of(alloc, b"net")?;
     let mut streams = Streams::of(alloc, b"", scenario)?;
-    streams.run(rt, alloc, "net", links, now, shown);
+    streams.play(rt, alloc, words.as_slice(), links, now, shown);
     tell_all(links, shown);
     shown.add(streams.complaints());
     shown.add(streams.output());

@@ -3,13 +3,13 @@
 //
 //     limit=N           the fetch reads so many bytes of a body at most, and not 262,144
 ghost use Rattle.std.specs.Prelude.{◌≤◌};
-ghost use Rattle.wf_types.specs.Requests.{IsClient};
+ghost use Rattle.wf_types.specs.Requests.{IsClient, IsRequest};
 
 use crate::links::{history_of, link_in, show, tell};
 use std::alloc::Global;
 use std::sync::Wait;
 use std::thread::Threads;
-use wf_book::{Book, Share, SoloBook};
+use wf_book::{Book, History, Share, SoloBook};
 use wf_csp::Compiled;
 use wf_csp_text::Policies;
 use wf_link::MemoryLink;
@@ -17,45 +17,32 @@ use wf_play::FetchRun;
 use wf_player_fetch::drive_fetch;
 use wf_script_events::{Ending, Event, Transcript, Transcripts};
 use wf_text::{Bytes, after_byte, before_byte};
-use wf_types::{Client, Cookies};
+use wf_types::{Client, Cookies, Request};
 use worked_rows::{Failed, Held, Shown, client_at, number, request_of, value_of};
+
+/// How many bytes of a body are read at most, where no word says it.
+pub(crate) const LIMIT: u32 = 262_144;
 
 // How many bytes of a body are read at most.
 fn limit_of(words: &[u8]) -> Result<u32, Failed> {
     match value_of(words, b"limit") {
-        [] => Ok(262_144),
-        digits => Ok(number(digits, 262_144)?.min(262_144) as u32),
+        [] => Ok(LIMIT),
+        digits => Ok(number(digits, u64::from(LIMIT))?.min(u64::from(LIMIT)) as u32),
     }
 }
 
-// Adds what a fetch showed and came to, as a document of which it is all.
-fn add_run(key: Bytes, run: FetchRun, transcripts: &mut Transcripts) -> Result<(), Failed> {
-    let FetchRun {
-        mut events,
-        outcome,
-    } = run;
-    events.push(Event::Result(outcome))?;
-    transcripts.push(Transcript {
-        document: 0,
-        key,
-        events,
-        ending: Ending::Finished,
-        clock: 0,
-    })?;
-    Ok(())
-}
-
-// Fetches a request for a client, which has no policies and no cookies.
-fn fetched<R: Threads + Wait + Sync, S: Share>(
+// Fetches a request for a client, which has no policies and no cookies, over a share of a book.
+fn fetch_by<R: Threads + Wait + Sync, S: Share>(
     rt: &R,
     alloc: Global,
-    text: &[u8],
+    request: Request,
     limit: u32,
     client: &Client,
     share: &S,
     pass: &mut S::Pass,
     link: &mut MemoryLink,
 ) -> Result<FetchRun, Failed>
+    requires request { IsRequest request }
     requires client { IsClient client.now }
     requires belongs { S.belongs share.now pass.old }
     requires left { 126 ≤ (S.account pass.old).left }
@@ -63,12 +50,11 @@ fn fetched<R: Threads + Wait + Sync, S: Share>(
     let policies = Held {
         value: Compiled::of(alloc, &Policies::new(alloc))?,
     };
-    let request = request_of(alloc, text)?;
     let cookies = Cookies::new(alloc);
     Ok(drive_fetch(
         rt,
         alloc,
-        Box::into_inner(request),
+        request,
         client,
         &policies.value,
         &cookies,
@@ -80,45 +66,59 @@ fn fetched<R: Threads + Wait + Sync, S: Share>(
     )?)
 }
 
-// The same, as a document of which it is all.
-fn played<R: Threads + Wait + Sync, S: Share>(
+// The same over a book of its own, with the history.
+pub(crate) fn fetch<R: Threads + Wait + Sync>(
     rt: &R,
     alloc: Global,
-    line: &[u8],
-    share: &S,
-    pass: &mut S::Pass,
+    request: Request,
+    limit: u32,
+    client: &Client,
     link: &mut MemoryLink,
-    transcripts: &mut Transcripts,
-) -> Result<(), Failed>
-    requires belongs { S.belongs share.now pass.old }
-    requires left { 126 ≤ (S.account pass.old).left }
+) -> Result<(FetchRun, History), Failed>
+    requires request { IsRequest request }
+    requires client { IsClient client.now }
 {
-    let text = before_byte(line, b'\t');
-    let limit = limit_of(before_byte(after_byte(line, b'\t'), b'\t'))?;
-    let held = Held {
-        value: client_at(alloc, value_of(text, b"from"))?,
-    };
-    let client = &held.value;
-    let key = client.key.copy(alloc)?;
-    let run = fetched(rt, alloc, text, limit, client, share, pass, link)?;
-    add_run(key, run, transcripts)
+    let (share, mut pass) = SoloBook::new(alloc, Book::new(alloc));
+    let run = fetch_by(rt, alloc, request, limit, client, &share, &mut pass, link);
+    let history = history_of(share, pass);
+    Ok((run?, history))
 }
 
-// Fetches the request of a row over its link, and shows its text, with the history.
-fn play_over<R: Threads + Wait + Sync>(
+// What a fetch showed and came to, as a document of which it is all.
+fn transcripts_of(alloc: Global, key: Bytes, run: FetchRun) -> Result<Transcripts, Failed> {
+    let FetchRun {
+        mut events,
+        outcome,
+    } = run;
+    events.push(Event::Result(outcome))?;
+    let mut transcripts = Transcripts::new(alloc);
+    transcripts.push(Transcript {
+        document: 0,
+        key,
+        events,
+        ending: Ending::Finished,
+        clock: 0,
+    })?;
+    Ok(transcripts)
+}
+
+// Fetches the request of a row for a client over its link, and shows its text, with the history.
+fn play_for<R: Threads + Wait + Sync>(
     rt: &R,
     alloc: Global,
     line: &[u8],
+    client: &Client,
     link: &mut MemoryLink,
     shown: &mut Shown,
-) -> Result<(), Failed> {
-    let (share, mut pass) = SoloBook::new(alloc, Book::new(alloc));
-    let mut transcripts = Transcripts::new(alloc);
-    if played(rt, alloc, line, &share, &mut pass, link, &mut transcripts).is_err() {
-        shown.fail();
-    }
+) -> Result<(), Failed>
+    requires { IsClient client.now }
+{
+    let limit = limit_of(before_byte(after_byte(line, b'\t'), b'\t'))?;
+    let key = client.key.copy(alloc)?;
+    let request = request_of(alloc, before_byte(line, b'\t'))?;
+    let (run, history) = fetch(rt, alloc, Box::into_inner(request), limit, client, link)?;
     tell(link, shown);
-    let history = history_of(share, pass);
+    let transcripts = transcripts_of(alloc, key, run)?;
     show(alloc, &transcripts, &history, shown)
 }
 
@@ -132,5 +132,18 @@ pub(crate) fn play<R: Threads + Wait + Sync + AllocGlobal>(
     let mut link = Held {
         value: link_in(alloc, line)?,
     };
-    play_over(rt, alloc, line.as_bytes(), &mut link.value, shown)
+    let client = Held {
+        value: client_at(
+            alloc,
+            value_of(before_byte(line.as_bytes(), b'\t'), b"from"),
+        )?,
+    };
+    play_for(
+        rt,
+        alloc,
+        line.as_bytes(),
+        &client.value,
+        &mut link.value,
+        shown,
+    )
 }

@@ -1,7 +1,12 @@
-// A row is its scenario, or some words, a tab and then its scenario. The words, between spaces, are those of
-// `streams.rt` for calls of the streams that fail, and
+// Rows of the programs' top calls. A row is a scenario, or some words, a tab and then an input, which is a scenario
+// where they do not say otherwise. The words, between spaces, are those of `streams.rt` for calls of the streams that
+// fail, and
 //
-//     words=A,B       the program's words, instead of `play`; none at `words=`
+//     report          it is played with its reports, by `cspreport`, and not by `fetchplay`
+//     audit           it is audited by `playaudit`. The input is nothing, or a scenario, a tab and a play, whose
+//                     escapes are undone; both are then put in their frame
+//     requests        the reports of its documents are shown as requests
+//     words=A,B       the program's words, instead of `play`, or none for an audit; none at `words=`
 //     times=N         the part of the scenario between `<` and `>` is repeated N times
 //     pieces          it is played with answers in pieces of 1, 7 and 65,536 bytes, one after another
 //     tail            only the number of bytes written and the last four lines are printed, as far as their
@@ -10,8 +15,8 @@
 //                     many entries it has
 //     joint           only whether the history is one that two documents under one page may have: `histories.rt`
 use crate::histories::{show_joint, show_shared};
-use crate::streams::{Streams, text_of};
-use play_links::MemoryLinks;
+use crate::reports::{audit, framed, report, show_requests};
+use crate::streams::{Streams, text_of, words_of};
 use std::alloc::Global;
 use std::sync::Wait;
 use std::thread::Threads;
@@ -28,7 +33,10 @@ const WIDTH: usize = 64;
 const MOST_TIMES: u64 = 16_777_216;
 
 /// The words of a row, or what they begin with up to `=`.
-const WORDS: [(&[u8], ()); 10] = [
+const WORDS: [(&[u8], ()); 13] = [
+    (b"report", ()),
+    (b"audit", ()),
+    (b"requests", ()),
     (b"words", ()),
     (b"times", ()),
     (b"reads", ()),
@@ -69,8 +77,11 @@ fn repeated(alloc: Global, text: &[u8], times: u64) -> Result<Bytes, Failed> {
     whole.into_bytes()
 }
 
-// The scenario that a row writes.
-fn scenario_of(alloc: Global, words: &[u8], written: &[u8]) -> Result<Bytes, Failed> {
+// The input that a row writes.
+fn input_of(alloc: Global, words: &[u8], written: &[u8]) -> Result<Bytes, Failed> {
+    if has_word(words, b"audit") {
+        return framed(alloc, written);
+    }
     match value_of(words, b"times") {
         [] => Ok(Bytes::of(alloc, written)?),
         digits => repeated(alloc, written, number(digits, MOST_TIMES)?),
@@ -90,33 +101,64 @@ fn in_pieces(alloc: Global, scenario: &[u8], piece: &[u8]) -> Result<Bytes, Fail
     text.into_bytes()
 }
 
-// The words of the program, with commas between.
-fn words_of(words: &[u8]) -> Result<&str, Failed> {
-    if has_word(words, b"words") {
-        text_of(value_of(words, b"words"))
+// The words of the program.
+fn program_words(alloc: Global, words: &[u8]) -> Result<Vec<String>, Failed> {
+    if has_word(words, b"words") || has_word(words, b"audit") {
+        words_of(alloc, value_of(words, b"words"))
     } else {
-        Ok("play")
+        words_of(alloc, b"play")
     }
 }
 
-// Plays a scenario.
+// Runs `fetchplay` without links.
+fn play_alone<R: Threads + Wait + Sync>(
+    rt: &R,
+    alloc: Global,
+    words: &[String],
+    streams: &mut Streams,
+    shown: &mut Shown,
+) -> Result<(), Failed> {
+    let mut links = Held {
+        value: MemoryLinks::new(alloc, Vec::new(alloc))?,
+    };
+    streams.play(rt, alloc, words, &mut links.value, 0, shown);
+    Ok(())
+}
+
+// Runs the program that the words say.
+fn run<R: Threads + Wait + Sync>(
+    rt: &R,
+    alloc: Global,
+    words: &[u8],
+    streams: &mut Streams,
+    shown: &mut Shown,
+) -> Result<(), Failed> {
+    let program = program_words(alloc, words)?;
+    if has_word(words, b"report") {
+        report(rt, alloc, program.as_slice(), streams, shown);
+        Ok(())
+    } else if has_word(words, b"audit") {
+        audit(rt, alloc, program.as_slice(), streams, shown);
+        Ok(())
+    } else {
+        play_alone(rt, alloc, program.as_slice(), streams, shown)
+    }
+}
+
+// Runs the program on an input.
 fn play_text<R: Threads + Wait + Sync>(
     rt: &R,
     alloc: Global,
     words: &[u8],
-    scenario: &[u8],
+    input: &[u8],
     shown: &mut Shown,
 ) -> Result<(), Failed> {
-    let program = words_of(words)?;
-    let mut links = Held {
-        value: MemoryLinks::new(alloc, Vec::new(alloc))?,
-    };
-    let mut streams = Streams::of(alloc, words, scenario)?;
-    streams.run(rt, alloc, program, &mut links.value, 0, shown);
+    let mut streams = Streams::of(alloc, words, input)?;
+    run(rt, alloc, words, &mut streams, shown)?;
     show(alloc, words, &streams, shown)
 }
 
-// Plays a scenario with answers in pieces of three sizes.
+// Runs the program on a scenario with answers in pieces of three sizes.
 fn play_pieces<R: Threads + Wait + Sync>(
     rt: &R,
     alloc: Global,
@@ -141,11 +183,13 @@ pub(crate) fn play<R: Threads + Wait + Sync + AllocGlobal>(
     let (words, written) = line.split_once('\t').unwrap_or(("", line));
     let words = words.as_bytes();
     check_words(words)?;
-    let scenario = scenario_of(alloc, words, written.as_bytes())?;
-    if has_word(words, b"pieces") {
-        play_pieces(rt, alloc, words, scenario.as_slice(), shown)
+    let input = input_of(alloc, words, written.as_bytes())?;
+    if has_word(words, b"requests") {
+        show_requests(rt, alloc, input.as_slice(), shown)
+    } else if has_word(words, b"pieces") {
+        play_pieces(rt, alloc, words, input.as_slice(), shown)
     } else {
-        play_text(rt, alloc, words, scenario.as_slice(), shown)
+        play_text(rt, alloc, words, input.as_slice(), shown)
     }
 }
 

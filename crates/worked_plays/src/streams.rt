@@ -1,4 +1,4 @@
-// The streams of a run of the program's top call. Some of their calls fail, which words with a space between say:
+// The streams of a run of a program's top call. Some of their calls fail, which words with a space between say:
 //
 //     reads=N         the Nth read fails; likewise `writes=N`, and `complaints=N` for those of complaints
 //     zeros=N         the Nth write takes nothing
@@ -17,9 +17,9 @@ const ROOM: usize = 16_777_216;
 /// The streams of a run.
 #[derive(Drop)]
 pub(crate) struct Streams {
-    input: Held<MemorySource>,
-    output: Held<MemorySink>,
-    complaints: Held<MemorySink>,
+    pub(crate) input: Held<MemorySource>,
+    pub(crate) output: Held<MemorySink>,
+    pub(crate) complaints: Held<MemorySink>,
 }
 
 // The numbers of the first word `NAME=N,N`, in order; none where there is no such word.
@@ -37,48 +37,34 @@ pub(crate) fn numbers_of(alloc: Global, words: &[u8], name: &[u8]) -> Result<Vec
 }
 
 // A sink of which some calls fail, and others take nothing.
-fn sink(alloc: Global, fails: Vec<u64>, zeros: Vec<u64>) -> Result<Held<MemorySink>, Failed> {
+fn sink_of(
+    alloc: Global,
+    words: &[u8],
+    fails: &[u8],
+    zeros: &[u8],
+) -> Result<Held<MemorySink>, Failed> {
+    let fails = numbers_of(alloc, words, fails)?;
+    let zeros = numbers_of(alloc, words, zeros)?;
     Ok(Held {
         value: MemorySink::new(alloc, ROOM, fails, zeros)?,
     })
 }
 
-// The output.
-fn output_of(alloc: Global, words: &[u8]) -> Result<Held<MemorySink>, Failed> {
-    let fails = numbers_of(alloc, words, b"writes")?;
-    let zeros = numbers_of(alloc, words, b"zeros")?;
-    sink(alloc, fails, zeros)
-}
-
-// The input, which has a scenario.
-fn input_of(alloc: Global, words: &[u8], scenario: &[u8]) -> Result<Held<MemorySource>, Failed> {
+// The input, which has a text.
+fn input_of(alloc: Global, words: &[u8], text: &[u8]) -> Result<Held<MemorySource>, Failed> {
     let fails = numbers_of(alloc, words, b"reads")?;
     Ok(Held {
-        value: MemorySource::new(Bytes::of(alloc, scenario)?, fails),
+        value: MemorySource::new(Bytes::of(alloc, text)?, fails),
     })
 }
 
-// Adds the words of the program, which have commas between.
-fn add_words(alloc: Global, program: &mut Vec<String>, words: &str) -> Result<(), Failed> {
-    for word in words.split(',') {
-        if !word.is_empty() {
-            program.push(String::from_str(alloc, word)?)?;
-        }
-    }
-    Ok(())
-}
-
 impl Streams {
-    // The streams of a scenario.
-    pub(crate) fn of(alloc: Global, words: &[u8], scenario: &[u8]) -> Result<Streams, Failed> {
-        let input = input_of(alloc, words, scenario)?;
-        let output = output_of(alloc, words)?;
-        let fails = numbers_of(alloc, words, b"complaints")?;
-        let complaints = sink(alloc, fails, Vec::new(alloc))?;
+    // The streams of an input.
+    pub(crate) fn of(alloc: Global, words: &[u8], text: &[u8]) -> Result<Streams, Failed> {
         Ok(Streams {
-            input,
-            output,
-            complaints,
+            input: input_of(alloc, words, text)?,
+            output: sink_of(alloc, words, b"writes", b"zeros")?,
+            complaints: sink_of(alloc, words, b"complaints", b"unused")?,
         })
     }
 
@@ -92,34 +78,46 @@ impl Streams {
         self.complaints.value.taken()
     }
 
-    // Runs the top call with these words over links, and shows the number of its status.
-    pub(crate) fn run<R: Threads + Wait + Sync, N: Links>(
+    // Runs `fetchplay` with these words over links from a time on, and shows the number of its status.
+    pub(crate) fn play<R: Threads + Wait + Sync, N: Links>(
         &mut self,
         rt: &R,
         alloc: Global,
-        words: &str,
+        words: &[String],
         links: &mut N,
         now: u64,
         shown: &mut Shown,
     ) {
-        let mut program = Vec::new(alloc);
-        if add_words(alloc, &mut program, words).is_err() {
-            shown.fail();
-        }
         let status = fetchplay(
             rt,
             alloc,
-            program.as_slice(),
+            words,
             &mut self.input.value,
             &mut self.output.value,
             &mut self.complaints.value,
             links,
             &mut FixedClock::new(now),
         );
-        shown.add(b"status ");
-        shown.add_number(u64::from(status.number()));
-        shown.add(b"\n");
+        show_status(status.number(), shown);
     }
+}
+
+// Shows the number of a status.
+pub(crate) fn show_status(number: u8, shown: &mut Shown) {
+    shown.add_count(b"status ", usize::from(number));
+    shown.add(b"\n");
+}
+
+// A program's words, which have commas between.
+pub(crate) fn words_of(alloc: Global, text: &[u8]) -> Result<Vec<String>, Failed> {
+    let text = text_of(text)?;
+    let mut words = Vec::new(alloc);
+    for word in text.split(',') {
+        if !word.is_empty() {
+            words.push(String::from_str(alloc, word)?)?;
+        }
+    }
+    Ok(words)
 }
 
 // The text that bytes are.

@@ -8,6 +8,7 @@
 //
 // Shown is what serving it comes to, what was written to it, and how many bytes it still has to send.
 use crate::slow::SlowEnd;
+use crate::streams::numbers_of;
 use crate::tables::table_in;
 use std::alloc::Global;
 use wf_link::{MemoryEnd, MemorySink, MemorySource, Source};
@@ -24,16 +25,6 @@ const PIECE: usize = 4_096;
 /// How often they are read at most.
 const MOST_READS: usize = 64;
 
-// The number of the call that fails, alone in a list, or none.
-pub(crate) fn failing(alloc: Global, words: &[u8], name: &[u8]) -> Result<Vec<u64>, Failed> {
-    let mut numbers = Vec::new(alloc);
-    let digits = value_of(words, name);
-    if !digits.is_empty() {
-        numbers.push(number(digits, u64::MAX)?)?;
-    }
-    Ok(numbers)
-}
-
 // How many bytes a word says, as many as a peer takes at most where it does not.
 pub(crate) fn bytes_of(words: &[u8], name: &[u8]) -> Result<usize, Failed> {
     match value_of(words, name) {
@@ -44,10 +35,10 @@ pub(crate) fn bytes_of(words: &[u8], name: &[u8]) -> Result<usize, Failed> {
 
 // The peer that sends a request.
 fn end_of(alloc: Global, words: &[u8], request: &[u8]) -> Result<SlowEnd, Failed> {
-    let reads = failing(alloc, words, b"reads")?;
+    let reads = numbers_of(alloc, words, b"reads")?;
     let source = MemorySource::new(Bytes::of(alloc, request)?, reads);
-    let writes = failing(alloc, words, b"writes")?;
-    let zeros = failing(alloc, words, b"zeros")?;
+    let writes = numbers_of(alloc, words, b"writes")?;
+    let zeros = numbers_of(alloc, words, b"zeros")?;
     let sink = MemorySink::new(alloc, bytes_of(words, b"room")?, writes, zeros)?;
     Ok(SlowEnd {
         end: MemoryEnd::new(source, sink),

@@ -4,28 +4,21 @@
 //
 // Shown are the methods of the requests that were sent, and whether each is a preflight, and then what the fetch came
 // to, as in the text of a play.
-ghost use Rattle.std.specs.Prelude.{◌≤◌};
 ghost use Rattle.wf_types.specs.Requests.{IsClient};
 
 use crate::inits::request_in;
+use crate::requests::{LIMIT, fetch};
 use crate::tables::table_in;
 use std::alloc::Global;
 use std::sync::Wait;
 use std::thread::Threads;
-use wf_book::{Book, Share, SoloBook};
-use wf_csp::Compiled;
-use wf_csp_text::Policies;
 use wf_link::MemoryLink;
 use wf_play::FetchRun;
-use wf_player_fetch::drive_fetch;
 use wf_script_events::Event;
 use wf_server::{AllowTable, answer};
 use wf_text::{Bytes, BytesList};
-use wf_types::{BodyEnd, Client, Cookies, Hop, NetError, Outcome, Response};
+use wf_types::{BodyEnd, Client, Hop, NetError, Outcome, Response};
 use worked_rows::{Failed, Held, Row, Shown, client_at};
-
-/// How many bytes of a body are read at most.
-const LIMIT: u32 = 262_144;
 
 /// How many bytes a link has room for of what it is asked.
 const ROOM: usize = 65_536;
@@ -53,42 +46,8 @@ fn sent(alloc: Global, link: &MemoryLink, number: usize) -> Result<Option<Bytes>
     }
 }
 
-// Fetches for a client over a share of a book.
-fn fetch_by<R: Threads + Wait + Sync, S: Share>(
-    rt: &R,
-    alloc: Global,
-    client: &Client,
-    text: &[u8],
-    share: &S,
-    pass: &mut S::Pass,
-    link: &mut MemoryLink,
-) -> Result<FetchRun, Failed>
-    requires client { IsClient client.now }
-    requires belongs { S.belongs share.now pass.old }
-    requires left { 126 ≤ (S.account pass.old).left }
-{
-    let policies = Held {
-        value: Compiled::of(alloc, &Policies::new(alloc))?,
-    };
-    let request = request_in(alloc, client, text)?;
-    let cookies = Cookies::new(alloc);
-    Ok(drive_fetch(
-        rt,
-        alloc,
-        request,
-        client,
-        &policies.value,
-        &cookies,
-        0,
-        LIMIT,
-        share,
-        pass,
-        link,
-    )?)
-}
-
-// Fetches for a client over a book of its own.
-fn fetch_over<R: Threads + Wait + Sync>(
+// What a fetch for a client over a link has shown and come to.
+fn fetched_over<R: Threads + Wait + Sync>(
     rt: &R,
     alloc: Global,
     client: &Client,
@@ -97,8 +56,8 @@ fn fetch_over<R: Threads + Wait + Sync>(
 ) -> Result<Held<FetchRun>, Failed>
     requires { IsClient client.now }
 {
-    let (share, mut pass) = SoloBook::new(alloc, Book::new(alloc));
-    let value = fetch_by(rt, alloc, client, text, &share, &mut pass, link)?;
+    let request = request_in(alloc, client, text)?;
+    let (value, _history) = fetch(rt, alloc, request, LIMIT, client, link)?;
     Ok(Held { value })
 }
 
@@ -116,7 +75,7 @@ fn try_with<R: Threads + Wait + Sync>(
     let mut link = Held {
         value: link_with(alloc, answers)?,
     };
-    let run = fetch_over(rt, alloc, client, text, &mut link.value)?;
+    let run = fetched_over(rt, alloc, client, text, &mut link.value)?;
     let request = sent(alloc, &link.value, answers.len())?;
     if request.is_none() {
         add_run(&run.value, shown);
