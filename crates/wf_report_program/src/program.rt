@@ -1,9 +1,9 @@
-ghost use Rattle.std.specs.Prelude.{◌≡◌, IfErr, IfOk};
+ghost use Rattle.std.specs.Prelude.{◌≡◌, Err, IfErr, IfOk};
 ghost use Rattle.wf_program.specs.Inputs.{IsRead, IsUnread, Reads, Refuses};
 ghost use Rattle.wf_program.specs.Program.{IsPlayed};
 ghost use Rattle.wf_program.specs.Words.{texts};
 ghost use Rattle.wf_report_program.specs.Program.{Answers, IsVerdict, most_input};
-ghost use Rattle.wf_report_program.specs.Scenarios.{reported_scenario};
+ghost use Rattle.wf_report_program.specs.Scenarios.{documents_place, reported_scenario};
 ghost use Rattle.wf_report_program.specs.Statuses as spec;
 ghost use Rattle.wf_report_program.specs.Text.{IsReportText};
 ghost use Rattle.wf_report_program.specs.Words as words_spec;
@@ -76,17 +76,23 @@ fn verdict<R: Threads + Wait + Sync, S: Source, K: Sink>(
     }
 }
 
+// The refusal of a scenario of too many documents.
+fn too_many(alloc: Global) -> Result<Result<Scenario, Place>, OutOfMemory>
+    ensures { IfOk result (λ read. read ≡ Err documents_place) }
+{
+    let text = Bytes::of(alloc, b"/documents")?;
+    Ok(Err(Place { text }))
+}
+
 // The scenario that a text is, of few enough documents, or the first place at which it is refused.
 fn read_reported(alloc: Global, text: &[u8]) -> Result<Result<Scenario, Place>, OutOfMemory>
     ensures value { IfOk result (λ read. read ≡ reported_scenario text.now) }
     ensures valid { IfOk result (λ read. IfOk read IsValid) }
 {
     match read_scenario(alloc, text)? {
-        Ok(scenario) if scenario.documents.len() > MOST_DOCUMENTS => {
-            let text = Bytes::of(alloc, b"/documents")?;
-            Ok(Err(Place { text }))
-        }
-        read => Ok(read),
+        Err(place) => Ok(Err(place)),
+        Ok(scenario) if scenario.documents.len() > MOST_DOCUMENTS => too_many(alloc),
+        Ok(scenario) => Ok(Ok(scenario)),
     }
 }
 

@@ -141,31 +141,32 @@ module _ {L State : Type 0} (by : Answering State) (told : L → LinkTold State)
 
   -- ---- the whole
 
-  module _ {words : List (List ℕ)} {c c' : SinkTold} {answer : Status Place}
+  count-answers : {c c' : SinkTold} {answer : Status Place} (count : ℕ)
+      → IsAnswer (Verdict (Some (Gen count))) complaint c c' answer
+      → AnswersCount count input input' output output' c c' answer
+  count-answers {c = c} {c' = c'} {answer = answer} count b = record {
+    unread = b.is_verdict.1;
+    cause = λ other. (answer-verdict b other).0;
+    complete = answer-or b (λ v. (v ≡ status.Ok) ⊎ IsExcused output output' c c' v)
+        (λ v is. ended v (summed-ends count output output' v is.0)) (λ x. inr (inr (x.0, inr x.1)));
+  }
+    where
+      ended : (v : Status Place) → Ends (λ (one : Status Place). one ≡ status.Ok) output output' v
+          → (v ≡ status.Ok) ⊎ IsExcused output output' c c' v
+      ended status.Ok e = inl e
+      ended (status.Refused reason) e = inl e
+      ended status.OwnFault e = inl e
+      ended status.WriteFault e = inr (inr (refl, inl e))
+      ended status.OutOfMemory e = inr (inl refl)
+      ended status.Usage e = absurd e
+      ended status.ReadFault e = absurd e
+      ended status.InputTooLong e = absurd e
+
+  module _ (words : List (List ℕ)) (c c' : SinkTold) (answer : Status Place)
       (a : IsAnswer (Verdict (subcommand_of words)) complaint c c' answer) where
     -- the account by what the words are known to ask for
     asked-at : (asked : Option Subcommand) → subcommand_of words ≡ asked → IsAnswer (Verdict asked) complaint c c' answer
     asked-at asked is = answer-by a (λ v found. subst (λ (o : Option Subcommand). Verdict o v) is found)
-
-    count-answers : (count : ℕ) → IsAnswer (Verdict (Some (Gen count))) complaint c c' answer
-        → AnswersCount count input input' output output' c c' answer
-    count-answers count b = record {
-      unread = b.is_verdict.1;
-      cause = λ other. (answer-verdict b other).0;
-      complete = answer-or b (λ v. (v ≡ status.Ok) ⊎ IsExcused output output' c c' v)
-          (λ v is. ended v (summed-ends count output output' v is.0)) (λ x. inr (inr (x.0, inr x.1)));
-    }
-      where
-        ended : (v : Status Place) → Ends (λ (one : Status Place). one ≡ status.Ok) output output' v
-            → (v ≡ status.Ok) ⊎ IsExcused output output' c c' v
-        ended status.Ok e = inl e
-        ended (status.Refused reason) e = inl e
-        ended status.OwnFault e = inl e
-        ended status.WriteFault e = inr (inr (refl, inl e))
-        ended status.OutOfMemory e = inr (inl refl)
-        ended status.Usage e = absurd e
-        ended status.ReadFault e = absurd e
-        ended status.InputTooLong e = absurd e
 
     -- the account of an answer says what the program promises
     pub answers : Answers by told words input input' output output' c c' net net' answer
@@ -184,7 +185,7 @@ module _ {L State : Type 0} (by : Answering State) (told : L → LinkTold State)
           (asked-at (Some Over) is);
       gen = λ count is. count-answers count (asked-at (Some (Gen count)) is);
       kept = kept-of (subcommand_of words) a.verdict a.is_verdict;
-      back = λ is. back-of a.verdict (asked-at (Some Over) is).is_verdict;
+      back = λ is. back-of a.verdict (subst (λ (o : Option Subcommand). Verdict o a.verdict) is a.is_verdict);
       write_fault = answer-write a (Failed output output') (write-failed (subcommand_of words));
       complained = answer-told a;
     }

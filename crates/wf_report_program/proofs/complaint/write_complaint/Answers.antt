@@ -1,7 +1,13 @@
+use Rattle.std.proofs.Common.{List, Some, codes, subst, ℕ}
+use Rattle.wf_program.specs.Complaints.{IsComplained}
+use Rattle.wf_program.specs.Statuses.{line}
 use Rattle.wf_report_program.proofs.complaint.write_complaint.Goals as goal
 
 pub returns-in-Refused : goal.returns-in-Refused
-returns-in-Refused g c = rw c.in-Refused.is c.complain-in-Refused.ensures
+returns-in-Refused g c = rw c.in-Refused.is
+    (subst (λ (text : List ℕ). IsComplained (Some (line (codes "cspreport: fault 2 at ") text))
+    (g.E.Sink.takes c.args.complaints.now) (g.E.Sink.takes c.complain-in-Refused.new.complaints)
+    c.complain-in-Refused.result) c.as_slice.ensures c.complain-in-Refused.ensures)
 
 pub returns-in-ReadFault : goal.returns-in-ReadFault
 returns-in-ReadFault g c = rw c.in-ReadFault.is c.complain-in-ReadFault.ensures

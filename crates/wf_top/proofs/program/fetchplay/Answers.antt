@@ -1,4 +1,5 @@
 use Rattle.wf_player_seats.specs.Makers.{maker_of}
+use Rattle.wf_program.specs.Words.{texts}
 use Rattle.wf_top.specs.Streams.{net_of}
 use Rattle.wf_link_wire.specs.Wires.{over_link}
 use Rattle.wf_top.proofs.ProgramLemmas.{answers}
@@ -14,6 +15,10 @@ returns g c = answers (over_link g.N.Link.Link.serves) g.N.Link.Link.told
     (g.S.Source.gives c.verdict-verdict.new.input)
     (g.K.Sink.takes c.args.output.now)
     (g.K.Sink.takes c.verdict-verdict.new.output)
+    (texts c.args.words.now)
+    (g.E.Sink.takes c.args.complaints.now)
+    (g.E.Sink.takes c.tell.new.complaints)
+    c.tell.result
     (record {
       verdict = c.verdict-verdict.result;
       is_verdict = c.verdict-verdict.ensures;
